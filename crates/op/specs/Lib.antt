@@ -1,0 +1,2 @@
+-- The table of opcodes.
+pub mod Table

@@ -1,0 +1,3 @@
+-- What document 01 says of refusals, and the shape of what a leaf of the reader says.
+pub mod Numbers
+pub mod Read
