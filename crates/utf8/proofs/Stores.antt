@@ -1,0 +1,28 @@
+-- Runs of stores. Assumes nothing.
+use Prim.Native.Nat.{ℕ, suc, _+_, _-_, _≤_, _<_}
+use native.Mathlib.Omega.{arith}
+use native.Mathlib.Nat.{add-zero}
+use mathlib.Core.List.{List, [], _∷_, _++_}
+use mathlib.Core.Path.{_≡_}
+use lib.ListN.{length, getD, take, drop, set}
+use lib.Seq.{drop-cons, sets}
+
+-- a run after a run is one run
+pub sets-append : (u v l : List ℕ) (n : ℕ) → sets (sets l n u) (n + length u) v ≡ sets l n (u ++ v)
+sets-append [] v l n = rw (add-zero n)
+sets-append (a ∷ u) v l n =
+    let e : n + suc (length u) ≡ suc n + length u = omega arith in
+    rw e (sets-append u v (set l n a) (suc n))
+
+module _ (s : List ℕ) (i len n k : ℕ) (out : List ℕ) where
+  -- what a copy has left to store, one byte on, and at its end
+  pub copy-more : k < len → i + k < length s
+      → sets (set out (n + k) (getD s (i + k) 0)) (n + (k + 1)) (take (len - (k + 1)) (drop (i + (k + 1)) s)) ≡ sets out (n + k) (take (len - k) (drop (i + k) s))
+  copy-more l h =
+      let e : len - k ≡ suc (len - (k + 1)) = omega arith in
+      let f : n + (k + 1) ≡ suc (n + k) = omega arith in
+      let g : i + (k + 1) ≡ suc (i + k) = omega arith in
+      rw (drop-cons s (i + k) 0 h, e, f, g)
+
+  pub copy-none : len ≤ k → sets out (n + k) (take (len - k) (drop (i + k) s)) ≡ out
+  copy-none l = let e : len - k ≡ 0 = omega arith in rw e

@@ -1,0 +1,6 @@
+-- What Unicode chapter 3 says of UTF-8, and what follows from it.
+pub mod Utf8
+pub mod Rows
+pub mod Laws
+pub mod Encode
+pub mod Place
