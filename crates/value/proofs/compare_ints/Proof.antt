@@ -1,0 +1,19 @@
+-- `value::compare_ints` meets its contract. Assumes nothing.
+use borrow.Author.Needs.{needs}
+use mathlib.Core.Path.{sym, _∙_}
+use Rattle.value.specs.Order.{byValue}
+use Rattle.value.specs.Told.{told, ints-low, ints-high, ints-mixed, turned}
+use Rattle.value.proofs.compare_ints.Statement.{statement}
+use Rattle.value.proofs.compare_ints.Tie as tie
+
+pub compare-ints-spec : {M : Type 1} → statement M
+unfolding told
+compare-ints-spec =
+    tie.close
+    (tie.spec
+    (λ c κs. search needs)
+    (λ c. c .compare-numbers .ensures ∙ sym (ints-low _ _ (c .before .before .if1 .taken) (c .before .if2 .taken)))
+    (λ c. sym (ints-mixed _ _ (c .before .if1 .taken) (c .if2 .left)))
+    (λ c. sym (turned byValue (c .before .before .args .x) (c .before .before .args .y) (ints-mixed _ _ (c .if3 .taken) (c .before .if1 .left))))
+    (λ c κs. search needs)
+    (λ c. c .compare-numbers2 .ensures ∙ sym (ints-high _ _ (c .before .before .if1 .left) (c .before .if3 .left))))

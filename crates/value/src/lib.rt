@@ -1,0 +1,291 @@
+// Values (value.rs): the words of a table's record, and the order of values that stand in tables. `Display`, the `From`
+// conversions, `Value::dict` and `Value::object` are left out.
+ghost use mathlib.Core.Path.{_≡_};
+ghost use mathlib.Core.Bool.{Bool};
+ghost use Prim.Native.Nat.{_+_, _*_, _^_, _≤_, _<_, compare};
+ghost use lib.ListN.{length, getD, take, drop};
+ghost use Rattle.value.specs.Value.{Value, one};
+ghost use Rattle.value.specs.Order.{_then_, lex, byValue, totalOrder, labels, order};
+ghost use Rattle.value.specs.Shape.{headOf, wordOf, namesEnd, moduleOf, nameOf};
+ghost use Rattle.value.specs.Stands.{labelAt, arityAt, Reads, Begins, Stands};
+ghost use Rattle.value.specs.Told.{told};
+ghost use Rattle.value.specs.Left.{newAt, Next};
+
+pub enum Order {
+    Less,
+    Equal,
+    Greater,
+}
+
+// What word 0 of a record says. Only `head_of` reads that word and only `word_of` makes it.
+pub struct Head {
+    pub kind: u64,
+    pub new: bool,
+    pub state: bool,
+}
+
+pub fn head_of(word: u64) -> Head
+    ensures { λ r. ⌜ r ≡ headOf word ⌝ }
+{
+    Head {
+        kind: word % 16,
+        new: word / 16 % 2 == 1,
+        state: word / 32 % 2 == 1,
+    }
+}
+
+pub fn word_of(head: Head) -> u64
+    requires { ⌜ head .kind < 16 ⌝ }
+    ensures { λ r. ⌜ r ≡ wordOf head ⌝ }
+{
+    if head.new {
+        if head.state {
+            return head.kind + 48;
+        }
+        return head.kind + 16;
+    }
+    if head.state {
+        return head.kind + 32;
+    }
+    head.kind
+}
+
+fn compare_numbers(x: u64, y: u64) -> Order
+    ensures { λ r. ⌜ told r ≡ compare x y ⌝ }
+{
+    if x < y {
+        return Order::Less;
+    }
+    if y < x {
+        return Order::Greater;
+    }
+    Order::Equal
+}
+
+// Integers by value, from their 64 bits.
+fn compare_ints(x: u64, y: u64) -> Order
+    ensures { λ r. ⌜ told r ≡ lex (byValue x) (byValue y) ⌝ }
+{
+    if x < 0x8000_0000_0000_0000 {
+        if y < 0x8000_0000_0000_0000 {
+            return compare_numbers(x, y);
+        }
+        return Order::Greater;
+    }
+    if y < 0x8000_0000_0000_0000 {
+        return Order::Less;
+    }
+    compare_numbers(x, y)
+}
+
+// Floats by totalOrder, from their 64 bits: below the sign bit the patterns are in order, the negative ones the other way round.
+fn compare_floats(x: u64, y: u64) -> Order
+    ensures { λ r. ⌜ told r ≡ lex (totalOrder x) (totalOrder y) ⌝ }
+{
+    if x < 0x8000_0000_0000_0000 {
+        if y < 0x8000_0000_0000_0000 {
+            return compare_numbers(x, y);
+        }
+        return Order::Greater;
+    }
+    if y < 0x8000_0000_0000_0000 {
+        return Order::Less;
+    }
+    compare_numbers(y, x)
+}
+
+// Text by bytes, a proper beginning before the longer.
+pub fn compare_bytes(a: &[u8], b: &[u8]) -> Order
+    ensures { λ r. ⌜ told r ≡ lex (now (a .entry)) (now (b .entry)) ⌝ }
+{
+    let mut i = 0;
+    while i < a.len() {
+        if b.len() <= i {
+            return Order::Greater;
+        }
+        let x = a[i];
+        let y = b[i];
+        if x < y {
+            return Order::Less;
+        }
+        if y < x {
+            return Order::Greater;
+        }
+        i += 1;
+    }
+    if i < b.len() {
+        return Order::Less;
+    }
+    Order::Equal
+}
+
+pub fn part(text: &[u8], at: usize, len: usize) -> &[u8]
+    requires { ⌜ at + len ≤ length (now text) ⌝ }
+    ensures { λ r. ⌜ now r ≡ take len (drop at (now (text .entry))) ⌝ }
+{
+    let end = at + len;
+    &text[at..end]
+}
+
+// Two names: by module, then by name. A word holds both lengths.
+fn compare_names(s: &[u8], x: usize, p: u64, t: &[u8], y: usize, q: u64) -> Order
+    requires { ⌜ namesEnd x p ≤ length (now s) ⌝ }
+    requires { ⌜ namesEnd y q ≤ length (now t) ⌝ }
+    ensures { λ r. ⌜ told r ≡ (lex (moduleOf p (drop x (now (s .entry)))) (moduleOf q (drop y (now (t .entry)))) then lex (nameOf p (drop x (now (s .entry)))) (nameOf q (drop y (now (t .entry))))) ⌝ }
+{
+    let m = (p / 0x1_0000_0000) as usize;
+    let k = (q / 0x1_0000_0000) as usize;
+    let n = (p % 0x1_0000_0000) as usize;
+    let l = (q % 0x1_0000_0000) as usize;
+    match compare_bytes(part(s, x, m), part(t, y, k)) {
+        Order::Less => Order::Less,
+        Order::Greater => Order::Greater,
+        Order::Equal => compare_bytes(part(s, x + m, n), part(t, y + k, l)),
+    }
+}
+
+// Two records but for their contents.
+fn compare_labels(a: &[u64], i: usize, s: &[u8], b: &[u64], j: usize, t: &[u8]) -> Order
+    requires { ⌜ Reads (now a) (now s) i ⌝ }
+    requires { ⌜ Reads (now b) (now t) j ⌝ }
+    ensures { λ r. ⌜ told r ≡ labels (labelAt (now (a .entry)) (now (s .entry)) i) (labelAt (now (b .entry)) (now (t .entry)) j) ⌝ }
+{
+    let kind = head_of(a[4 * i]).kind;
+    let other = head_of(b[4 * j]).kind;
+    if kind != other {
+        return compare_numbers(kind, other);
+    }
+    let x = a[4 * i + 1];
+    let y = b[4 * j + 1];
+    if kind == 0 {
+        return Order::Equal;
+    }
+    if kind == 1 {
+        return compare_numbers((x == 1) as u64, (y == 1) as u64);
+    }
+    if kind == 2 {
+        return compare_ints(x, y);
+    }
+    if kind == 3 {
+        return compare_floats(x, y);
+    }
+    let p = a[4 * i + 2];
+    let q = b[4 * j + 2];
+    if kind < 6 {
+        return compare_bytes(
+            part(s, x as usize, p as usize),
+            part(t, y as usize, q as usize),
+        );
+    }
+    if kind < 11 {
+        return Order::Equal;
+    }
+    compare_names(s, x as usize, p, t, y as usize, q)
+}
+
+// How many values stand directly in a record.
+pub fn arity(words: &[u64], i: usize) -> usize
+    requires { ⌜ 4 * i + 4 ≤ length (now words) ⌝ }
+    requires { ⌜ arityAt (now words) i ≤ length (now words) ⌝ }
+    ensures { λ r. ⌜ r ≡ arityAt (now (words .entry)) i ⌝ }
+{
+    let head = head_of(words[4 * i]);
+    let kind = head.kind;
+    let n = words[4 * i + 1] as usize;
+    if kind < 6 {
+        return 0;
+    }
+    if kind < 10 {
+        return n;
+    }
+    if kind == 10 {
+        return n + n;
+    }
+    if kind == 12 {
+        if head.state {
+            return 2;
+        }
+        return 1;
+    }
+    0
+}
+
+// Whether a record is of an Object that is `new`.
+fn is_new(words: &[u64], i: usize) -> bool
+    requires { ⌜ 4 * i + 4 ≤ length (now words) ⌝ }
+    ensures { λ r. ⌜ r ≡ newAt (now (words .entry)) i ⌝ }
+{
+    let head = head_of(words[4 * i]);
+    head.kind == 12 && head.new
+}
+
+// What is left to compare: so many values, and what decides if they are equal.
+struct Walk {
+    left: usize,
+    verdict: Order,
+}
+
+// After two records with equal labels, n and m values directly in them.
+fn next(walk: Walk, n: usize, m: usize, new: bool, other: bool) -> Walk
+    requires { ⌜ (0 < walk .left) × (walk .left + n < 2 ^ 64) ⌝ }
+    ensures { λ r. ⌜ Next (walk .left) (told (walk .verdict)) n m new other (r .left) (told (r .verdict)) ⌝ }
+{
+    let verdict = walk.verdict;
+    if new != other {
+        if new {
+            return Walk {
+                left: 1,
+                verdict: Order::Greater,
+            };
+        }
+        return Walk {
+            left: 1,
+            verdict: Order::Less,
+        };
+    }
+    if n < m {
+        return Walk {
+            left: n,
+            verdict: Order::Less,
+        };
+    }
+    if m < n {
+        return Walk {
+            left: m,
+            verdict: Order::Greater,
+        };
+    }
+    Walk {
+        left: walk.left - 1 + n,
+        verdict,
+    }
+}
+
+// The order of the value that begins at record i of one table and the one at record j of another (or the same), by a walk
+// through both at once.
+pub fn compare_at(a: &[u64], i: usize, s: &[u8], b: &[u64], j: usize, t: &[u8]) -> Order
+    requires { ⌜ Begins (now a) (now s) i ⌝ }
+    requires { ⌜ Begins (now b) (now t) j ⌝ }
+    ensures { λ r. ⌜ ((v w : Value) → Stands (now (a .entry)) (now (s .entry)) i (one v) → Stands (now (b .entry)) (now (t .entry)) j (one w) → told r ≡ order v w) ⌝ }
+{
+    let mut walk = Walk {
+        left: 1,
+        verdict: Order::Equal,
+    };
+    let mut k = i;
+    let mut l = j;
+    loop {
+        let left = walk.left;
+        if left == 0 {
+            return walk.verdict;
+        }
+        match compare_labels(a, k, s, b, l, t) {
+            Order::Less => return Order::Less,
+            Order::Greater => return Order::Greater,
+            Order::Equal => {}
+        }
+        walk = next(walk, arity(a, k), arity(b, l), is_new(a, k), is_new(b, l));
+        k += 1;
+        l += 1;
+    }
+}
