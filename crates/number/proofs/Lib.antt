@@ -1,0 +1,3 @@
+mod Space
+mod Number
+mod Literal

@@ -1,0 +1,59 @@
+-- The range of what is read, and of its bits. Assumes nothing.
+use Prim.Native.Nat.{ℕ, suc, _^_, _<_}
+use mathlib.Core.Bool.{Bool, true, false, cond}
+use mathlib.Core.List.{List}
+use mathlib.Core.Path.{_≡_, refl, ap, _∙_}
+use native.Mathlib.Omega.{arith}
+use borrow.Author.Tests.{ltb-true, leb-true}
+use lib.IntN.{ℤ, pos, negsuc}
+use mir.Syntax.{w64}
+use mir.Val.{ofZ, toZ, SFits}
+use mir.ValLaws.{toZ-ofZ}
+use Rattle.refusal.specs.Read.{Read, got, refused}
+use Rattle.utf8.specs.Utf8.{valid}
+use Rattle.number.specs.Space.{trimmed}
+use Rattle.number.specs.Number.{invalid, only, plus, integer, inI64, inU32, bits64, parseI64, parseU32}
+
+-- what is read under a test passes it
+pub only-got : {A : Type 0} (p : A → Bool) (x : Read A) (a : A) → got a ≡ only p x → p a ≡ true
+unfolding only invalid
+only-got p (got b) a e = go (p b) refl e
+  where
+    go : (t : Bool) → p b ≡ t → got a ≡ cond t (got b) invalid → p a ≡ true
+    go true h q = let z : a ≡ b = cc in rw z h
+    go false h q = cc
+only-got p (refused why at) a e = cc
+
+when-got : {A : Type 0} (v : Bool) (x : Read A) (a : A) → got a ≡ cond v x invalid → got a ≡ x
+unfolding invalid
+when-got true x a e = e
+when-got false x a e = cc
+
+-- an integer that is read is an i64
+pub i64-in : (s : List ℕ) (z : ℤ) → got z ≡ parseI64 s → inI64 z ≡ true
+unfolding parseI64
+i64-in s z e = only-got inI64 (integer (trimmed s)) z (when-got (valid s) _ z e)
+
+-- a memo number that is read is a u32
+pub u32-in : (s : List ℕ) (n : ℕ) → got n ≡ parseU32 s → n < 2 ^ 32
+unfolding parseU32 inU32
+u32-in s n e = ltb-true n (2 ^ 32) (only-got inU32 (plus (trimmed s)) n (when-got (valid s) _ n e))
+
+fits : (z : ℤ) → inI64 z ≡ true → SFits w64 z
+unfolding inI64
+fits (pos n) h = record { sfits = ltb-true n (2 ^ 63) h }
+fits (negsuc n) h = record { sfits = leb-true (suc n) (2 ^ 63) h }
+
+-- the bits are those of the kit's own i64, and say which integer it is
+pub bits64-is : (z : ℤ) → bits64 z ≡ ofZ w64 z
+unfolding bits64
+bits64-is (pos n) = refl
+bits64-is (negsuc n) = refl
+
+pub bits64-back : (z : ℤ) → inI64 z ≡ true → toZ w64 (bits64 z) ≡ z
+bits64-back z h = ap (toZ w64) (bits64-is z) ∙ toZ-ofZ w64 z (fits z h)
+
+pub bits64-fits : (z : ℤ) → inI64 z ≡ true → bits64 z < 2 ^ 64
+unfolding bits64 inI64
+bits64-fits (pos n) h = omega (arith, ltb-true n (2 ^ 63) h)
+bits64-fits (negsuc n) h = omega arith
