@@ -11,7 +11,8 @@ use lib.ListN.{length, getD, take}
 use Rattle.refusal.specs.Read.{Read, got, refused}
 use Rattle.utf8.specs.Utf8.{valid}
 use Rattle.number.specs.Space.{same, trimmed}
-use Rattle.number.specs.Number.{invalid, turned, only, plus, integer, inI64, inU32, bits64, parseI64, parseU32, whole, intLiteral, lessL}
+use Rattle.number.specs.Number.{invalid, turned, only, plus, integer, inU32, parseI64, parseU32, whole, intLiteral, lessL}
+use Rattle.input.specs.Long.{inI64, bits64}
 use Rattle.number.specs.Literal.{truthBits, wholeBits, intBits}
 
 module _ (s : List ℕ) where

@@ -1,6 +1,6 @@
 -- Laws of numbers: digits that are read from the left, and what signs and bounds do to a reading. Assumes nothing.
 use Prim.Native.Nat.{ℕ, zero, suc, _+_, _-_, _*_, _^_, _≤_, _<_}
-use mathlib.Core.Bool.{Bool, true, false, cond, _&&_, and-false}
+use mathlib.Core.Bool.{Bool, true, false, cond, _&&_, and-false, and-true}
 use mathlib.Core.List.{List, [], _∷_}
 use mathlib.Core.Path.{_≡_, refl, sym, _∙_}
 use native.Mathlib.Nat as Nat
@@ -13,7 +13,8 @@ use lib.ListN.{length, getD, drop, drop-of-length-le}
 use lib.Seq.{drop-cons}
 use Rattle.refusal.specs.Read.{Read, got, refused}
 use Rattle.number.specs.Literal.{negated}
-use Rattle.number.specs.Number.{invalid, turned, only, digits, decimal, natural, plus, integer, inI64, inU32, bits64}
+use Rattle.number.specs.Number.{invalid, turned, only, digits, decimal, natural, plus, integer, inU32}
+use Rattle.input.specs.Long.{inI64, bits64}
 
 -- what is read when digits that say n stand before s
 unfoldable pub after : ℕ → List ℕ → Read ℕ
@@ -103,7 +104,7 @@ below-i64 n = sym (leb·suc-suc n 0x7FFF_FFFF_FFFF_FFFF)
 pub above-i64 : (n : ℕ) → leb n 0x8000_0000_0000_0000 ≡ inI64 (negℤ (pos n))
 unfolding inI64
 above-i64 zero = refl
-above-i64 (suc n) = refl
+above-i64 (suc n) = leb·suc-suc n 0x7FFF_FFFF_FFFF_FFFF ∙ sym (and-true _)
 
 pub below-u32 : (n : ℕ) → leb n 0xFFFF_FFFF ≡ inU32 n
 unfolding inU32

@@ -7,7 +7,8 @@ use lib.IntN.{pos, negsuc}
 use Rattle.refusal.specs.Read.{got}
 use Rattle.utf8.specs.Utf8 as utf8
 use Rattle.number.specs.Space.{whiteSpace, spaces, same, oneOf, space, width, strip, trimStart, trimEnd, trimmed}
-use Rattle.number.specs.Number.{invalid, turned, only, digits, decimal, natural, plus, integer, inI64, inU32, bits64, parseI64, parseU32, truth, whole, intLiteral, lessL, longLiteral}
+use Rattle.number.specs.Number.{invalid, turned, only, digits, decimal, natural, plus, integer, inU32, parseI64, parseU32, truth, whole, intLiteral, lessL, longLiteral}
+use Rattle.input.specs.Long.{inI64, bits64}
 
 -- what computes on given bytes
 unfoldable evaluates : Unit {0}

@@ -11,7 +11,8 @@ use Rattle.number.specs.declared.U32Literal.{U32Literal}
 use Rattle.number.specs.declared.U32Literal.the-variants as U32
 use Rattle.number.specs.declared.IntLiteral.{IntLiteral}
 use Rattle.number.specs.declared.IntLiteral.the-variants as INT
-use Rattle.number.specs.Number.{Int, truth, whole, invalid, bits64}
+use Rattle.number.specs.Number.{Int, truth, whole, invalid}
+use Rattle.input.specs.Long.{bits64}
 
 -- a number without its sign
 unfoldable pub magnitudeRead : Magnitude → Read ℕ

@@ -7,6 +7,7 @@ use lib.Dec.{leb, ltb, eqb}
 use lib.IntN.{ℤ, pos, negsuc, negℤ}
 use lib.ListN.{length, getD, take}
 use Rattle.refusal.specs.declared.Refusal.the-variants.{InvalidLiteral}
+use Rattle.input.specs.Long.{inI64}
 use Rattle.refusal.specs.Read.{Read, got, refused}
 use Rattle.utf8.specs.Utf8.{valid}
 use Rattle.number.specs.Space.{same, trimmed}
@@ -50,19 +51,9 @@ unfoldable pub integer : List ℕ → Read ℤ
 integer [] = invalid
 integer (b ∷ s) = cond (eqb b 0x2D) (turned (λ n. negℤ (pos n)) (natural s)) (turned pos (plus (b ∷ s)))
 
--- an i64, from -2^63 to 2^63 - 1
-unfoldable pub inI64 : ℤ → Bool
-inI64 (pos n) = ltb n (2 ^ 63)
-inI64 (negsuc n) = leb (suc n) (2 ^ 63)
-
 -- a u32
 unfoldable pub inU32 : ℕ → Bool
 inU32 n = ltb n (2 ^ 32)
-
--- the 64 bits of an i64 in two's complement
-unfoldable pub bits64 : ℤ → ℕ
-bits64 (pos n) = n
-bits64 (negsuc n) = 2 ^ 64 - suc n
 
 -- de.rs, `parse::<i64>`: the line is UTF-8, and its text without White_Space at the ends is an i64
 unfoldable pub parseI64 : List ℕ → Read ℤ

@@ -1,6 +1,6 @@
 -- The range of what is read, and of its bits. Assumes nothing.
-use Prim.Native.Nat.{ℕ, suc, _^_, _<_}
-use mathlib.Core.Bool.{Bool, true, false, cond}
+use Prim.Native.Nat.{ℕ, suc, _^_, _<_, _-_}
+use mathlib.Core.Bool.{Bool, true, false, cond, and-true}
 use mathlib.Core.List.{List}
 use mathlib.Core.Path.{_≡_, refl, ap, _∙_}
 use native.Mathlib.Omega.{arith}
@@ -12,7 +12,8 @@ use mir.ValLaws.{toZ-ofZ}
 use Rattle.refusal.specs.Read.{Read, got, refused}
 use Rattle.utf8.specs.Utf8.{valid}
 use Rattle.number.specs.Space.{trimmed}
-use Rattle.number.specs.Number.{invalid, only, plus, integer, inI64, inU32, bits64, parseI64, parseU32}
+use Rattle.number.specs.Number.{invalid, only, plus, integer, inU32, parseI64, parseU32}
+use Rattle.input.specs.Long.{inI64, bits64}
 
 -- what is read under a test passes it
 pub only-got : {A : Type 0} (p : A → Bool) (x : Read A) (a : A) → got a ≡ only p x → p a ≡ true
@@ -42,7 +43,7 @@ u32-in s n e = ltb-true n (2 ^ 32) (only-got inU32 (plus (trimmed s)) n (when-go
 fits : (z : ℤ) → inI64 z ≡ true → SFits w64 z
 unfolding inI64
 fits (pos n) h = record { sfits = ltb-true n (2 ^ 63) h }
-fits (negsuc n) h = record { sfits = leb-true (suc n) (2 ^ 63) h }
+fits (negsuc n) h = let k = leb-true n (2 ^ 63 - 1) (rw and-true at h) in record { sfits = omega arith }
 
 -- the bits are those of the kit's own i64, and say which integer it is
 pub bits64-is : (z : ℤ) → bits64 z ≡ ofZ w64 z

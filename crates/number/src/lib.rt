@@ -5,7 +5,8 @@ ghost use Prim.Native.Nat.{_≤_};
 ghost use lib.Dec.{leb};
 ghost use lib.ListN.{length, take, drop};
 ghost use Rattle.number.specs.Space.{same, space, width, trimStart, trimEnd, trimmed};
-ghost use Rattle.number.specs.Number.{turned, only, natural, plus, integer, inI64, bits64, parseI64, parseU32, intLiteral, longLiteral};
+ghost use Rattle.input.specs.Long.{inI64, bits64};
+ghost use Rattle.number.specs.Number.{turned, only, natural, plus, integer, parseI64, parseU32, intLiteral, longLiteral};
 ghost use Rattle.number.specs.Literal.{magnitudeRead, i64Read, u32Read, intBits, intRead, negated};
 
 // A number without its sign.

@@ -5,7 +5,8 @@ use lib.Dec.{leb}
 use lib.IntN.{pos, negℤ}
 use Rattle.refusal.specs.Read.{got}
 use Rattle.number.specs.Literal.{magnitudeRead, i64Read, negated}
-use Rattle.number.specs.Number.{turned, invalid, bits64}
+use Rattle.number.specs.Number.{turned, invalid}
+use Rattle.input.specs.Long.{bits64}
 use Rattle.number.proofs.Number.{integer-empty, integer-minus, integer-plain, signed-read, above-i64, below-i64}
 use Rattle.number.proofs.integer.Statement.{statement}
 use Rattle.number.proofs.integer.Tie as tie

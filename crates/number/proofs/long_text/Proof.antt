@@ -3,7 +3,8 @@ use borrow.Author.Needs.{needs}
 use mathlib.Core.Path.{_∙_, sym, ap}
 use native.Mathlib.Omega.{arith}
 use lib.Seq.{length-take-le}
-use Rattle.number.specs.Number.{turned, bits64, parseI64, longLiteral}
+use Rattle.number.specs.Number.{turned, parseI64, longLiteral}
+use Rattle.input.specs.Long.{bits64}
 use Rattle.number.proofs.Literal.{less-none, less-l, less-other}
 use Rattle.number.proofs.long_text.Statement.{statement}
 use Rattle.number.proofs.long_text.Tie as tie

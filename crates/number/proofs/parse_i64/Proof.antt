@@ -2,7 +2,8 @@
 use borrow.Author.Needs.{needs}
 use mathlib.Core.Path.{_∙_, sym, ap}
 use Rattle.number.specs.Literal.{i64Read}
-use Rattle.number.specs.Number.{turned, only, integer, inI64, bits64}
+use Rattle.number.specs.Number.{turned, only, integer}
+use Rattle.input.specs.Long.{inI64, bits64}
 use Rattle.number.proofs.Literal.{i64-text, i64-not}
 use Rattle.number.proofs.parse_i64.Statement.{statement}
 use Rattle.number.proofs.parse_i64.Tie as tie
