@@ -1,0 +1,4 @@
+mod Digits
+mod Places
+mod Loops
+mod Quotes

@@ -1,0 +1,141 @@
+-- `text::write_inner` meets its contract: the bytes written so far, and those of the text that is left, are those of the whole. Assumes nothing.
+use native.Mathlib.Omega.{arith}
+use borrow.Author.Needs.{needs}
+use mathlib.Core.Path.{refl, sym, _∙_}
+use Prim.Native.Nat.{_+_, _-_, _≤_}
+use lib.ListN.{length, getD, drop}
+use Rattle.text.specs.Escapes.{stringHead}
+use Rattle.text.specs.Pieces.{texts}
+use Rattle.text.specs.Text.{byte}
+use Rattle.text.specs.Laws.{texts-end, texts-bad}
+use Rattle.text.proofs.Places.{string-plain}
+use Rattle.text.proofs.Loops.{In-string, in-string, Writing, write-none, write-end, write-bad, written, roomy}
+use Rattle.text.proofs.write_inner.Statement.{statement}
+use Rattle.text.proofs.write_inner.Tie as tie
+
+abbrev Inv-loop : tie.InvT-loop
+Inv-loop text out₀ n₀ i₀ out n i =
+    Writing (texts stringHead byte 0 1 text) (texts stringHead byte 0 (i + 1) (drop i text)) out₀ out n
+    × (i ≤ length text)
+
+abbrev μ-loop : tie.MeasureT-loop
+μ-loop text out₀ n₀ i₀ out n i = length text - i
+
+plain : (c : tie.Then1 Inv-loop μ-loop)
+    → In-string (c .before .before .before .before .before .before .args .text .now) (c .before .before .before .loop .i)
+    (getD (c .before .before .before .before .before .before .args .text .now) (c .before .before .before .loop .i) 0) 0
+plain c =
+    let k = c .before .before .before .before .before .shared-slice-known .given in
+    let h = c .before .before .loop-test .taken in
+    in-string _ _ _ _ (λ j. omega (arith, k j)) h (sym (string-plain _ _ h (c .if1 .taken)))
+
+escape : (c : tie.After-known-told Inv-loop μ-loop)
+    → In-string (c .before .before .before .before .before .before .before .before .before .before .args .text .now) (c .before .before .before .before .before .before .before .loop .i)
+    (c .before .value .given .0 .0) (c .before .value .given .0 .1 .0)
+escape c =
+    let k = c .before .before .before .before .before .before .before .before .before .shared-slice-known .given in
+    let h = c .before .before .before .before .before .before .loop-test .taken in
+    in-string _ _ _ _ (λ j. omega (arith, k j)) h (sym (c .before .before .before .string-piece .ensures) ∙ c .before .value .given .1)
+
+loop-holds : tie.Need-loop-holds Inv-loop μ-loop
+loop-holds c = (write-none _ _ (c .before .before .pre .is), omega arith)
+
+slice-write-out : tie.Need-slice-write-out Inv-loop μ-loop
+unfolding byte
+slice-write-out c =
+    let s = c .before .before .before .before .before .before in
+    let l = c .before .before .before .loop in
+    omega (arith, roomy byte (plain c) (l .i + 1) _ refl (l .inv .0) (s .pre .fits), l .inv .0 .long)
+
+add-n : tie.Need-add-n Inv-loop μ-loop
+unfolding byte
+add-n c =
+    let s = c .before .before .before .before .before .before in
+    let l = c .before .before .before .loop in
+    omega (arith, roomy byte (plain c) (l .i + 1) _ refl (l .inv .0) (s .pre .fits), l .inv .0 .long)
+
+loop-again : tie.Need-loop-again Inv-loop μ-loop
+unfolding byte
+loop-again c =
+    let l = c .before .before .before .loop in
+    (written byte (plain c) (l .i + 1) _ refl (l .inv .0), omega arith)
+
+string-piece-requires : tie.Need-string-piece-requires Inv-loop μ-loop
+string-piece-requires c κs = c .before .before .loop-test .taken
+
+cast-out : tie.Need-cast-out Inv-loop μ-loop
+cast-out c = omega (arith, escape c .good)
+
+slice-write-out-2 : tie.Need-slice-write-out-2 Inv-loop μ-loop
+unfolding byte
+slice-write-out-2 c =
+    let s = c .before .before .before .before .before .before .before .before .before .before in
+    let l = c .before .before .before .before .before .before .before .loop in
+    omega (arith, roomy byte (escape c) (l .i + 1) _ refl (l .inv .0) (s .pre .fits), l .inv .0 .long)
+
+add-n-2 : tie.Need-add-n-2 Inv-loop μ-loop
+unfolding byte
+add-n-2 c =
+    let s = c .before .before .before .before .before .before .before .before .before .before in
+    let l = c .before .before .before .before .before .before .before .loop in
+    omega (arith, roomy byte (escape c) (l .i + 1) _ refl (l .inv .0) (s .pre .fits), l .inv .0 .long)
+
+add-i-2 : tie.Need-add-i-2 Inv-loop μ-loop
+add-i-2 c = omega (arith, escape c .inside)
+
+add-i-3 : tie.Need-add-i-3 Inv-loop μ-loop
+add-i-3 c = omega (arith, escape c .inside)
+
+loop-less-2 : tie.Need-loop-less-2 Inv-loop μ-loop
+loop-less-2 c = omega (arith, escape c .inside)
+
+loop-again-2 : tie.Need-loop-again-2 Inv-loop μ-loop
+unfolding byte
+loop-again-2 c =
+    let l = c .before .before .before .before .before .before .before .loop in
+    (written byte (escape c) (l .i + 1) _ (omega arith) (l .inv .0), escape c .inside)
+
+same-length : tie.Need-same-length Inv-loop μ-loop
+same-length c = c .before .before .before .before .before .before .loop .inv .0 .long
+
+returns : tie.Need-returns Inv-loop μ-loop
+returns c =
+    let e = sym (c .before .before .string-piece .ensures) ∙ c .enum-told .given .1 in
+    let bad = texts-bad stringHead byte _ _ _ (c .before .before .before .before .before .loop-test .taken) e in
+    absurd (write-bad _ _ _ _ _ bad (c .before .before .before .before .before .before .loop .inv .0))
+
+same-length-2 : tie.Need-same-length-2 Inv-loop μ-loop
+same-length-2 c = c .before .loop .inv .0 .long
+
+returns-2 : tie.Need-returns-2 Inv-loop μ-loop
+returns-2 c =
+    let s = c .before .before .before .before in
+    write-end _ _ _ _ _ (texts-end stringHead byte _ _ _ (c .loop-test .left)) (s .pre .fits) (c .before .loop .inv .0)
+
+pub write-inner-spec : {M : Type 1} → statement M
+write-inner-spec =
+    tie.close
+    (tie.spec
+    Inv-loop
+    μ-loop
+    loop-holds
+    (λ c. omega arith)
+    slice-write-out
+    add-n
+    (λ c. omega arith)
+    (λ c. omega arith)
+    loop-again
+    string-piece-requires
+    (λ c. search needs)
+    cast-out
+    slice-write-out-2
+    add-n-2
+    add-i-2
+    add-i-3
+    loop-less-2
+    loop-again-2
+    (λ c. search needs)
+    same-length
+    returns
+    same-length-2
+    returns-2)
