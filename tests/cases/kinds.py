@@ -4,6 +4,7 @@ from batches import batch_case
 from damage import damaged
 from draw import Draw
 from jythons import jython_case
+from leaves import leaf_case
 from limits import limit_case
 from literals import literal_case
 from programs import program_case
@@ -35,6 +36,7 @@ KINDS = [
     ("python", python_case, 6, "what CPython 3 writes of random values"),
     ("short", short_case, 7, "sweeps of all pickles, lines and texts of up to 2 bytes (seed 0: in order)"),
     ("jython", jython_case, 1, "what Jython 2.7 wrote, from jython.txt, in order"),
+    ("leaf", leaf_case, 0, "one literal and STOP, asked for by name (seed 0: all short lines and texts, in order)"),
 ]
 NAMES = [name for name, _, _, _ in KINDS]
 NUMBER = {name: i for i, name in enumerate(NAMES)}
