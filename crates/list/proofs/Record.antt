@@ -1,0 +1,122 @@
+-- What the code reads of a record, and the names of the kinds. Assumes nothing.
+use Prim.Native.Nat.{ℕ, suc, zero, _+_, _-_, _*_, _^_, _/_, _%_, _≤_, _<_}
+use mathlib.Core.Bool.{Bool, true, false}
+use mathlib.Core.List.{List, [], _∷_, _++_}
+use mathlib.Core.Path.{_≡_, refl, ap, subst}
+use native.Mathlib.Nat.{add-zero}
+use native.Mathlib.Omega.{arith}
+use lib.Dec.{eqb, lit≤}
+use lib.ListN.{getD, take, drop}
+use lib.Seq.{drop-drop}
+use Rattle.value.specs.declared.Head.{Head}
+use Rattle.value.specs.Value.{bit, half}
+use Rattle.value.specs.Shape.{kindIn, newIn, stateIn, headOf, labelOf, arityOf}
+use Rattle.value.specs.Stands.{wordAt, labelAt, arityAt, Reads}
+use Rattle.value.specs.Left.{kind-at}
+use Rattle.list.specs.Decimal.{decimalText, signedText, figures, either}
+use Rattle.list.specs.Listing.{plain, listedByte, listedText, names, kindName, flag, listedNames, namesAt, contentOf, line, tab, newline}
+use Rattle.list.specs.Put.{Room, room-first}
+
+-- a fact of each number below a bound
+abbrev Below : (ℕ → Type 0) → ℕ → Type 0
+Below P zero = Unit {0}
+Below P (suc n) = Below P n × P n
+
+below : (P : ℕ → Type 0) (n : ℕ) → Below P n → (k : ℕ) → k < n → P k
+below P zero b k h = absurd (omega arith)
+below P (suc n) b k h = either k n (below P n (b .0) k) (λ l. let e : n ≡ k = omega arith in subst P e (b .1))
+
+half-double : (b : ℕ) → half (b + b) ≡ b
+half-double zero = refl
+half-double (suc b) = let e : suc b + suc b ≡ suc (suc (b + b)) = omega arith in rw e (ap suc (half-double b))
+
+half-state : (s : Bool) → half (suc (bit s)) ≡ bit s
+half-state true = refl
+half-state false = refl
+
+-- ---- a record's content, by its kind
+
+module _ (w t : List ℕ) (i : ℕ) (r : Reads w t i) (h : Head) (q : h ≡ headOf (getD w (4 * i) 0)) where
+  abbrev content : List ℕ
+  content = contentOf (labelAt w t i) (arityAt w i)
+
+  kind₀ : kindIn (wordAt w i 0) ≡ h .kind
+  kind₀ = rw (add-zero, q)
+
+  pub known : h .kind < 13
+  known = rw kind₀ at (r .known)
+
+  pub content-none : h .kind ≡ 0 → content ≡ 0x2D ∷ []
+  unfolding contentOf labelAt labelOf
+  content-none e = rw (kind₀, e)
+
+  pub content-bool : h .kind ≡ 1 → content ≡ flag (eqb (wordAt w i 1) 1) ∷ []
+  unfolding contentOf labelAt labelOf
+  content-bool e = rw (kind₀, e)
+
+  pub content-int : h .kind ≡ 2 → content ≡ signedText (wordAt w i 1)
+  unfolding contentOf labelAt labelOf
+  content-int e = rw (kind₀, e)
+
+  pub content-float : h .kind ≡ 3 → content ≡ figures 16 16 (wordAt w i 1)
+  unfolding contentOf labelAt labelOf
+  content-float e = rw (kind₀, e)
+
+  pub content-text : 3 < h .kind → h .kind < 6 → content ≡ listedText (take (wordAt w i 2) (drop (wordAt w i 1) t))
+  unfolding contentOf labelAt labelOf
+  content-text g l =
+      below (λ k. h .kind ≡ 4 + k → content ≡ listedText (take (wordAt w i 2) (drop (wordAt w i 1) t))) 2
+      ((tt, λ e. rw (kind₀, e)), λ e. rw (kind₀, e)) (h .kind - 4) (omega arith) (omega arith)
+
+  pub content-count : 5 < h .kind → h .kind < 11 → content ≡ decimalText (wordAt w i 1)
+  unfolding contentOf labelAt labelOf arityAt arityOf
+  content-count g l =
+      below (λ k. h .kind ≡ 6 + k → content ≡ decimalText (wordAt w i 1)) 5
+      (((((tt, λ e. rw (kind₀, e)), λ e. rw (kind₀, e)), λ e. rw (kind₀, e)), λ e. rw (kind₀, e)), λ e. rw (kind₀, e) (ap decimalText (half-double (wordAt w i 1))))
+      (h .kind - 6) (omega arith) (omega arith)
+
+  pub content-global : h .kind ≡ 11 → content ≡ namesAt t (wordAt w i 1) (wordAt w i 2)
+  unfolding contentOf labelAt labelOf namesAt
+  content-global e = rw (kind₀, e)
+
+  pub content-object : h .kind ≡ 12 → content ≡ namesAt t (wordAt w i 1) (wordAt w i 2) ++ (tab ∷ flag (h .new) ∷ tab ∷ flag (h .state) ∷ [])
+  unfolding contentOf labelAt labelOf arityAt arityOf namesAt flag
+  content-object e =
+      let n : newIn (wordAt w i 0) ≡ h .new = rw (add-zero, q) in
+      let s : stateIn (wordAt w i 0) ≡ h .state = rw (add-zero, q) in
+      rw (kind₀, e, n, s, half-state (h .state))
+
+  -- a module and a name stand first in both
+  pub names-room : {at : ℕ} → 10 < h .kind → Room at content → Room at (namesAt t (wordAt w i 1) (wordAt w i 2))
+  names-room g m =
+      either (h .kind) 12 (λ l. rw (content-global (omega arith)) at m)
+      (λ l. room-first _ (rw (content-object (omega (arith, known))) at m))
+
+  -- its line
+  pub line-parts : (d : ℕ) → line d (labelAt w t i) (arityAt w i) ≡ decimalText d ++ ((tab ∷ []) ++ (kindName (h .kind) ++ ((tab ∷ []) ++ (content ++ (newline ∷ [])))))
+  unfolding line
+  line-parts d = rw (kind-at w t i r, kind₀)
+
+-- a module and a name, one behind the other
+pub names-parts : (t : List ℕ) (b c : ℕ) → namesAt t b c ≡ listedText (take (c / 2 ^ 32) (drop b t)) ++ ((tab ∷ []) ++ listedText (take (c % 2 ^ 32) (drop (b + c / 2 ^ 32) t)))
+unfolding namesAt listedNames
+names-parts t b c = rw drop-drop
+
+-- ---- the names side by side, and where each begins
+
+abbrev pub nameBytes : List ℕ
+nameBytes = 0x6E ∷ 0x6F ∷ 0x6E ∷ 0x65 ∷ 0x62 ∷ 0x6F ∷ 0x6F ∷ 0x6C ∷ 0x69 ∷ 0x6E ∷ 0x74 ∷ 0x66 ∷ 0x6C ∷ 0x6F ∷ 0x61 ∷ 0x74 ∷ 0x62 ∷ 0x79 ∷ 0x74 ∷ 0x65 ∷ 0x73 ∷ 0x73 ∷ 0x74 ∷ 0x72 ∷ 0x69 ∷ 0x6E ∷ 0x67 ∷ 0x6C ∷ 0x69 ∷ 0x73 ∷ 0x74 ∷ 0x74 ∷ 0x75 ∷ 0x70 ∷ 0x6C ∷ 0x65 ∷ 0x73 ∷ 0x65 ∷ 0x74 ∷ 0x66 ∷ 0x72 ∷ 0x6F ∷ 0x7A ∷ 0x65 ∷ 0x6E ∷ 0x73 ∷ 0x65 ∷ 0x74 ∷ 0x64 ∷ 0x69 ∷ 0x63 ∷ 0x74 ∷ 0x67 ∷ 0x6C ∷ 0x6F ∷ 0x62 ∷ 0x61 ∷ 0x6C ∷ 0x6F ∷ 0x62 ∷ 0x6A ∷ 0x65 ∷ 0x63 ∷ 0x74 ∷ []
+
+abbrev pub starts : List ℕ
+starts = 0 ∷ 4 ∷ 8 ∷ 11 ∷ 16 ∷ 21 ∷ 27 ∷ 31 ∷ 36 ∷ 39 ∷ 48 ∷ 52 ∷ 58 ∷ 64 ∷ []
+
+abbrev pub Named : ℕ → Type 0
+Named k =
+    let from = getD starts k 0 in
+    let end = getD starts (k + 1) 0 in
+    (from ≤ end) × (from + (end - from) ≤ 64) × (listedText (take (end - from) (drop from nameBytes)) ≡ kindName k)
+
+pub named : (k : ℕ) → k < 13 → Named k
+unfolding names kindName plain listedByte listedText
+named =
+    below Named 13 (((((((((((((tt, (lit≤ tt, lit≤ tt, refl)), (lit≤ tt, lit≤ tt, refl)), (lit≤ tt, lit≤ tt, refl)), (lit≤ tt, lit≤ tt, refl)), (lit≤ tt, lit≤ tt, refl)), (lit≤ tt, lit≤ tt, refl)), (lit≤ tt, lit≤ tt, refl)), (lit≤ tt, lit≤ tt, refl)), (lit≤ tt, lit≤ tt, refl)), (lit≤ tt, lit≤ tt, refl)), (lit≤ tt, lit≤ tt, refl)), (lit≤ tt, lit≤ tt, refl)), (lit≤ tt, lit≤ tt, refl))

@@ -1,0 +1,184 @@
+-- The walk over values that stand side by side: one law for each step of a turn. Assumes nothing.
+use Prim.Native.Nat.{ℕ, suc, _+_, _-_, _*_, _≤_, _<_}
+use mathlib.Core.List.{List, [], _++_}
+use mathlib.Core.Path.{_≡_, refl, sym, _∙_}
+use native.Mathlib.Numerals.{add-one}
+use native.Mathlib.Omega.{arith}
+use lib.ListN.{length, drop}
+use lib.Seq.{sets-eq}
+use borrow.Author.Tests.{le-leb, lt-leb}
+use Rattle.value.specs.Value.{Label, Forest, one, count, size, depth, nil, node}
+use Rattle.value.specs.Stands.{labelAt, arityAt, Reads, Says, Stands, stands-one}
+use Rattle.value.specs.WellFormed.{WellFormed}
+use Rattle.list.specs.Listing.{line, listing}
+use Rattle.list.specs.Put.{Put, Room, Left, left-all, left-more, left-none, left-room, room-first}
+use Rattle.list.specs.Walk.{Ready, Wrote, whole-stands, whole-one, written, Lists}
+use Rattle.list.specs.declared.Listed.the-variants.{Written, Full}
+
+-- n values stood from record `from` on, and of them `left` do from record i on; the listing of those is left
+pub record Going (w t : List ℕ) (from n d : ℕ) (o₀ : List ℕ) (at : ℕ) (o : List ℕ) (i left next : ℕ) : Type 0 where
+  pub whole : Forest
+  pub rest : Forest
+  pub was : Stands w t from whole
+  pub all : count whole ≡ n
+  pub room : Room at (listing d whole)
+  pub stands : Stands w t i rest
+  pub counted : count rest ≡ left
+  pub few : size rest ≤ length w
+  pub shallow : d + depth rest ≤ 64
+  pub ends : i + size rest ≡ from + size whole
+  pub todo : Left o₀ at (listing d whole) o next (listing d rest)
+
+-- the same with the first of the values that are left, its contents c and the values r after it
+pub record Turn (w t : List ℕ) (from n d : ℕ) (o₀ : List ℕ) (at : ℕ) (o : List ℕ) (i left next : ℕ) : Type 0 where
+  pub whole : Forest
+  pub c : Forest
+  pub r : Forest
+  pub l : Label
+  pub was : Stands w t from whole
+  pub all : count whole ≡ n
+  pub room : Room at (listing d whole)
+  pub says : Says w t i l (count c)
+  pub inside : Stands w t (i + 1) c
+  pub after : Stands w t (i + 1 + size c) r
+  pub counted : count r ≡ left - 1
+  pub few : suc (size c + size r) ≤ length w
+  pub deeper : d + suc (depth c) ≤ 64
+  pub shallow : d + depth r ≤ 64
+  pub ends : i + 1 + size c + size r ≡ from + size whole
+  pub todo : Left o₀ at (listing d whole) o next (line d l (count c) ++ (listing (suc d) c ++ listing d r))
+
+count-size : (f : Forest) → count f ≤ size f
+unfolding count size
+count-size nil = omega arith
+count-size (node l c r) = omega (arith, count-size r)
+
+none-of : (f : Forest) → count f ≡ 0 → f ≡ nil
+unfolding count
+none-of nil e = refl
+none-of (node l c r) e = absurd (omega arith)
+
+module _ {w t : List ℕ} {from n d : ℕ} {o₀ : List ℕ} {at : ℕ} where
+  pub going-all : Ready w t from n d at → Going w t from n d o₀ at o₀ from n at
+  going-all y =
+      record {
+        whole = y .values;
+        rest = y .values;
+        was = y .stands;
+        all = y .counted;
+        room = y .room;
+        stands = y .stands;
+        counted = y .counted;
+        few = y .few;
+        shallow = y .shallow;
+        ends = refl;
+        todo = left-all;
+      }
+
+  module _ {o : List ℕ} {i left next : ℕ} where
+    turn-of : (whole rest : Forest) → Stands w t from whole → count whole ≡ n → Room at (listing d whole) → Stands w t i rest → count rest ≡ left → size rest ≤ length w → d + depth rest ≤ 64 → i + size rest ≡ from + size whole
+        → Left o₀ at (listing d whole) o next (listing d rest) → 0 < left → Turn w t from n d o₀ at o i left next
+    unfolding Stands count size depth listing
+    turn-of whole nil was all room stands counted few shallow ends todo h = absurd (omega arith)
+    turn-of whole (node l c r) was all room stands counted few shallow ends todo h =
+        record {
+          whole = whole;
+          c = c;
+          r = r;
+          l = l;
+          was = was;
+          all = all;
+          room = room;
+          says = stands .0;
+          inside = stands .1;
+          after = stands .2;
+          counted = omega arith;
+          few = few;
+          deeper = omega arith;
+          shallow = omega arith;
+          ends = omega arith;
+          todo = todo;
+        }
+
+    pub turn : Going w t from n d o₀ at o i left next → 0 < left → Turn w t from n d o₀ at o i left next
+    turn g h = turn-of (g .whole) (g .rest) (g .was) (g .all) (g .room) (g .stands) (g .counted) (g .few) (g .shallow) (g .ends) (g .todo) h
+
+    -- after the last one
+    pub going-none : Going w t from n d o₀ at o i left next → left ≤ 0 → Wrote w t from n d o₀ at o i next
+    unfolding listing size
+    going-none g h f s e =
+        let k : f ≡ g .whole = stands-one w t f (g .whole) from s (g .was) (e ∙ sym (g .all)) in
+        let z : g .rest ≡ nil = none-of (g .rest) (omega (arith, g .counted)) in
+        let ends : i + size nil ≡ from + size (g .whole) = rw z at (g .ends) in
+        let todo : Left o₀ at (listing d (g .whole)) o next [] = rw z at (g .todo) in
+        rw k (record { passed = omega arith; put = left-none todo })
+
+    module _ (u : Turn w t from n d o₀ at o i left next) where
+      line-room : Room next (line d (labelAt w t i) (arityAt w i))
+      line-room = rw (u .says .label, u .says .arity) (room-first _ (left-room (u .room) (u .todo)))
+
+      -- its line
+      pub turn-line : Reads w t i × Room next (line d (labelAt w t i) (arityAt w i))
+      turn-line = (u .says .reads, line-room)
+
+      -- how many values stand directly in it
+      pub turn-arity : (4 * i + 4 ≤ length w) × (arityAt w i ≤ length w)
+      turn-arity = (u .says .reads .inside, omega (arith, u .says .arity, u .few, count-size (u .c)))
+
+      module _ {o₁ : List ℕ} {p m : ℕ} (lined : Put o next (line d (labelAt w t i) (arityAt w i)) o₁ p) (many : m ≡ arityAt w i) where
+        after-line : Left o₀ at (listing d (u .whole)) o₁ p (listing (suc d) (u .c) ++ listing d (u .r))
+        after-line = left-more _ (u .todo) (rw (u .says .label, u .says .arity) at lined)
+
+        -- its contents
+        pub turn-inside : Ready w t (i + 1) m (d + 1) p
+        turn-inside =
+            record {
+              values = u .c;
+              stands = u .inside;
+              counted = sym (many ∙ u .says .arity);
+              few = omega (arith, u .few);
+              shallow = omega (arith, u .deeper);
+              room = rw add-one (room-first (listing d (u .r)) (left-room (u .room) after-line));
+            }
+
+        -- the values after it
+        pub turn-again : {o₂ : List ℕ} {j q : ℕ} → Wrote w t (i + 1) m (d + 1) o₁ p o₂ j q → Going w t from n d o₀ at o₂ j (left - 1) q
+        turn-again {o₂} {j} {q} x =
+            let y = x (u .c) (u .inside) (sym (many ∙ u .says .arity)) in
+            let put : Put o₁ p (listing (suc d) (u .c)) o₂ q = rw add-one at (y .put) in
+            record {
+              whole = u .whole;
+              rest = u .r;
+              was = u .was;
+              all = u .all;
+              room = u .room;
+              stands = rw (y .passed) (u .after);
+              counted = u .counted;
+              few = omega (arith, u .few);
+              shallow = u .shallow;
+              ends = omega (arith, y .passed, u .ends);
+              todo = left-more (listing d (u .r)) after-line put;
+            }
+
+-- ---- the two walks of the list call
+
+module _ (w : List ℕ) (n : ℕ) (t o : List ℕ) (o₀ o₁ : List ℕ) (i m : ℕ) (measured : Wrote w t 0 1 0 o₀ 0 o₁ i m) where
+  measure : (f : WellFormed w n t) → m ≡ length (listing 0 (one (f .value)))
+  measure f = omega (arith, measured (one (f .value)) (whole-stands w n t f) (whole-one w n t f) .put .ends)
+
+  -- the output is too short
+  pub lists-full : length o < m → Lists w n t o o Full
+  unfolding written
+  lists-full h f = sym (rw (lt-leb (length (listing 0 (one (f .value)))) (length o) (omega (arith, measure f))))
+
+  -- the listing goes to its front
+  pub lists-all : (o′ : List ℕ) (j p : ℕ) → m ≤ length o → Wrote w t 0 1 0 o 0 o′ j p → Lists w n t o o′ (Written p)
+  unfolding written
+  lists-all o′ j p h x f =
+      let b = listing 0 (one (f .value)) in
+      let put = x (one (f .value)) (whole-stands w n t f) (whole-one w n t f) .put in
+      let long : length b ≤ length o = omega (arith, measure f) in
+      let e : p ≡ length b = omega (arith, put .ends) in
+      let z : 0 + length b ≡ length b = omega arith in
+      let front : o′ ≡ b ++ drop (length b) o = put .wrote ∙ rw z at (sets-eq b o 0 (rw z long)) in
+      rw (le-leb (length b) (length o) long, e, front)

@@ -1,0 +1,75 @@
+-- Bytes put into a lent output, as far as it goes: what a function that writes a field promises. Stores past the end are none,
+-- so that a listing is measured by writing it to no output at all.
+use Prim.Native.Nat.{ℕ, suc, _+_, _^_, _≤_, _<_}
+use mathlib.Core.List.{List, [], _∷_, _++_}
+use mathlib.Core.Path.{_≡_, refl, sym, _∙_, ap}
+use native.Mathlib.Nat.{add-zero, add-suc, suc-add}
+use native.Mathlib.Omega.{arith}
+use lib.ListN.{length, length-append, set}
+use lib.Seq.{sets, length-sets, set-comm}
+
+-- the output is o with b stored from `at` on, and the next place is behind b
+pub record Put (o : List ℕ) (at : ℕ) (b o′ : List ℕ) (next : ℕ) : Type 0 where
+  pub wrote : o′ ≡ sets o at b
+  pub ends : next ≡ at + length b
+
+-- the places of b can be counted
+pub record Room (at : ℕ) (b : List ℕ) : Type 0 where
+  pub counts : at + length b < 2 ^ 64
+
+pub sets-append : (a b l : List ℕ) (i : ℕ) → sets l i (a ++ b) ≡ sets (sets l i a) (i + length a) b
+sets-append [] b l i = rw add-zero
+sets-append (x ∷ a) b l i = sets-append a b (set l i x) (suc i) ∙ ap (λ (k : ℕ). sets (sets (set l i x) (suc i) a) k b) (suc-add i (length a) ∙ sym (add-suc i (length a)))
+
+pub put-same : {o b b′ o′ : List ℕ} {at p : ℕ} → b ≡ b′ → Put o at b o′ p → Put o at b′ o′ p
+put-same e x = rw e at x
+
+pub room-same : {b b′ : List ℕ} {at : ℕ} → b ≡ b′ → Room at b′ → Room at b
+room-same e r = rw e r
+
+-- one run behind another
+pub put-then : {o a o₁ b o₂ : List ℕ} {at p q : ℕ} → Put o at a o₁ p → Put o₁ p b o₂ q → Put o at (a ++ b) o₂ q
+put-then {o} {a} {o₁} {b} {o₂} {at} x y =
+    record {
+      wrote = y .wrote ∙ rw (x .wrote, x .ends) (sym (sets-append a b o at));
+      ends = y .ends ∙ rw (length-append a b) (omega (arith, x .ends));
+    }
+
+pub room-first : {at : ℕ} {a : List ℕ} (b : List ℕ) → Room at (a ++ b) → Room at a
+room-first {at} {a} b r = record { counts = omega (arith, r .counts, length-append a b) }
+
+pub room-then : {o a o₁ : List ℕ} {at p : ℕ} (b : List ℕ) → Put o at a o₁ p → Room at (a ++ b) → Room p b
+room-then {o} {a} b x r = record { counts = omega (arith, r .counts, length-append a b, x .ends) }
+
+-- a store behind a run
+set-sets : (a l : List ℕ) (i j x : ℕ) → i + length a ≤ j → sets (set l j x) i a ≡ set (sets l i a) j x
+set-sets [] l i j x h = refl
+set-sets (y ∷ a) l i j x h =
+    ap (λ (m : List ℕ). sets m (suc i) a) (set-comm l j i x y (λ e. omega arith)) ∙ set-sets a (set l i y) (suc i) j x (omega arith)
+
+-- the last byte may be stored first
+pub sets-last : (a l : List ℕ) (i x : ℕ) → sets (set l (i + length a) x) i a ≡ sets l i (a ++ (x ∷ []))
+sets-last a l i x = set-sets a l i (i + length a) x (omega arith) ∙ sym (sets-append a (x ∷ []) l i)
+
+-- With b′ left to store, all of b will have been.
+pub record Left (o₀ : List ℕ) (at : ℕ) (b o : List ℕ) (p : ℕ) (b′ : List ℕ) : Type 0 where
+  pub same : sets o p b′ ≡ sets o₀ at b
+  pub place : p + length b′ ≡ at + length b
+  pub kept : length o ≡ length o₀
+
+pub left-all : {o : List ℕ} {at : ℕ} {b : List ℕ} → Left o at b o at b
+left-all = record { same = refl; place = refl; kept = refl }
+
+pub left-more : {o₀ b o x o′ : List ℕ} {at p q : ℕ} (y : List ℕ) → Left o₀ at b o p (x ++ y) → Put o p x o′ q → Left o₀ at b o′ q y
+left-more {o₀} {b} {o} {x} {o′} {at} {p} {q} y l w =
+    record {
+      same = rw (w .wrote, w .ends) (sym (sets-append x y o p)) ∙ l .same;
+      place = omega (arith, w .ends, l .place, length-append x y);
+      kept = ap length (w .wrote) ∙ length-sets o p x ∙ l .kept;
+    }
+
+pub left-none : {o₀ b o : List ℕ} {at p : ℕ} → Left o₀ at b o p [] → Put o₀ at b o p
+left-none l = record { wrote = l .same; ends = omega (arith, l .place) }
+
+pub left-room : {o₀ b o b′ : List ℕ} {at p : ℕ} → Room at b → Left o₀ at b o p b′ → Room p b′
+left-room r l = record { counts = omega (arith, r .counts, l .place) }

@@ -1,0 +1,13 @@
+-- Document 01's value table: whether a lent one is well formed, the length of its text, and what compare answers.
+pub mod Find
+pub mod Complete
+pub mod Record
+pub mod Sound
+pub mod Names
+pub mod Items
+pub mod Check
+pub mod Decides
+pub mod Verdict
+pub mod Compare
+pub mod Length
+pub mod Examples

@@ -1,0 +1,163 @@
+"""Value tables: from the oracle's answers, made by hand from Python values, and broken one rule at a time. A table is a pair of
+a list of 64-bit words and a text; its listing is written here from the rule, record by record."""
+
+NONE, BOOL, INT, FLOAT, BYTES, STRING, LIST, TUPLE, SET, FROZENSET, DICT, GLOBAL, OBJECT = range(13)
+KINDS = ["none", "bool", "int", "float", "bytes", "string", "list", "tuple", "set", "frozenset", "dict", "global", "object"]
+CONTAINERS = {LIST, TUPLE, SET, FROZENSET, DICT}
+
+
+def of_answer(answer):
+    """The table of an answer `value LENGTH COUNT WORDS TEXT`."""
+    _, _, _, words, text = answer.split(" ")
+    text = b"" if text == "-" else bytes.fromhex(text)
+    return [int(words[i:i + 16], 16) for i in range(0, len(words), 16)], text
+
+
+def asked(table):
+    """WORDS TEXT as the oracle reads them."""
+    words, text = table
+    return ("".join("%016x" % w for w in words) or "-") + " " + (text.hex() or "-")
+
+
+# A value here is (kind, payload): payload is bits, bytes, a pair of names, or a list of values; an Object's is
+# (module, name, new, [arguments as a tuple value] or with a state after it).
+
+def table(value):
+    words, text = [], []
+    put(value, words, text)
+    return words, b"".join(text)
+
+
+def place(text):
+    return sum(map(len, text))
+
+
+def put(value, words, text):
+    kind, payload = value
+    at = len(words)
+    words += [kind, 0, 0, 0]
+    if kind in (BOOL, INT, FLOAT):
+        words[at + 1] = payload
+    elif kind in (BYTES, STRING):
+        words[at + 1:at + 3] = [place(text), len(payload)]
+        text.append(payload)
+    elif kind in (GLOBAL, OBJECT):
+        module, name = payload[0], payload[1]
+        words[at + 1:at + 3] = [place(text), len(module) << 32 | len(name)]
+        text.append(module + name)
+    items = payload if kind in CONTAINERS else payload[3] if kind == OBJECT else []
+    for item in items:
+        put(item, words, text)
+    if kind in CONTAINERS:
+        words[at + 1:at + 3] = [len(items) // 2 if kind == DICT else len(items), (len(words) - at) // 4]
+    if kind == OBJECT:
+        words[at] += 16 * payload[2] + 32 * (len(items) - 1)
+        words[at + 3] = (len(words) - at) // 4
+
+
+def shown(data):
+    return "".join(chr(b) if 0x20 <= b <= 0x7E else "\\x%02x" % b for b in data)
+
+
+def listing(words, text):
+    """The rule of the list call, line by line, for a well-formed table."""
+    lines, ends = [], []
+    for i in range(len(words) // 4):
+        while ends and ends[-1] == i:
+            ends.pop()
+        head, a, b, c = words[4 * i:4 * i + 4]
+        kind = head % 16
+        fields = [str(len(ends)), KINDS[kind]]
+        if kind == NONE:
+            fields.append("-")
+        elif kind == BOOL:
+            fields.append(str(a))
+        elif kind == INT:
+            fields.append(str(a - (1 << 64) if a >> 63 else a))
+        elif kind == FLOAT:
+            fields.append("%016x" % a)
+        elif kind in (BYTES, STRING):
+            fields.append(shown(text[a:a + b]))
+        elif kind in CONTAINERS:
+            fields.append(str(a))
+            ends.append(i + b)
+        else:
+            m, n = b >> 32, b & 0xFFFFFFFF
+            fields += [shown(text[a:a + m]), shown(text[a + m:a + m + n])]
+            if kind == OBJECT:
+                fields += [str(head >> 4 & 1), str(head >> 5 & 1)]
+                ends.append(i + c)
+        lines.append("\t".join(fields) + "\n")
+    return "".join(lines).encode()
+
+
+def tuple_of(*items):
+    return (TUPLE, list(items))
+
+
+def samples():
+    """Well-formed tables that a reading seldom makes: every kind, every byte, depth 64, empty containers."""
+    none, one, two = (NONE, None), (INT, 1), (INT, 2)
+    every = bytes(range(256))
+    deep = none
+    for _ in range(63):
+        deep = tuple_of(deep)
+    objects = [(OBJECT, (b"m", b"C", new, [tuple_of(one)] + state)) for new in (0, 1) for state in ([], [none])]
+    return [none, (BOOL, 0), (BOOL, 1), one, (INT, (1 << 64) - 1), (INT, 1 << 63), (INT, (1 << 63) - 1),
+            (FLOAT, 0), (FLOAT, 1 << 63), (FLOAT, 0x7FF8 << 48), (FLOAT, 0xFFF8 << 48), (FLOAT, 0x3FF << 52),
+            (BYTES, b""), (BYTES, every), (STRING, b""), (STRING, "é€😀\t\\".encode()), (LIST, []), (TUPLE, []), (SET, []),
+            (FROZENSET, []), (DICT, []), (LIST, [one, two]), tuple_of(one), (SET, [one, two]), (FROZENSET, [one]),
+            (DICT, [one, none, two, none]), (GLOBAL, (b"m", b"n")), (GLOBAL, (b"", b"")), deep,
+            (DICT, [tuple_of(one), (SET, [two]), (LIST, []), none][:2]), (LIST, [none] * 2047)] + objects
+
+
+def broken():
+    """(what, words, count, text): each breaks one rule of well-formedness."""
+    none, one = (NONE, None), (INT, 1)
+    words, text = table((LIST, [one, (BYTES, b"ab"), (STRING, b"c")]))
+    n = len(words) // 4
+
+    def with_word(at, value):
+        return words[:at] + [value] + words[at + 1:]
+
+    yield "count 0", words, 0, text
+    yield "count above the slice", words, n + 1, text
+    yield "count below the value", words, n - 1, text
+    yield "count above 2,048", *flat(table((LIST, [none] * 2048)), 2049)
+    yield "a size too small", with_word(2, n - 1), n, text
+    yield "a size too large", with_word(2, n + 1), n, text
+    yield "an item too many", with_word(1, 4), n, text
+    yield "an item too few", with_word(1, 2), n, text
+    yield "a gap in the text", with_word(13, 3), n, text + b"x"
+    yield "texts that overlap", with_word(13, 1), n, text
+    yield "text longer than its texts", words, n, text + b"x"
+    yield "text shorter than its texts", words, n, text[:-1]
+    yield "an unused word", with_word(3, 1), n, text
+    yield "an unused word of an int", with_word(6, 1), n, text
+    yield "flags on a list", with_word(0, 6 + 16), n, text
+    yield "no such kind", with_word(4, 13), n, text
+    yield "a kind above 16", with_word(4, 2 + 64), n, text
+    yield "bool 2", *flat(table((BOOL, 2)))
+    yield "equal keys", *flat(table((DICT, [one, none, one, none])))
+    yield "descending keys", *flat(table((DICT, [(INT, 2), none, one, none])))
+    yield "equal items", *flat(table((SET, [one, one])))
+    yield "descending items", *flat(table((FROZENSET, [one, (INT, (1 << 64) - 1)])))
+    yield "a string that is not UTF-8", *flat(table((STRING, b"\xed\xa0\x80")))
+    yield "a module that is not UTF-8", *flat(table((GLOBAL, (b"\xff", b"n"))))
+    yield "a name that is not UTF-8", *flat(table((GLOBAL, (b"m", b"\xc0\x80"))))
+    yield "a character cut between module and name", *flat(table((GLOBAL, (b"\xc3", b"\xa9"))))
+    deep = none
+    for _ in range(64):
+        deep = tuple_of(deep)
+    yield "depth 65", *flat(table(deep))
+    w, t = table((DICT, [one, none]))
+    yield "a dict with a key alone", w[:8], 2, t
+    w, t = table((OBJECT, (b"m", b"C", 0, [(LIST, [])])))
+    yield "arguments that are no tuple", w, len(w) // 4, t
+    w, t = table((OBJECT, (b"m", b"C", 0, [(TUPLE, [])])))
+    yield "a state that is not there", [w[0] + 32] + w[1:], len(w) // 4, t
+    yield "text above 65,536", *flat(table((BYTES, b"x" * 65537)))
+
+
+def flat(made, count=None):
+    return made[0], len(made[0]) // 4 if count is None else count, made[1]
