@@ -47,7 +47,7 @@ pub record Compares (w : List ℕ) (n : ℕ) (t : List ℕ) (v : List ℕ) (m : 
 
 -- ---- a table is well formed or it is not
 
-decided : (w : List ℕ) (n : ℕ) (t : List ℕ) → WellFormed w n t ⊎ (WellFormed w n t → ⊥)
+pub decided : (w : List ℕ) (n : ℕ) (t : List ℕ) → WellFormed w n t ⊎ (WellFormed w n t → ⊥)
 decided w n t = go (ltb 2048 n) (ltb (length w) (4 * n)) (ltb 65536 (length t)) refl refl refl
   where
     last : Lent w n t → (s : Checked) → answer (find w n t 64 0 0) ≡ s → WellFormed w n t ⊎ (WellFormed w n t → ⊥)

@@ -1,0 +1,100 @@
+//! The texts that are decoded, the same in every run: characters drawn from a seeded sequence, so that no branch of either
+//! side can be foretold from a short pattern.
+
+/// How many bytes of the pickle a long text takes.
+pub const LONG: usize = 40_000;
+
+/// SplitMix64.
+struct Draw(u64);
+
+impl Draw {
+    fn below(&mut self, n: usize) -> usize {
+        self.0 = self.0.wrapping_add(0x9E37_79B9_7F4A_7C15);
+        let mut z = self.0;
+        z = (z ^ (z >> 30)).wrapping_mul(0xBF58_476D_1CE4_E5B9);
+        z = (z ^ (z >> 27)).wrapping_mul(0x94D0_49BB_1331_11EB);
+        ((z ^ (z >> 31)) % n as u64) as usize
+    }
+
+    fn among<T: Copy>(&mut self, items: &[T]) -> T {
+        items[self.below(items.len())]
+    }
+
+    /// A letter, digit, space or comma.
+    fn plain(&mut self) -> u8 {
+        self.among(b"etaoinshrdlcumwfgypbvk ETAOINSHRD 0123456789 ,")
+    }
+
+    /// A character between two, both included.
+    fn between(&mut self, first: char, last: char) -> char {
+        char::from_u32(first as u32 + self.below(last as usize - first as usize + 1) as u32).unwrap()
+    }
+}
+
+/// Plain ASCII, without quotes and backslashes.
+pub fn ascii() -> Vec<u8> {
+    let mut draw = Draw(1);
+    (0..LONG).map(|_| draw.plain()).collect()
+}
+
+/// Well-formed UTF-8: words of Latin, Cyrillic, CJK or emoji.
+pub fn mixed() -> Vec<u8> {
+    let mut draw = Draw(2);
+    let mut text = String::new();
+    while text.len() < LONG - 64 {
+        let script = draw.below(4);
+        for _ in 0..2 + draw.below(8) {
+            text.push(match script {
+                0 if draw.below(4) == 0 => draw.between('à', 'ö'),
+                0 => draw.between('a', 'z'),
+                1 => draw.between('а', 'я'),
+                2 => draw.between('一', '龥'),
+                _ => draw.between('😀', '🙏'),
+            });
+        }
+        text.push(' ');
+    }
+    let mut text = text.into_bytes();
+    text.resize(LONG, b'.');
+    text
+}
+
+/// ASCII in which every sixteenth byte is none of UTF-8: a continuation without a start, starts without their continuation,
+/// and bytes that stand nowhere.
+pub fn damaged() -> Vec<u8> {
+    let mut draw = Draw(3);
+    let mut text = ascii();
+    for byte in text.iter_mut().skip(15).step_by(16) {
+        *byte = draw.among(&[0x80, 0xBF, 0xC3, 0xE2, 0xF0, 0xC0, 0xFF]);
+    }
+    text
+}
+
+/// The inside of a `str` literal: in each eight bytes plain ones and then an escape.
+pub fn escaped() -> Vec<u8> {
+    let mut draw = Draw(4);
+    let mut text = Vec::new();
+    while text.len() < LONG {
+        let escape = match draw.below(4) {
+            0 => format!("\\x{:02x}", draw.below(256)),
+            1 => format!("\\{:03o}", draw.below(256)),
+            _ => format!("\\{}", draw.among(&['n', 't', 'r', '\\', '\''])),
+        };
+        text.extend((escape.len()..8).map(|_| draw.plain()));
+        text.extend(escape.bytes());
+    }
+    text
+}
+
+/// A `unicode` literal: in each sixteen bytes five of ASCII, five of Latin-1 and an escape of a Cyrillic or CJK character.
+pub fn latin() -> Vec<u8> {
+    let mut draw = Draw(5);
+    let mut text = Vec::new();
+    while text.len() < LONG {
+        text.extend((0..5).map(|_| draw.plain()));
+        text.extend((0..5).map(|_| 0xA0 + draw.below(0x60) as u8));
+        let character = if draw.below(2) == 0 { draw.between('а', 'я') } else { draw.between('一', '龥') };
+        text.extend(format!("\\u{:04x}", character as u32).bytes());
+    }
+    text
+}

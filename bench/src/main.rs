@@ -1,0 +1,42 @@
+//! The driver: measures the benchmarks named as arguments, or all, and prints a table for each.
+//! Status 1: two answers differ; 2: no benchmark has that name.
+
+mod inputs;
+mod measure;
+mod ours;
+/// The unchanged Rust, of which a benchmark calls what it needs.
+#[allow(dead_code, unused_imports, unused_macros)]
+mod pickle;
+
+use std::process::exit;
+
+/// Each benchmark is the module of its name: `ABOUT`, a note on what is compared, and `cases`.
+macro_rules! benchmarks {
+    ($($name:ident)*) => {
+        $(mod $name;)*
+        const BENCHMARKS: &[(&str, &str, fn() -> Vec<measure::Case>)] =
+            &[$((stringify!($name), $name::ABOUT, $name::cases)),*];
+    };
+}
+
+benchmarks! {
+    literals
+}
+
+fn main() {
+    let wanted: Vec<String> = std::env::args().skip(1).collect();
+    if let Some(name) = wanted.iter().find(|name| !BENCHMARKS.iter().any(|(known, ..)| name == known)) {
+        eprintln!("bench: no benchmark {name}");
+        exit(2);
+    }
+    let mut agreed = true;
+    for (name, about, cases) in BENCHMARKS {
+        if wanted.is_empty() || wanted.iter().any(|wanted| wanted == name) {
+            println!("\n{name}: {about}\n");
+            agreed &= measure::table(cases());
+        }
+    }
+    if !agreed {
+        exit(1);
+    }
+}

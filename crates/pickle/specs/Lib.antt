@@ -1,0 +1,2 @@
+-- What the public calls answer.
+pub mod List
