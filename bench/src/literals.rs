@@ -99,6 +99,9 @@ fn same(ours: Result<Answer, String>, rust: Result<Answer, String>) -> Result<()
     if ours == rust {
         return Ok(());
     }
-    let tell = |answer: &Answer| format!("{} bytes read, kind {}, word {:#x}, {} bytes of text", answer.length, answer.kind, answer.word, answer.text.len());
     Err(format!("ours {}; the Rust {}", tell(&ours), tell(&rust)))
+}
+
+fn tell(Answer { length, kind, word, text }: &Answer) -> String {
+    format!("reads {length} bytes, kind {kind}, word {word:#x}, {} bytes of text", text.len())
 }

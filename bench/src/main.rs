@@ -1,14 +1,15 @@
 //! The driver: measures the benchmarks named as arguments, or all, and prints a table for each.
 //! Status 1: two answers differ; 2: no benchmark has that name.
 
+// Rust's own start reads the memory map of its process, of which the kit's emulator dies: the C library calls `main` here.
+#![no_main]
+
 mod inputs;
 mod measure;
 mod ours;
 /// The unchanged Rust, of which a benchmark calls what it needs.
 #[allow(dead_code, unused_imports, unused_macros)]
 mod pickle;
-
-use std::process::exit;
 
 /// Each benchmark is the module of its name: `ABOUT`, a note on what is compared, and `cases`.
 macro_rules! benchmarks {
@@ -23,11 +24,12 @@ benchmarks! {
     literals
 }
 
-fn main() {
+#[no_mangle]
+extern "C" fn main() -> i32 {
     let wanted: Vec<String> = std::env::args().skip(1).collect();
     if let Some(name) = wanted.iter().find(|name| !BENCHMARKS.iter().any(|(known, ..)| name == known)) {
         eprintln!("bench: no benchmark {name}");
-        exit(2);
+        return 2;
     }
     let mut agreed = true;
     for (name, about, cases) in BENCHMARKS {
@@ -36,7 +38,5 @@ fn main() {
             agreed &= measure::table(cases());
         }
     }
-    if !agreed {
-        exit(1);
-    }
+    i32::from(!agreed)
 }

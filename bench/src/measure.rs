@@ -36,8 +36,9 @@ pub fn table(cases: Vec<Case>) -> bool {
         });
         println!("{:<34} {ours:>11.1} {rust:>11.1} {our_rate:>10} {rust_rate:>10} {:>10.2}", case.name, ours / rust);
     }
-    println!("\nTime for a call, best of {RUNS} runs each, in turn; MB is 1,000,000 bytes of the pickle's text.");
-    println!("ours/Rust is the ratio of the times: below 1, ours is the faster. Answers {}.", if agreed { "agree" } else { "DIFFER" });
+    println!("\nThe time of a call, best of {RUNS} runs of each side in turn. MB: 1,000,000 bytes of text in the pickle.");
+    println!("ours/Rust: the ratio of the times; below 1 ours is the faster.");
+    println!("{}", if agreed { "Both sides gave the same answers." } else { "THE ANSWERS DIFFER." });
     agreed
 }
 

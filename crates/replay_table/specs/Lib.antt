@@ -1,0 +1,2 @@
+-- What a request's numbers are.
+pub mod Small

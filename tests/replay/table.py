@@ -1,0 +1,37 @@
+"""What the program replay_table reads and prints: requests in, and for each an answer line, with a listing after it."""
+import os
+import subprocess
+import sys
+
+ROOT = os.path.join(os.path.dirname(os.path.abspath(__file__)), "..", "..")
+sys.path.insert(0, os.path.join(ROOT, "tests", "cases"))
+COMPARE, LIST = 1, 2
+
+
+def lent(words, text):
+    return b"".join(w.to_bytes(8, "big") for w in words) + text
+
+
+def request(call, words, count, text, words2=(), count2=0, text2=b"", output=0):
+    numbers = [call, len(words), count, len(text), len(words2), count2, len(text2), output]
+    return b"".join(n.to_bytes(4, "little") for n in numbers) + lent(words, text) + lent(words2, text2)
+
+
+def compared(sign):
+    return b"0\t0\t%d\n" % sign
+
+
+def bad(call, detail):
+    return b"21\t%d\t0\n" % detail if call == COMPARE else b"21\t%d\t0\t0\n" % detail
+
+
+def listed(listing, output):
+    if output < len(listing):
+        return b"22\t0\t0\t0\n"
+    return b"0\t0\t%d\t0\n" % len(listing) + listing
+
+
+def program(requests):
+    done = subprocess.run([os.path.join(ROOT, "tests", "run"), "replay_table"], input=b"".join(requests),
+                          stdout=subprocess.PIPE, check=True)
+    return done.stdout
