@@ -1,0 +1,1 @@
+// The machine of de.rs: its definitions so far.
