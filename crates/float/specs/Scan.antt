@@ -12,7 +12,7 @@ use Rattle.float.specs.declared.Mantissa.{Mantissa}
 use Rattle.float.specs.declared.Power.{Power}
 use Rattle.float.specs.declared.Power.the-variants.{Up, Down, Unformed}
 
--- a digit put after 10 ^ 18 or more is past it
+-- a digit put after 10 ^ 18 or more is at it or past it
 abbrev pub cap : ℕ
 cap = 10 ^ 19
 

@@ -45,7 +45,7 @@ unfoldable pub evaluates : Unit {0}
 unfolding lowFirst lastByte denotes inI64 bits64 longOf
 evaluates = tt
 
--- PEP 307's own examples
+-- the examples that Python's pickle.decode_long gives of this encoding
 pep-0 : denotes [] ≡ pos 0
 unfolding evaluates
 pep-0 = refl

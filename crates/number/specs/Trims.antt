@@ -1,4 +1,4 @@
--- That `trimmed` is what Unicode means by it: what is cut off at either end is a run of White_Space characters, and what is left
+-- What `trimmed` means: what is cut off at either end is a run of White_Space characters, and what is left
 -- neither begins nor ends with one. Assumes nothing.
 use Prim.Native.Nat.{ℕ, zero, suc, _≤_, _<_}
 use mathlib.Core.Bool.{Bool, true, false, false≢true, cond, _&&_, _||_}

@@ -1,5 +1,5 @@
--- The opcodes of protocols 0 to 2, as Python's pickletools lists them, in its order. The one table of opcodes: the reader and the
--- writer go by it, and a test holds it against pickletools itself, field by field.
+-- The opcodes of protocols 0 to 2, as Python's pickletools lists them, in its order. The one table of opcodes;
+-- a test holds it against pickletools itself, field by field.
 use Prim.Native.Nat.{ℕ}
 use mathlib.Core.Bool.{Bool, true, false, cond, _&&_, _||_, not}
 use mathlib.Core.List.{List, [], _∷_}
@@ -164,7 +164,7 @@ rowIn (r ∷ t) n = cond (eqb n (r .number)) (some r) (rowIn t n)
 unfoldable pub rowOf : ℕ → Option Row
 rowOf n = rowIn table n
 
--- ---- no number stands twice, and each name of the Rust has one row
+-- ---- no number stands twice
 
 unfoldable pub standsIn : List Row → ℕ → Bool
 standsIn [] n = false
@@ -186,3 +186,23 @@ knownName (some r) = elim (r .name) [ known o ↦ some o | refused x ↦ none ]
 
 unfoldable pub opcodeOf : ℕ → Option Opcode
 opcodeOf n = knownName (rowOf n)
+
+-- ---- each row decides to its own name, a refused one to none, and a name has one row
+
+unfoldable pub agrees : Option Opcode → Name → Bool
+agrees none (known o) = false
+agrees none (refused x) = true
+agrees (some p) (known o) = eqb (place p) (place o)
+agrees (some p) (refused x) = false
+
+unfoldable pub numbered : Name → ℕ → Bool
+numbered (known o) n = eqb (numberOf o) n
+numbered (refused x) n = true
+
+unfoldable pub decides : List Row → Bool
+decides [] = true
+decides (r ∷ t) = agrees (opcodeOf (r .number)) (r .name) && (numbered (r .name) (r .number) && decides t)
+
+pub each-row-decides : T (decides table)
+unfolding decides agrees numbered opcodeOf knownName rowOf rowIn numberOf numberIn isNamed place
+each-row-decides = tt

@@ -1,5 +1,5 @@
 // The opcodes of protocols 0 to 2 (mod.rs's `op`), under the Rust's names and in its order. The `pickle!` macro is left out.
-// specs/ has their table from pickletools; the reader decides from it.
+// specs/ has their table from pickletools, and the decision over an opcode byte by it.
 ghost use mathlib.Core.Path.{_≡_};
 ghost use Rattle.op.specs.Table.{numberOf};
 

@@ -1,5 +1,5 @@
 -- What a leaf of the reader says of a literal: what it read, or the refusal with the place of its fault, counted from the start
--- of the literal's line. Each answer enum of a leaf is taken to this by one definition.
+-- of the literal's line (0 where a literal has no line). Each answer enum of a leaf is taken to this by one definition.
 use Prim.Native.Nat.{ℕ}
 use Rattle.refusal.specs.declared.Refusal.{Refusal}
 

@@ -1,4 +1,4 @@
--- Laws of texts that callers use: how long a value can be, that its bytes are bytes, and what an answer says of a line. Assumes nothing.
+-- Laws of texts that callers use: how long a value can be, and that its bytes are bytes. Assumes nothing.
 use Prim.Native.Nat.{ℕ, zero, suc, _+_, _-_, _*_, _/_, _^_, _≤_, _<_}
 use mathlib.Core.Bool.{Bool, true, false, cond, _&&_, _||_}
 use mathlib.Core.List.{List, [], _∷_, _++_}
