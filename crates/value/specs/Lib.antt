@@ -8,5 +8,6 @@ pub mod Tabled
 pub mod WellFormed
 pub mod Walk
 pub mod Told
+pub mod Total
 pub mod Labels
 pub mod Left

@@ -112,7 +112,7 @@ make-is DictL = refl
 make-is (GlobalL m n) = refl
 make-is (ObjectL m n b) = ap (ObjectL m n) (isOne-bit b)
 
-label-eq : (l m : Label) → labels l m ≡ Ordering·eq → new l ≡ new m → l ≡ m
+pub label-eq : (l m : Label) → labels l m ≡ Ordering·eq → new l ≡ new m → l ≡ m
 unfolding labels
 label-eq l m e h =
     let p = then-eq (compare (kind l) (kind m)) (lex (key l) (key m) then lex (name l) (name m)) e in
@@ -150,7 +150,7 @@ Chain Ordering·gt Ordering·lt o = Unit {0}
 Chain Ordering·gt Ordering·eq o = o ≡ Ordering·gt
 Chain Ordering·gt Ordering·gt o = o ≡ Ordering·gt
 
-then-chain : (a b c a′ b′ c′ : Ordering) → Chain a b c → Chain a′ b′ c′ → Chain (a then a′) (b then b′) (c then c′)
+pub then-chain : (a b c a′ b′ c′ : Ordering) → Chain a b c → Chain a′ b′ c′ → Chain (a then a′) (b then b′) (c then c′)
 unfolding Chain _then_
 then-chain Ordering·lt Ordering·lt c a′ b′ c′ h k = rw h
 then-chain Ordering·lt Ordering·eq c a′ Ordering·lt c′ h k = rw h
