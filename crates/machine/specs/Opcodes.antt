@@ -18,6 +18,7 @@ use Rattle.number.specs.Number.{Int, truth, whole, turned, intLiteral, longLite
 use Rattle.float.specs.Literal.{parseF64}
 use Rattle.text.specs.Text.{unescapeString, unescapeUnicode}
 use Rattle.value.specs.Value.{Label, NoneL, BoolL, I64L, F64L, BytesL, StringL, ListL, TupleL, SetL, FrozenSetL, DictL, GlobalL, ObjectL}
+pub use Rattle.value.specs.WellFormed.{isTuple}
 use Rattle.machine.specs.State.{Node, State, Res, ok, no, _>>=_, need, leaf, marksLimit, withMarks, withNodes, bytes, byte, line, pop, top, popMark, popMany, pushId, pushNode, push, link, nodeAt, extend, get, put}
 
 -- ---- kinds of nodes
@@ -36,21 +37,6 @@ isList FrozenSetL = false
 isList DictL = false
 isList (GlobalL m n) = false
 isList (ObjectL m n b) = false
-
-abbrev pub isTuple : Label → Bool
-isTuple NoneL = false
-isTuple (BoolL b) = false
-isTuple (I64L n) = false
-isTuple (F64L n) = false
-isTuple (BytesL t) = false
-isTuple (StringL t) = false
-isTuple ListL = false
-isTuple TupleL = true
-isTuple SetL = false
-isTuple FrozenSetL = false
-isTuple DictL = false
-isTuple (GlobalL m n) = false
-isTuple (ObjectL m n b) = false
 
 abbrev pub isDict : Label → Bool
 isDict NoneL = false
