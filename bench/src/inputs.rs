@@ -1,5 +1,7 @@
-//! The texts that are decoded, the same in every run: characters drawn from a seeded sequence, so that no branch of either
-//! side can be foretold from a short pattern.
+//! The texts and values, the same in every run: characters and numbers drawn from a seeded sequence, so that no branch of
+//! either side can be foretold from a short pattern.
+
+use crate::pickle::Value;
 
 /// How many bytes of the pickle a long text takes.
 pub const LONG: usize = 40_000;
@@ -23,6 +25,13 @@ impl Draw {
     /// A letter, digit, space or comma.
     fn plain(&mut self) -> u8 {
         self.among(b"etaoinshrdlcumwfgypbvk ETAOINSHRD 0123456789 ,")
+    }
+
+    /// A number of 1 to 9 digits, half of them negative.
+    fn integer(&mut self) -> Value {
+        let digits = 1 + self.below(9);
+        let number = self.below(10usize.pow(digits as u32)) as i64;
+        Value::I64(if self.below(2) == 0 { number } else { -number })
     }
 
     /// A character between two, both included.
@@ -97,4 +106,49 @@ pub fn latin() -> Vec<u8> {
         text.extend(format!("\\u{:04x}", character as u32).bytes());
     }
     text
+}
+
+/// A list of 2,048 records with itself: 292 dicts of three entries, two ints and a bytes of 8 to 15, and a dict of one int.
+pub fn dicts() -> Value {
+    let mut draw = Draw(6);
+    let key = |name: &str| Value::Bytes(name.into());
+    let mut items: Vec<Value> = (0..292)
+        .map(|_| {
+            let name = (0..8 + draw.below(8)).map(|_| draw.plain()).collect();
+            Value::Dict([
+                (key("id"), draw.integer()),
+                (key("level"), draw.integer()),
+                (key("name"), Value::Bytes(name)),
+            ].into_iter().collect())
+        })
+        .collect();
+    items.push(last(0));
+    Value::List(items)
+}
+
+/// The same list with another number in its last record, which makes it the greater.
+pub fn dicts_and_more() -> Value {
+    let Value::List(mut items) = dicts() else { unreachable!() };
+    items.pop();
+    items.push(last(1));
+    Value::List(items)
+}
+
+fn last(number: i64) -> Value {
+    Value::Dict([(Value::Bytes("id".into()), Value::I64(number))].into_iter().collect())
+}
+
+/// A tuple of 2,047 ints: 2,048 records with itself.
+pub fn flat() -> Value {
+    let mut draw = Draw(7);
+    Value::Tuple((0..2047).map(|_| draw.integer()).collect())
+}
+
+/// A list of 2,000 items, in turn a string of 40 plain characters and an int: 40,000 bytes of text.
+pub fn strings() -> Value {
+    let mut draw = Draw(8);
+    let text = ascii();
+    Value::List(text.chunks(40)
+        .flat_map(|text| [Value::String(String::from_utf8(text.to_vec()).unwrap()), draw.integer()])
+        .collect())
 }

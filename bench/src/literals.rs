@@ -55,11 +55,11 @@ fn case(name: &'static str, bytes: Option<usize>, pickle: Vec<u8>) -> Case {
                 black_box(ours::literal(black_box(&pickle), black_box(&mut room)));
             }
         }),
-        rust: Box::new(move |calls| {
+        rust: Some(Box::new(move |calls| {
             for _ in 0..calls {
                 let _ = black_box(from_bytes_prefix(black_box(&for_rust)));
             }
-        }),
+        })),
     }
 }
 

@@ -10,6 +10,9 @@ mod ours;
 /// The unchanged Rust, of which a benchmark calls what it needs.
 #[allow(dead_code, unused_imports, unused_macros)]
 mod pickle;
+/// The tests' own, of which the driver only makes tables.
+#[allow(dead_code)]
+mod table;
 
 /// Each benchmark is the module of its name: `ABOUT`, a note on what is compared, and `cases`.
 macro_rules! benchmarks {
@@ -22,6 +25,7 @@ macro_rules! benchmarks {
 
 benchmarks! {
     literals
+    values
 }
 
 #[no_mangle]

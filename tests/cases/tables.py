@@ -102,17 +102,28 @@ def samples():
     deep = none
     for _ in range(63):
         deep = tuple_of(deep)
-    objects = [(OBJECT, (b"m", b"C", new, [tuple_of(one)] + state)) for new in (0, 1) for state in ([], [none])]
+    # Every pair of these differs in what the order of Objects looks at first, next or last.
+    objects = [(OBJECT, (b"m", b"C", new, [tuple_of(*args)] + state))
+               for args in ([], [one], [two]) for new in (0, 1) for state in ([], [none], [one])]
+    named = [(kind, (m, n) + more) for kind, more in ((GLOBAL, ()), (OBJECT, (1, [tuple_of()])))
+             for m, n in ((b"a", b"b"), (b"ab", b""), (b"b", b"a"), (b"a", b"c"))]
+    texts = [(BYTES, b"b"), (BYTES, b"ab"), (STRING, b"b"), (STRING, b"ab")]
+    dicts = [(DICT, [one, two, two, one]), (DICT, [one, one, two, two]), (DICT, [one, two]), (DICT, [two, one])]
+    sets = none
+    for _ in range(32):
+        sets = (FROZENSET, [(SET, [sets])])
+    sets = sets[1][0]
     return [none, (BOOL, 0), (BOOL, 1), one, (INT, (1 << 64) - 1), (INT, 1 << 63), (INT, (1 << 63) - 1),
             (FLOAT, 0), (FLOAT, 1 << 63), (FLOAT, 0x7FF8 << 48), (FLOAT, 0xFFF8 << 48), (FLOAT, 0x3FF << 52),
             (BYTES, b""), (BYTES, every), (STRING, b""), (STRING, "é€😀\t\\".encode()), (LIST, []), (TUPLE, []), (SET, []),
             (FROZENSET, []), (DICT, []), (LIST, [one, two]), tuple_of(one), (SET, [one, two]), (FROZENSET, [one]),
-            (DICT, [one, none, two, none]), (GLOBAL, (b"m", b"n")), (GLOBAL, (b"", b"")), deep,
-            (DICT, [tuple_of(one), (SET, [two]), (LIST, []), none][:2]), (LIST, [none] * 2047)] + objects
+            (DICT, [one, none, two, none]), (GLOBAL, (b"m", b"n")), (GLOBAL, (b"", b"")), deep, sets,
+            (DICT, [tuple_of(one), (SET, [two])]), (LIST, [none] * 2047), (BYTES, b"x" * 65536)
+            ] + objects + named + texts + dicts
 
 
 def broken():
-    """(what, words, count, text): each breaks one rule of well-formedness."""
+    """(what, words, count, text): each breaks a rule of well-formedness."""
     none, one = (NONE, None), (INT, 1)
     words, text = table((LIST, [one, (BYTES, b"ab"), (STRING, b"c")]))
     n = len(words) // 4
@@ -150,8 +161,30 @@ def broken():
     for _ in range(64):
         deep = tuple_of(deep)
     yield "depth 65", *flat(table(deep))
-    w, t = table((DICT, [one, none]))
-    yield "a dict with a key alone", w[:8], 2, t
+    yield "a dict with a key alone", [10, 1, 2, 0, 0, 0, 0, 0], 2, b""
+    yield "two values", [0] * 8, 2, b""
+    yield "a slice that ends inside a record", [0] * 3, 1, b""
+    yield "the place of an empty text", [6, 2, 3, 0, 4, 0, 1, 0, 4, 0, 0, 0], 3, b"a"
+    yield "a global's place", [11, 1, 0, 0], 1, b""
+    empty = [7, 0, 1, 0]
+    yield "an object's place", [12, 1, 0, 2] + empty, 2, b""
+    yield "an object's size", [12, 0, 0, 3] + empty, 2, b""
+    yield "an object's module that is not UTF-8", [12, 0, 1 << 32, 2] + empty, 2, b"\xff"
+    yield "an object's name that is not UTF-8", [12, 0, 1, 2] + empty, 2, b"\xff"
+    yield "bit 64 on an object", [12 + 64, 0, 0, 2] + empty, 2, b""
+    yield "bit 32 on a list", [6 + 32, 0, 1, 0], 1, b""
+    yield "equal items of a frozenset", [9, 2, 3, 0] + [0] * 8, 3, b""
+    for kind in (NONE, BOOL, INT, FLOAT, BYTES, STRING, GLOBAL):
+        for word in (1, 2, 3):
+            if word == 3 or kind == NONE or (word == 2 and kind in (BOOL, INT, FLOAT)):
+                yield "an unused word", [kind] + [int(k == word) for k in (1, 2, 3)], 1, b""
+    for kind in CONTAINERS:
+        yield "word 3 of a container", [kind, 0, 1, 1], 1, b""
+        yield "items that wrap", [kind, (1 << 64) - 1, 1, 0], 1, b""
+    yield "entries that wrap", [DICT, 1 << 63, 1, 0], 1, b""
+    yield "a length that wraps", [BYTES, 0, (1 << 64) - 1, 0], 1, b""
+    yield "a place that wraps", [BYTES, (1 << 64) - 1, 1, 0], 1, b""
+    yield "a size that wraps", [LIST, 0, (1 << 64) - 1, 0], 1, b""
     w, t = table((OBJECT, (b"m", b"C", 0, [(LIST, [])])))
     yield "arguments that are no tuple", w, len(w) // 4, t
     w, t = table((OBJECT, (b"m", b"C", 0, [(TUPLE, [])])))

@@ -1,4 +1,5 @@
-"""What the program replay_table reads and prints: requests in, and for each an answer line, with a listing after it."""
+"""What the program replay_table reads and prints: requests in, and for each an answer line (a list's
+ends with the bytes that it changed behind its length), with a listing after it."""
 import os
 import subprocess
 import sys
@@ -22,13 +23,13 @@ def compared(sign):
 
 
 def bad(call, detail):
-    return b"21\t%d\t0\n" % detail if call == COMPARE else b"21\t%d\t0\t0\n" % detail
+    return b"21\t%d\t0\n" % detail if call == COMPARE else b"21\t%d\t0\t0\t0\n" % detail
 
 
 def listed(listing, output):
     if output < len(listing):
-        return b"22\t0\t0\t0\n"
-    return b"0\t0\t%d\t0\n" % len(listing) + listing
+        return b"22\t0\t0\t0\t0\n"
+    return b"0\t0\t%d\t0\t0\n" % len(listing) + listing
 
 
 def program(requests):

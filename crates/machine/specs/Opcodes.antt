@@ -1,5 +1,5 @@
--- Each opcode of protocols 0 to 2 that the Rust knows, under its name, in the order of de.rs's `decode`: the Rust's own checks in
--- its order, then LinksFull, NodesFull, StackFull, or MarksFull or MemoFull.
+-- Each opcode of protocols 0 to 2 that the Rust knows, grouped as in de.rs's `decode`: the Rust's own checks in its order, then
+-- LinksFull, NodesFull, StackFull, or MarksFull or MemoFull. Opcodes that differ in a width share a definition.
 use Prim.Native.Nat.{ℕ, suc, zero, _+_, _-_, _*_, _%_}
 use mathlib.Core.Bool.{Bool, true, false, cond, _&&_, _||_}
 use mathlib.Core.List.{List, [], _∷_, _++_}
@@ -7,14 +7,13 @@ use lib.ListN.{length, getD, take, drop, set}
 use lib.Dec.{leb, ltb, eqb}
 use lib.IntN.{ℤ, pos, negsuc}
 use Rattle.refusal.specs.declared.Refusal.{Refusal}
-use Rattle.refusal.specs.declared.Refusal.the-variants.{UnsupportedOpcode, UnsupportedProtocol, MarksFull, Invalid}
+use Rattle.refusal.specs.declared.Refusal.the-variants.{UnsupportedProtocol, MarksFull, Invalid}
 use Rattle.refusal.specs.declared.Wanted.the-variants.{Length, DictItems, List as AList, Dict as ADict, Class, Arguments, Object}
-use Rattle.op.specs.Table.{opcodeOf}
 use Rattle.utf8.specs.Utf8.{repair}
 use Rattle.input.specs.Bytes.{lowFirst, highFirst}
 use Rattle.input.specs.Long.{denotes, bits64, longOf}
 use Rattle.number.specs.Space.{same}
-use Rattle.number.specs.Number.{Int, truth, whole, turned, intLiteral, longLiteral, parseU32}
+use Rattle.number.specs.Number.{Int, truth, whole, intLiteral, longLiteral, parseU32}
 use Rattle.float.specs.Literal.{parseF64}
 use Rattle.text.specs.Text.{unescapeString, unescapeUnicode}
 use Rattle.value.specs.Value.{Label, NoneL, BoolL, I64L, F64L, BytesL, StringL, ListL, TupleL, SetL, FrozenSetL, DictL, GlobalL, ObjectL}

@@ -1,7 +1,9 @@
 // Replays the calls on tables. Standard input has requests: eight numbers of four bytes, low byte first (1 compare or 2 list; words,
 // count and text length of one table; the same of another; the output's length), then the tables' words, high byte first, and
-// texts. For each a line has the answer; after a list that succeeds its output follows.
+// texts. For each a line has the answer, a list's with the number of bytes that it changed behind its length;
+// after a list that succeeds its output follows.
 ghost use Prim.Native.Nat.{_≤_, _<_};
+ghost use lib.ListN.{length};
 ghost use Rattle.replay_table.specs.Small.{Small};
 
 // The words that stand in bytes, high byte first.
@@ -35,7 +37,32 @@ fn show_compare(number: u64, detail: u64, sign: i64) {
     io::write_all(1, b"\n");
 }
 
+// A mark in every byte, to see which ones a call changes.
+fn stain(output: &mut [u8]) {
+    let mut i = 0;
+    while i < output.len() {
+        output[i] = 0x55;
+        i += 1;
+    }
+}
+
+// How many bytes from `from` on have lost the mark.
+fn changed(output: &[u8], from: usize) -> usize
+    ensures { λ r. ⌜ r ≤ length (now (output .entry)) ⌝ }
+{
+    let mut n: usize = 0;
+    let mut i = from;
+    while i < output.len() {
+        if output[i] != 0x55 {
+            n += 1;
+        }
+        i += 1;
+    }
+    n
+}
+
 fn show_list(words: &[u64], count: usize, text: &[u8], output: &mut [u8]) {
+    stain(output);
     let r = pickle::qelemvir_list(words, count, text, output);
     io::print_decimal(1, r.number);
     tab();
@@ -44,8 +71,10 @@ fn show_list(words: &[u64], count: usize, text: &[u8], output: &mut [u8]) {
     io::print_decimal(1, r.length);
     tab();
     io::print_decimal(1, r.count);
-    io::write_all(1, b"\n");
+    tab();
     let n = r.length as usize;
+    io::print_decimal(1, changed(output, n) as u64);
+    io::write_all(1, b"\n");
     if n <= output.len() {
         io::write_all(1, &output[0..n]);
     }

@@ -1,5 +1,5 @@
 // The table of a value (document 01): whether any lent words, count and text are well formed, the order of two of them, and the
-// length of a table's text. Each record is read once, and each set item or dict key compared once with the one before it.
+// length of a table's text. Each set item or dict key is compared once with the one before it.
 use refusal::Refusal;
 use refusal::Which;
 use refusal::detail;

@@ -1,4 +1,4 @@
--- Reading a record's words, and a table back to its values: table and text determine the value (`table-one`).
+-- Reading a record's words: the label and the number of values that they say.
 use Prim.Native.Nat.{ℕ, suc, zero, _+_, _*_, _^_, _/_, _%_, _≤_, _<_}
 use mathlib.Core.Bool.{Bool, true, false, cond, _&&_, _||_}
 use mathlib.Core.List.{List, [], _∷_, _++_, append-assoc}

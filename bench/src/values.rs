@@ -1,0 +1,106 @@
+//! Benchmark `values`: the order of two values, and the listing of one.
+
+use std::cmp::Ordering;
+use std::fmt::Write;
+use std::hint::black_box;
+
+use crate::measure::Case;
+use crate::pickle::Value;
+use crate::table::{self, Table};
+use crate::{inputs, ours};
+
+pub const ABOUT: &str = "the order of two values of 2,048 records, each in its own memory, and the listing of one.
+Ours (qelemvir_compare) has value tables, and on each call it first checks that both are well formed, which the Rust's types
+make needless: Ord::cmp of two Values only compares. The making of tables and Values is not timed.
+List (qelemvir_list) is ours alone, for the Rust has no such call; it too checks its table on each call.";
+
+/// What the listing program lends.
+const OUTPUT: usize = 65_536;
+
+pub fn cases() -> Vec<Case> {
+    vec![
+        compare("compare, dicts, equal", inputs::dicts(), inputs::dicts()),
+        compare("compare, dicts, the last differs", inputs::dicts(), inputs::dicts_and_more()),
+        compare("compare, tuple of ints, equal", inputs::flat(), inputs::flat()),
+        list("list, 40,000 bytes of text", inputs::strings()),
+    ]
+}
+
+fn compare(name: &'static str, first: Value, second: Value) -> Case {
+    let tables = [&first, &second].map(table_of);
+    let agree = same(&tables, first.cmp(&second));
+    Case {
+        name,
+        bytes: None,
+        agree,
+        ours: Box::new(move |calls| {
+            let [first, second] = &tables;
+            for _ in 0..calls {
+                black_box(ours::compare(black_box(first), black_box(second)));
+            }
+        }),
+        rust: Some(Box::new(move |calls| {
+            for _ in 0..calls {
+                black_box(black_box(&first).cmp(black_box(&second)));
+            }
+        })),
+    }
+}
+
+fn same([first, second]: &[Table; 2], rust: Ordering) -> Result<(), String> {
+    let ours = ours::compare(first, second);
+    if ours.number != 0 {
+        return Err(format!("ours refuses with {}, detail {}", ours.number, ours.detail));
+    }
+    if ours.sign != rust as i64 {
+        return Err(format!("ours gives {}; the Rust {}", ours.sign, rust as i64));
+    }
+    Ok(())
+}
+
+fn list(name: &'static str, value: Value) -> Case {
+    let table = table_of(&value);
+    let mut output = vec![0; OUTPUT];
+    let agree = listed(&table, &mut output, &listing(&value));
+    Case {
+        name,
+        bytes: Some(table.text.len()),
+        agree,
+        ours: Box::new(move |calls| {
+            for _ in 0..calls {
+                black_box(ours::list(black_box(&table), black_box(&mut output)));
+            }
+        }),
+        rust: None,
+    }
+}
+
+fn listed(table: &Table, output: &mut [u8], wanted: &str) -> Result<(), String> {
+    let ours = ours::list(table, output);
+    if ours.number != 0 {
+        return Err(format!("ours refuses with {}, detail {}", ours.number, ours.detail));
+    }
+    if &output[..ours.length as usize] != wanted.as_bytes() {
+        return Err(format!("ours lists {} bytes, not the {} that it should", ours.length, wanted.len()));
+    }
+    Ok(())
+}
+
+/// The listing that is due to a list of plain strings and ints.
+fn listing(value: &Value) -> String {
+    let Value::List(items) = value else { unreachable!() };
+    let mut lines = format!("0\tlist\t{}\n", items.len());
+    for item in items {
+        match item {
+            Value::String(text) => writeln!(lines, "1\tstring\t{text}"),
+            Value::I64(number) => writeln!(lines, "1\tint\t{number}"),
+            _ => unreachable!(),
+        }
+        .unwrap();
+    }
+    lines
+}
+
+fn table_of(value: &Value) -> Table {
+    table::of_value(value).unwrap()
+}
