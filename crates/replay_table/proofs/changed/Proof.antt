@@ -9,7 +9,6 @@ use borrow.Author.Needs.{needs}
 use lib.ListN.{length}
 use native.Mathlib.Omega.{arith}
 
-
 abbrev Inv-loop : tie.InvT-loop
 Inv-loop output from n₀ i₀ n i = n + (length output - i) ≤ length output
 
@@ -39,4 +38,3 @@ returns c = search needs
 
 pub changed-spec : {M : Type 1} → statement M
 changed-spec = tie.close (tie.spec Inv-loop μ-loop loop-holds shared-slice-read-if1 add-n add-i loop-less loop-again returns)
-

@@ -9,7 +9,6 @@ use borrow.Author.Needs.{needs}
 use lib.ListN.{length, length-set}
 use native.Mathlib.Omega.{arith}
 
-
 abbrev Inv-loop : tie.InvT-loop
 Inv-loop output₀ i₀ output i = (i ≤ length output) × (length output ≡ length output₀)
 
@@ -39,4 +38,3 @@ returns c = search needs
 
 pub stain-spec : {M : Type 1} → statement M
 stain-spec = tie.close (tie.spec Inv-loop μ-loop loop-holds slice-write-output add-i loop-less loop-again same-length returns)
-
