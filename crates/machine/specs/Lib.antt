@@ -16,3 +16,11 @@ pub mod Limits
 pub mod Range
 pub mod Tuples
 pub mod Shape
+pub mod Rooms
+pub mod RoomExamples
+pub mod RoomLists
+pub mod RoomMemo
+pub mod RoomLaws
+pub mod RoomReads
+pub mod RoomKeeps
+pub mod RoomLinks
