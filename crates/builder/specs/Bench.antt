@@ -16,9 +16,9 @@ use Rattle.number.specs.Number.{invalid, turned, only, digits, decimal, natural
 use Rattle.text.specs.Examples.{evaluates as text-evaluates}
 use Rattle.value.specs.Value.{text, count, size, depth, table, NoneL, BoolL, I64L, BytesL, StringL, ListL, TupleL, SetL, DictL, ObjectL, nil, node}
 use Rattle.value.specs.Order.{_then_, lex, labels, forests, order}
-use Rattle.machine.specs.State.{_>>=_, need, leaf, bytes, byte, line, pop, top, popMark, popMany, pushId, pushNode, push, link, extend, find, has, insert, get, put}
-use Rattle.machine.specs.Opcodes.{builtin, setName, proto, popOne, intLabel, int, lowBytes, binint1, longN, string, signedLength, binstring, shortBinstring, unicode, binunicode, global, made, tupleN, pairs, added, append, setitems, getBytes, putBytes, reduced, called, reduce, build, mark}
-use Rattle.machine.specs.Run.{going, does, decide, step, runs, start, run}
+use Rattle.decoder.specs.State.{_>>=_, need, leaf, bytes, byte, line, pop, top, popMark, popMany, pushId, pushNode, push, link, extend, find, has, insert, get, put}
+use Rattle.decoder.specs.Opcodes.{builtin, setName, proto, popOne, intLabel, int, lowBytes, binint1, longN, string, signedLength, binstring, shortBinstring, unicode, binunicode, global, made, tupleN, pairs, added, append, setitems, getBytes, putBytes, reduced, called, reduce, build, mark}
+use Rattle.decoder.specs.Run.{going, does, decide, step, runs, start, run}
 use Rattle.builder.specs.Build as Build
 use Rattle.builder.specs.Measure.{measured}
 use Rattle.builder.specs.Settle as Settle

@@ -6,8 +6,8 @@ use mathlib.Core.List.{List, [], _∷_}
 use lib.ListN.{length, getD}
 use lib.Dec.{eqb}
 use Rattle.value.specs.Value.{Forest, Value, NoneL, nil, node}
-use Rattle.machine.specs.State.{Node, plain}
-use Rattle.machine.specs.Opcodes.{isObject}
+use Rattle.decoder.specs.State.{Node, plain}
+use Rattle.decoder.specs.Opcodes.{isObject}
 
 -- A node: not reached yet; taken out while its contents are built; or finished and kept. The Rust keeps a finished node only when it is
 -- referenced more than once (`refs > 1`). That needs no place here: a node's contents are gone through once at most, so that a node which

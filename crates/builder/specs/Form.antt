@@ -10,8 +10,8 @@ use native.Mathlib.Omega.{arith}
 use native.Mathlib.Decide.{decLt}
 use Rattle.value.specs.Value.{Label, Forest, Value, one, count, NoneL, BoolL, I64L, F64L, BytesL, StringL, ListL, TupleL, SetL, FrozenSetL, DictL, GlobalL, ObjectL, nil, node}
 use Rattle.value.specs.WellFormed.{isTuple, firstIsTuple}
-use Rattle.machine.specs.State.{Node}
-use Rattle.machine.specs.Opcodes.{isObject}
+use Rattle.decoder.specs.State.{Node}
+use Rattle.decoder.specs.Opcodes.{isObject}
 use Rattle.builder.specs.Build.{Mark, Marks, taken, kept, unbuilt, mark, none, isTaken, at, firstTaken, blocked, finish, each, build, tree}
 use Rattle.builder.specs.Unfold.{Marked, same, other, marked, freshness, left, left-mark, left-less, left-all, outside}
 use Rattle.builder.specs.Fuel.{View, view, copied, inside, stuck, entered}

@@ -8,7 +8,7 @@ use lib.ListN.{length}
 use native.Mathlib.Decide.{decLt}
 use native.Mathlib.Omega.{arith}
 use Rattle.value.specs.Value.{Forest, Value}
-use Rattle.machine.specs.State.{Node}
+use Rattle.decoder.specs.State.{Node}
 use Rattle.builder.specs.Build.{Mark, Marks, fresh, taken, kept, unbuilt, mark, none, at, blocked, finish, each, build, tree}
 use Rattle.builder.specs.Unfold.{In, here, there, left, freshness, left-mark, left-less, left-all, outside}
 

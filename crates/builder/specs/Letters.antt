@@ -21,12 +21,12 @@ use Rattle.text.specs.Pieces.{bytesOf}
 use Rattle.text.specs.Laws.{unicode-valid}
 use Rattle.value.specs.Value.{Label, NoneL, BoolL, I64L, F64L, BytesL, StringL, ListL, TupleL, SetL, FrozenSetL, DictL, GlobalL, ObjectL}
 use Rattle.value.specs.Shape.{and-l, and-r}
-use Rattle.machine.specs.State.{Node, State, Res, ok, no, plain, nodeAt, bytes, byte, line, pop, popMark, popMany, pushId, pushNode, push, link, extend, get, put}
-use Rattle.machine.specs.Opcodes.{isTuple, classOf, proto, mark, popOne, popToMark, dup, intLabel, int, lowBytes, binint, binint1, binint2, long, longN, float, binfloat, string, binstring, shortBinstring, unicode, binunicode, global, made, list, tuple, tupleN, dict, added, append, appends, setitem, setitems, getLine, getBytes, putLine, putBytes, builtin, setName, frozensetName, object, setOf, reduced, called, reduce, newobj, build}
-use Rattle.machine.specs.Run.{Next, goes, stops, going, does, decide, step, runs, start, run}
-use Rattle.machine.specs.Out.{Out, out, bind, bind-any, bind-need, bind-leaf, Every, every-append}
-use Rattle.machine.specs.Keeps.{after}
-use Rattle.machine.specs.Shrinks.{Later, step-later}
+use Rattle.decoder.specs.State.{Node, State, Res, ok, no, plain, nodeAt, bytes, byte, line, pop, popMark, popMany, pushId, pushNode, push, link, extend, get, put}
+use Rattle.decoder.specs.Opcodes.{isTuple, classOf, proto, mark, popOne, popToMark, dup, intLabel, int, lowBytes, binint, binint1, binint2, long, longN, float, binfloat, string, binstring, shortBinstring, unicode, binunicode, global, made, list, tuple, tupleN, dict, added, append, appends, setitem, setitems, getLine, getBytes, putLine, putBytes, builtin, setName, frozensetName, object, setOf, reduced, called, reduce, newobj, build}
+use Rattle.decoder.specs.Run.{Next, goes, stops, going, does, decide, step, runs, start, run}
+use Rattle.decoder.specs.Out.{Out, out, bind, bind-any, bind-need, bind-leaf, Every, every-append}
+use Rattle.decoder.specs.Keeps.{after}
+use Rattle.decoder.specs.Shrinks.{Later, step-later}
 use Rattle.builder.specs.Well.{validText, both}
 
 -- every node's label has valid text

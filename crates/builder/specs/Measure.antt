@@ -10,7 +10,7 @@ use borrow.Author.Tests.{le-leb, lt-leb, leb-true}
 use native.Mathlib.Omega.{arith}
 use Rattle.refusal.specs.declared.Refusal.the-variants.{TooDeep, TooManyValues, TextFull}
 use Rattle.value.specs.Value.{Forest, depth, size, text}
-use Rattle.machine.specs.State.{Res, ok, no, _>>=_, need}
+use Rattle.decoder.specs.State.{Res, ok, no, _>>=_, need}
 
 abbrev pub depthLimit : ℕ
 depthLimit = 64

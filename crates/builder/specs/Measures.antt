@@ -8,8 +8,8 @@ use lib.ListN.{length, length-append}
 use lib.Dec.{eqb}
 use native.Mathlib.Omega.{arith}
 use Rattle.value.specs.Value.{Label, Forest, Value, one, nil, node, textOf, size, depth, text}
-use Rattle.machine.specs.State.{Node}
-use Rattle.machine.specs.Opcodes.{isObject}
+use Rattle.decoder.specs.State.{Node}
+use Rattle.decoder.specs.Opcodes.{isObject}
 use Rattle.builder.specs.Build.{Mark, Marks, fresh, taken, kept, unbuilt, mark, none, isTaken, at, firstTaken, blocked, each, finish, build, tree}
 
 -- depth, values and text

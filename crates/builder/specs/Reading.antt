@@ -13,10 +13,10 @@ use Rattle.refusal.specs.declared.Refusal.the-variants.{TooLong, StackUnderflow
 use Rattle.refusal.specs.declared.Answer.{Answer}
 use Rattle.refusal.specs.Numbers.{refusedAnswer}
 use Rattle.value.specs.Value.{Forest, one, size, depth, text, table, table-length}
-use Rattle.machine.specs.State.{State, Res, ok, no, _>>=_, need, last, pop}
-use Rattle.machine.specs.Run.{run}
-use Rattle.machine.specs.Out.{of-out}
-use Rattle.machine.specs.Shrinks.{Later, run-later}
+use Rattle.decoder.specs.State.{State, Res, ok, no, _>>=_, need, last, pop}
+use Rattle.decoder.specs.Run.{run}
+use Rattle.decoder.specs.Out.{of-out}
+use Rattle.decoder.specs.Shrinks.{Later, run-later}
 use Rattle.builder.specs.Build.{tree}
 use Rattle.builder.specs.Unfold.{WritesOut, NothingContainsItself, tree-writes-out, tree-is-write-out}
 use Rattle.builder.specs.Measure.{depthLimit, valuesLimit, textLimit, measured, measured-within}

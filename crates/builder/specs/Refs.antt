@@ -11,9 +11,9 @@ use native.Mathlib.Decide.{decLt}
 use borrow.Author.Tests.{eq-eqb, eqb-true, ltb-false}
 use Rattle.value.specs.Value.{Forest, Value}
 use Rattle.value.specs.WellFormed.{isTuple}
-use Rattle.machine.specs.State.{Node}
-use Rattle.machine.specs.Opcodes.{isObject}
-use Rattle.machine.specs.Shape.{Shaped}
+use Rattle.decoder.specs.State.{Node}
+use Rattle.decoder.specs.Opcodes.{isObject}
+use Rattle.decoder.specs.Shape.{Shaped}
 use Rattle.builder.specs.Build.{Mark, Marks, fresh, taken, kept, unbuilt, mark, none, before, isTaken, at, firstTaken, blocked, finish, each, build, tree}
 use Rattle.builder.specs.Unfold.{In, here, there, Marked, same, other, marked, freshness, outside}
 use Rattle.builder.specs.Form.{tuple-object, and-left}

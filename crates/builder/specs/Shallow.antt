@@ -7,7 +7,7 @@ use mathlib.Core.Path.{_≡_, refl}
 use native.Mathlib.Nat.{zero-add, suc-add}
 use native.Mathlib.Omega.{arith}
 use Rattle.value.specs.Value.{Forest, Value, one, depth}
-use Rattle.machine.specs.State.{Node}
+use Rattle.decoder.specs.State.{Node}
 use Rattle.builder.specs.Build.{Marks, mark, taken, at, finish, each, build}
 use Rattle.builder.specs.Fuel.{View, view, copied, inside, stuck, entered}
 

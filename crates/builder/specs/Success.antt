@@ -10,10 +10,10 @@ use Rattle.refusal.specs.Numbers.{numberOf}
 use Rattle.input.specs.Bytes.{Bytes}
 use Rattle.value.specs.Value.{one}
 use Rattle.value.specs.WellFormed.{WellFormed}
-use Rattle.machine.specs.State.{State, Res, ok, no}
-use Rattle.machine.specs.Run.{run}
-use Rattle.machine.specs.Out.{Out, out, bind, bind-any, bind-need}
-use Rattle.machine.specs.Shape.{Shaped, run-shaped}
+use Rattle.decoder.specs.State.{State, Res, ok, no}
+use Rattle.decoder.specs.Run.{run}
+use Rattle.decoder.specs.Out.{Out, out, bind, bind-any, bind-need}
+use Rattle.decoder.specs.Shape.{Shaped, run-shaped}
 use Rattle.builder.specs.Build.{tree}
 use Rattle.builder.specs.Measure.{measured}
 use Rattle.builder.specs.Reading.{Reading, refuses, told, consumed, stopped, prefix, leaves, whole}

@@ -10,8 +10,8 @@ use lib.Dec.{eqb, T, eqb→eq, eqb-refl}
 use native.Mathlib.Omega.{arith}
 use native.Mathlib.Decide.{decLt}
 use Rattle.value.specs.Value.{Label, Forest, Value, NoneL, one, nil, node}
-use Rattle.machine.specs.State.{Node, plain}
-use Rattle.machine.specs.Opcodes.{isObject}
+use Rattle.decoder.specs.State.{Node, plain}
+use Rattle.decoder.specs.Opcodes.{isObject}
 use Rattle.builder.specs.Build.{Mark, Marks, fresh, taken, kept, unbuilt, mark, isTaken, at, firstTaken, blocked, finish, each, build, tree}
 
 -- The plain write-out of nodes one after the other: for each its label over the write-out of its children, whatever has been written

@@ -27,6 +27,10 @@ put-same e x = rw e at x
 pub room-same : {b b′ : List ℕ} {at : ℕ} → b ≡ b′ → Room at b′ → Room at b
 room-same e r = rw e r
 
+-- nothing
+pub put-none : {o : List ℕ} {at : ℕ} → Put o at [] o at
+put-none = record { wrote = refl; ends = omega arith }
+
 -- one run behind another
 pub put-then : {o a o₁ b o₂ : List ℕ} {at p q : ℕ} → Put o at a o₁ p → Put o₁ p b o₂ q → Put o at (a ++ b) o₂ q
 put-then {o} {a} {o₁} {b} {o₂} {at} x y =

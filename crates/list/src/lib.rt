@@ -13,7 +13,7 @@ ghost use Rattle.list.specs.Walk.{Ready, Wrote, Lists};
 ghost use Rattle.list.specs.Put.{Put, Room};
 
 // One byte, if the output goes that far.
-fn store(byte: u8, output: &mut [u8], at: usize)
+pub fn store(byte: u8, output: &mut [u8], at: usize)
     ensures { λ r. ⌜ now (output .exit) ≡ set (now (output .entry)) at byte ⌝ }
 {
     if at < output.len() {
@@ -21,7 +21,7 @@ fn store(byte: u8, output: &mut [u8], at: usize)
     }
 }
 
-fn put_byte(byte: u8, output: &mut [u8], at: usize) -> usize
+pub fn put_byte(byte: u8, output: &mut [u8], at: usize) -> usize
     requires { ⌜ Room at (byte ∷ []) ⌝ }
     ensures { λ r. ⌜ Put (now (output .entry)) at (byte ∷ []) (now (output .exit)) r ⌝ }
 {
@@ -77,7 +77,7 @@ fn put_decimal(n: u64, output: &mut [u8], at: usize) -> usize
 }
 
 // An i64, from its 64 bits.
-fn put_signed(bits: u64, output: &mut [u8], at: usize) -> usize
+pub fn put_signed(bits: u64, output: &mut [u8], at: usize) -> usize
     requires { ⌜ Room at (signedText bits) ⌝ }
     ensures { λ r. ⌜ Put (now (output .entry)) at (signedText bits) (now (output .exit)) r ⌝ }
 {

@@ -1,26 +1,5 @@
--- The machine of de.rs: its state, a definition for each opcode, and the run to STOP; from Out on, laws of every step.
-pub mod State
-pub mod Opcodes
-pub mod Run
-pub mod Examples
-pub mod Out
-pub mod Effect
-pub mod Parts
-pub mod Arguments
-pub mod Pickletools
-pub mod Keeps
-pub mod Shrinks
-pub mod Fuel
-pub mod Memo
-pub mod Limits
-pub mod Range
-pub mod Tuples
-pub mod Shape
-pub mod Rooms
-pub mod RoomExamples
-pub mod RoomLists
-pub mod RoomMemo
-pub mod RoomLaws
-pub mod RoomReads
-pub mod RoomKeeps
-pub mod RoomLinks
+-- The machine's step and run in the rooms that are lent.
+pub mod Lent
+pub mod Ran
+pub mod Applied
+pub mod Clear

@@ -1,1 +1,253 @@
-// The machine of de.rs: its definitions so far.
+// The run of de.rs's `Decoder`: `decide` has the one match over the opcode byte and answers an effect, `apply` has it, `run` goes on to
+// STOP, and `clear_used` makes the rooms zero again.
+use decoder::BOOL;
+use decoder::Counts;
+use decoder::DICT;
+use decoder::Effect;
+use decoder::LIST;
+use decoder::NONE;
+use decoder::TUPLE;
+use effects::Step;
+use effects::build;
+use effects::extend;
+use effects::make;
+use effects::push_id;
+use effects::push_node;
+use effects::put_mark;
+use effects::remember;
+use effects::unescape;
+use refusal::Refusal;
+use rooms::clear_bytes;
+use rooms::clear_ints;
+use rooms::clear_shorts;
+use rooms::clear_words;
+ghost use mathlib.Core.Path.{_≡_};
+ghost use lib.ListN.{replicate};
+ghost use Rattle.decoder.specs.Run.{step};
+ghost use Rattle.decoder.specs.Rooms.{stateOf};
+ghost use Rattle.decoder.specs.Effects.{Lent, Decides, Sound, Fits, enacted};
+ghost use Rattle.effects.specs.Done.{Done};
+ghost use Rattle.machine.specs.Lent.{roomsOf, Agrees};
+ghost use Rattle.machine.specs.Ran.{start, Ran};
+ghost use Rattle.machine.specs.Clear.{UsedBy};
+
+pub fn apply(
+    pickle: &[u8],
+    nodes: &mut [u64],
+    owners: &mut [u16],
+    children: &mut [u16],
+    stack: &mut [u16],
+    marks: &mut [u16],
+    keys: &mut [u32],
+    held: &mut [u16],
+    unescaped: &mut [u8],
+    had: usize,
+    e: Effect,
+) -> Step
+    requires { ⌜ Fits e (roomsOf (now pickle) (now nodes) (now owners) (now children) (now stack) (now marks) (now keys) (now held) (now unescaped)) had ⌝ }
+    ensures { λ t. ⌜ Done t (roomsOf (now (pickle .entry)) (now (nodes .entry)) (now (owners .entry)) (now (children .entry)) (now (stack .entry)) (now (marks .entry)) (now (keys .entry)) (now (held .entry)) (now (unescaped .entry))) (roomsOf (now (pickle .entry)) (now (nodes .exit)) (now (owners .exit)) (now (children .exit)) (now (stack .exit)) (now (marks .exit)) (now (keys .exit)) (now (held .exit)) (now (unescaped .exit))) (enacted e (roomsOf (now (pickle .entry)) (now (nodes .entry)) (now (owners .entry)) (now (children .entry)) (now (stack .entry)) (now (marks .entry)) (now (keys .entry)) (now (held .entry)) (now (unescaped .entry))) had) ⌝ }
+{
+    match e {
+        Effect::Push(c, a, b) => push_node(nodes, stack, c, a, b),
+        Effect::Share(c, id) => push_id(stack, c, id),
+        Effect::Mark(c) => put_mark(marks, c),
+        Effect::Go(c) => Step::Next(c),
+        Effect::Make(c, kind) => make(nodes, owners, children, stack, c, kind, had),
+        Effect::Extend(c, owner) => extend(nodes, owners, children, stack, c, owner, had),
+        Effect::Remember(c, key, id) => remember(keys, held, c, key, id),
+        Effect::Build(c, object, state) => build(nodes, c, object, state),
+        Effect::Unescape(c, from, len) => unescape(pickle, nodes, stack, unescaped, c, from, len),
+        Effect::Stop(c) => Step::Stop(c),
+        Effect::Refused(why) => Step::Refused(why),
+    }
+}
+
+// The one match over the opcode byte. TUPLE1 to TUPLE3 are a range.
+pub fn decide(
+    pickle: &[u8],
+    nodes: &[u64],
+    owners: &[u16],
+    children: &[u16],
+    stack: &[u16],
+    marks: &[u16],
+    keys: &[u32],
+    held: &[u16],
+    c: Counts,
+) -> Effect
+    requires { ⌜ Lent c (Agrees (now pickle) (now nodes) (now owners) (now children) (now stack) (now marks) (now keys) (now held)) ⌝ }
+    ensures { λ e. ⌜ Decides c (Agrees (now (pickle .entry)) (now (nodes .entry)) (now (owners .entry)) (now (children .entry)) (now (stack .entry)) (now (marks .entry)) (now (keys .entry)) (now (held .entry))) step e ⌝ }
+{
+    let at = c.at;
+    if pickle.len() <= at {
+        return Effect::Refused(Refusal::EndOfInput);
+    }
+    let code = pickle[at];
+    let d = Counts {
+        at: at + 1,
+        nodes: c.nodes,
+        links: c.links,
+        stack: c.stack,
+        deepest: c.deepest,
+        marks: c.marks,
+        most: c.most,
+        memo: c.memo,
+        unescaped: c.unescaped,
+    };
+    match code {
+        op::MARK => Effect::Mark(d),
+        op::STOP => Effect::Stop(d),
+        op::POP => decoder::pop(d),
+        op::POP_MARK => decoder::pop_mark(marks, d),
+        op::DUP => decoder::dup(stack, d),
+        op::FLOAT => decoder::float(pickle, d),
+        op::INT => decoder::int(pickle, d),
+        op::BININT => decoder::binint(pickle, d),
+        op::BININT1 => decoder::binint1(pickle, d),
+        op::LONG => decoder::long(pickle, d),
+        op::BININT2 => decoder::binint2(pickle, d),
+        op::NONE => Effect::Push(d, NONE, 0),
+        op::REDUCE => decoder::reduce(pickle, nodes, owners, children, stack, d),
+        op::STRING => decoder::string(pickle, d),
+        op::BINSTRING => decoder::binstring(pickle, d),
+        op::SHORT_BINSTRING => decoder::short_binstring(pickle, d),
+        op::UNICODE => decoder::unicode(pickle, d),
+        op::BINUNICODE => decoder::binunicode(pickle, d),
+        op::APPEND => decoder::append(nodes, stack, d),
+        op::BUILD => decoder::build(nodes, stack, d),
+        op::GLOBAL => decoder::global(pickle, d),
+        op::DICT => decoder::dict(marks, d),
+        op::EMPTY_DICT => Effect::Push(d, DICT, 0),
+        op::APPENDS => decoder::appends(nodes, stack, marks, d),
+        op::GET => decoder::get_line(pickle, keys, held, d),
+        op::BINGET => decoder::binget(pickle, keys, held, d),
+        op::LONG_BINGET => decoder::long_binget(pickle, keys, held, d),
+        op::LIST => decoder::list(marks, d),
+        op::EMPTY_LIST => Effect::Push(d, LIST, 0),
+        op::PUT => decoder::put_line(pickle, stack, d),
+        op::BINPUT => decoder::binput(pickle, stack, d),
+        op::LONG_BINPUT => decoder::long_binput(pickle, stack, d),
+        op::SETITEM => decoder::setitem(nodes, stack, d),
+        op::TUPLE => decoder::tuple(marks, d),
+        op::EMPTY_TUPLE => Effect::Push(d, TUPLE, 0),
+        op::SETITEMS => decoder::setitems(nodes, stack, marks, d),
+        op::BINFLOAT => decoder::binfloat(pickle, d),
+        op::PROTO => decoder::proto(pickle, d),
+        op::NEWOBJ => decoder::newobj(nodes, stack, d),
+        op::NEWTRUE => Effect::Push(d, BOOL, 1),
+        op::NEWFALSE => Effect::Push(d, BOOL, 0),
+        op::LONG1 => decoder::long1(pickle, d),
+        op::LONG4 => decoder::long4(pickle, d),
+        0x85..=0x87 => decoder::small_tuple(d, code),
+        _ => Effect::Refused(Refusal::UnsupportedOpcode(code)),
+    }
+}
+
+// One step: the rooms and counts after it mean the definition's step of the state that they meant before, or its refusal.
+pub fn take_step(
+    pickle: &[u8],
+    nodes: &mut [u64],
+    owners: &mut [u16],
+    children: &mut [u16],
+    stack: &mut [u16],
+    marks: &mut [u16],
+    keys: &mut [u32],
+    held: &mut [u16],
+    unescaped: &mut [u8],
+    c: Counts,
+) -> Step
+    requires { ⌜ Sound (roomsOf (now pickle) (now nodes) (now owners) (now children) (now stack) (now marks) (now keys) (now held) (now unescaped)) c ⌝ }
+    ensures { λ t. ⌜ Done t (roomsOf (now (pickle .entry)) (now (nodes .entry)) (now (owners .entry)) (now (children .entry)) (now (stack .entry)) (now (marks .entry)) (now (keys .entry)) (now (held .entry)) (now (unescaped .entry))) (roomsOf (now (pickle .entry)) (now (nodes .exit)) (now (owners .exit)) (now (children .exit)) (now (stack .exit)) (now (marks .exit)) (now (keys .exit)) (now (held .exit)) (now (unescaped .exit))) (step (stateOf (roomsOf (now (pickle .entry)) (now (nodes .entry)) (now (owners .entry)) (now (children .entry)) (now (stack .entry)) (now (marks .entry)) (now (keys .entry)) (now (held .entry)) (now (unescaped .entry))) c)) ⌝ }
+{
+    let e = decide(pickle, nodes, owners, children, stack, marks, keys, held, c);
+    apply(
+        pickle,
+        nodes,
+        owners,
+        children,
+        stack,
+        marks,
+        keys,
+        held,
+        unescaped,
+        c.stack,
+        e,
+    )
+}
+
+// What a run comes to: the counts at STOP, or those at the refusal.
+pub enum Outcome {
+    Stopped(Counts),
+    Refused(Counts, Refusal),
+}
+
+// The run to STOP, in rooms that are all zero.
+pub fn run(
+    pickle: &[u8],
+    nodes: &mut [u64],
+    owners: &mut [u16],
+    children: &mut [u16],
+    stack: &mut [u16],
+    marks: &mut [u16],
+    keys: &mut [u32],
+    held: &mut [u16],
+    unescaped: &mut [u8],
+) -> Outcome
+    requires { ⌜ Sound (roomsOf (now pickle) (now nodes) (now owners) (now children) (now stack) (now marks) (now keys) (now held) (now unescaped)) start ⌝ }
+    ensures { λ o. ⌜ Ran o (now (pickle .entry)) (roomsOf (now (pickle .entry)) (now (nodes .exit)) (now (owners .exit)) (now (children .exit)) (now (stack .exit)) (now (marks .exit)) (now (keys .exit)) (now (held .exit)) (now (unescaped .exit))) ⌝ }
+{
+    let mut c = Counts {
+        at: 0,
+        nodes: 0,
+        links: 0,
+        stack: 0,
+        deepest: 0,
+        marks: 0,
+        most: 0,
+        memo: 0,
+        unescaped: 0,
+    };
+    loop {
+        let t = take_step(
+            pickle,
+            nodes,
+            owners,
+            children,
+            stack,
+            marks,
+            keys,
+            held,
+            unescaped,
+            c,
+        );
+        match t {
+            Step::Next(d) => c = d,
+            Step::Stop(d) => return Outcome::Stopped(d),
+            Step::Refused(why) => return Outcome::Refused(c, why),
+        }
+    }
+}
+
+// The rooms all zero again, after a run that began with zero rooms and ended with the counts `c`: only what was used is cleared.
+pub fn clear_used(
+    nodes: &mut [u64],
+    owners: &mut [u16],
+    children: &mut [u16],
+    stack: &mut [u16],
+    marks: &mut [u16],
+    keys: &mut [u32],
+    held: &mut [u16],
+    unescaped: &mut [u8],
+    c: Counts,
+)
+    requires { ⌜ UsedBy (now nodes) (now owners) (now children) (now stack) (now marks) (now keys) (now held) (now unescaped) c ⌝ }
+    ensures { λ _. ⌜ (now (nodes .exit) ≡ replicate 8192 0) × (now (owners .exit) ≡ replicate 16384 0) × (now (children .exit) ≡ replicate 16384 0) × (now (stack .exit) ≡ replicate 2048 0) × (now (marks .exit) ≡ replicate 256 0) × (now (keys .exit) ≡ replicate 1024 0) × (now (held .exit) ≡ replicate 1024 0) × (now (unescaped .exit) ≡ replicate 65536 0) ⌝ }
+{
+    clear_words(nodes, 2 * c.nodes);
+    clear_shorts(owners, c.links);
+    clear_shorts(children, c.links);
+    clear_shorts(stack, c.deepest);
+    clear_shorts(marks, c.most);
+    clear_ints(keys, c.memo);
+    clear_shorts(held, c.memo);
+    clear_bytes(unescaped, c.unescaped);
+}

@@ -6,6 +6,7 @@ use refusal::Refusal;
 use refusal::Which;
 use table::Compared;
 ghost use Rattle.table.specs.Compare.{Compares};
+ghost use Rattle.ser.specs.Call.{WriteCall};
 ghost use Rattle.pickle.specs.List.{ListCall};
 
 // The order of two values: -1, 0 or 1, or BadTable with sign 0.
@@ -53,4 +54,17 @@ pub extern "C" fn qelemvir_list(
     } else {
         refusal::refused(Refusal::BadTable(Which::First))
     }
+}
+
+// A value as a pickle: BadTable, then OutputFull, else the bytes written.
+#[no_mangle]
+pub extern "C" fn qelemvir_to_bytes(
+    words: &[u64],
+    count: usize,
+    text: &[u8],
+    output: &mut [u8],
+) -> Answer
+    ensures { λ r. ⌜ WriteCall (now (words .entry)) count (now (text .entry)) (now (output .entry)) (now (output .exit)) r ⌝ }
+{
+    ser::to_bytes(words, count, text, output)
 }

@@ -9,5 +9,6 @@ pub mod Check
 pub mod Decides
 pub mod Verdict
 pub mod Compare
+pub mod Call
 pub mod Length
 pub mod Examples

@@ -56,7 +56,7 @@ fn state(a: u64) -> bool
 
 // What each word of a record has to be, by its kind, the place of its text and its size.
 
-fn word0(a: u64) -> u64
+pub fn word0(a: u64) -> u64
     ensures { λ r. ⌜ r ≡ right0 a ⌝ }
 {
     let head = head_of(a);
@@ -74,7 +74,7 @@ fn word0(a: u64) -> u64
     0
 }
 
-fn word1(a: u64, b: u64, at: u64) -> u64
+pub fn word1(a: u64, b: u64, at: u64) -> u64
     ensures { λ r. ⌜ r ≡ right1 (kindIn a) b at ⌝ }
 {
     let k = kind(a);
@@ -99,7 +99,7 @@ fn word1(a: u64, b: u64, at: u64) -> u64
     at
 }
 
-fn word2(a: u64, c: u64, size: u64) -> u64
+pub fn word2(a: u64, c: u64, size: u64) -> u64
     ensures { λ r. ⌜ r ≡ right2 (kindIn a) c size ⌝ }
 {
     let k = kind(a);
@@ -115,7 +115,7 @@ fn word2(a: u64, c: u64, size: u64) -> u64
     c
 }
 
-fn word3(a: u64, size: u64) -> u64
+pub fn word3(a: u64, size: u64) -> u64
     ensures { λ r. ⌜ r ≡ right3 (kindIn a) size ⌝ }
 {
     if kind(a) < 12 {
@@ -125,7 +125,7 @@ fn word3(a: u64, size: u64) -> u64
 }
 
 // The length of a record's text.
-fn span(a: u64, c: u64) -> u64
+pub fn span(a: u64, c: u64) -> u64
     ensures { λ r. ⌜ r ≡ spanOf (kindIn a) c ⌝ }
 {
     let k = kind(a);

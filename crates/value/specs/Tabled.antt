@@ -74,7 +74,7 @@ module _ (p n z : ℕ) (t s : List ℕ) where
 
 module _ (w t : List ℕ) where
   -- a record of a label, with its text at p
-  says-at : (l : Label) (p i n z : ℕ) (y s : List ℕ) → T (fitting l n) → drop (4 * i) w ≡ recordOf l p n z ++ y → drop p t ≡ textOf l ++ s → p ≤ length t → Says w t i l n
+  pub says-at : (l : Label) (p i n z : ℕ) (y s : List ℕ) → T (fitting l n) → drop (4 * i) w ≡ recordOf l p n z ++ y → drop p t ≡ textOf l ++ s → p ≤ length t → Says w t i l n
   unfolding labelAt arityAt
   says-at l p i n z y s h e d b =
       let word : (k : ℕ) → wordAt w i k ≡ getD (recordOf l p n z ++ y) k 0 = λ k. sym (getD-drop (4 * i) w k 0) ∙ ap (λ (v : List ℕ). getD v k 0) e in

@@ -7,10 +7,10 @@ use Rattle.pickle.proofs.qelemvir_list.Lts as lts
 use Rattle.list.proofs.list_table.Reads as list-table-reads
 use Rattle.refusal.proofs.refused.Reads as refused-reads
 use Rattle.table.proofs.well_formed.Reads as well-formed-reads
-use borrow.Author.Needs.{needs}
-use mathlib.Core.Path.{_≡_, refl, sym, _∙_, ap}
+use mathlib.Core.Path.{refl}
 use Rattle.table.specs.Decides.{refuted}
-use Rattle.pickle.specs.List.{told, called, list-bad, list-good}
+use Rattle.table.specs.Call.{call-bad}
+use Rattle.pickle.specs.List.{called, list-good}
 
 well-formed-requires : tie.Need-well-formed-requires
 well-formed-requires c κs = search needs
@@ -45,7 +45,7 @@ unfolding called
 returns-2 c = list-good _ _ _ _ _ _ (c .before .before .before .before .before .before .before .before .well-formed .ensures .yes (c .before .before .before .before .before .before .before .if1 .taken)) _ (c .before .before .before .before .before .list-table .ensures) (rw (c .before .enum-told .given .1, c .refused .ensures))
 
 returns-3 : tie.Need-returns-3
-returns-3 c = list-bad _ _ _ _ _ _ (refuted (c .before .before .well-formed .ensures) (c .before .if1 .left)) (c .refused2 .ensures) refl
+returns-3 c = call-bad _ _ _ _ _ _ _ (refuted (c .before .before .well-formed .ensures) (c .before .if1 .left)) (c .refused2 .ensures) refl
 
 pub qelemvir-list-spec : {M : Type 1} → statement M
 qelemvir-list-spec = tie.close (tie.spec well-formed-requires list-table-requires enum-known-length enum-told refused-requires refused-requires-2 same-length returns same-length-2 returns-2 returns-3)

@@ -1,0 +1,4 @@
+-- The laws that the functions' proofs share.
+pub mod LawsMemo
+pub mod LawsCalls
+pub mod LawsPickle

@@ -1,0 +1,35 @@
+-- DUP.
+use borrow.Author.Needs.{needs}
+use Rattle.decoder.proofs.dup.Statement.{statement}
+use Rattle.decoder.proofs.dup.Tie as tie
+use Rattle.decoder.proofs.dup.Reads as reads
+use Rattle.decoder.proofs.dup.Lts as lts
+use Prim.Native.Nat.{_-_}
+use mathlib.Core.Path.{refl}
+use native.Mathlib.Omega.{arith}
+use Rattle.decoder.specs.Effects.{Decides}
+use Rattle.decoder.specs.Items.{TakesMark, Adds, lists, dicts}
+use Rattle.decoder.specs.StackSteps.{says-refused, stack-room, dup-underflow, dup-lent}
+
+returns : tie.Need-returns
+unfolding Decides
+returns c = λ r s q. says-refused _ r _ _ (dup-underflow r _ s (c .if1 .taken))
+
+sub-i : tie.Need-sub-i
+sub-i c = search needs
+
+mul-t6 : tie.Need-mul-t6
+mul-t6 c = search needs
+
+shared-slice-read-t8 : tie.Need-shared-slice-read-t8
+shared-slice-read-t8 c = let l = c .before .before .before .before .pre in omega (arith, stack-room _ (l .rooms) (l .sound) _ (l .agrees), c .before .before .if1 .left)
+
+cast-t9 : tie.Need-cast-t9
+cast-t9 c = omega (arith, c .shared-slice-known .given (c .before .before .before .before .args .c .stack - 1))
+
+returns-2 : tie.Need-returns-2
+unfolding Decides
+returns-2 c = λ r s q. dup-lent _ _ r s q (c .before .before .if1 .left)
+
+pub dup-spec : {M : Type 1} → statement M
+dup-spec = tie.close (tie.spec returns sub-i mul-t6 shared-slice-read-t8 cast-t9 returns-2)

@@ -1,0 +1,18 @@
+-- `decoder::get_line` meets its contract. Assumes nothing.
+use borrow.Author.Needs.{needs}
+use Rattle.decoder.proofs.get_line.Statement.{statement}
+use Rattle.decoder.proofs.get_line.Tie as tie
+use Rattle.decoder.specs.ReadsMemo.{get-line-keyed}
+use Rattle.decoder.proofs.LawsMemo.{op-refused, op-lent, op-went}
+
+get-requires : tie.Need-get-requires
+get-requires c κs = op-lent _ _ _ get-line-keyed _ _ _ _ (λ r q. q .0) (λ r q. (q .1, q .2)) _ (c .before .before .before .before .key-line .ensures) _ _ _ (c .before .before .at .given .1) (c .read-to .ensures) (c .before .before .before .before .before .before .before .before .pre)
+
+returns : tie.Need-returns
+returns c = op-refused _ _ _ get-line-keyed _ _ _ (λ r q. q .0) _ (c .before .before .before .key-line .ensures) _ (c .before .why .given .1)
+
+returns-2 : tie.Need-returns-2
+returns-2 c = op-went _ _ _ get-line-keyed _ _ _ _ (λ r q. q .0) (λ r q. (q .1, q .2)) _ (c .before .before .before .before .before .key-line .ensures) _ _ _ _ (c .before .before .before .at .given .1) (c .before .read-to .ensures) (c .get .ensures)
+
+pub get-line-spec : {M : Type 1} → statement M
+get-line-spec = tie.close (tie.spec (λ c κs. search needs) (λ c. search needs) (λ c. search needs) (λ c κs. search needs) get-requires returns returns-2)

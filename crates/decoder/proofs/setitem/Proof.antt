@@ -1,0 +1,26 @@
+-- SETITEM.
+use Rattle.decoder.proofs.setitem.Statement.{statement}
+use Rattle.decoder.proofs.setitem.Tie as tie
+use Rattle.decoder.proofs.setitem.Reads as reads
+use Rattle.decoder.proofs.setitem.Lts as lts
+use Rattle.decoder.proofs.grown.Reads as grown-reads
+use Prim.Native.Nat.{_-_}
+use mathlib.Core.Path.{refl}
+use native.Mathlib.Omega.{arith}
+use Rattle.decoder.specs.Effects.{Decides}
+use Rattle.decoder.specs.Items.{TakesMark, Adds, lists, dicts}
+use Rattle.decoder.specs.StackSteps.{says-refused, setitem-underflow, setitem-adds}
+
+returns : tie.Need-returns
+unfolding Decides
+returns c = λ r s q. says-refused _ r _ _ (setitem-underflow r _ s (c .if1 .taken))
+
+grown-requires : tie.Need-grown-requires
+grown-requires c κs = (c .before .before .before .before .before .pre, (omega arith, omega arith, dicts refl))
+
+returns-2 : tie.Need-returns-2
+unfolding Decides Adds
+returns-2 c = λ r s q. rw (setitem-adds r _ s (c .before .before .if1 .left)) at (c .grown .ensures r s (q .0) (q .1))
+
+pub setitem-spec : {M : Type 1} → statement M
+setitem-spec = tie.close (tie.spec returns grown-requires returns-2)

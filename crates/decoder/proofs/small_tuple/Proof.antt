@@ -1,0 +1,33 @@
+-- TUPLE1 to TUPLE3.
+use borrow.Author.Needs.{needs}
+use Rattle.decoder.proofs.small_tuple.Statement.{statement}
+use Rattle.decoder.proofs.small_tuple.Tie as tie
+use Rattle.decoder.proofs.small_tuple.Reads as reads
+use Rattle.decoder.proofs.small_tuple.Lts as lts
+use Rattle.decoder.proofs.cut.Reads as cut-reads
+use Prim.Native.Nat.{_-_}
+use mathlib.Core.Path.{refl}
+use native.Mathlib.Omega.{arith}
+use Rattle.decoder.specs.Effects.{Decides}
+use Rattle.decoder.specs.Items.{TakesMark, Adds, lists, dicts}
+use Rattle.decoder.specs.StackSteps.{says-refused, tuple-n-underflow, tuple-n-makes}
+
+sub-n : tie.Need-sub-n
+sub-n c = search needs
+
+cast-n : tie.Need-cast-n
+cast-n c = search needs
+
+returns : tie.Need-returns
+unfolding Decides
+returns c = λ r s q. says-refused _ r _ _ (tuple-n-underflow r _ s _ (c .if1 .taken))
+
+cut-requires : tie.Need-cut-requires
+cut-requires c κs = search needs
+
+returns-2 : tie.Need-returns-2
+unfolding Decides
+returns-2 c = λ r s q. rw (c .cut .ensures) (tuple-n-makes r _ s _ (c .before .before .if1 .left))
+
+pub small-tuple-spec : {M : Type 1} → statement M
+small-tuple-spec = tie.close (tie.spec sub-n cast-n returns cut-requires returns-2)

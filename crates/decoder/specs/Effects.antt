@@ -1,0 +1,144 @@
+-- What the effect of an opcode means: the rest of its step, with the limits, over the rooms and the counts after what it read and took;
+-- and what holds of rooms and counts at every step.
+use Prim.Native.Nat.{ℕ, _+_, _*_, _<_, _≤_}
+use mathlib.Core.Bool.{true, cond}
+use mathlib.Core.List.{List, [], _∷_}
+use mathlib.Core.Path.{_≡_, refl}
+use lib.ListN.{length, getD, take, drop, set}
+use lib.Dec.{leb, ltb}
+use Rattle.refusal.specs.declared.Refusal.the-variants.{MemoFull}
+use Rattle.text.specs.Pieces.{bytesOf, reads}
+use Rattle.text.specs.Text.{unescapeString}
+use Rattle.value.specs.Value.{BytesL}
+use Rattle.value.specs.Shape.{kindIn}
+use Rattle.decoder.specs.declared.Effect.{Effect}
+use Rattle.decoder.specs.declared.Effect.the-variants.{Push, Share, Mark, Go, Make, Extend, Remember, Build, Unescape, Stop, Refused}
+use Rattle.decoder.specs.State.{State, Res, ok, no, _>>=_, need, memoLimit, nodesLimit, linksLimit, stackLimit, marksLimit, withNodes, withMemo, top, pushId, pushNode, push, link, nodeAt, extend, has, insert, put}
+use Rattle.decoder.specs.Opcodes.{mark, made}
+use Rattle.decoder.specs.Run.{Next, goes, stops, going}
+use Rattle.decoder.specs.Range.{InRange}
+use Rattle.decoder.specs.Rooms.{Rooms, Counts, first, nodeIs, stateOf, Holds, Class, Used, Kept}
+
+-- ---- the parts of a step that follow what it read and took
+
+-- `put` behind the top: MemoFull, else the entry
+unfoldable pub remember : ℕ → ℕ → State → Res State
+remember k i s = do
+  _ ← need (cond (has (s .memo) k) true (ltb (length (s .memo)) memoLimit)) MemoFull
+  ok (withMemo s (insert (s .memo) k i))
+
+pub put-is : (k : ℕ) (s : State) → put k s ≡ (top s >>= λ i. remember k i s)
+unfolding put remember
+put-is k s = refl
+
+-- `added` behind the container: LinksFull, else the items
+unfoldable pub grow : ℕ → List ℕ → State → Res State
+grow o is s = do
+  s₁ ← link (length is) s
+  ok (extend o is s₁)
+
+-- `build` behind the Object: its state is i
+unfoldable pub state : ℕ → ℕ → State → State
+state o i s = withNodes s (set (s .nodes) o (record { label = nodeAt s o .label; kids = getD (nodeAt s o .kids) 0 0 ∷ i ∷ [] }))
+
+-- the values above the first n, of h on the stack
+unfoldable pub above : ℕ → ℕ → List ℕ → List ℕ
+above n h stack = drop n (take h stack)
+
+-- the container that a kind names
+unfoldable pub container : ℕ → Rooms → List ℕ → State → Res State
+container k r is s = made (nodeIs (r .pickle) (r .unescaped) (r .nodes) [] k 0 .label) is s
+
+-- what an effect does; h values were on the stack before the opcode took any
+unfoldable pub enacted : Effect → Rooms → ℕ → Res Next
+enacted (Push c a b) r h = going (pushNode (nodeIs (r .pickle) (r .unescaped) (r .nodes) [] a b) (stateOf r c))
+enacted (Share c i) r h = going (pushId (i .0) (stateOf r c))
+enacted (Mark c) r h = going (mark (stateOf r c))
+enacted (Go c) r h = ok (goes (stateOf r c))
+enacted (Make c k) r h = going (container k r (above (c .stack) h (r .stack)) (stateOf r c))
+enacted (Extend c o) r h = going (grow (o .0) (above (c .stack) h (r .stack)) (stateOf r c))
+enacted (Remember c k i) r h = going (remember (k .0) (i .0) (stateOf r c))
+enacted (Build c o i) r h = ok (goes (state (o .0) (i .0) (stateOf r c)))
+enacted (Unescape c from n) r h = going (push (BytesL (bytesOf (unescapeString (take n (drop from (r .pickle)))))) (stateOf r c))
+enacted (Stop c) r h = ok (stops (stateOf r c))
+enacted (Refused why) r h = no why
+
+-- ---- what holds of the rooms and counts
+
+-- the log of links is twice as long as the machine needs: the builder adds those of sets and Objects
+pub record Lengths (r : Rooms) : Type 0 where
+  pub pickle : length (r .pickle) ≤ 65536
+  pub nodes : length (r .nodes) ≡ 2 * nodesLimit
+  pub owners : length (r .owners) ≡ 2 * linksLimit
+  pub children : length (r .children) ≡ 2 * linksLimit
+  pub stack : length (r .stack) ≡ stackLimit
+  pub marks : length (r .marks) ≡ marksLimit
+  pub keys : length (r .keys) ≡ memoLimit
+  pub held : length (r .held) ≡ memoLimit
+  pub unescaped : length (r .unescaped) ≡ 65536
+
+-- zero from n on
+unfoldable pub Blank : ℕ → List ℕ → Type 0
+Blank n l = (i : ℕ) → n ≤ i → getD l i 0 ≡ 0
+
+-- nothing but what was used was written
+pub record Clean (r : Rooms) (c : Counts) : Type 0 where
+  pub nodes : Blank (2 * c .nodes) (r .nodes)
+  pub owners : Blank (c .links) (r .owners)
+  pub children : Blank (c .links) (r .children)
+  pub stack : Blank (c .deepest) (r .stack)
+  pub marks : Blank (c .most) (r .marks)
+  pub keys : Blank (c .memo) (r .keys)
+  pub held : Blank (c .memo) (r .held)
+  pub unescaped : Blank (c .unescaped) (r .unescaped)
+
+pub record Firm (r : Rooms) (c : Counts) : Type 0 where
+  pub lengths : Lengths r
+  pub at : c .at ≤ length (r .pickle)
+  pub unescaped : c .unescaped ≤ c .at
+  pub nodes : c .nodes ≤ nodesLimit
+  pub links : c .links ≤ linksLimit
+  pub stack : c .stack ≤ c .deepest
+  pub deepest : c .deepest ≤ stackLimit
+  pub marks : c .marks ≤ c .most
+  pub most : c .most ≤ marksLimit
+  pub memo : c .memo ≤ memoLimit
+  pub kept : Kept (r .nodes) (r .owners) (r .children) (c .links) (c .nodes) (c .unescaped)
+  pub clean : Clean r c
+
+pub record Sound (r : Rooms) (c : Counts) : Type 0 where
+  pub firm : Firm r c
+  pub range : InRange (stateOf r c)
+
+-- ---- what an opcode's function promises
+
+-- the effect can be had in the rooms
+unfoldable pub Fits : Effect → Rooms → ℕ → Type 0
+Fits (Push c a b) r h = Firm r c × Class (r .nodes) (c .nodes) a × Used (c .unescaped) a b × (Holds a → b ≡ 0)
+Fits (Share c i) r h = Firm r c × (i .0 < c .nodes)
+Fits (Mark c) r h = Firm r c
+Fits (Go c) r h = Firm r c
+Fits (Make c k) r h = Firm r c × (c .stack ≤ h) × (h ≤ c .deepest) × Holds k
+Fits (Extend c o) r h = Firm r c × (c .stack ≤ h) × (h ≤ c .deepest) × (o .0 < c .nodes) × Holds (first (r .nodes) (o .0))
+Fits (Remember c k i) r h = Firm r c × (i .0 < c .nodes)
+Fits (Build c o i) r h = Firm r c × (o .0 < c .nodes) × (i .0 < c .nodes) × (kindIn (first (r .nodes) (o .0)) ≡ 12)
+Fits (Unescape c from n) r h =
+    Firm r c × (from + n ≤ length (r .pickle)) × (reads (unescapeString (take n (drop from (r .pickle)))) ≡ true)
+    × (c .unescaped + length (bytesOf (unescapeString (take n (drop from (r .pickle))))) ≤ c .at)
+Fits (Stop c) r h = Firm r c
+Fits (Refused why) r h = Unit {0}
+
+-- e is the step n of the machine with the rooms r and counts c
+pub record Says (e : Effect) (r : Rooms) (c : Counts) (n : Res Next) : Type 0 where
+  pub enacts : enacted e r (c .stack) ≡ n
+  pub fits : Fits e r (c .stack)
+
+-- some rooms of which P holds, with these counts
+pub record Lent (c : Counts) (P : Rooms → Type 0) : Type 0 where
+  pub rooms : Rooms
+  pub sound : Sound rooms c
+  pub agrees : P rooms
+
+-- in all such rooms e is the step that `does` is
+unfoldable pub Decides : Counts → (Rooms → Type 0) → (State → Res Next) → Effect → Type 0
+Decides c P does e = (r : Rooms) → Sound r c → P r → Says e r c (does (stateOf r c))

@@ -1,0 +1,47 @@
+-- Items that an opcode takes off the stack for a container: what its code answers.
+use Prim.Native.Nat.{ℕ, suc, _-_, _*_, _%_, _<_, _≤_}
+use mathlib.Core.Bool.{Bool, true, false, cond}
+use mathlib.Core.List.{List, [], _∷_}
+use mathlib.Core.Path.{_≡_, refl, _∙_, ap}
+use mathlib.Core.Logic.{_≢_}
+use lib.ListN.{length, getD, take, drop}
+use lib.Seq.{drop-cons, getD-take, length-take-le}
+use lib.Dec.{eqb}
+use borrow.Author.Tests.{eq-eqb, ne-eqb}
+use native.Mathlib.Omega.{arith}
+use Rattle.refusal.specs.declared.Refusal.the-variants.{Invalid, StackUnderflow}
+use Rattle.refusal.specs.declared.Wanted.{Wanted}
+use Rattle.value.specs.Value.{Label}
+use Rattle.value.specs.Shape.{kindIn}
+use Rattle.decoder.specs.declared.Taken.{Taken}
+use Rattle.decoder.specs.declared.Taken.the-variants.{Short, From}
+use Rattle.decoder.specs.declared.Effect.{Effect}
+use Rattle.decoder.specs.State.{State, ok, no, _>>=_, need, popMark}
+use Rattle.decoder.specs.Opcodes.{isList, isDict, added}
+use Rattle.decoder.specs.Run.{going}
+use Rattle.decoder.specs.Rooms.{Rooms, Counts, stateOf}
+use Rattle.decoder.specs.Effects.{Firm, Sound, Says, above}
+use Rattle.decoder.specs.Reads.{cutTo}
+
+-- what was found above the last mark
+unfoldable pub Took : Taken → Rooms → Counts → Type 0
+Took Short r c = popMark (stateOf r c) ≡ no StackUnderflow
+Took (From m) r c = (popMark (stateOf r c) ≡ ok (above m (c .stack) (r .stack), stateOf r (cutTo c (c .at) m (c .marks - 1)))) × (m ≤ c .stack) × (0 < c .marks)
+
+-- in all rooms with these marks
+unfoldable pub TakesMark : Counts → List ℕ → Taken → Type 0
+TakesMark c marks t = (r : Rooms) → Sound r c → r .marks ≡ marks → Took t r c
+
+-- the containers that grow, by their kinds
+pub data Grows (k : ℕ) : Type 0 where
+  lists : k ≡ 6 → Grows k
+  dicts : k ≡ 10 → Grows k
+
+unfoldable pub isGrown : ℕ → Label → Bool
+isGrown k l = cond (eqb k 6) (isList l) (isDict l)
+
+-- in all rooms with these words and this stack, e adds what stands above `keep`
+unfoldable pub Adds : Counts → List ℕ → List ℕ → ℕ → ℕ → ℕ → Wanted → Effect → Type 0
+Adds c nodes stack keep marks k why e =
+    (r : Rooms) → Sound r c → r .nodes ≡ nodes → r .stack ≡ stack
+    → Says e r c (going (added (isGrown k) (Invalid why) (above keep (c .stack) (r .stack)) (stateOf r (cutTo c (c .at) keep marks))))

@@ -1,0 +1,331 @@
+-- What the opcodes that read only the pickle come to: a line's literal, so many bytes, or a length and so many bytes.
+use Prim.Native.Nat.{ℕ, suc, zero, _+_, _-_, _*_, _^_, _<_, _≤_}
+use mathlib.Core.Bool.{Bool, true, false, cond, _||_}
+use mathlib.Core.List.{List, [], _∷_}
+use mathlib.Core.Path.{_≡_, refl, sym, _∙_, ap}
+use lib.ListN.{length, getD, take, drop, length-take}
+use lib.Seq.{take-take, getD-take, getD-drop}
+use lib.Dec.{eqb, leb}
+use native.Mathlib.Omega.{arith}
+use mir.Val.{boolByte}
+use Rattle.refusal.specs.Read.{Read, got, refused}
+use Rattle.refusal.specs.declared.Refusal.{Refusal}
+use Rattle.refusal.specs.declared.Refusal.the-variants.{EndOfInput}
+use Rattle.input.specs.Line.{lineEnd, newlineOf, lineOf, lessCr, newline-first}
+use Rattle.input.specs.Bytes.{lowFirst, lastByte}
+use Rattle.number.specs.Number.{turned}
+use Rattle.utf8.specs.Utf8.{repair}
+use Rattle.text.specs.Pieces.{bytesOf}
+use Rattle.text.specs.Text.{unescapeUnicode}
+use Rattle.value.specs.Value.{Label, BoolL, I64L, F64L, BytesL, StringL, GlobalL}
+use Rattle.value.specs.Shape.{kindIn}
+use Rattle.input.specs.declared.LineEnd.{LineEnd}
+use Rattle.input.specs.declared.LineEnd.the-variants as ends
+use Rattle.decoder.specs.declared.Effect.{Effect}
+use Rattle.decoder.specs.declared.Part.{Part}
+use Rattle.decoder.specs.declared.Part.the-variants.{Short, At}
+use Rattle.decoder.specs.declared.Effect.the-variants.{Push, Go, Refused}
+use Rattle.decoder.specs.State.{State, Res, ok, no, _>>=_, leaf, plain, bytes, line, push}
+use Rattle.decoder.specs.Opcodes.{lowBytes}
+use Rattle.decoder.specs.Run.{going}
+use Rattle.decoder.specs.Rooms.{Rooms, Counts, moduleOf, nameOf, nodeIs, stateOf, atTo, Holds, aList, aTuple, aDict}
+use Rattle.decoder.specs.RoomLists.{within-at}
+use Rattle.decoder.specs.RoomReads.{node-kind, kind-made, rest-made}
+use Rattle.decoder.specs.RoomKeeps.{class-none, used-none}
+use Rattle.decoder.specs.Effects.{Firm, Sound, Says, Fits, Lent, Decides, enacted}
+use Rattle.decoder.specs.Reads.{cutTo, firm-cut, bytes-short, bytes-got, line-none, line-got}
+
+-- ---- what the parts of the code answer
+
+-- a length of n bytes, and so many bytes
+unfoldable pub counted : ℕ → State → Res (List ℕ × State)
+counted n s = do
+  (z, s₁) ← lowBytes n s
+  bytes z s₁
+
+-- a part of the pickle at or behind the counts' place is what m reads
+unfoldable pub Is : Part → Rooms → Counts → Res (List ℕ × State) → Type 0
+Is Short r c m = m ≡ no EndOfInput
+Is (At from n) r c m = (m ≡ ok (take n (drop from (r .pickle)), stateOf r (atTo c (from + n)))) × (c .at ≤ from) × (from + n ≤ length (r .pickle))
+
+-- in all rooms of which P holds, t is what `reads` reads
+unfoldable pub Found : Counts → (Rooms → Type 0) → (State → Res (List ℕ × State)) → Part → Type 0
+Found c P reads t = (r : Rooms) → Sound r c → P r → Is t r c (reads (stateOf r c))
+
+-- ---- what they are put together to
+
+-- a line's literal
+abbrev pub literal : {A : Type 0} → (List ℕ → Read A) → (A → Label) → State → Res State
+literal read label s = line s >>= λ q. leaf (read (q .0)) >>= λ v. push (label v) (q .1)
+
+-- n bytes
+abbrev pub fixed : ℕ → (List ℕ → Label) → State → Res State
+fixed n label s = bytes n s >>= λ q. push (label (q .0)) (q .1)
+
+-- the literal of what was read
+abbrev pub part : {A : Type 0} → (List ℕ → Read A) → (A → Label) → Res (List ℕ × State) → Res State
+part read label m = m >>= λ q. leaf (read (q .0)) >>= λ v. push (label v) (q .1)
+
+-- the kinds of values and Globals
+unfoldable pub leafy : ℕ → Bool
+leafy j = leb j 5 || (eqb j 11 || eqb j 14)
+
+-- the words k and b are those of a value or a Global
+pub record Makes (p : List ℕ) (k b : ℕ) (l : Label) : Type 0 where
+  pub kind : leafy (kindIn k) ≡ true
+  pub node : (u ws : List ℕ) → nodeIs p u ws [] k b ≡ plain l
+
+wrong : (j m : ℕ) → leafy j ≡ true → leafy m ≡ false → j ≡ m → ⊥
+wrong j m t f e = let z : _≡_ {A = ℕ} 0 1 = cc in omega arith
+
+no-links : (k : ℕ) → leafy (kindIn k) ≡ true → Holds k → ⊥
+unfolding leafy
+no-links k t (aList e) = wrong (kindIn k) 6 t refl e
+no-links k t (aTuple e) = wrong (kindIn k) 7 t refl e
+no-links k t (aDict e) = wrong (kindIn k) 10 t refl e
+
+module _ (r : Rooms) (c : Counts) (s : Sound r c) where
+  pub says-refused : (why : Refusal) (m : Res State) → m ≡ no why → Says (Refused why) r c (going m)
+  unfolding enacted Fits going
+  says-refused why m e = record { enacts = rw e; fits = tt }
+
+  pub firm-read : (a : ℕ) → c .at ≤ a → a ≤ length (r .pickle) → Firm r (cutTo c a (c .stack) (c .marks))
+  firm-read a h k = firm-cut r c a (c .stack) (c .marks) (s .firm) h k (omega arith) (omega arith)
+
+  pub says-go : (a : ℕ) (m : Res State) → m ≡ ok (stateOf r (atTo c a)) → c .at ≤ a → a ≤ length (r .pickle) → Says (Go (cutTo c a (c .stack) (c .marks))) r c (going m)
+  unfolding enacted Fits going
+  says-go a m e h k = record { enacts = rw e; fits = firm-read a h k }
+
+  pub says-push : (a k b : ℕ) (l : Label) (m : Res State) → m ≡ push l (stateOf r (atTo c a)) → Makes (r .pickle) k b l → c .at ≤ a → a ≤ length (r .pickle) → Says (Push (cutTo c a (c .stack) (c .marks)) k b) r c (going m)
+  unfolding enacted Fits leafy push
+  says-push a k b l m e n h i = record {
+    enacts = rw (e, n .node (r .unescaped) (r .nodes));
+    fits = (firm-read a h i, class-none (r .nodes) (c .nodes) k (wrong (kindIn k) 12 (n .kind) refl), used-none (c .unescaped) k b (wrong (kindIn k) 13 (n .kind) refl), λ x. absurd (no-links k (n .kind) x));
+  }
+
+-- ---- what the code knows of the pickle
+
+pub no-newline : (p : List ℕ) (at : ℕ) (x : LineEnd) → lineEnd x ≡ newlineOf p at → x ≡ ends.End → newlineOf p at ≡ refused EndOfInput 0
+unfolding lineEnd
+no-newline p at x e d = sym e ∙ ap lineEnd d
+
+pub at-newline : (p : List ℕ) (at i : ℕ) (x : LineEnd) → lineEnd x ≡ newlineOf p at → x ≡ ends.At i → newlineOf p at ≡ got i
+unfolding lineEnd
+at-newline p at i x e d = sym e ∙ ap lineEnd d
+
+pub line-inside : (p : List ℕ) (at i : ℕ) → newlineOf p at ≡ got i → (at ≤ i) × (i < length p)
+line-inside p at i e = let f = newline-first p at i e in (f .low, f .inside)
+
+-- ---- a step in all rooms that have the pickle
+
+pub same-step : (c : Counts) (P : Rooms → Type 0) (f g : State → Res State) (e : Effect) → ((s : State) → f s ≡ g s) → Decides c P (λ s. going (g s)) e → Decides c P (λ s. going (f s)) e
+unfolding Decides
+same-step c P f g e h d r s q = rw (h (stateOf r c)) (d r s q)
+
+-- what follows of a reading that was refused, or not
+pub leaf-bad : {A : Type 0} (label : A → Label) (x : Read A) (why : Refusal) (j : ℕ) (s : State) → turned label x ≡ refused why j → (leaf x >>= λ v. push (label v) s) ≡ no why
+unfolding turned leaf _>>=_
+leaf-bad label (got a) why j s e = let z : _≡_ {A = ℕ} 0 1 = cc in absurd (omega arith)
+leaf-bad label (refused w k) why j s e = let z : w ≡ why = cc in ap no z
+
+pub leaf-got : {A : Type 0} (label : A → Label) (x : Read A) (l : Label) (s : State) → turned label x ≡ got l → (leaf x >>= λ v. push (label v) s) ≡ push l s
+unfolding turned leaf _>>=_
+leaf-got label (got a) l s e = let z : label a ≡ l = cc in rw z
+leaf-got label (refused w k) l s e = let z : _≡_ {A = ℕ} 0 1 = cc in absurd (omega arith)
+
+module _ (c : Counts) (p : List ℕ) where
+  pub lent-at : Lent c (λ r. r .pickle ≡ p) → c .at ≤ length p
+  lent-at l = rw (l .agrees) at (l .sound .firm .at)
+
+  pub lent-size : Lent c (λ r. r .pickle ≡ p) → length p ≤ 65536
+  lent-size l = rw (l .agrees) at (l .sound .firm .lengths .pickle)
+
+  -- a step whose first part is refused
+  pub refused-step : {A : Type 0} (m : State → Res A) (f : A → Res State) (why : Refusal) → ((r : Rooms) → Sound r c → r .pickle ≡ p → m (stateOf r c) ≡ no why) → Decides c (λ r. r .pickle ≡ p) (λ s. going (m s >>= f)) (Refused why)
+  unfolding Decides _>>=_
+  refused-step m f why h r s q = says-refused r c s why (m (stateOf r c) >>= f) (rw (h r s q))
+
+  -- a step that reads to a, and has a plain node
+  pub pushed-step : (m : State → Res State) (a k b : ℕ) (l : Label) (c₁ : Counts) → ((r : Rooms) → Sound r c → r .pickle ≡ p → m (stateOf r c) ≡ push l (stateOf r (atTo c a)))
+      → Makes p k b l → c .at ≤ a → a ≤ length p → c₁ ≡ cutTo c a (c .stack) (c .marks) → Decides c (λ r. r .pickle ≡ p) (λ s. going (m s)) (Push c₁ k b)
+  unfolding Decides
+  pushed-step m a k b l c₁ h n i j d r s q = rw d (says-push r c s a k b l (m (stateOf r c)) (h r s q) (rw q n) i (rw q j))
+
+  -- ---- lines
+
+  pub ended : newlineOf p (c .at) ≡ refused EndOfInput 0 → (r : Rooms) → Sound r c → r .pickle ≡ p → line (stateOf r c) ≡ no EndOfInput
+  ended e r s q = line-none r c (rw q e)
+
+  pub lined : (i : ℕ) → newlineOf p (c .at) ≡ got i → (r : Rooms) → Sound r c → r .pickle ≡ p → line (stateOf r c) ≡ ok (lineOf p (c .at) i, stateOf r (atTo c (i + 1)))
+  lined i e r s q = rw (line-got r c i (rw q e), q)
+
+  module _ {A : Type 0} (read : List ℕ → Read A) (label : A → Label) where
+    pub line-ends : newlineOf p (c .at) ≡ refused EndOfInput 0 → Decides c (λ r. r .pickle ≡ p) (λ s. going (literal read label s)) (Refused EndOfInput)
+    line-ends e = refused-step line (λ q. leaf (read (q .0)) >>= λ v. push (label v) (q .1)) EndOfInput (ended e)
+
+    -- l is the line to the newline at i
+    module _ (i : ℕ) (e : newlineOf p (c .at) ≡ got i) (l : List ℕ) (d : l ≡ lineOf p (c .at) i) where
+      pub line-bad : (why : Refusal) (j : ℕ) → turned label (read l) ≡ refused why j → Decides c (λ r. r .pickle ≡ p) (λ s. going (literal read label s)) (Refused why)
+      unfolding Decides _>>=_
+      line-bad why j f r s q =
+          says-refused r c s why (literal read label (stateOf r c)) (rw (lined i e r s q, ← d) (leaf-bad label (read l) why j (stateOf r (atTo c (i + 1))) f))
+
+      pub line-push : (k b : ℕ) (n : Label) (c₁ : Counts) → turned label (read l) ≡ got n → Makes p k b n → c₁ ≡ cutTo c (i + 1) (c .stack) (c .marks)
+          → Decides c (λ r. r .pickle ≡ p) (λ s. going (literal read label s)) (Push c₁ k b)
+      unfolding _>>=_
+      line-push k b n c₁ f m =
+          let h = line-inside p (c .at) i e in
+          let h₀ = h .0 in
+          let h₁ = h .1 in
+          pushed-step (literal read label) (i + 1) k b n c₁ (λ r s q. rw (lined i e r s q, ← d) (leaf-got label (read l) n (stateOf r (atTo c (i + 1))) f)) m (omega arith) (omega arith)
+
+  -- ---- so many bytes
+
+  pub short : (n : ℕ) → length p - c .at < n → (r : Rooms) → Sound r c → r .pickle ≡ p → bytes n (stateOf r c) ≡ no EndOfInput
+  short n h r s q = bytes-short r c n (s .firm .at) (rw q h)
+
+  pub enough : (n : ℕ) → n ≤ length p - c .at → (r : Rooms) → Sound r c → r .pickle ≡ p → bytes n (stateOf r c) ≡ ok (take n (drop (c .at) p), stateOf r (atTo c (c .at + n)))
+  enough n h r s q = rw (bytes-got r c n (s .firm .at) (rw q h), q)
+
+  module _ (n : ℕ) (label : List ℕ → Label) where
+    pub bytes-end : length p - c .at < n → Decides c (λ r. r .pickle ≡ p) (λ s. going (fixed n label s)) (Refused EndOfInput)
+    bytes-end h = refused-step (bytes n) (λ q. push (label (q .0)) (q .1)) EndOfInput (short n h)
+
+    pub bytes-push : (k b : ℕ) (c₁ : Counts) → c .at ≤ length p → n ≤ length p - c .at → Makes p k b (label (take n (drop (c .at) p))) → c₁ ≡ cutTo c (c .at + n) (c .stack) (c .marks)
+        → Decides c (λ r. r .pickle ≡ p) (λ s. going (fixed n label s)) (Push c₁ k b)
+    unfolding _>>=_
+    bytes-push k b c₁ i h m = pushed-step (fixed n label) (c .at + n) k b (label (take n (drop (c .at) p))) c₁ (λ r s q. rw (enough n h r s q)) m (omega arith) (omega arith)
+
+-- ---- a part
+
+bind-assoc : {A B D : Type 0} (m : Res A) (f : A → Res B) (g : B → Res D) → (m >>= f >>= g) ≡ (m >>= λ a. f a >>= g)
+unfolding _>>=_
+bind-assoc (ok a) f g = refl
+bind-assoc (no why) f g = refl
+
+-- a number of n bytes is what n bytes say
+pub low-is : {A : Type 0} (n : ℕ) (s : State) (f : ℕ × State → Res A) → (lowBytes n s >>= f) ≡ (bytes n s >>= λ q. f (lowFirst (q .0), q .1))
+unfolding lowBytes _>>=_
+low-is n s f = bind-assoc (bytes n s) (λ q. ok (lowFirst (q .0), q .1)) f
+
+pub counted-is : {A : Type 0} (n : ℕ) (s : State) (f : List ℕ × State → Res A) → (lowBytes n s >>= λ q. bytes (q .0) (q .1) >>= f) ≡ (counted n s >>= f)
+unfolding counted
+counted-is n s f = sym (bind-assoc (lowBytes n s) (λ q. bytes (q .0) (q .1)) f)
+
+module _ (c : Counts) (p : List ℕ) (n : ℕ) where
+  -- z is the number of the n bytes at the counts' place
+  module _ (z : ℕ) (at : c .at ≤ length p) (h : n ≤ length p - c .at) (e : z ≡ lowFirst (take n (drop (c .at) p))) where
+    behind : (r : Rooms) → Sound r c → r .pickle ≡ p → counted n (stateOf r c) ≡ bytes z (stateOf r (atTo c (c .at + n)))
+    unfolding counted _>>=_
+    behind r s q = low-is n (stateOf r c) (λ x. bytes (x .0) (x .1)) ∙ rw (enough c p n h r s q, e)
+
+    pub count-short : length p - c .at - n < z → Found c (λ r. r .pickle ≡ p) (counted n) Short
+    unfolding Found Is
+    count-short k r s q = behind r s q ∙ bytes-short r (atTo c (c .at + n)) z (rw q (omega arith)) (rw q (omega arith))
+
+    pub count-got : z ≤ length p - c .at - n → Found c (λ r. r .pickle ≡ p) (counted n) (At (c .at + n) z)
+    unfolding Found Is
+    count-got k r s q = (behind r s q ∙ bytes-got r (atTo c (c .at + n)) z (rw q (omega arith)) (rw q (omega arith)), omega arith, rw q (omega arith))
+
+  pub none-counted : length p - c .at < n → Found c (λ r. r .pickle ≡ p) (counted n) Short
+  unfolding Found Is counted _>>=_
+  none-counted h r s q = low-is n (stateOf r c) (λ x. bytes (x .0) (x .1)) ∙ rw (short c p n h r s q)
+
+  pub part-ends : (f : List ℕ × State → Res State) (t : Part) → Found c (λ r. r .pickle ≡ p) (counted n) t → t ≡ Short → Decides c (λ r. r .pickle ≡ p) (λ s. going (counted n s >>= f)) (Refused EndOfInput)
+  unfolding Found Is
+  part-ends f t h e = refused-step c p (counted n) f EndOfInput (rw e at h)
+
+  module _ (a m : ℕ) (t : Part) (h : Found c (λ r. r .pickle ≡ p) (counted n) t) (e : t ≡ At a m) where
+    pub found : (r : Rooms) → Sound r c → r .pickle ≡ p → (counted n (stateOf r c) ≡ ok (take m (drop a p), stateOf r (atTo c (a + m)))) × (c .at ≤ a) × (a + m ≤ length p)
+    unfolding Found Is
+    found r s q =
+        let x = (rw e at h) r s q in
+        (x .0 ∙ ap (λ (l : List ℕ). ok (take m (drop a l), stateOf r (atTo c (a + m)))) q, x .1, rw q at (x .2))
+
+    pub part-inside : Lent c (λ r. r .pickle ≡ p) → (c .at ≤ a) × (a + m ≤ length p)
+    part-inside l = let x = found (l .rooms) (l .sound) (l .agrees) in (x .1, x .2)
+
+    -- l is the part
+    module _ {A : Type 0} (read : List ℕ → Read A) (label : A → Label) (l : List ℕ) (d : l ≡ take m (drop a p)) where
+      pub part-bad : (why : Refusal) (j : ℕ) → turned label (read l) ≡ refused why j → Decides c (λ r. r .pickle ≡ p) (λ s. going (part read label (counted n s))) (Refused why)
+      unfolding Decides _>>=_
+      part-bad why j f r s q =
+          says-refused r c s why (part read label (counted n (stateOf r c))) (rw (found r s q .0, ← d) (leaf-bad label (read l) why j (stateOf r (atTo c (a + m))) f))
+
+      pub part-push : (k b : ℕ) (o : Label) (c₁ : Counts) → (c .at ≤ a) × (a + m ≤ length p) → turned label (read l) ≡ got o → Makes p k b o → c₁ ≡ cutTo c (a + m) (c .stack) (c .marks)
+          → Decides c (λ r. r .pickle ≡ p) (λ s. going (part read label (counted n s))) (Push c₁ k b)
+      unfolding _>>=_
+      part-push k b o c₁ i f w =
+          pushed-step c p (λ s. part read label (counted n s)) (a + m) k b o c₁ (λ r s q. rw (found r s q .0, ← d) (leaf-got label (read l) o (stateOf r (atTo c (a + m))) f)) w (let x = i .0 in omega arith) (i .1)
+
+-- ---- the words of values and Globals
+
+module _ (p : List ℕ) where
+  pub makes-as : (k a b : ℕ) (l : Label) → a ≡ b → Makes p k b l → Makes p k a l
+  makes-as k a b l e m = rw e m
+
+  pub makes-bool : (b : Bool) → Makes p 1 (boolByte b) (BoolL b)
+  unfolding leafy kindIn nodeIs
+  makes-bool true = record { kind = refl; node = λ u ws. refl }
+  makes-bool false = record { kind = refl; node = λ u ws. refl }
+
+  pub makes-i64 : (b : ℕ) → Makes p 2 b (I64L b)
+  unfolding leafy kindIn nodeIs
+  makes-i64 b = record { kind = refl; node = λ u ws. refl }
+
+  pub makes-f64 : (b : ℕ) → Makes p 3 b (F64L b)
+  unfolding leafy kindIn nodeIs
+  makes-f64 b = record { kind = refl; node = λ u ws. refl }
+
+  -- a text at `at`, of n bytes
+  module _ (at n : ℕ) (h : at < 2 ^ 32) where
+    pub makes-bytes : Makes p 4 (n * 2 ^ 32 + at) (BytesL (take n (drop at p)))
+    unfolding leafy kindIn nodeIs
+    makes-bytes = record { kind = refl; node = λ u ws. ap (λ (t : List ℕ). plain (BytesL t)) (within-at 32 at n p h) }
+
+    pub makes-string : Makes p 5 (n * 2 ^ 32 + at) (StringL (repair (take n (drop at p))))
+    unfolding leafy kindIn nodeIs
+    makes-string = record { kind = refl; node = λ u ws. ap (λ (t : List ℕ). plain (StringL (repair t))) (within-at 32 at n p h) }
+
+    pub makes-unicode : Makes p 14 (n * 2 ^ 32 + at) (StringL (bytesOf (unescapeUnicode (take n (drop at p)))))
+    unfolding leafy kindIn nodeIs
+    makes-unicode = record { kind = refl; node = λ u ws. ap (λ (t : List ℕ). plain (StringL (bytesOf (unescapeUnicode t)))) (within-at 32 at n p h) }
+
+  -- the lines of a Global: a module of m bytes at `at`, and a name of n at `from`
+  pub makes-global : (at m from n : ℕ) → at < 2 ^ 24 → from < 2 ^ 32 → Makes p (11 + 16 * (m * 2 ^ 24 + at)) (n * 2 ^ 32 + from) (GlobalL (repair (take m (drop at p))) (repair (take n (drop from p))))
+  unfolding leafy moduleOf nameOf
+  makes-global at m from n h k =
+      let w = m * 2 ^ 24 + at in
+      let e = kind-made 11 w (omega arith) in
+      record {
+        kind = rw e;
+        node = λ u ws. rw (node-kind p u ws [] (11 + 16 * w) (n * 2 ^ 32 + from) 11 e, rest-made 11 w (omega arith), within-at 24 at m p h, within-at 32 from n p k);
+      }
+
+-- ---- a line as a place and a length
+
+take-own : (n : ℕ) (l : List ℕ) → take n l ≡ take (length (take n l)) l
+take-own zero l = refl
+take-own (suc n) [] = refl
+take-own (suc n) (b ∷ l) = ap (λ (t : List ℕ). b ∷ t) (take-own n l)
+
+less-part : (t : Bool) (k : ℕ) (d : List ℕ) → cond t (take (length (take k d) - 1) (take k d)) (take k d) ≡ take (length (cond t (take (length (take k d) - 1) (take k d)) (take k d))) d
+less-part true k d = take-own (length (take k d) - 1) (take k d) ∙ take-take (length (take (length (take k d) - 1) (take k d))) k d (simp length-take (omega arith))
+less-part false k d = take-own k d
+
+pub line-part : (p : List ℕ) (at i : ℕ) → lineOf p at i ≡ take (length (lineOf p at i)) (drop at p)
+unfolding lineOf lessCr
+line-part p at i = less-part (eqb (lastByte (take (i - at) (drop at p))) 13) (i - at) (drop at p)
+
+-- ---- one byte
+
+pub first-byte : (p : List ℕ) (at : ℕ) → getD (take 1 (drop at p)) 0 0 ≡ getD p at 0
+first-byte p at = let e : at + 0 ≡ at = omega arith in getD-take 1 (drop at p) 0 0 (omega arith) ∙ getD-drop at p 0 0 ∙ ap (λ (n : ℕ). getD p n 0) e
+
+pub low-one : (p : List ℕ) (at : ℕ) → lowFirst (take 1 (drop at p)) ≡ getD p at 0
+unfolding lowFirst
+low-one p at = one (drop at p) ∙ first-byte p at
+  where
+    one : (l : List ℕ) → lowFirst (take 1 l) ≡ getD (take 1 l) 0 0
+    one [] = refl
+    one (b ∷ l) = omega arith

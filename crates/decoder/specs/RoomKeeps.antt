@@ -1,0 +1,223 @@
+-- What the code keeps of its rooms is kept by each change of them.
+use Prim.Native.Nat.{ℕ, suc, _*_, _<_, _≤_}
+use mathlib.Core.Bool.{Bool}
+use mathlib.Core.List.{List}
+use mathlib.Core.Path.{_≡_, refl, sym, _∙_, ap}
+use mathlib.Core.Logic.{_≢_}
+use lib.ListN.{length, length-append, getD, take, set}
+use lib.Seq.{getD-set-same, getD-set-other}
+use native.Mathlib.Decide.{ℕ-discrete}
+use native.Mathlib.Omega.{arith}
+use Rattle.value.specs.Shape.{kindIn}
+use Rattle.decoder.specs.Rooms.{items, first, second, wordsSet, classIn, Holds, aList, aTuple, aDict, Owned, Holding, Class, Classed, Used, AllUsed, Counted, Built, Kept}
+use Rattle.decoder.specs.RoomLists.{items-own, items-other, items-new, first-other, second-other, first-set, second-set, words-second, holds-below}
+use Rattle.decoder.specs.RoomReads.{objectWord, object-made}
+
+-- ---- owners
+
+pub owned-node : (owners : List ℕ) (links n : ℕ) → Owned owners links n → Owned owners links (suc n)
+unfolding Owned
+owned-node owners links n h k l = let v = h k l in omega arith
+
+pub owned-link : (owners : List ℕ) (links n o : ℕ) → links < length owners → o < n → Owned owners links n → Owned (set owners links o) (suc links) n
+unfolding Owned
+owned-link owners links n o r l h k m = go (ℕ-discrete k links)
+  where
+    go : Dec (k ≡ links) → getD (set owners links o) k 0 < n
+    go (yes e) = rw (e, getD-set-same owners links o 0 r) l
+    go (no d) = rw (getD-set-other owners links k o 0 d) (h k (omega arith))
+
+-- ---- owners' kinds
+
+same-holds : (a b : ℕ) → kindIn b ≡ kindIn a → Holds a → Holds b
+same-holds a b e (aList h) = aList (e ∙ h)
+same-holds a b e (aTuple h) = aTuple (e ∙ h)
+same-holds a b e (aDict h) = aDict (e ∙ h)
+
+module _ (ws owners : List ℕ) (links n : ℕ) (own : Owned owners links n) (h : Holding ws owners links) where
+  -- a node more
+  pub holding-node : (a b : ℕ) → Holding (wordsSet ws n a b) owners links
+  unfolding Holding Owned
+  holding-node a b k l = let v = own k l in rw (first-other ws n a b (getD owners k 0) (λ e. omega arith)) (h k l)
+
+-- words changed of a node that stays of its kind
+pub holding-words : (ws owners : List ℕ) (links o a b : ℕ) → suc (2 * o) < length ws → kindIn a ≡ kindIn (first ws o) → Holding ws owners links → Holding (wordsSet ws o a b) owners links
+unfolding Holding
+holding-words ws owners links o a b room kind h k l = go (ℕ-discrete (getD owners k 0) o)
+  where
+    go : Dec (getD owners k 0 ≡ o) → Holds (first (wordsSet ws o a b) (getD owners k 0))
+    go (yes e) = rw (e, first-set ws o a b room) (same-holds (first ws o) a kind (rw e at (h k l)))
+    go (no d) = rw (first-other ws o a b (getD owners k 0) d) (h k l)
+
+-- a link more
+pub holding-link : (ws owners : List ℕ) (links o : ℕ) → links < length owners → Holds (first ws o) → Holding ws owners links → Holding ws (set owners links o) (suc links)
+unfolding Holding
+holding-link ws owners links o r t h k m = go (ℕ-discrete k links)
+  where
+    go : Dec (k ≡ links) → Holds (first ws (getD (set owners links o) k 0))
+    go (yes e) = rw (e, getD-set-same owners links o 0 r) t
+    go (no d) = rw (getD-set-other owners links k o 0 d) (h k (omega arith))
+
+-- ---- classes
+
+-- no Object
+pub class-none : (ws : List ℕ) (n a : ℕ) → kindIn a ≢ 12 → Class ws n a
+unfolding Class
+class-none ws n a h k = absurd (h k)
+
+-- an Object of the class that stands at `class`
+pub class-made : (ws : List ℕ) (n : ℕ) (new : Bool) (class : ℕ) → class < n → kindIn (first ws class) ≡ 11 → Class ws n (objectWord new class)
+unfolding Class
+class-made ws n new class h k z = rw (object-made new class .3) (h, k)
+
+module _ (ws : List ℕ) (n a b : ℕ) where
+  -- a node more
+  pub classed-node : suc (2 * n) < length ws → Classed ws n → Class ws n a → Classed (wordsSet ws n a b) (suc n)
+  unfolding Classed Class
+  classed-node room h new i l = go (ℕ-discrete i n)
+    where
+      ws₁ : List ℕ
+      ws₁ = wordsSet ws n a b
+
+      stays : (x : ℕ) → Class ws n x → Class ws₁ (suc n) x
+      stays x f k = let v = f k .0 in (omega arith, rw (first-other ws n a b (classIn x) (λ e. omega arith)) (f k .1))
+
+      go : Dec (i ≡ n) → Class ws₁ (suc n) (first ws₁ i)
+      go (yes e) = rw (e, first-set ws n a b room) (stays a new)
+      go (no d) = rw (first-other ws n a b i d) (stays (first ws i) (h i (omega arith)))
+
+module _ (ws : List ℕ) (n o a b : ℕ) (room : suc (2 * o) < length ws) (kind : kindIn a ≡ kindIn (first ws o)) (class : classIn a ≡ classIn (first ws o)) where
+  same-kind : (i : ℕ) → kindIn (first (wordsSet ws o a b) i) ≡ kindIn (first ws i)
+  same-kind i = go (ℕ-discrete i o)
+    where
+      go : Dec (i ≡ o) → kindIn (first (wordsSet ws o a b) i) ≡ kindIn (first ws i)
+      go (yes e) = rw (e, first-set ws o a b room) kind
+      go (no d) = rw (first-other ws o a b i d)
+
+  same-class : (i : ℕ) → classIn (first (wordsSet ws o a b) i) ≡ classIn (first ws i)
+  same-class i = go (ℕ-discrete i o)
+    where
+      go : Dec (i ≡ o) → classIn (first (wordsSet ws o a b) i) ≡ classIn (first ws i)
+      go (yes e) = rw (e, first-set ws o a b room) class
+      go (no d) = rw (first-other ws o a b i d)
+
+  -- words changed of a node that stays of its kind and class
+  pub classed-words : Classed ws n → Classed (wordsSet ws o a b) n
+  unfolding Classed Class
+  classed-words h i l k =
+      let v = h i l (sym (same-kind i) ∙ k) in
+      rw (same-class i) (v .0, same-kind (classIn (first ws i)) ∙ v .1)
+
+-- ---- Bytes in the unescaped text
+
+-- no Bytes in it
+pub used-none : (m a b : ℕ) → kindIn a ≢ 13 → Used m a b
+unfolding Used
+used-none m a b h k = absurd (h k)
+
+module _ (ws : List ℕ) (n m o a b : ℕ) (room : suc (2 * o) < length ws) (h : AllUsed ws n m) (new : Used m a b) where
+  set-used : (i : ℕ) → (i ≢ o → i < n) → Used m (first (wordsSet ws o a b) i) (second (wordsSet ws o a b) i)
+  unfolding AllUsed
+  set-used i k = go (ℕ-discrete i o)
+    where
+      go : Dec (i ≡ o) → Used m (first (wordsSet ws o a b) i) (second (wordsSet ws o a b) i)
+      go (yes e) = rw (e, first-set ws o a b room, second-set ws o a b room) new
+      go (no d) = rw (first-other ws o a b i d, second-other ws o a b i d) (h i (k d))
+
+  -- words changed of a node
+  pub used-words : AllUsed (wordsSet ws o a b) n m
+  unfolding AllUsed
+  used-words i l = set-used i (λ d. l)
+
+  -- a node more
+  pub used-node : o ≡ n → AllUsed (wordsSet ws o a b) (suc n) m
+  unfolding AllUsed
+  used-node e i l = set-used i (λ d. omega arith)
+
+-- text more
+pub used-more : (ws : List ℕ) (n m m′ : ℕ) → m ≤ m′ → AllUsed ws n m → AllUsed ws n m′
+unfolding AllUsed Used
+used-more ws n m m′ l h i z k = let v = h i z k in omega arith
+
+-- ---- the words that count items
+
+module _ (ws owners children : List ℕ) (links n : ℕ) (h : Counted ws owners children links n) where
+  -- words set for a node that is no container with items
+  set-counted : (o a b : ℕ) → suc (2 * o) < length ws → (Holds a → b ≡ length (items (take links owners) (take links children) o)) → (i : ℕ) → (i ≢ o → i < n)
+      → Holds (first (wordsSet ws o a b) i) → second (wordsSet ws o a b) i ≡ length (items (take links owners) (take links children) i)
+  unfolding Counted
+  set-counted o a b room new i l = go (ℕ-discrete i o)
+    where
+      go : Dec (i ≡ o) → Holds (first (wordsSet ws o a b) i) → second (wordsSet ws o a b) i ≡ length (items (take links owners) (take links children) i)
+      go (yes e) = rw (e, first-set ws o a b room, second-set ws o a b room) new
+      go (no d) = rw (first-other ws o a b i d, second-other ws o a b i d) (h i (l d))
+
+  -- a node more, which owns nothing yet
+  pub counted-node : (a b : ℕ) → suc (2 * n) < length ws → links ≤ length owners → Owned owners links n → (Holds a → b ≡ 0) → Counted (wordsSet ws n a b) owners children links (suc n)
+  unfolding Counted Owned
+  counted-node a b room l own new i z = set-counted n a b room (λ t. new t ∙ sym (ap length (items-new owners children links n (λ k y e. let v = own k y in omega arith) l))) i (λ d. omega arith)
+
+  -- words changed of a node that is no container
+  pub counted-words : (o a b : ℕ) → suc (2 * o) < length ws → (Holds a → ⊥) → Counted (wordsSet ws o a b) owners children links n
+  unfolding Counted
+  counted-words o a b room none i z = set-counted o a b room (λ t. absurd (none t)) i (λ d. z)
+
+  -- a link more, and the owner's count with it
+  pub counted-link : (o k : ℕ) → suc (2 * o) < length ws → o < n → links < length owners → links < length children
+      → Counted (set ws (suc (2 * o)) (suc (second ws o))) (set owners links o) (set children links k) (suc links) n
+  unfolding Counted
+  counted-link o k room z l l′ i y = rw (← words-second ws o (suc (second ws o))) (go (ℕ-discrete i o))
+    where
+      a : ℕ
+      a = first ws o
+
+      b : ℕ
+      b = suc (second ws o)
+
+      go : Dec (i ≡ o) → Holds (first (wordsSet ws o a b) i) → second (wordsSet ws o a b) i ≡ length (items (take (suc links) (set owners links o)) (take (suc links) (set children links k)) i)
+      go (yes e) = rw (e, first-set ws o a b room, second-set ws o a b room, items-own owners children links o k l l′, length-append) (λ t. let v = h o z t in omega arith)
+      go (no d) = rw (first-other ws o a b i d, second-other ws o a b i d, items-other owners children links o k l l′ i d) (h i y)
+
+-- ---- all of it together
+
+pub kept-start : (ws owners children : List ℕ) → Kept ws owners children 0 0 0
+unfolding Owned Holding Classed AllUsed Counted
+kept-start ws owners children = record { owned = λ k l. absurd (omega arith); holding = λ k l. absurd (omega arith); classed = λ i l. absurd (omega arith); used = λ i l. absurd (omega arith); counted = λ i l. absurd (omega arith) }
+
+module _ (ws owners children : List ℕ) (links n m : ℕ) (h : Kept ws owners children links n m) where
+  -- a node more
+  pub kept-node : (a b : ℕ) → suc (2 * n) < length ws → links ≤ length owners → Class ws n a → Used m a b → (Holds a → b ≡ 0) → Kept (wordsSet ws n a b) owners children links (suc n) m
+  kept-node a b room l class used new = record {
+    owned = owned-node owners links n (h .owned);
+    holding = holding-node ws owners links n (h .owned) (h .holding) a b;
+    classed = classed-node ws n a b room (h .classed) class;
+    used = used-node ws n m n a b room (h .used) used refl;
+    counted = counted-node ws owners children links n (h .counted) a b room l (h .owned) new;
+  }
+
+  -- a link more, with its owner's count
+  pub kept-link : (o k : ℕ) → suc (2 * o) < length ws → o < n → Holds (first ws o) → links < length owners → links < length children
+      → Kept (set ws (suc (2 * o)) (suc (second ws o))) (set owners links o) (set children links k) (suc links) n m
+  kept-link o k room z t l l′ = record {
+    owned = owned-link owners links n o l z (h .owned);
+    holding = rw (← words-second ws o (suc (second ws o))) (holding-words ws (set owners links o) (suc links) o (first ws o) (suc (second ws o)) room refl (holding-link ws owners links o l t (h .holding)));
+    classed = rw (← words-second ws o (suc (second ws o))) (classed-words ws n o (first ws o) (suc (second ws o)) room refl refl (h .classed));
+    used = rw (← words-second ws o (suc (second ws o))) (used-words ws n m o (first ws o) (suc (second ws o)) room (h .used) (used-none m (first ws o) (suc (second ws o)) (λ e. let v = holds-below (first ws o) t in omega arith)));
+    counted = counted-link ws owners children links n (h .counted) o k room z l l′;
+  }
+
+  -- BUILD
+  pub kept-build : (o a b i : ℕ) → suc (2 * o) < length ws → kindIn (first ws o) ≡ 12 → Built (first ws o) (second ws o) a b i → Kept (wordsSet ws o a b) owners children links n m
+  kept-build o a b i room k new =
+      let e = new .kind in
+      record {
+        owned = h .owned;
+        holding = holding-words ws owners links o a b room (e ∙ sym k) (h .holding);
+        classed = classed-words ws n o a b room (e ∙ sym k) (new .class) (h .classed);
+        used = used-words ws n m o a b room (h .used) (used-none m a b (λ q. omega arith));
+        counted = counted-words ws owners children links n (h .counted) o a b room (λ t. let v = holds-below a t in omega arith);
+      }
+
+  -- unescaped text more
+  pub kept-text : (m′ : ℕ) → m ≤ m′ → Kept ws owners children links n m′
+  kept-text m′ l = record { owned = h .owned; holding = h .holding; classed = h .classed; used = used-more ws n m m′ l (h .used); counted = h .counted }

@@ -1,0 +1,134 @@
+-- Laws of the lists that are read off rooms: tables, the log of links, the words of nodes, texts.
+use Prim.Native.Nat.{ℕ, suc, zero, _+_, _*_, _^_, _/_, _%_, _<_, _≤_}
+use mathlib.Core.Bool.{Bool, true, false, cond}
+use mathlib.Core.List.{List, [], _∷_, _++_, append-nil}
+use mathlib.Core.Path.{_≡_, refl, sym, _∙_, ap}
+use mathlib.Core.Logic.{_≢_}
+use lib.ListN.{length, length-append, length-set, getD, take, drop, set, List·getD-append}
+use lib.Seq.{take-take, take-suc-set, length-take-le, getD-take, getD-set-same, getD-set-other, getD-at, ext-getD, set-getD}
+use lib.Pow.{high, low}
+use lib.Dec.{eqb}
+use borrow.Author.Tests.{eq-eqb, ne-eqb}
+use native.Mathlib.Decide.{decLt, ℕ-discrete}
+use native.Mathlib.Omega.{arith}
+use Rattle.value.specs.Shape.{kindIn}
+use Rattle.decoder.specs.Rooms.{tab, items, first, second, wordsSet, within, Holds, aList, aTuple, aDict}
+
+-- ---- tables
+
+module _ {A : Type 0} where
+  pub length-tab : (f : ℕ → A) (n : ℕ) → length (tab f n) ≡ n
+  unfolding tab
+  length-tab f zero = refl
+  length-tab f (suc n) = rw length-append (omega (arith, length-tab f n))
+
+  pub getD-tab : (f : ℕ → A) (n i : ℕ) (d : A) → i < n → getD (tab f n) i d ≡ f i
+  unfolding tab
+  getD-tab f zero i d h = absurd (omega arith)
+  getD-tab f (suc n) i d h = go (decLt i n) (getD-tab f n i d)
+    where
+      go : Dec (i < n) → (i < n → getD (tab f n) i d ≡ f i) → getD (tab f n ++ (f n ∷ [])) i d ≡ f i
+      go (yes l) ih = List·getD-append (tab f n) (f n ∷ []) d i (rw length-tab l) ∙ ih l
+      go (no l) ih = let e : i ≡ n = omega arith in rw e (getD-at (tab f n) (f n) [] d n (length-tab f n))
+
+  -- two tables that agree below n
+  pub tab-same : (f g : ℕ → A) (n : ℕ) → ((i : ℕ) → i < n → g i ≡ f i) → tab g n ≡ tab f n
+  unfolding tab
+  tab-same f g zero h = refl
+  tab-same f g (suc n) h = rw (tab-same f g n (λ i l. h i (omega arith)), h n (omega arith))
+
+  -- two that agree below n but for one place
+  pub tab-set : (f g : ℕ → A) (n o : ℕ) (d : A) → o < n → ((i : ℕ) → i < n → i ≢ o → g i ≡ f i) → tab g n ≡ set (tab f n) o (g o)
+  tab-set f g n o d l h = ext-getD d (tab g n) (set (tab f n) o (g o)) (length-tab g n ∙ sym (length-set (tab f n) o (g o) ∙ length-tab f n)) (λ i k. go i (rw length-tab at k) (ℕ-discrete i o))
+    where
+      go : (i : ℕ) → i < n → Dec (i ≡ o) → getD (tab g n) i d ≡ getD (set (tab f n) o (g o)) i d
+      go i k (yes e) = rw (getD-tab g n i d k, e, getD-set-same (tab f n) o (g o) d (rw length-tab l))
+      go i k (no e) = rw (getD-tab g n i d k, getD-set-other (tab f n) o i (g o) d e, getD-tab f n i d k) (h i k e)
+
+-- ---- the log
+
+items-append : (ws cs : List ℕ) (w c o : ℕ) → length ws ≡ length cs → items (ws ++ (w ∷ [])) (cs ++ (c ∷ [])) o ≡ items ws cs o ++ cond (eqb w o) (c ∷ []) []
+unfolding items
+items-append [] [] w c o h = refl
+items-append [] (d ∷ cs) w c o h = absurd (omega arith)
+items-append (v ∷ ws) [] w c o h = absurd (omega arith)
+items-append (v ∷ ws) (d ∷ cs) w c o h = go (eqb v o) (items-append ws cs w c o (omega arith))
+  where
+    go : (b : Bool) → items (ws ++ (w ∷ [])) (cs ++ (c ∷ [])) o ≡ items ws cs o ++ cond (eqb w o) (c ∷ []) []
+        → cond b (d ∷ items (ws ++ (w ∷ [])) (cs ++ (c ∷ [])) o) (items (ws ++ (w ∷ [])) (cs ++ (c ∷ [])) o)
+        ≡ cond b (d ∷ items ws cs o) (items ws cs o) ++ cond (eqb w o) (c ∷ []) []
+    go true e = ap (d ∷_) e
+    go false e = e
+
+-- a link more, of w to c: w's items have c at their end, no other node's change
+module _ (owners children : List ℕ) (n w c : ℕ) (h : n < length owners) (k : n < length children) where
+  more : (o : ℕ) → items (take (suc n) (set owners n w)) (take (suc n) (set children n c)) o ≡ items (take n owners) (take n children) o ++ cond (eqb w o) (c ∷ []) []
+  more o = rw (take-suc-set owners n w h, take-suc-set children n c k) (items-append (take n owners) (take n children) w c o (length-take-le n owners (omega arith) ∙ sym (length-take-le n children (omega arith))))
+
+  pub items-own : items (take (suc n) (set owners n w)) (take (suc n) (set children n c)) w ≡ items (take n owners) (take n children) w ++ (c ∷ [])
+  items-own = more w ∙ rw (eq-eqb w w refl)
+
+  pub items-other : (o : ℕ) → o ≢ w → items (take (suc n) (set owners n w)) (take (suc n) (set children n c)) o ≡ items (take n owners) (take n children) o
+  items-other o d = more o ∙ rw (ne-eqb w o (λ e. d (sym e))) (append-nil _)
+
+-- a node that owns no link has no items
+items-none : (ws cs : List ℕ) (o : ℕ) → ((k : ℕ) → k < length ws → getD ws k 0 ≢ o) → items ws cs o ≡ []
+unfolding items
+items-none [] cs o h = refl
+items-none (w ∷ ws) [] o h = refl
+items-none (w ∷ ws) (c ∷ cs) o h = rw (ne-eqb w o (h 0 (omega arith))) (items-none ws cs o (λ k l. h (suc k) (omega arith)))
+
+pub items-new : (owners children : List ℕ) (n o : ℕ) → ((k : ℕ) → k < n → getD owners k 0 ≢ o) → n ≤ length owners → items (take n owners) (take n children) o ≡ []
+items-new owners children n o h l = items-none (take n owners) (take n children) o (λ k m. let u : k < n = rw (length-take-le n owners l) at m in rw (getD-take n owners k 0 u) (h k u))
+
+-- ---- the words of nodes
+
+module _ (ws : List ℕ) (n a b : ℕ) where
+  pub first-other : (i : ℕ) → i ≢ n → first (wordsSet ws n a b) i ≡ first ws i
+  unfolding first wordsSet
+  first-other i d = getD-set-other (set ws (2 * n) a) (suc (2 * n)) (2 * i) b 0 (λ e. omega arith) ∙ getD-set-other ws (2 * n) (2 * i) a 0 (λ e. d (omega arith))
+
+  pub second-other : (i : ℕ) → i ≢ n → second (wordsSet ws n a b) i ≡ second ws i
+  unfolding second wordsSet
+  second-other i d = getD-set-other (set ws (2 * n) a) (suc (2 * n)) (suc (2 * i)) b 0 (λ e. d (omega arith)) ∙ getD-set-other ws (2 * n) (suc (2 * i)) a 0 (λ e. omega arith)
+
+  module _ (room : suc (2 * n) < length ws) where
+    pub first-set : first (wordsSet ws n a b) n ≡ a
+    unfolding first wordsSet
+    first-set = getD-set-other (set ws (2 * n) a) (suc (2 * n)) (2 * n) b 0 (λ e. omega arith) ∙ getD-set-same ws (2 * n) a 0 (omega arith)
+
+    pub second-set : second (wordsSet ws n a b) n ≡ b
+    unfolding second wordsSet
+    second-set = getD-set-same (set ws (2 * n) a) (suc (2 * n)) b 0 (rw length-set room)
+
+-- the second word alone
+pub words-second : (ws : List ℕ) (n b : ℕ) → wordsSet ws n (first ws n) b ≡ set ws (suc (2 * n)) b
+unfolding wordsSet first
+words-second ws n b = rw (set-getD ws (2 * n) 0)
+
+-- a container is neither Global nor Object nor text in the unescaped room: those kinds are above 10
+pub holds-below : (a : ℕ) → Holds a → kindIn a ≤ 10
+holds-below a (aList e) = omega arith
+holds-below a (aTuple e) = omega arith
+holds-below a (aDict e) = omega arith
+
+-- ---- texts
+
+cut : (n q m : ℕ) (t : List ℕ) → q + n ≤ m → take n (drop q (take m t)) ≡ take n (drop q t)
+cut n zero m t h = take-take n m t (omega arith)
+cut n (suc q) zero t h = absurd (omega arith)
+cut n (suc q) (suc m) [] h = refl
+cut n (suc q) (suc m) (b ∷ t) h = cut n q m t (omega arith)
+
+-- a text within the first m bytes is known by them
+pub within-same : (k w m : ℕ) (t t′ : List ℕ) → w % 2 ^ k + w / 2 ^ k ≤ m → take m t′ ≡ take m t → within k w t′ ≡ within k w t
+unfolding within
+within-same k w m t t′ h e =
+    sym (cut (w / 2 ^ k) (w % 2 ^ k) m t′ h)
+    ∙ ap (λ (x : List ℕ). take (w / 2 ^ k) (drop (w % 2 ^ k) x)) e
+    ∙ cut (w / 2 ^ k) (w % 2 ^ k) m t h
+
+-- a number made of a length and a place says the text of that length there
+pub within-at : (k place n : ℕ) (t : List ℕ) → place < 2 ^ k → within k (n * 2 ^ k + place) t ≡ take n (drop place t)
+unfolding within
+within-at k place n t h = rw (high n k h, low n k h)

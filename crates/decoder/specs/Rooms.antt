@@ -1,0 +1,232 @@
+-- The machine's state as the code keeps it, in lent rooms with counts of what is used: one function from their contents to a State.
+use Prim.Native.Nat.{ℕ, suc, zero, _+_, _*_, _^_, _/_, _%_, _<_, _≤_}
+use mathlib.Core.Bool.{true, cond}
+use mathlib.Core.List.{List, [], _∷_, _++_}
+use mathlib.Core.Path.{_≡_}
+use mathlib.Core.Logic.{_≢_}
+use lib.ListN.{length, getD, take, drop, set}
+use lib.Dec.{eqb}
+use Rattle.utf8.specs.Utf8.{repair}
+use Rattle.text.specs.Pieces.{bytesOf}
+use Rattle.text.specs.Text.{unescapeUnicode}
+use Rattle.value.specs.Value.{NoneL, BoolL, I64L, F64L, BytesL, StringL, ListL, TupleL, SetL, FrozenSetL, DictL, GlobalL, ObjectL}
+use Rattle.value.specs.Shape.{kindIn, newIn, stateIn}
+use Rattle.decoder.specs.State.{Node, State, plain}
+pub use Rattle.decoder.specs.declared.Counts.{Counts}
+
+-- the rooms: the pickle, two words a node, the log of links (owner, child), stack, marks, the memo (number, node), unescaped text
+pub record Rooms : Type 0 where
+  pub pickle : List ℕ
+  pub nodes : List ℕ
+  pub owners : List ℕ
+  pub children : List ℕ
+  pub stack : List ℕ
+  pub marks : List ℕ
+  pub keys : List ℕ
+  pub held : List ℕ
+  pub unescaped : List ℕ
+
+-- ---- lists read off rooms
+
+-- f 0, .., f (n - 1)
+unfoldable pub tab : {A : Type 0} → (ℕ → A) → ℕ → List A
+tab f zero = []
+tab f (suc n) = tab f n ++ (f n ∷ [])
+
+-- the children of those links of the log that o owns, in order
+unfoldable pub items : List ℕ → List ℕ → ℕ → List ℕ
+items [] cs o = []
+items (w ∷ ws) [] o = []
+items (w ∷ ws) (c ∷ cs) o = cond (eqb w o) (c ∷ items ws cs o) (items ws cs o)
+
+-- memo numbers, each with its node
+unfoldable pub entries : List ℕ → List ℕ → List (ℕ × ℕ)
+entries [] hs = []
+entries (k ∷ ks) [] = []
+entries (k ∷ ks) (h ∷ hs) = (k, h) ∷ entries ks hs
+
+-- ---- a node's two words
+
+-- the first word of node i
+unfoldable pub first : List ℕ → ℕ → ℕ
+first ws i = getD ws (2 * i) 0
+
+-- its second
+unfoldable pub second : List ℕ → ℕ → ℕ
+second ws i = getD ws (suc (2 * i)) 0
+
+-- both set
+unfoldable pub wordsSet : List ℕ → ℕ → ℕ → ℕ → List ℕ
+wordsSet ws i a b = set (set ws (2 * i) a) (suc (2 * i)) b
+
+-- the text that a number says: its low k bits are the place, those above them the length
+unfoldable pub within : ℕ → ℕ → List ℕ → List ℕ
+within k w t = take (w / 2 ^ k) (drop (w % 2 ^ k) t)
+
+-- the node of an Object's class
+unfoldable pub classIn : ℕ → ℕ
+classIn a = a / 64
+
+-- the module and the name of a Global with the words a and b, of the pickle p
+unfoldable pub moduleOf : List ℕ → ℕ → List ℕ
+moduleOf p a = repair (within 24 (a / 16) p)
+
+unfoldable pub nameOf : List ℕ → ℕ → List ℕ
+nameOf p b = repair (within 32 b p)
+
+-- an Object's arguments and any state
+unfoldable pub partsOf : ℕ → ℕ → List ℕ
+partsOf a b = b % 2 ^ 32 ∷ cond (stateIn a) (b / 2 ^ 32 ∷ []) []
+
+-- the nodes that the words a and b say for the kinds 0 to 14: p is the pickle, u the unescaped text, ws the words of all nodes, ks
+-- the children of the node's links. 13 are Bytes in u, 14 a String of UNICODE as its line
+abbrev pub choices : List ℕ → List ℕ → List ℕ → List ℕ → ℕ → ℕ → List Node
+choices p u ws ks a b =
+    plain NoneL
+    ∷ plain (BoolL (eqb b 1))
+    ∷ plain (I64L b)
+    ∷ plain (F64L b)
+    ∷ plain (BytesL (within 32 b p))
+    ∷ plain (StringL (repair (within 32 b p)))
+    ∷ record { label = ListL; kids = ks }
+    ∷ record { label = TupleL; kids = ks }
+    ∷ record { label = SetL; kids = b ∷ [] }
+    ∷ record { label = FrozenSetL; kids = b ∷ [] }
+    ∷ record { label = DictL; kids = ks }
+    ∷ plain (GlobalL (moduleOf p a) (nameOf p b))
+    ∷ record { label = ObjectL (moduleOf p (first ws (classIn a))) (nameOf p (second ws (classIn a))) (newIn a); kids = partsOf a b }
+    ∷ plain (BytesL (within 32 b u))
+    ∷ plain (StringL (bytesOf (unescapeUnicode (within 32 b p))))
+    ∷ []
+
+-- the one of the kind that a says
+unfoldable pub nodeIs : List ℕ → List ℕ → List ℕ → List ℕ → ℕ → ℕ → Node
+nodeIs p u ws ks a b = getD (choices p u ws ks a b) (kindIn a) (plain NoneL)
+
+-- ---- the state
+
+-- the children of node i's links, of the part of the log that is used
+abbrev pub kidsOf : Rooms → Counts → ℕ → List ℕ
+kidsOf r c i = items (take (c .links) (r .owners)) (take (c .links) (r .children)) i
+
+-- node i
+abbrev pub nodeOf : Rooms → Counts → ℕ → Node
+nodeOf r c i = nodeIs (r .pickle) (r .unescaped) (r .nodes) (kidsOf r c i) (first (r .nodes) i) (second (r .nodes) i)
+
+-- all of them
+abbrev pub nodesOf : Rooms → Counts → List Node
+nodesOf r c = tab (nodeOf r c) (c .nodes)
+
+-- the memo
+abbrev pub memoOf : Rooms → Counts → List (ℕ × ℕ)
+memoOf r c = entries (take (c .memo) (r .keys)) (take (c .memo) (r .held))
+
+-- the state that the rooms and counts say
+unfoldable pub stateOf : Rooms → Counts → State
+stateOf r c = record { input = drop (c .at) (r .pickle); nodes = nodesOf r c; stack = take (c .stack) (r .stack); marks = take (c .marks) (r .marks); memo = memoOf r c; links = c .links }
+
+-- ---- one room changed
+
+abbrev pub wordsIn : Rooms → List ℕ → Rooms
+wordsIn r l = record { pickle = r .pickle; nodes = l; owners = r .owners; children = r .children; stack = r .stack; marks = r .marks; keys = r .keys; held = r .held; unescaped = r .unescaped }
+
+abbrev pub logIn : Rooms → List ℕ → List ℕ → Rooms
+logIn r ws cs = record { pickle = r .pickle; nodes = r .nodes; owners = ws; children = cs; stack = r .stack; marks = r .marks; keys = r .keys; held = r .held; unescaped = r .unescaped }
+
+abbrev pub stackIn : Rooms → List ℕ → Rooms
+stackIn r l = record { pickle = r .pickle; nodes = r .nodes; owners = r .owners; children = r .children; stack = l; marks = r .marks; keys = r .keys; held = r .held; unescaped = r .unescaped }
+
+abbrev pub marksIn : Rooms → List ℕ → Rooms
+marksIn r l = record { pickle = r .pickle; nodes = r .nodes; owners = r .owners; children = r .children; stack = r .stack; marks = l; keys = r .keys; held = r .held; unescaped = r .unescaped }
+
+abbrev pub memoIn : Rooms → List ℕ → List ℕ → Rooms
+memoIn r ks hs = record { pickle = r .pickle; nodes = r .nodes; owners = r .owners; children = r .children; stack = r .stack; marks = r .marks; keys = ks; held = hs; unescaped = r .unescaped }
+
+abbrev pub unescapedIn : Rooms → List ℕ → Rooms
+unescapedIn r l = record { pickle = r .pickle; nodes = r .nodes; owners = r .owners; children = r .children; stack = r .stack; marks = r .marks; keys = r .keys; held = r .held; unescaped = l }
+
+-- ---- one count changed
+
+abbrev pub atTo : Counts → ℕ → Counts
+atTo c n = record { at = n; nodes = c .nodes; links = c .links; stack = c .stack; deepest = c .deepest; marks = c .marks; most = c .most; memo = c .memo; unescaped = c .unescaped }
+
+abbrev pub nodesTo : Counts → ℕ → Counts
+nodesTo c n = record { at = c .at; nodes = n; links = c .links; stack = c .stack; deepest = c .deepest; marks = c .marks; most = c .most; memo = c .memo; unescaped = c .unescaped }
+
+abbrev pub linksTo : Counts → ℕ → Counts
+linksTo c n = record { at = c .at; nodes = c .nodes; links = n; stack = c .stack; deepest = c .deepest; marks = c .marks; most = c .most; memo = c .memo; unescaped = c .unescaped }
+
+abbrev pub stackTo : Counts → ℕ → Counts
+stackTo c n = record { at = c .at; nodes = c .nodes; links = c .links; stack = n; deepest = c .deepest; marks = c .marks; most = c .most; memo = c .memo; unescaped = c .unescaped }
+
+abbrev pub deepestTo : Counts → ℕ → Counts
+deepestTo c n = record { at = c .at; nodes = c .nodes; links = c .links; stack = c .stack; deepest = n; marks = c .marks; most = c .most; memo = c .memo; unescaped = c .unescaped }
+
+abbrev pub marksTo : Counts → ℕ → Counts
+marksTo c n = record { at = c .at; nodes = c .nodes; links = c .links; stack = c .stack; deepest = c .deepest; marks = n; most = c .most; memo = c .memo; unescaped = c .unescaped }
+
+abbrev pub mostTo : Counts → ℕ → Counts
+mostTo c n = record { at = c .at; nodes = c .nodes; links = c .links; stack = c .stack; deepest = c .deepest; marks = c .marks; most = n; memo = c .memo; unescaped = c .unescaped }
+
+abbrev pub memoTo : Counts → ℕ → Counts
+memoTo c n = record { at = c .at; nodes = c .nodes; links = c .links; stack = c .stack; deepest = c .deepest; marks = c .marks; most = c .most; memo = n; unescaped = c .unescaped }
+
+abbrev pub unescapedTo : Counts → ℕ → Counts
+unescapedTo c n = record { at = c .at; nodes = c .nodes; links = c .links; stack = c .stack; deepest = c .deepest; marks = c .marks; most = c .most; memo = c .memo; unescaped = n }
+
+-- ---- what the code keeps
+
+-- the first word of a node that holds links
+pub data Holds (a : ℕ) : Type 0 where
+  aList : kindIn a ≡ 6 → Holds a
+  aTuple : kindIn a ≡ 7 → Holds a
+  aDict : kindIn a ≡ 10 → Holds a
+
+-- every link has an owner among the n nodes
+unfoldable pub Owned : List ℕ → ℕ → ℕ → Type 0
+Owned owners links n = (k : ℕ) → k < links → getD owners k 0 < n
+
+-- if a is the first word of an Object, its class is a Global among the n nodes
+unfoldable pub Class : List ℕ → ℕ → ℕ → Type 0
+Class ws n a = kindIn a ≡ 12 → (classIn a < n) × (kindIn (first ws (classIn a)) ≡ 11)
+
+-- every Object's class is a Global
+unfoldable pub Classed : List ℕ → ℕ → Type 0
+Classed ws n = (i : ℕ) → i < n → Class ws n (first ws i)
+
+-- if a and b are the words of Bytes in the unescaped text, they end within its first m bytes
+unfoldable pub Used : ℕ → ℕ → ℕ → Type 0
+Used m a b = kindIn a ≡ 13 → b % 2 ^ 32 + b / 2 ^ 32 ≤ m
+
+-- all such Bytes do
+unfoldable pub AllUsed : List ℕ → ℕ → ℕ → Type 0
+AllUsed ws n m = (i : ℕ) → i < n → Used m (first ws i) (second ws i)
+
+-- none of the first n memo numbers is k
+unfoldable pub Absent : List ℕ → ℕ → ℕ → Type 0
+Absent keys n k = (i : ℕ) → i < n → getD keys i 0 ≢ k
+
+-- the words a′ and b′ are those of an Object with a and b, but that its state is i
+pub record Built (a b a′ b′ i : ℕ) : Type 0 where
+  pub kind : kindIn a′ ≡ 12
+  pub new : newIn a′ ≡ newIn a
+  pub state : stateIn a′ ≡ true
+  pub class : classIn a′ ≡ classIn a
+  pub arguments : b′ % 2 ^ 32 ≡ b % 2 ^ 32
+  pub item : b′ / 2 ^ 32 ≡ i
+
+-- the second word of each container among n nodes is the number of its items
+unfoldable pub Counted : List ℕ → List ℕ → List ℕ → ℕ → ℕ → Type 0
+Counted ws owners children links n = (i : ℕ) → i < n → Holds (first ws i) → second ws i ≡ length (items (take links owners) (take links children) i)
+
+-- every owner is a List, Tuple or Dict
+unfoldable pub Holding : List ℕ → List ℕ → ℕ → Type 0
+Holding ws owners links = (k : ℕ) → k < links → Holds (first ws (getD owners k 0))
+
+-- what the code keeps of its words and its log, for n nodes and m bytes of unescaped text
+pub record Kept (ws owners children : List ℕ) (links n m : ℕ) : Type 0 where
+  pub owned : Owned owners links n
+  pub holding : Holding ws owners links
+  pub classed : Classed ws n
+  pub used : AllUsed ws n m
+  pub counted : Counted ws owners children links n

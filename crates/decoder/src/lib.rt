@@ -1,0 +1,970 @@
+// The opcodes of de.rs's `Decoder`, each as a function of its own: it reads the pickle and the rooms, changes nothing, and answers the
+// effect that its step has. specs/ has the state, each opcode's definition, and what the rooms and an effect mean.
+use float::F64Literal;
+use float::parse_f64;
+use input::Integer;
+use input::LineEnd;
+use input::f64_at;
+use input::i32_at;
+use input::line;
+use input::newline;
+use input::u16_at;
+use input::u32_at;
+use number::I64Literal;
+use number::IntLiteral;
+use number::U32Literal;
+use number::parse_u32;
+use refusal::Refusal;
+use refusal::Wanted;
+use text::Decoded;
+use text::Quoted;
+use text::string_len;
+use text::unicode_len;
+ghost use mathlib.Core.Path.{_≡_};
+ghost use mathlib.Core.List.{List, [], _∷_};
+ghost use Prim.Native.Nat.{_+_, _-_, _*_, _^_, _<_, _≤_};
+ghost use lib.ListN.{length, getD, take, drop};
+ghost use Rattle.decoder.specs.State.{get, put};
+ghost use Rattle.decoder.specs.Opcodes.{proto, popOne, popToMark, dup, int, binint, binint1, binint2, long, longN, float, binfloat, string, binstring, shortBinstring, unicode, binunicode, global, list, tuple, tupleN, dict, append, appends, setitem, setitems, getLine, getBytes, putLine, putBytes, lowBytes, reduce, newobj, build};
+ghost use Rattle.decoder.specs.Run.{going};
+ghost use Rattle.decoder.specs.Effects.{Lent, Decides};
+ghost use Rattle.decoder.specs.Reads.{cutTo};
+ghost use Rattle.decoder.specs.ReadsPickle.{Found, counted};
+ghost use Rattle.decoder.specs.Items.{TakesMark, Grows, Adds};
+ghost use Rattle.value.specs.Shape.{kindIn};
+ghost use Rattle.decoder.specs.Rooms.{first, second, items, moduleOf, nameOf, Absent};
+ghost use Rattle.decoder.specs.ReadsMemo.{keyLine, ReadsKey};
+ghost use Rattle.decoder.specs.ReadsCalls.{Calls, ReadsCall, madeKind};
+ghost use Rattle.number.specs.Space.{same};
+
+// A node's place in the node table.
+pub struct NodeId(pub usize);
+
+// A number that a pickle gives an entry of the memo.
+pub struct MemoKey(pub u32);
+
+// The place in the pickle, and how much of each room is used; of stack and marks also how much ever was.
+pub struct Counts {
+    pub at: usize,
+    pub nodes: usize,
+    pub links: usize,
+    pub stack: usize,
+    pub deepest: usize,
+    pub marks: usize,
+    pub most: usize,
+    pub memo: usize,
+    pub unescaped: usize,
+}
+
+// What an opcode comes to, with the counts after what it read and took.
+pub enum Effect {
+    Push(Counts, u64, u64),
+    Share(Counts, NodeId),
+    Mark(Counts),
+    Go(Counts),
+    Make(Counts, u64),
+    Extend(Counts, NodeId),
+    Remember(Counts, MemoKey, NodeId),
+    Build(Counts, NodeId, NodeId),
+    Unescape(Counts, usize, usize),
+    Stop(Counts),
+    Refused(Refusal),
+}
+
+// The kinds of a node's first word. 0 to 12 are those of a table's record; Bytes that had an escape stand in the room of unescaped text,
+// and a String of UNICODE stays its line.
+pub const NONE: u64 = 0;
+
+pub const BOOL: u64 = 1;
+
+pub const I64: u64 = 2;
+
+pub const F64: u64 = 3;
+
+pub const BYTES: u64 = 4;
+
+pub const STRING: u64 = 5;
+
+pub const LIST: u64 = 6;
+
+pub const TUPLE: u64 = 7;
+
+pub const SET: u64 = 8;
+
+pub const FROZEN_SET: u64 = 9;
+
+pub const DICT: u64 = 10;
+
+pub const GLOBAL: u64 = 11;
+
+pub const OBJECT: u64 = 12;
+
+pub const UNESCAPED: u64 = 13;
+
+pub const UNICODE: u64 = 14;
+
+// The counts with place, stack and marks moved.
+pub fn cut(c: Counts, at: usize, stack: usize, marks: usize) -> Counts
+    ensures { λ r. ⌜ r ≡ cutTo c at stack marks ⌝ }
+{
+    Counts {
+        at: at,
+        nodes: c.nodes,
+        links: c.links,
+        stack: stack,
+        deepest: c.deepest,
+        marks: marks,
+        most: c.most,
+        memo: c.memo,
+        unescaped: c.unescaped,
+    }
+}
+
+// The counts with the place moved.
+fn read_to(c: Counts, at: usize) -> Counts
+    ensures { λ r. ⌜ r ≡ cutTo c at (c .stack) (c .marks) ⌝ }
+{
+    cut(c, at, c.stack, c.marks)
+}
+
+// ---- values that stand in the pickle
+
+// A part of the pickle by its place and length, or the pickle ends before it does.
+enum Part {
+    Short,
+    At(usize, usize),
+}
+
+// The second word of a text: its length above its place.
+fn text_word(at: usize, len: usize) -> u64
+    requires { ⌜ (at < 2 ^ 32) × (len < 2 ^ 32) ⌝ }
+    ensures { λ r. ⌜ r ≡ len * 2 ^ 32 + at ⌝ }
+{
+    len as u64 * 0x1_0000_0000 + at as u64
+}
+
+// A length of one byte, and so many bytes.
+fn part1(pickle: &[u8], c: Counts) -> Part
+    requires { ⌜ Lent c (λ r. r .pickle ≡ now pickle) ⌝ }
+    ensures { λ t. ⌜ Found c (λ r. r .pickle ≡ now (pickle .entry)) (counted 1) t ⌝ }
+{
+    let at = c.at;
+    if pickle.len() - at < 1 {
+        return Part::Short;
+    }
+    let len = pickle[at] as usize;
+    if pickle.len() - at - 1 < len {
+        Part::Short
+    } else {
+        Part::At(at + 1, len)
+    }
+}
+
+// A length of four bytes, and so many bytes.
+fn part4(pickle: &[u8], c: Counts) -> Part
+    requires { ⌜ Lent c (λ r. r .pickle ≡ now pickle) ⌝ }
+    ensures { λ t. ⌜ Found c (λ r. r .pickle ≡ now (pickle .entry)) (counted 4) t ⌝ }
+{
+    let at = c.at;
+    if pickle.len() - at < 4 {
+        return Part::Short;
+    }
+    let len = u32_at(pickle, at) as usize;
+    if pickle.len() - at - 4 < len {
+        Part::Short
+    } else {
+        Part::At(at + 4, len)
+    }
+}
+
+// PROTO: a protocol up to 2.
+pub fn proto(pickle: &[u8], c: Counts) -> Effect
+    requires { ⌜ Lent c (λ r. r .pickle ≡ now pickle) ⌝ }
+    ensures { λ e. ⌜ Decides c (λ r. r .pickle ≡ now (pickle .entry)) (λ s. going (proto s)) e ⌝ }
+{
+    let at = c.at;
+    if pickle.len() - at < 1 {
+        return Effect::Refused(Refusal::EndOfInput);
+    }
+    let p = pickle[at];
+    if 2 < p {
+        return Effect::Refused(Refusal::UnsupportedProtocol(p));
+    }
+    Effect::Go(read_to(c, at + 1))
+}
+
+// INT: `00` and `01` are Bools.
+pub fn int(pickle: &[u8], c: Counts) -> Effect
+    requires { ⌜ Lent c (λ r. r .pickle ≡ now pickle) ⌝ }
+    ensures { λ e. ⌜ Decides c (λ r. r .pickle ≡ now (pickle .entry)) (λ s. going (int s)) e ⌝ }
+{
+    match newline(pickle, c.at) {
+        LineEnd::End => Effect::Refused(Refusal::EndOfInput),
+        LineEnd::At(end) => match number::int(line(pickle, c.at, end)) {
+            IntLiteral::Bool(b) => Effect::Push(read_to(c, end + 1), BOOL, b as u64),
+            IntLiteral::I64(v) => Effect::Push(read_to(c, end + 1), I64, v),
+            IntLiteral::Invalid => Effect::Refused(Refusal::InvalidLiteral),
+        },
+    }
+}
+
+// BININT: four bytes with a sign.
+pub fn binint(pickle: &[u8], c: Counts) -> Effect
+    requires { ⌜ Lent c (λ r. r .pickle ≡ now pickle) ⌝ }
+    ensures { λ e. ⌜ Decides c (λ r. r .pickle ≡ now (pickle .entry)) (λ s. going (binint s)) e ⌝ }
+{
+    let at = c.at;
+    if pickle.len() - at < 4 {
+        return Effect::Refused(Refusal::EndOfInput);
+    }
+    Effect::Push(read_to(c, at + 4), I64, i32_at(pickle, at))
+}
+
+// BININT1: a byte.
+pub fn binint1(pickle: &[u8], c: Counts) -> Effect
+    requires { ⌜ Lent c (λ r. r .pickle ≡ now pickle) ⌝ }
+    ensures { λ e. ⌜ Decides c (λ r. r .pickle ≡ now (pickle .entry)) (λ s. going (binint1 s)) e ⌝ }
+{
+    let at = c.at;
+    if pickle.len() - at < 1 {
+        return Effect::Refused(Refusal::EndOfInput);
+    }
+    Effect::Push(read_to(c, at + 1), I64, pickle[at] as u64)
+}
+
+// BININT2: two bytes.
+pub fn binint2(pickle: &[u8], c: Counts) -> Effect
+    requires { ⌜ Lent c (λ r. r .pickle ≡ now pickle) ⌝ }
+    ensures { λ e. ⌜ Decides c (λ r. r .pickle ≡ now (pickle .entry)) (λ s. going (binint2 s)) e ⌝ }
+{
+    let at = c.at;
+    if pickle.len() - at < 2 {
+        return Effect::Refused(Refusal::EndOfInput);
+    }
+    Effect::Push(read_to(c, at + 2), I64, u16_at(pickle, at) as u64)
+}
+
+// LONG: a line with or without an `L`.
+pub fn long(pickle: &[u8], c: Counts) -> Effect
+    requires { ⌜ Lent c (λ r. r .pickle ≡ now pickle) ⌝ }
+    ensures { λ e. ⌜ Decides c (λ r. r .pickle ≡ now (pickle .entry)) (λ s. going (long s)) e ⌝ }
+{
+    match newline(pickle, c.at) {
+        LineEnd::End => Effect::Refused(Refusal::EndOfInput),
+        LineEnd::At(end) => match number::long_text(line(pickle, c.at, end)) {
+            I64Literal::Value(v) => Effect::Push(read_to(c, end + 1), I64, v),
+            I64Literal::Invalid => Effect::Refused(Refusal::InvalidLiteral),
+        },
+    }
+}
+
+// LONG1: bytes that are missing come before an integer that is too large.
+pub fn long1(pickle: &[u8], c: Counts) -> Effect
+    requires { ⌜ Lent c (λ r. r .pickle ≡ now pickle) ⌝ }
+    ensures { λ e. ⌜ Decides c (λ r. r .pickle ≡ now (pickle .entry)) (λ s. going (longN 1 s)) e ⌝ }
+{
+    match part1(pickle, c) {
+        Part::Short => Effect::Refused(Refusal::EndOfInput),
+        Part::At(at, len) => {
+            let end = at + len;
+            match input::long(&pickle[at..end]) {
+                Integer::Value(v) => Effect::Push(read_to(c, end), I64, v),
+                Integer::TooLarge => Effect::Refused(Refusal::IntegerTooLarge),
+            }
+        }
+    }
+}
+
+// LONG4: the same with a length of four bytes.
+pub fn long4(pickle: &[u8], c: Counts) -> Effect
+    requires { ⌜ Lent c (λ r. r .pickle ≡ now pickle) ⌝ }
+    ensures { λ e. ⌜ Decides c (λ r. r .pickle ≡ now (pickle .entry)) (λ s. going (longN 4 s)) e ⌝ }
+{
+    match part4(pickle, c) {
+        Part::Short => Effect::Refused(Refusal::EndOfInput),
+        Part::At(at, len) => {
+            let end = at + len;
+            match input::long(&pickle[at..end]) {
+                Integer::Value(v) => Effect::Push(read_to(c, end), I64, v),
+                Integer::TooLarge => Effect::Refused(Refusal::IntegerTooLarge),
+            }
+        }
+    }
+}
+
+// FLOAT: a line; what is outside the numbers that are read has a refusal of its own.
+pub fn float(pickle: &[u8], c: Counts) -> Effect
+    requires { ⌜ Lent c (λ r. r .pickle ≡ now pickle) ⌝ }
+    ensures { λ e. ⌜ Decides c (λ r. r .pickle ≡ now (pickle .entry)) (λ s. going (float s)) e ⌝ }
+{
+    match newline(pickle, c.at) {
+        LineEnd::End => Effect::Refused(Refusal::EndOfInput),
+        LineEnd::At(end) => match parse_f64(line(pickle, c.at, end)) {
+            F64Literal::Bits(v) => Effect::Push(read_to(c, end + 1), F64, v),
+            F64Literal::Invalid => Effect::Refused(Refusal::InvalidLiteral),
+            F64Literal::Outside => Effect::Refused(Refusal::FloatOutside),
+        },
+    }
+}
+
+// BINFLOAT: eight bytes, high byte first.
+pub fn binfloat(pickle: &[u8], c: Counts) -> Effect
+    requires { ⌜ Lent c (λ r. r .pickle ≡ now pickle) ⌝ }
+    ensures { λ e. ⌜ Decides c (λ r. r .pickle ≡ now (pickle .entry)) (λ s. going (binfloat s)) e ⌝ }
+{
+    let at = c.at;
+    if pickle.len() - at < 8 {
+        return Effect::Refused(Refusal::EndOfInput);
+    }
+    Effect::Push(read_to(c, at + 8), F64, f64_at(pickle, at))
+}
+
+// STRING: a value without an escape is a part of the pickle, any other is unescaped.
+pub fn string(pickle: &[u8], c: Counts) -> Effect
+    requires { ⌜ Lent c (λ r. r .pickle ≡ now pickle) ⌝ }
+    ensures { λ e. ⌜ Decides c (λ r. r .pickle ≡ now (pickle .entry)) (λ s. going (string s)) e ⌝ }
+{
+    match newline(pickle, c.at) {
+        LineEnd::End => Effect::Refused(Refusal::EndOfInput),
+        LineEnd::At(end) => {
+            let l = line(pickle, c.at, end);
+            let len = l.len();
+            match string_len(l) {
+                Quoted::Plain => {
+                    Effect::Push(read_to(c, end + 1), BYTES, text_word(c.at + 1, len - 2))
+                }
+                Quoted::Escaped(_) => Effect::Unescape(read_to(c, end + 1), c.at, len),
+                Quoted::Refused(_) => Effect::Refused(Refusal::InvalidLiteral),
+            }
+        }
+    }
+}
+
+// BINSTRING: the sign of the length before its bytes.
+pub fn binstring(pickle: &[u8], c: Counts) -> Effect
+    requires { ⌜ Lent c (λ r. r .pickle ≡ now pickle) ⌝ }
+    ensures { λ e. ⌜ Decides c (λ r. r .pickle ≡ now (pickle .entry)) (λ s. going (binstring s)) e ⌝ }
+{
+    let at = c.at;
+    if pickle.len() - at < 4 {
+        return Effect::Refused(Refusal::EndOfInput);
+    }
+    let len = i32_at(pickle, at);
+    if 0x7FFF_FFFF_FFFF_FFFF < len {
+        return Effect::Refused(Refusal::Invalid(Wanted::Length));
+    }
+    let size = len as usize;
+    if pickle.len() - at - 4 < size {
+        return Effect::Refused(Refusal::EndOfInput);
+    }
+    Effect::Push(read_to(c, at + 4 + size), BYTES, text_word(at + 4, size))
+}
+
+// SHORT_BINSTRING: a length of one byte, and the text.
+pub fn short_binstring(pickle: &[u8], c: Counts) -> Effect
+    requires { ⌜ Lent c (λ r. r .pickle ≡ now pickle) ⌝ }
+    ensures { λ e. ⌜ Decides c (λ r. r .pickle ≡ now (pickle .entry)) (λ s. going (shortBinstring s)) e ⌝ }
+{
+    match part1(pickle, c) {
+        Part::Short => Effect::Refused(Refusal::EndOfInput),
+        Part::At(at, len) => Effect::Push(read_to(c, at + len), BYTES, text_word(at, len)),
+    }
+}
+
+// UNICODE: the node keeps the line, and is decoded when it is built.
+pub fn unicode(pickle: &[u8], c: Counts) -> Effect
+    requires { ⌜ Lent c (λ r. r .pickle ≡ now pickle) ⌝ }
+    ensures { λ e. ⌜ Decides c (λ r. r .pickle ≡ now (pickle .entry)) (λ s. going (unicode s)) e ⌝ }
+{
+    match newline(pickle, c.at) {
+        LineEnd::End => Effect::Refused(Refusal::EndOfInput),
+        LineEnd::At(end) => {
+            let l = line(pickle, c.at, end);
+            let len = l.len();
+            match unicode_len(l) {
+                Decoded::Len(_) => {
+                    Effect::Push(read_to(c, end + 1), UNICODE, text_word(c.at, len))
+                }
+                Decoded::Refused(_) => Effect::Refused(Refusal::InvalidLiteral),
+            }
+        }
+    }
+}
+
+// BINUNICODE: a length of four bytes, and the text, which is repaired when it is built.
+pub fn binunicode(pickle: &[u8], c: Counts) -> Effect
+    requires { ⌜ Lent c (λ r. r .pickle ≡ now pickle) ⌝ }
+    ensures { λ e. ⌜ Decides c (λ r. r .pickle ≡ now (pickle .entry)) (λ s. going (binunicode s)) e ⌝ }
+{
+    match part4(pickle, c) {
+        Part::Short => Effect::Refused(Refusal::EndOfInput),
+        Part::At(at, len) => Effect::Push(read_to(c, at + len), STRING, text_word(at, len)),
+    }
+}
+
+// GLOBAL: the lines of the module and of the name.
+pub fn global(pickle: &[u8], c: Counts) -> Effect
+    requires { ⌜ Lent c (λ r. r .pickle ≡ now pickle) ⌝ }
+    ensures { λ e. ⌜ Decides c (λ r. r .pickle ≡ now (pickle .entry)) (λ s. going (global s)) e ⌝ }
+{
+    match newline(pickle, c.at) {
+        LineEnd::End => Effect::Refused(Refusal::EndOfInput),
+        LineEnd::At(end) => {
+            let from = end + 1;
+            match newline(pickle, from) {
+                LineEnd::End => Effect::Refused(Refusal::EndOfInput),
+                LineEnd::At(to) => {
+                    let module = line(pickle, c.at, end).len();
+                    let name = line(pickle, from, to).len();
+                    Effect::Push(
+                        read_to(c, to + 1),
+                        GLOBAL + 16 * (module as u64 * 0x100_0000 + c.at as u64),
+                        text_word(from, name),
+                    )
+                }
+            }
+        }
+    }
+}
+
+// ---- marks and the stack
+
+// What stands above the last mark: nothing that can be taken, or all from a place on.
+enum Taken {
+    Short,
+    From(usize),
+}
+
+fn above_mark(marks: &[u16], c: Counts) -> Taken
+    requires { ⌜ Lent c (λ r. r .marks ≡ now marks) ⌝ }
+    ensures { λ t. ⌜ TakesMark c (now (marks .entry)) t ⌝ }
+{
+    if c.marks == 0 {
+        return Taken::Short;
+    }
+    let i = c.marks - 1;
+    let m = marks[i] as usize;
+    if c.stack < m {
+        return Taken::Short;
+    }
+    Taken::From(m)
+}
+
+// POP does not guard a mark.
+pub fn pop(c: Counts) -> Effect
+    ensures { λ e. ⌜ Decides c (λ r. Unit {0}) (λ s. going (popOne s)) e ⌝ }
+{
+    let values = c.stack;
+    if values == 0 {
+        return Effect::Refused(Refusal::StackUnderflow);
+    }
+    Effect::Go(cut(c, c.at, values - 1, c.marks))
+}
+
+pub fn pop_mark(marks: &[u16], c: Counts) -> Effect
+    requires { ⌜ Lent c (λ r. r .marks ≡ now marks) ⌝ }
+    ensures { λ e. ⌜ Decides c (λ r. r .marks ≡ now (marks .entry)) (λ s. going (popToMark s)) e ⌝ }
+{
+    match above_mark(marks, c) {
+        Taken::Short => Effect::Refused(Refusal::StackUnderflow),
+        Taken::From(m) => Effect::Go(cut(c, c.at, m, c.marks - 1)),
+    }
+}
+
+// The same node again.
+pub fn dup(stack: &[u16], c: Counts) -> Effect
+    requires { ⌜ Lent c (λ r. r .stack ≡ now stack) ⌝ }
+    ensures { λ e. ⌜ Decides c (λ r. r .stack ≡ now (stack .entry)) (λ s. going (dup s)) e ⌝ }
+{
+    if c.stack == 0 {
+        return Effect::Refused(Refusal::StackUnderflow);
+    }
+    let i = c.stack - 1;
+    Effect::Share(c, NodeId(stack[i] as usize))
+}
+
+// ---- containers
+
+pub fn list(marks: &[u16], c: Counts) -> Effect
+    requires { ⌜ Lent c (λ r. r .marks ≡ now marks) ⌝ }
+    ensures { λ e. ⌜ Decides c (λ r. r .marks ≡ now (marks .entry)) (λ s. going (list s)) e ⌝ }
+{
+    match above_mark(marks, c) {
+        Taken::Short => Effect::Refused(Refusal::StackUnderflow),
+        Taken::From(m) => Effect::Make(cut(c, c.at, m, c.marks - 1), LIST),
+    }
+}
+
+pub fn tuple(marks: &[u16], c: Counts) -> Effect
+    requires { ⌜ Lent c (λ r. r .marks ≡ now marks) ⌝ }
+    ensures { λ e. ⌜ Decides c (λ r. r .marks ≡ now (marks .entry)) (λ s. going (tuple s)) e ⌝ }
+{
+    match above_mark(marks, c) {
+        Taken::Short => Effect::Refused(Refusal::StackUnderflow),
+        Taken::From(m) => Effect::Make(cut(c, c.at, m, c.marks - 1), TUPLE),
+    }
+}
+
+// TUPLE1 to TUPLE3 pay no heed to marks.
+pub fn small_tuple(c: Counts, code: u8) -> Effect
+    requires { ⌜ (0x85 ≤ code) × (code ≤ 0x87) ⌝ }
+    ensures { λ e. ⌜ Decides c (λ r. Unit {0}) (λ s. going (tupleN (code - 0x84) s)) e ⌝ }
+{
+    let n = (code - 0x84) as usize;
+    if c.stack < n {
+        return Effect::Refused(Refusal::StackUnderflow);
+    }
+    Effect::Make(cut(c, c.at, c.stack - n, c.marks), TUPLE)
+}
+
+pub fn dict(marks: &[u16], c: Counts) -> Effect
+    requires { ⌜ Lent c (λ r. r .marks ≡ now marks) ⌝ }
+    ensures { λ e. ⌜ Decides c (λ r. r .marks ≡ now (marks .entry)) (λ s. going (dict s)) e ⌝ }
+{
+    match above_mark(marks, c) {
+        Taken::Short => Effect::Refused(Refusal::StackUnderflow),
+        Taken::From(m) => {
+            if (c.stack - m) % 2 == 0 {
+                Effect::Make(cut(c, c.at, m, c.marks - 1), DICT)
+            } else {
+                Effect::Refused(Refusal::Invalid(Wanted::DictItems))
+            }
+        }
+    }
+}
+
+// The kind of a node.
+pub fn kind(nodes: &[u64], id: NodeId) -> u64
+    requires { ⌜ 2 * id .0 < length (now nodes) ⌝ }
+    ensures { λ r. ⌜ r ≡ kindIn (first (now (nodes .entry)) (id .0)) ⌝ }
+{
+    let i = 2 * id.0;
+    nodes[i] % 16
+}
+
+// What stands above `keep`, to the container below it, which must be of its kind.
+fn grown(
+    nodes: &[u64],
+    stack: &[u16],
+    c: Counts,
+    keep: usize,
+    marks: usize,
+    container: u64,
+    why: Wanted,
+) -> Effect
+    requires { ⌜ Lent c (λ r. (r .nodes ≡ now nodes) × (r .stack ≡ now stack)) ⌝ }
+    requires { ⌜ (keep ≤ c .stack) × (marks ≤ c .marks) × Grows container ⌝ }
+    ensures { λ e. ⌜ Adds c (now (nodes .entry)) (now (stack .entry)) keep marks container why e ⌝ }
+{
+    if keep == 0 {
+        return Effect::Refused(Refusal::StackUnderflow);
+    }
+    let i = keep - 1;
+    let owner = stack[i] as usize;
+    if kind(nodes, NodeId(owner)) == container {
+        return Effect::Extend(cut(c, c.at, keep, marks), NodeId(owner));
+    }
+    Effect::Refused(Refusal::Invalid(why))
+}
+
+pub fn append(nodes: &[u64], stack: &[u16], c: Counts) -> Effect
+    requires { ⌜ Lent c (λ r. (r .nodes ≡ now nodes) × (r .stack ≡ now stack)) ⌝ }
+    ensures { λ e. ⌜ Decides c (λ r. (r .nodes ≡ now (nodes .entry)) × (r .stack ≡ now (stack .entry))) (λ s. going (append s)) e ⌝ }
+{
+    if c.stack == 0 {
+        return Effect::Refused(Refusal::StackUnderflow);
+    }
+    grown(nodes, stack, c, c.stack - 1, c.marks, LIST, Wanted::List)
+}
+
+pub fn appends(nodes: &[u64], stack: &[u16], marks: &[u16], c: Counts) -> Effect
+    requires { ⌜ Lent c (λ r. (r .nodes ≡ now nodes) × (r .stack ≡ now stack) × (r .marks ≡ now marks)) ⌝ }
+    ensures { λ e. ⌜ Decides c (λ r. (r .nodes ≡ now (nodes .entry)) × (r .stack ≡ now (stack .entry)) × (r .marks ≡ now (marks .entry))) (λ s. going (appends s)) e ⌝ }
+{
+    match above_mark(marks, c) {
+        Taken::Short => Effect::Refused(Refusal::StackUnderflow),
+        Taken::From(m) => grown(nodes, stack, c, m, c.marks - 1, LIST, Wanted::List),
+    }
+}
+
+pub fn setitem(nodes: &[u64], stack: &[u16], c: Counts) -> Effect
+    requires { ⌜ Lent c (λ r. (r .nodes ≡ now nodes) × (r .stack ≡ now stack)) ⌝ }
+    ensures { λ e. ⌜ Decides c (λ r. (r .nodes ≡ now (nodes .entry)) × (r .stack ≡ now (stack .entry))) (λ s. going (setitem s)) e ⌝ }
+{
+    if c.stack < 2 {
+        return Effect::Refused(Refusal::StackUnderflow);
+    }
+    grown(nodes, stack, c, c.stack - 2, c.marks, DICT, Wanted::Dict)
+}
+
+pub fn setitems(nodes: &[u64], stack: &[u16], marks: &[u16], c: Counts) -> Effect
+    requires { ⌜ Lent c (λ r. (r .nodes ≡ now nodes) × (r .stack ≡ now stack) × (r .marks ≡ now marks)) ⌝ }
+    ensures { λ e. ⌜ Decides c (λ r. (r .nodes ≡ now (nodes .entry)) × (r .stack ≡ now (stack .entry)) × (r .marks ≡ now (marks .entry))) (λ s. going (setitems s)) e ⌝ }
+{
+    match above_mark(marks, c) {
+        Taken::Short => Effect::Refused(Refusal::StackUnderflow),
+        Taken::From(m) => {
+            if (c.stack - m) % 2 < 1 {
+                grown(nodes, stack, c, m, c.marks - 1, DICT, Wanted::Dict)
+            } else {
+                Effect::Refused(Refusal::Invalid(Wanted::DictItems))
+            }
+        }
+    }
+}
+
+// ---- the memo
+
+// A memo number that was read, with the place behind it, or why there is none.
+enum KeyRead {
+    None(Refusal),
+    At(usize, MemoKey),
+}
+
+// The place of a memo number among the first `memo`, or `memo`.
+pub fn slot(keys: &[u32], memo: usize, key: MemoKey) -> usize
+    requires { ⌜ memo ≤ length (now keys) ⌝ }
+    ensures { λ r. ⌜ (r ≤ memo) × Absent (now (keys .entry)) r (key .0) × (r < memo → getD (now (keys .entry)) r 0 ≡ key .0) ⌝ }
+{
+    let k = key.0;
+    let mut i = 0;
+    while i < memo {
+        if keys[i] == k {
+            return i;
+        }
+        i += 1;
+    }
+    memo
+}
+
+// GET's, PUT's: a line.
+fn key_line(pickle: &[u8], c: Counts) -> KeyRead
+    ensures { λ k. ⌜ ReadsKey keyLine c (now (pickle .entry)) k ⌝ }
+{
+    let at = c.at;
+    match newline(pickle, at) {
+        LineEnd::End => KeyRead::None(Refusal::EndOfInput),
+        LineEnd::At(end) => match parse_u32(line(pickle, at, end)) {
+            U32Literal::Value(k) => KeyRead::At(end + 1, MemoKey(k)),
+            U32Literal::Invalid => KeyRead::None(Refusal::InvalidLiteral),
+        },
+    }
+}
+
+// BINGET's, BINPUT's: one byte.
+fn key_byte(pickle: &[u8], c: Counts) -> KeyRead
+    ensures { λ k. ⌜ ReadsKey (lowBytes 1) c (now (pickle .entry)) k ⌝ }
+{
+    let at = c.at;
+    if at < pickle.len() {
+        return KeyRead::At(at + 1, MemoKey(pickle[at] as u32));
+    }
+    KeyRead::None(Refusal::EndOfInput)
+}
+
+// LONG_BINGET's, LONG_BINPUT's: four bytes.
+fn key_word(pickle: &[u8], c: Counts) -> KeyRead
+    requires { ⌜ c .at ≤ length (now pickle) ⌝ }
+    ensures { λ k. ⌜ ReadsKey (lowBytes 4) c (now (pickle .entry)) k ⌝ }
+{
+    let at = c.at;
+    if pickle.len() - at < 4 {
+        return KeyRead::None(Refusal::EndOfInput);
+    }
+    KeyRead::At(at + 4, MemoKey(u32_at(pickle, at)))
+}
+
+// The node of a memo number.
+fn get(keys: &[u32], held: &[u16], c: Counts, key: MemoKey) -> Effect
+    requires { ⌜ Lent c (λ r. (r .keys ≡ now keys) × (r .held ≡ now held)) ⌝ }
+    ensures { λ e. ⌜ Decides c (λ r. (r .keys ≡ now (keys .entry)) × (r .held ≡ now (held .entry))) (λ s. going (get (key .0) s)) e ⌝ }
+{
+    let i = slot(keys, c.memo, key);
+    if i < c.memo {
+        return Effect::Share(c, NodeId(held[i] as usize));
+    }
+    Effect::Refused(Refusal::MissingMemo(key.0))
+}
+
+pub fn get_line(pickle: &[u8], keys: &[u32], held: &[u16], c: Counts) -> Effect
+    requires { ⌜ Lent c (λ r. (r .pickle ≡ now pickle) × (r .keys ≡ now keys) × (r .held ≡ now held)) ⌝ }
+    ensures { λ e. ⌜ Decides c (λ r. (r .pickle ≡ now (pickle .entry)) × (r .keys ≡ now (keys .entry)) × (r .held ≡ now (held .entry))) (λ s. going (getLine s)) e ⌝ }
+{
+    match key_line(pickle, c) {
+        KeyRead::None(why) => Effect::Refused(why),
+        KeyRead::At(at, key) => get(keys, held, read_to(c, at), key),
+    }
+}
+
+pub fn binget(pickle: &[u8], keys: &[u32], held: &[u16], c: Counts) -> Effect
+    requires { ⌜ Lent c (λ r. (r .pickle ≡ now pickle) × (r .keys ≡ now keys) × (r .held ≡ now held)) ⌝ }
+    ensures { λ e. ⌜ Decides c (λ r. (r .pickle ≡ now (pickle .entry)) × (r .keys ≡ now (keys .entry)) × (r .held ≡ now (held .entry))) (λ s. going (getBytes 1 s)) e ⌝ }
+{
+    match key_byte(pickle, c) {
+        KeyRead::None(why) => Effect::Refused(why),
+        KeyRead::At(at, key) => get(keys, held, read_to(c, at), key),
+    }
+}
+
+pub fn long_binget(pickle: &[u8], keys: &[u32], held: &[u16], c: Counts) -> Effect
+    requires { ⌜ Lent c (λ r. (r .pickle ≡ now pickle) × (r .keys ≡ now keys) × (r .held ≡ now held)) ⌝ }
+    ensures { λ e. ⌜ Decides c (λ r. (r .pickle ≡ now (pickle .entry)) × (r .keys ≡ now (keys .entry)) × (r .held ≡ now (held .entry))) (λ s. going (getBytes 4 s)) e ⌝ }
+{
+    match key_word(pickle, c) {
+        KeyRead::None(why) => Effect::Refused(why),
+        KeyRead::At(at, key) => get(keys, held, read_to(c, at), key),
+    }
+}
+
+// The top, kept under a memo number.
+fn put(stack: &[u16], c: Counts, key: MemoKey) -> Effect
+    requires { ⌜ Lent c (λ r. r .stack ≡ now stack) ⌝ }
+    ensures { λ e. ⌜ Decides c (λ r. r .stack ≡ now (stack .entry)) (λ s. going (put (key .0) s)) e ⌝ }
+{
+    if c.stack == 0 {
+        return Effect::Refused(Refusal::StackUnderflow);
+    }
+    let top = c.stack - 1;
+    Effect::Remember(c, key, NodeId(stack[top] as usize))
+}
+
+pub fn put_line(pickle: &[u8], stack: &[u16], c: Counts) -> Effect
+    requires { ⌜ Lent c (λ r. (r .pickle ≡ now pickle) × (r .stack ≡ now stack)) ⌝ }
+    ensures { λ e. ⌜ Decides c (λ r. (r .pickle ≡ now (pickle .entry)) × (r .stack ≡ now (stack .entry))) (λ s. going (putLine s)) e ⌝ }
+{
+    match key_line(pickle, c) {
+        KeyRead::None(why) => Effect::Refused(why),
+        KeyRead::At(at, key) => put(stack, read_to(c, at), key),
+    }
+}
+
+pub fn binput(pickle: &[u8], stack: &[u16], c: Counts) -> Effect
+    requires { ⌜ Lent c (λ r. (r .pickle ≡ now pickle) × (r .stack ≡ now stack)) ⌝ }
+    ensures { λ e. ⌜ Decides c (λ r. (r .pickle ≡ now (pickle .entry)) × (r .stack ≡ now (stack .entry))) (λ s. going (putBytes 1 s)) e ⌝ }
+{
+    match key_byte(pickle, c) {
+        KeyRead::None(why) => Effect::Refused(why),
+        KeyRead::At(at, key) => put(stack, read_to(c, at), key),
+    }
+}
+
+pub fn long_binput(pickle: &[u8], stack: &[u16], c: Counts) -> Effect
+    requires { ⌜ Lent c (λ r. (r .pickle ≡ now pickle) × (r .stack ≡ now stack)) ⌝ }
+    ensures { λ e. ⌜ Decides c (λ r. (r .pickle ≡ now (pickle .entry)) × (r .stack ≡ now (stack .entry))) (λ s. going (putBytes 4 s)) e ⌝ }
+{
+    match key_word(pickle, c) {
+        KeyRead::None(why) => Effect::Refused(why),
+        KeyRead::At(at, key) => put(stack, read_to(c, at), key),
+    }
+}
+
+// ---- classes and objects
+
+// A class and its arguments on the stack, or why there is no call.
+enum CallRead {
+    None(Refusal),
+    Of(NodeId, NodeId),
+}
+
+fn first_word(nodes: &[u64], id: NodeId) -> u64
+    requires { ⌜ 2 * id .0 < length (now nodes) ⌝ }
+    ensures { λ r. ⌜ r ≡ first (now (nodes .entry)) (id .0) ⌝ }
+{
+    let at = 2 * id.0;
+    nodes[at]
+}
+
+fn second_word(nodes: &[u64], id: NodeId) -> u64
+    requires { ⌜ 2 * id .0 + 1 < length (now nodes) ⌝ }
+    ensures { λ r. ⌜ r ≡ second (now (nodes .entry)) (id .0) ⌝ }
+{
+    let at = 2 * id.0 + 1;
+    nodes[at]
+}
+
+// The two topmost values, if they are a class and its arguments.
+fn class_and_arguments(nodes: &[u64], stack: &[u16], c: Counts) -> CallRead
+    requires { ⌜ Lent c (λ r. (r .nodes ≡ now nodes) × (r .stack ≡ now stack)) ⌝ }
+    ensures { λ k. ⌜ ReadsCall c (now (nodes .entry)) (now (stack .entry)) k ⌝ }
+{
+    if c.stack < 2 {
+        return CallRead::None(Refusal::StackUnderflow);
+    }
+    let i = c.stack - 2;
+    let j = c.stack - 1;
+    let class = NodeId(stack[i] as usize);
+    let arguments = NodeId(stack[j] as usize);
+    if kind(nodes, class) != GLOBAL {
+        return CallRead::None(Refusal::Invalid(Wanted::Class));
+    }
+    if kind(nodes, arguments) != TUPLE {
+        return CallRead::None(Refusal::Invalid(Wanted::Arguments));
+    }
+    CallRead::Of(class, arguments)
+}
+
+// `len` bytes from `at` on, or as many as there are.
+fn text_at(pickle: &[u8], at: usize, len: usize) -> &[u8]
+    ensures { λ r. ⌜ now r ≡ take len (drop at (now (pickle .entry))) ⌝ }
+{
+    if pickle.len() <= at {
+        return &pickle[0..0];
+    }
+    let end = pickle.len();
+    if end - at < len {
+        return &pickle[at..end];
+    }
+    value::part(pickle, at, len)
+}
+
+fn same_text(text: &[u8], word: &[u8]) -> bool
+    ensures { λ r. ⌜ r ≡ same (now (text .entry)) (now (word .entry)) ⌝ }
+{
+    if text.len() != word.len() {
+        return false;
+    }
+    let mut at = 0;
+    while at < text.len() {
+        if text[at] != word[at] {
+            return false;
+        }
+        at += 1;
+    }
+    true
+}
+
+// The kind of what REDUCE makes of a class with the words `a` and `b` and of `n` arguments.
+fn made_kind(pickle: &[u8], a: u64, b: u64, n: u64) -> u64
+    ensures { λ r. ⌜ r ≡ madeKind (moduleOf (now (pickle .entry)) a) (nameOf (now (pickle .entry)) b) n ⌝ }
+{
+    if 1 < n {
+        return OBJECT;
+    }
+    let m = a / 16;
+    if same_text(
+        text_at(pickle, (m % 0x100_0000) as usize, (m / 0x100_0000) as usize),
+        b"__builtin__",
+    ) {
+        let name = text_at(
+            pickle,
+            (b % 0x1_0000_0000) as usize,
+            (b / 0x1_0000_0000) as usize,
+        );
+        if same_text(name, b"set") {
+            return SET;
+        }
+        if same_text(name, b"frozenset") {
+            return FROZEN_SET;
+        }
+    }
+    OBJECT
+}
+
+// The one item of a node, from the newest end of the log.
+fn only_item(owners: &[u16], children: &[u16], links: usize, owner: NodeId) -> usize
+    requires { ⌜ (links ≤ length (now owners)) × (links ≤ length (now children)) × (length (items (take links (now owners)) (take links (now children)) (owner .0)) ≡ 1) ⌝ }
+    ensures { λ r. ⌜ items (take links (now (owners .entry))) (take links (now (children .entry))) (owner .0) ≡ r ∷ [] ⌝ }
+{
+    let of = owner.0;
+    let mut i = links;
+    while 0 < i {
+        i -= 1;
+        if owners[i] as usize == of {
+            return children[i] as usize;
+        }
+    }
+    0
+}
+
+// REDUCE of a class and its arguments.
+fn reduced(
+    pickle: &[u8],
+    nodes: &[u64],
+    owners: &[u16],
+    children: &[u16],
+    c: Counts,
+    class: NodeId,
+    arguments: NodeId,
+) -> Effect
+    requires { ⌜ Lent c (λ r. (r .pickle ≡ now pickle) × (r .nodes ≡ now nodes) × (r .owners ≡ now owners) × (r .children ≡ now children) × Calls c r (class .0) (arguments .0)) ⌝ }
+    ensures { λ e. ⌜ Decides c (λ r. (r .pickle ≡ now (pickle .entry)) × (r .nodes ≡ now (nodes .entry)) × (r .owners ≡ now (owners .entry)) × (r .children ≡ now (children .entry)) × Calls c r (class .0) (arguments .0)) (λ s. going (reduce s)) e ⌝ }
+{
+    let n = second_word(nodes, arguments);
+    let made = made_kind(
+        pickle,
+        first_word(nodes, class),
+        second_word(nodes, class),
+        n,
+    );
+    let rest = cut(c, c.at, c.stack - 2, c.marks);
+    if made == OBJECT {
+        return Effect::Push(rest, OBJECT + 64 * class.0 as u64, arguments.0 as u64);
+    }
+    // A set of no argument has the empty tuple of arguments.
+    if n == 0 {
+        return Effect::Push(rest, made, arguments.0 as u64);
+    }
+    Effect::Push(
+        rest,
+        made,
+        only_item(owners, children, c.links, arguments) as u64,
+    )
+}
+
+pub fn reduce(
+    pickle: &[u8],
+    nodes: &[u64],
+    owners: &[u16],
+    children: &[u16],
+    stack: &[u16],
+    c: Counts,
+) -> Effect
+    requires { ⌜ Lent c (λ r. (r .pickle ≡ now pickle) × (r .nodes ≡ now nodes) × (r .owners ≡ now owners) × (r .children ≡ now children) × (r .stack ≡ now stack)) ⌝ }
+    ensures { λ e. ⌜ Decides c (λ r. (r .pickle ≡ now (pickle .entry)) × (r .nodes ≡ now (nodes .entry)) × (r .owners ≡ now (owners .entry)) × (r .children ≡ now (children .entry)) × (r .stack ≡ now (stack .entry))) (λ s. going (reduce s)) e ⌝ }
+{
+    match class_and_arguments(nodes, stack, c) {
+        CallRead::None(why) => Effect::Refused(why),
+        CallRead::Of(class, arguments) => reduced(
+            pickle,
+            nodes,
+            owners,
+            children,
+            c,
+            class,
+            arguments,
+        ),
+    }
+}
+
+// Never a set.
+pub fn newobj(nodes: &[u64], stack: &[u16], c: Counts) -> Effect
+    requires { ⌜ Lent c (λ r. (r .nodes ≡ now nodes) × (r .stack ≡ now stack)) ⌝ }
+    ensures { λ e. ⌜ Decides c (λ r. (r .nodes ≡ now (nodes .entry)) × (r .stack ≡ now (stack .entry))) (λ s. going (newobj s)) e ⌝ }
+{
+    match class_and_arguments(nodes, stack, c) {
+        CallRead::None(why) => Effect::Refused(why),
+        CallRead::Of(class, arguments) => Effect::Push(
+            cut(c, c.at, c.stack - 2, c.marks),
+            OBJECT + 16 + 64 * class.0 as u64,
+            arguments.0 as u64,
+        ),
+    }
+}
+
+// The top is the state of the Object below it.
+pub fn build(nodes: &[u64], stack: &[u16], c: Counts) -> Effect
+    requires { ⌜ Lent c (λ r. (r .nodes ≡ now nodes) × (r .stack ≡ now stack)) ⌝ }
+    ensures { λ e. ⌜ Decides c (λ r. (r .nodes ≡ now (nodes .entry)) × (r .stack ≡ now (stack .entry))) (λ s. going (build s)) e ⌝ }
+{
+    if c.stack < 2 {
+        return Effect::Refused(Refusal::StackUnderflow);
+    }
+    let i = c.stack - 2;
+    let j = c.stack - 1;
+    let object = NodeId(stack[i] as usize);
+    let state = NodeId(stack[j] as usize);
+    if kind(nodes, object) != OBJECT {
+        return Effect::Refused(Refusal::Invalid(Wanted::Object));
+    }
+    Effect::Build(cut(c, c.at, j, c.marks), object, state)
+}

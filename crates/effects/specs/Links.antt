@@ -1,0 +1,183 @@
+-- Links to the items of a container, one after the other; a container made of its items, and one that grows.
+use Prim.Native.Nat.{ℕ, suc, _+_, _-_, _*_, _<_, _≤_, max}
+use mathlib.Core.Bool.{Bool, true, false, cond}
+use mathlib.Core.List.{List, [], _∷_, _++_}
+use mathlib.Core.Path.{_≡_, refl, sym, _∙_, ap}
+use lib.ListN.{length, length-set, length-take, length-drop, getD, take, drop, set, drop-of-length-le}
+use lib.Seq.{take-suc, drop-append-le, length-take-le, getD-set-other}
+use lib.Dec.{leb, eqb}
+use borrow.Author.Tests.{le-leb, lt-leb}
+use native.Mathlib.Numerals.{add-one}
+use native.Mathlib.Omega.{arith}
+use Rattle.refusal.specs.declared.Refusal.the-variants.{LinksFull, NodesFull, StackFull}
+use Rattle.value.specs.Shape.{kindIn}
+use Rattle.decoder.specs.declared.Counts.{Counts}
+use Rattle.decoder.specs.declared.NodeId.{NodeId}
+use Rattle.decoder.specs.declared.Effect.the-variants.{Make, Extend}
+use Rattle.decoder.specs.State.{State, Node, plain, ok, no, _>>=_, need, nodesLimit, stackLimit, linksLimit, withNodes, withLinks, pushId, pushNode, link, extend}
+use Rattle.decoder.specs.Opcodes.{made}
+use Rattle.decoder.specs.Run.{goes, going}
+use Rattle.decoder.specs.Rooms.{Rooms, items, first, second, nodeIs, stateOf, wordsIn, logIn, stackIn, linksTo, nodesTo, Counted, Holds, aList, aTuple, aDict}
+use Rattle.decoder.specs.RoomReads.{nodes-length, links-of}
+use Rattle.decoder.specs.RoomLists.{words-second, first-set}
+use Rattle.decoder.specs.RoomKeeps.{kept-link, class-none, used-none}
+use Rattle.decoder.specs.RoomLists.{holds-below}
+use Rattle.decoder.specs.RoomLinks.{extend-none, extend-new, link-next, link-counted}
+use Rattle.decoder.specs.Effects.{Lengths, Clean, Firm, Fits, enacted, container, grow, above}
+use Rattle.effects.specs.declared.Step.{Step}
+use Rattle.effects.specs.declared.Step.the-variants as step
+use Rattle.effects.specs.Done.{meant, Stays, Done, done-refused, pushedTo, blank-set}
+use Rattle.effects.specs.Push.{withNode, oneNode, node-pushed, node-firm, id-full, id-pushed, id-firm}
+
+-- ---- one link after the other
+
+-- the rooms with these words and this log
+abbrev pub linkedIn : Rooms → List ℕ → List ℕ → List ℕ → Rooms
+linkedIn r ns ws cs = wordsIn (logIn r ws cs) ns
+
+-- xs are linked to o, and there are n links
+pub record Linked (r : Rooms) (c : Counts) (o : ℕ) (xs : List ℕ) (n : ℕ) (ns ws cs : List ℕ) : Type 0 where
+  pub state : stateOf (linkedIn r ns ws cs) (linksTo c n) ≡ extend o xs (withLinks (stateOf r c) n)
+  pub firm : Firm (linkedIn r ns ws cs) (linksTo c n)
+  pub holds : Holds (first ns o)
+
+-- rooms in which o is a container, to which the values from `from` to `to` can be linked
+pub record Linkable (nodes owners children stack : List ℕ) (from to links o : ℕ) : Type 0 where
+  pub rooms : Rooms
+  pub counts : Counts
+  pub nodes-are : rooms .nodes ≡ nodes
+  pub owners-are : rooms .owners ≡ owners
+  pub children-are : rooms .children ≡ children
+  pub stack-is : counts .stack ≡ from
+  pub links-are : counts .links ≡ links
+  pub firm : Firm rooms counts
+  pub inside : o < counts .nodes
+  pub holds : Holds (first nodes o)
+  pub low : from ≤ to
+  pub high : to ≤ length stack
+  pub room : links + (to - from) ≤ linksLimit
+
+-- what the loop keeps, and at its end promises: the values up to i are linked
+unfoldable pub LinkAll : List ℕ → List ℕ → List ℕ → List ℕ → ℕ → ℕ → ℕ → ℕ → List ℕ → List ℕ → List ℕ → ℕ → Type 0
+LinkAll nodes owners children stack from links o i ns ws cs n =
+    (r : Rooms) (c : Counts) → r .nodes ≡ nodes → r .owners ≡ owners → r .children ≡ children → c .stack ≡ from → c .links ≡ links → Firm r c → o < c .nodes → Holds (first nodes o)
+    → Linked r c o (above from i stack) n ns ws cs
+
+-- no more items than links
+items-few : (ws cs : List ℕ) (o : ℕ) → length (items ws cs o) ≤ length ws
+unfolding items
+items-few [] cs o = omega arith
+items-few (w ∷ ws) [] o = omega arith
+items-few (w ∷ ws) (c ∷ cs) o = go (eqb w o) (items-few ws cs o)
+  where
+    go : (b : Bool) → length (items ws cs o) ≤ length ws → length (cond b (c ∷ items ws cs o) (items ws cs o)) ≤ suc (length ws)
+    go true h = omega arith
+    go false h = omega arith
+
+above-none : (n : ℕ) (l : List ℕ) → above n n l ≡ []
+unfolding above
+above-none n l = drop-of-length-le (take n l) {i = n} (let e = length-take n l in omega arith)
+
+above-more : (n i : ℕ) (l : List ℕ) → n ≤ i → i < length l → above n (i + 1) l ≡ above n i l ++ (getD l i 0 ∷ [])
+unfolding above
+above-more n i l h k =
+    let e : length (take i l) ≡ i = length-take-le i l (omega arith) in
+    rw (add-one i, take-suc l i 0 k) (drop-append-le n (take i l) (getD l i 0 ∷ []) (omega arith))
+
+module _ (r : Rooms) (c : Counts) (o : ℕ) where
+  linked-start : Firm r c → Holds (first (r .nodes) o) → Linked r c o [] (c .links) (r .nodes) (r .owners) (r .children)
+  unfolding stateOf
+  linked-start f h = record { state = sym (extend-none o (stateOf r c)); firm = f; holds = h }
+
+  module _ (xs : List ℕ) (n : ℕ) (ns ws cs : List ℕ) (l : Linked r c o xs n ns ws cs) where
+    -- the number of an owner's items is small
+    pub count-small : o < c .nodes → second ns o ≤ n
+    unfolding Counted
+    count-small h =
+        let few = items-few (take n ws) (take n cs) o in
+        let m : length (take n ws) ≡ n = length-take-le n ws (let x = l .firm .lengths .owners in let y = l .firm .links in omega arith) in
+        let v = l .firm .kept .counted o h (l .holds) in
+        omega arith
+
+    module _ (h : o < c .nodes) (z : n < linksLimit) (k : ℕ) where
+      abbrev r₁ : Rooms
+      r₁ = linkedIn r ns ws cs
+
+      abbrev c₁ : Counts
+      c₁ = linksTo c n
+
+      abbrev ns′ : List ℕ
+      ns′ = set ns (suc (2 * o)) (suc (second ns o))
+
+      room : suc (2 * o) < length ns
+      room = let x = l .firm .lengths .nodes in let y = l .firm .nodes in omega arith
+
+      owner-room : n < length ws
+      owner-room = let x = l .firm .lengths .owners in omega arith
+
+      child-room : n < length cs
+      child-room = let x = l .firm .lengths .children in omega arith
+
+      next-state : stateOf (linkedIn r ns′ (set ws n o) (set cs n k)) (linksTo c (suc n)) ≡ extend o (xs ++ (k ∷ [])) (withLinks (stateOf r c) (suc n))
+      next-state =
+          link-next o k xs n (suc n) (stateOf r c) (stateOf r₁ c₁) (stateOf (linkedIn r ns′ (set ws n o) (set cs n k)) (linksTo c (suc n))) (rw (nodes-length r₁ c₁) h) (l .state)
+          (link-counted r₁ c₁ o k (suc (second ns o)) h (l .holds) owner-room child-room room (l .firm .kept .classed))
+
+      next-firm : Firm (linkedIn r ns′ (set ws n o) (set cs n k)) (linksTo c (suc n))
+      next-firm = let f = l .firm in record {
+        lengths = record { pickle = f .lengths .pickle; nodes = length-set ns (suc (2 * o)) (suc (second ns o)) ∙ f .lengths .nodes; owners = length-set ws n o ∙ f .lengths .owners; children = length-set cs n k ∙ f .lengths .children; stack = f .lengths .stack; marks = f .lengths .marks; keys = f .lengths .keys; held = f .lengths .held; unescaped = f .lengths .unescaped };
+        at = f .at;
+        unescaped = f .unescaped;
+        nodes = f .nodes;
+        links = omega arith;
+        stack = f .stack;
+        deepest = f .deepest;
+        marks = f .marks;
+        most = f .most;
+        memo = f .memo;
+        kept = kept-link ns ws cs n (c .nodes) (c .unescaped) (f .kept) o k room h (l .holds) owner-room child-room;
+        clean = record { nodes = blank-set (2 * c .nodes) (2 * c .nodes) ns (f .clean .nodes) (omega arith) (suc (2 * o)) (suc (second ns o)) (omega arith); owners = blank-set n (suc n) ws (f .clean .owners) (omega arith) n o (omega arith); children = blank-set n (suc n) cs (f .clean .children) (omega arith) n k (omega arith); stack = f .clean .stack; marks = f .clean .marks; keys = f .clean .keys; held = f .clean .held; unescaped = f .clean .unescaped };
+      }
+
+      next-holds : Holds (first ns′ o)
+      unfolding first
+      next-holds = rw (getD-set-other ns (suc (2 * o)) (2 * o) (suc (second ns o)) 0 (λ e. omega arith)) (l .holds)
+
+      pub linked-more : Linked r c o (xs ++ (k ∷ [])) (n + 1) (set ns (2 * o + 1) (getD ns (2 * o + 1) 0 + 1)) (set ws n o) (set cs n k)
+      unfolding second
+      linked-more = rw (add-one n, add-one (2 * o), add-one (getD ns (suc (2 * o)) 0)) (record { state = next-state; firm = next-firm; holds = next-holds })
+
+-- ---- the loop
+
+module _ (nodes owners children stack : List ℕ) (from links o : ℕ) where
+  pub link-none : LinkAll nodes owners children stack from links o from nodes owners children links
+  unfolding LinkAll
+  link-none r c p q s t u f h k = rw (above-none from stack, ← p, ← q, ← s, ← u) (linked-start r c o f (rw p k))
+
+  module _ (i : ℕ) (ns ws cs : List ℕ) (n : ℕ) (l : LinkAll nodes owners children stack from links o i ns ws cs n) where
+    pub link-one : from ≤ i → i < length stack → n < linksLimit → LinkAll nodes owners children stack from links o (i + 1) (set ns (2 * o + 1) (getD ns (2 * o + 1) 0 + 1)) (set ws n o) (set cs n (getD stack i 0)) (n + 1)
+    unfolding LinkAll
+    link-one a b z r c p q s t u f h k = rw (above-more from i stack a b) (linked-more r c o (above from i stack) n ns ws cs (l r c p q s t u f h k) h z (getD stack i 0))
+
+    -- what it needs of its rooms
+    pub link-rooms : (to : ℕ) → Linkable nodes owners children stack from to links o → (length ns ≡ 8192) × (length ws ≡ 16384) × (length cs ≡ 16384) × (getD ns (2 * o + 1) 0 ≤ n) × (o < 4096)
+    unfolding LinkAll second
+    link-rooms to a =
+        let m = l (a .rooms) (a .counts) (a .nodes-are) (a .owners-are) (a .children-are) (a .stack-is) (a .links-are) (a .firm) (a .inside) (a .holds) in
+        let v = count-small (a .rooms) (a .counts) o (above from i stack) n ns ws cs m (a .inside) in
+        let x = a .inside in
+        let y = a .firm .nodes in
+        (m .firm .lengths .nodes, m .firm .lengths .owners, m .firm .lengths .children, rw (add-one (2 * o)) v, omega arith)
+
+    -- a linking loop that has come to its end
+    pub link-end : (to : ℕ) → n ≡ links + (i - from) → i ≤ to → to ≤ i → (n ≡ links + (to - from)) × LinkAll nodes owners children stack from links o to ns ws cs n
+    link-end to e a b = let z : i ≡ to = omega arith in (omega arith, rw (← z) l)
+
+    -- rooms keep their lengths
+    pub link-lengths : (to : ℕ) → Linkable nodes owners children stack from to links o → (length ns ≡ length nodes) × (length ws ≡ length owners) × (length cs ≡ length children)
+    link-lengths to a =
+        let v = link-rooms to a in
+        let x = a .firm .lengths .nodes in
+        let y = a .firm .lengths .owners in
+        let z = a .firm .lengths .children in
+        (v .0 ∙ sym x ∙ ap length (a .nodes-are), v .1 ∙ sym y ∙ ap length (a .owners-are), v .2 ∙ sym z ∙ ap length (a .children-are))

@@ -1,0 +1,317 @@
+// The effects of the opcodes on the rooms (the second half of `Decoder`'s methods: push, push_id, put, extend): each tests the limits that
+// document 01 adds, in its order, and then writes only the rooms that it changes. On a refusal no room is changed.
+use decoder::Counts;
+use decoder::MemoKey;
+use decoder::NodeId;
+use decoder::UNESCAPED;
+use decoder::slot;
+use refusal::Refusal;
+use text::unescape_string;
+ghost use mathlib.Core.Bool.{cond};
+ghost use mathlib.Core.Path.{_≡_};
+ghost use Prim.Native.Nat.{_+_, _-_, _*_, _<_, _≤_, max};
+ghost use lib.ListN.{length, getD, set};
+ghost use Rattle.value.specs.Shape.{stateIn};
+ghost use Rattle.decoder.specs.Rooms.{Rooms};
+ghost use Rattle.effects.specs.Done.{pushedTo};
+ghost use Rattle.effects.specs.Push.{PushNode, PushId, PutMark};
+ghost use Rattle.effects.specs.Links.{Linkable, LinkAll};
+ghost use Rattle.effects.specs.Containers.{Makeable, Makes, Extendable, Extends};
+ghost use Rattle.effects.specs.Memo.{Rememberable, Remembers};
+ghost use Rattle.effects.specs.Words.{Buildable, Builds, Unescapable, Unescapes};
+
+// What a step comes to: the counts with which the machine goes on or has stopped, or why it refuses.
+pub enum Step {
+    Next(Counts),
+    Stop(Counts),
+    Refused(Refusal),
+}
+
+// Document 01's limits, and so the rooms' lengths.
+pub const NODES: usize = 4096;
+
+pub const LINKS: usize = 8192;
+
+pub const STACK: usize = 2048;
+
+pub const MARKS: usize = 256;
+
+pub const MEMO: usize = 1024;
+
+fn most(a: usize, b: usize) -> usize
+    ensures { λ r. ⌜ r ≡ max a b ⌝ }
+{
+    if a < b { b } else { a }
+}
+
+// The counts with a value more on the stack.
+fn pushed(c: Counts, nodes: usize, links: usize) -> Counts
+    requires { ⌜ c .stack < 2048 ⌝ }
+    ensures { λ r. ⌜ r ≡ pushedTo c nodes links ⌝ }
+{
+    let stack = c.stack + 1;
+    Counts {
+        at: c.at,
+        nodes: nodes,
+        links: links,
+        stack: stack,
+        deepest: most(c.deepest, stack),
+        marks: c.marks,
+        most: c.most,
+        memo: c.memo,
+        unescaped: c.unescaped,
+    }
+}
+
+// A node with its two words and no links: NodesFull, then StackFull.
+pub fn push_node(nodes: &mut [u64], stack: &mut [u16], c: Counts, a: u64, b: u64) -> Step
+    requires { ⌜ (length (now nodes) ≡ 8192) × (length (now stack) ≡ 2048) ⌝ }
+    ensures { λ t. ⌜ PushNode (now (nodes .entry)) (now (stack .entry)) c a b (now (nodes .exit)) (now (stack .exit)) t ⌝ }
+{
+    if NODES <= c.nodes {
+        return Step::Refused(Refusal::NodesFull);
+    }
+    if STACK <= c.stack {
+        return Step::Refused(Refusal::StackFull);
+    }
+    let first = 2 * c.nodes;
+    let second = first + 1;
+    nodes[first] = a;
+    nodes[second] = b;
+    let top = c.stack;
+    stack[top] = c.nodes as u16;
+    Step::Next(pushed(c, c.nodes + 1, c.links))
+}
+
+// A node again: StackFull.
+pub fn push_id(stack: &mut [u16], c: Counts, id: NodeId) -> Step
+    requires { ⌜ (length (now stack) ≡ 2048) × (id .0 < 65536) ⌝ }
+    ensures { λ t. ⌜ PushId (now (stack .entry)) c (id .0) (now (stack .exit)) t ⌝ }
+{
+    if STACK <= c.stack {
+        return Step::Refused(Refusal::StackFull);
+    }
+    let top = c.stack;
+    stack[top] = id.0 as u16;
+    Step::Next(pushed(c, c.nodes, c.links))
+}
+
+// The stack's length as a mark: MarksFull.
+pub fn put_mark(marks: &mut [u16], c: Counts) -> Step
+    requires { ⌜ (length (now marks) ≡ 256) × (c .stack ≤ 2048) ⌝ }
+    ensures { λ t. ⌜ PutMark (now (marks .entry)) c (now (marks .exit)) t ⌝ }
+{
+    if MARKS <= c.marks {
+        return Step::Refused(Refusal::MarksFull);
+    }
+    let last = c.marks;
+    marks[last] = c.stack as u16;
+    let marks = last + 1;
+    Step::Next(Counts {
+        at: c.at,
+        nodes: c.nodes,
+        links: c.links,
+        stack: c.stack,
+        deepest: c.deepest,
+        marks: marks,
+        most: most(c.most, marks),
+        memo: c.memo,
+        unescaped: c.unescaped,
+    })
+}
+
+// Links from `owner` to what stands on the stack from `from` to `to`, in order; its second word counts its items.
+fn link_all(
+    nodes: &mut [u64],
+    owners: &mut [u16],
+    children: &mut [u16],
+    stack: &[u16],
+    from: usize,
+    to: usize,
+    links: usize,
+    owner: NodeId,
+) -> usize
+    requires { ⌜ Linkable (now nodes) (now owners) (now children) (now stack) from to links (owner .0) ⌝ }
+    ensures { λ n. ⌜ (n ≡ links + (to - from)) × LinkAll (now (nodes .entry)) (now (owners .entry)) (now (children .entry)) (now (stack .entry)) from links (owner .0) to (now (nodes .exit)) (now (owners .exit)) (now (children .exit)) n ⌝ }
+{
+    let id = owner.0;
+    let count = 2 * id + 1;
+    let mut i = from;
+    let mut n = links;
+    while i < to {
+        owners[n] = id as u16;
+        children[n] = stack[i];
+        nodes[count] = nodes[count] + 1;
+        i += 1;
+        n += 1;
+    }
+    n
+}
+
+// A container of what stood above `c.stack`: LinksFull, NodesFull, then StackFull.
+pub fn make(
+    nodes: &mut [u64],
+    owners: &mut [u16],
+    children: &mut [u16],
+    stack: &mut [u16],
+    c: Counts,
+    kind: u64,
+    had: usize,
+) -> Step
+    requires { ⌜ Makeable (now nodes) (now owners) (now children) (now stack) c kind had ⌝ }
+    ensures { λ t. ⌜ Makes (now (nodes .entry)) (now (owners .entry)) (now (children .entry)) (now (stack .entry)) c kind had (now (nodes .exit)) (now (owners .exit)) (now (children .exit)) (now (stack .exit)) t ⌝ }
+{
+    let items = had - c.stack;
+    if LINKS - c.links < items {
+        return Step::Refused(Refusal::LinksFull); // the first of the three
+    }
+    if NODES <= c.nodes {
+        return Step::Refused(Refusal::NodesFull);
+    }
+    if STACK <= c.stack {
+        return Step::Refused(Refusal::StackFull);
+    }
+    let id = c.nodes;
+    let first = 2 * id;
+    let second = first + 1;
+    nodes[first] = kind;
+    nodes[second] = 0;
+    let links = link_all(
+        nodes,
+        owners,
+        children,
+        stack,
+        c.stack,
+        had,
+        c.links,
+        NodeId(id),
+    );
+    let top = c.stack;
+    stack[top] = id as u16;
+    Step::Next(pushed(c, id + 1, links))
+}
+
+// What stood above `c.stack` as items more of a container: LinksFull.
+pub fn extend(
+    nodes: &mut [u64],
+    owners: &mut [u16],
+    children: &mut [u16],
+    stack: &[u16],
+    c: Counts,
+    owner: NodeId,
+    had: usize,
+) -> Step
+    requires { ⌜ Extendable (now nodes) (now owners) (now children) (now stack) c (owner .0) had ⌝ }
+    ensures { λ t. ⌜ Extends (now (nodes .entry)) (now (owners .entry)) (now (children .entry)) (now (stack .entry)) c (owner .0) had (now (nodes .exit)) (now (owners .exit)) (now (children .exit)) t ⌝ }
+{
+    if LINKS - c.links < had - c.stack {
+        return Step::Refused(Refusal::LinksFull);
+    }
+    let links = link_all(nodes, owners, children, stack, c.stack, had, c.links, owner);
+    Step::Next(Counts {
+        at: c.at,
+        nodes: c.nodes,
+        links: links,
+        stack: c.stack,
+        deepest: c.deepest,
+        marks: c.marks,
+        most: c.most,
+        memo: c.memo,
+        unescaped: c.unescaped,
+    })
+}
+
+// An Object's first word with the mark that it has a state.
+fn with_state(a: u64) -> u64
+    requires { ⌜ a < 0x100_0000 ⌝ }
+    ensures { λ r. ⌜ r ≡ cond (stateIn a) a (a + 32) ⌝ }
+{
+    if a / 32 % 2 == 1 {
+        return a;
+    }
+    a + 32
+}
+
+// An Object's state, in place of any earlier one.
+pub fn build(nodes: &mut [u64], c: Counts, object: NodeId, state: NodeId) -> Step
+    requires { ⌜ Buildable (now nodes) c (object .0) (state .0) ⌝ }
+    ensures { λ t. ⌜ Builds (now (nodes .entry)) c (object .0) (state .0) (now (nodes .exit)) t ⌝ }
+{
+    let first = 2 * object.0;
+    let second = first + 1;
+    let a = nodes[first];
+    let b = nodes[second];
+    nodes[first] = with_state(a);
+    nodes[second] = state.0 as u64 * 0x1_0000_0000 + b % 0x1_0000_0000;
+    Step::Next(c)
+}
+
+// Bytes that had an escape: NodesFull, StackFull; then their text behind that of earlier ones, and a node with its place and length.
+pub fn unescape(
+    pickle: &[u8],
+    nodes: &mut [u64],
+    stack: &mut [u16],
+    unescaped: &mut [u8],
+    c: Counts,
+    from: usize,
+    len: usize,
+) -> Step
+    requires { ⌜ Unescapable (now pickle) (now nodes) (now stack) (now unescaped) c from len ⌝ }
+    ensures { λ t. ⌜ Unescapes (now (pickle .entry)) (now (nodes .entry)) (now (stack .entry)) (now (unescaped .entry)) c from len (now (nodes .exit)) (now (stack .exit)) (now (unescaped .exit)) t ⌝ }
+{
+    if NODES <= c.nodes {
+        return Step::Refused(Refusal::NodesFull);
+    }
+    if STACK <= c.stack {
+        return Step::Refused(Refusal::StackFull);
+    }
+    let used = c.unescaped;
+    let end = from + len;
+    let n = unescape_string(&pickle[from..end], &mut unescaped[used..65536]);
+    let word = n as u64 * 0x1_0000_0000 + used as u64;
+    push_node(
+        nodes,
+        stack,
+        Counts {
+            at: c.at,
+            nodes: c.nodes,
+            links: c.links,
+            stack: c.stack,
+            deepest: c.deepest,
+            marks: c.marks,
+            most: c.most,
+            memo: c.memo,
+            unescaped: used + n,
+        },
+        UNESCAPED,
+        word,
+    )
+}
+
+// An entry of the memo: its number's node replaced, or one more; MemoFull.
+pub fn remember(keys: &mut [u32], held: &mut [u16], c: Counts, key: MemoKey, id: NodeId) -> Step
+    requires { ⌜ Rememberable (now keys) (now held) c (key .0) (id .0) ⌝ }
+    ensures { λ t. ⌜ Remembers (now (keys .entry)) (now (held .entry)) c (key .0) (id .0) (now (keys .exit)) (now (held .exit)) t ⌝ }
+{
+    let place = slot(keys, c.memo, key);
+    if place < c.memo {
+        held[place] = id.0 as u16;
+        return Step::Next(c);
+    }
+    if MEMO <= c.memo {
+        return Step::Refused(Refusal::MemoFull);
+    }
+    keys[place] = key.0;
+    held[place] = id.0 as u16;
+    Step::Next(Counts {
+        at: c.at,
+        nodes: c.nodes,
+        links: c.links,
+        stack: c.stack,
+        deepest: c.deepest,
+        marks: c.marks,
+        most: c.most,
+        memo: c.memo + 1,
+        unescaped: c.unescaped,
+    })
+}

@@ -1,0 +1,62 @@
+-- What an effect's function asks for, of an effect that fits.
+use Prim.Native.Nat.{ℕ, _<_, _≤_}
+use mathlib.Core.List.{List}
+use mathlib.Core.Path.{_≡_, refl}
+use lib.ListN.{length}
+use native.Mathlib.Omega.{arith}
+use Rattle.refusal.specs.declared.Refusal.{Refusal}
+use Rattle.decoder.specs.declared.Counts.{Counts}
+use Rattle.decoder.specs.declared.NodeId.{NodeId}
+use Rattle.decoder.specs.declared.MemoKey.{MemoKey}
+use Rattle.decoder.specs.declared.Effect.the-variants.{Push, Share, Mark, Go, Make, Extend, Remember, Build, Unescape, Stop, Refused}
+use Rattle.decoder.specs.Rooms.{Rooms}
+use Rattle.decoder.specs.Effects.{Fits, enacted}
+use Rattle.effects.specs.declared.Step.the-variants as step
+use Rattle.effects.specs.Done.{meant, Stays, Done, done-refused}
+use Rattle.effects.specs.Containers.{Makeable, Extendable}
+use Rattle.effects.specs.Memo.{Rememberable}
+use Rattle.effects.specs.Words.{Buildable, Unescapable}
+
+module _ (r : Rooms) (h : ℕ) (c : Counts) where
+  pub push-lengths : (a b : ℕ) → Fits (Push c a b) r h → (length (r .nodes) ≡ 8192) × (length (r .stack) ≡ 2048)
+  unfolding Fits
+  push-lengths a b f = (f .0 .lengths .nodes, f .0 .lengths .stack)
+
+  pub share-lengths : (i : NodeId) → Fits (Share c i) r h → (length (r .stack) ≡ 2048) × (i .0 < 65536)
+  unfolding Fits
+  share-lengths i f = let x = f .1 in let y = f .0 .nodes in (f .0 .lengths .stack, omega arith)
+
+  pub mark-lengths : Fits (Mark c) r h → (length (r .marks) ≡ 256) × (c .stack ≤ 2048)
+  unfolding Fits
+  mark-lengths f = let x = f .stack in let y = f .deepest in (f .lengths .marks, omega arith)
+
+  pub makeable : (k : ℕ) → Fits (Make c k) r h → Makeable (r .nodes) (r .owners) (r .children) (r .stack) c k h
+  makeable k f = record { rooms = r; nodes-are = refl; owners-are = refl; children-are = refl; stack-is = refl; fits = f }
+
+  pub extendable : (o : NodeId) → Fits (Extend c o) r h → Extendable (r .nodes) (r .owners) (r .children) (r .stack) c (o .0) h
+  extendable o f = record { rooms = r; nodes-are = refl; owners-are = refl; children-are = refl; stack-is = refl; fits = f }
+
+  pub rememberable : (k : MemoKey) (i : NodeId) → Fits (Remember c k i) r h → Rememberable (r .keys) (r .held) c (k .0) (i .0)
+  unfolding Fits
+  rememberable k i f = record { rooms = r; keys-are = refl; held-are = refl; fits = f }
+
+  pub buildable : (o i : NodeId) → Fits (Build c o i) r h → Buildable (r .nodes) c (o .0) (i .0)
+  unfolding Fits
+  buildable o i f = record { rooms = r; nodes-are = refl; fits = f }
+
+  pub unescapable : (from n : ℕ) → Fits (Unescape c from n) r h → Unescapable (r .pickle) (r .nodes) (r .stack) (r .unescaped) c from n
+  unfolding Fits
+  unescapable from n f = record { rooms = r; pickle-is = refl; nodes-are = refl; stack-is = refl; unescaped-is = refl; fits = f }
+
+  -- effects that change no room
+  pub goes-on : Fits (Go c) r h → Done (step.Next c) r r (enacted (Go c) r h)
+  unfolding Fits enacted meant Stays
+  goes-on f = record { means = refl; stays = f }
+
+  pub stops : Fits (Stop c) r h → Done (step.Stop c) r r (enacted (Stop c) r h)
+  unfolding Fits enacted meant Stays
+  stops f = record { means = refl; stays = f }
+
+pub refuses : (r : Rooms) (h : ℕ) (why : Refusal) → Done (step.Refused why) r r (enacted (Refused why) r h)
+unfolding enacted
+refuses r h why = done-refused why r (enacted (Refused why) r h) refl

@@ -1,0 +1,122 @@
+-- The run to STOP in the rooms: what an outcome means, and the run step by step.
+use Prim.Native.Nat.{ℕ, zero, suc, _+_, _-_, _*_, _<_, _≤_}
+use mathlib.Core.List.{List, []}
+use mathlib.Core.Path.{_≡_, refl, sym, _∙_, ap}
+use lib.ListN.{length, getD, drop, length-drop}
+use native.Mathlib.Omega.{arith}
+use Rattle.refusal.specs.declared.Refusal.{Refusal}
+use Rattle.decoder.specs.declared.Counts.{Counts}
+use Rattle.decoder.specs.State.{State, Res, ok, no}
+use Rattle.decoder.specs.Run.{Next, goes, stops, step, run, start as begin}
+use Rattle.decoder.specs.Out.{Out, of-out}
+use Rattle.decoder.specs.Keeps.{after}
+use Rattle.decoder.specs.Shrinks.{step-less}
+use Rattle.decoder.specs.Fuel.{finish, run-finish, finish-refused, finish-stops, finish-goes}
+use Rattle.decoder.specs.Range.{InRange, step-range, start-range}
+use Rattle.decoder.specs.Rooms.{Rooms, stateOf}
+use Rattle.decoder.specs.RoomReads.{start-of, input-of}
+use Rattle.decoder.specs.RoomKeeps.{kept-start}
+use Rattle.decoder.specs.Effects.{Firm, Sound, Lengths, Clean, Blank}
+use Rattle.effects.specs.declared.Step.{Step}
+use Rattle.effects.specs.declared.Step.the-variants as step-of
+use Rattle.effects.specs.Done.{meant, Stays, Done}
+use Rattle.machine.specs.declared.Outcome.{Outcome}
+use Rattle.machine.specs.declared.Outcome.the-variants as outcome
+
+-- nothing read or used
+abbrev pub start : Counts
+start = record { at = 0; nodes = 0; links = 0; stack = 0; deepest = 0; marks = 0; most = 0; memo = 0; unescaped = 0 }
+
+-- what an outcome means
+unfoldable pub ended : Outcome → Rooms → Res State
+ended (outcome.Stopped c) r = ok (stateOf r c)
+ended (outcome.Refused c why) r = no why
+
+-- the counts that it carries
+unfoldable pub countsOf : Outcome → Counts
+countsOf (outcome.Stopped c) = c
+countsOf (outcome.Refused c why) = c
+
+-- a run of the pickle p that leaves the rooms r
+pub record Ran (o : Outcome) (p : List ℕ) (r : Rooms) : Type 0 where
+  pub means : ended o r ≡ run p
+  pub sound : Sound r (countsOf o)
+  pub same : r .pickle ≡ p
+
+-- ---- one step
+
+module _ (r r′ : Rooms) (c : Counts) (s : Sound r c) where
+  module _ (d : Counts) (t : Done (step-of.Next d) r r′ (step (stateOf r c))) where
+    stepped : step (stateOf r c) ≡ ok (goes (stateOf r′ d))
+    unfolding meant
+    stepped = sym (t .means)
+
+    pub step-sound : Sound r′ d
+    unfolding Stays after
+    step-sound = record { firm = t .stays; range = of-out (λ (n : Next). InRange (after n)) (step (stateOf r c)) (goes (stateOf r′ d)) (step-range (stateOf r c) (s .range)) stepped }
+
+    less : length (stateOf r′ d .input) < length (stateOf r c .input)
+    unfolding after
+    less = of-out (λ (n : Next). length (after n .input) < length (stateOf r c .input)) (step (stateOf r c)) (goes (stateOf r′ d)) (step-less (stateOf r c)) stepped
+
+    pub step-further : r′ .pickle ≡ r .pickle → length (r .pickle) - d .at < length (r .pickle) - c .at
+    step-further e =
+        let x : length (r′ .pickle) - d .at < length (r .pickle) - c .at = rw (input-of r′ d, input-of r c, length-drop, length-drop) at less in
+        rw e at x
+
+    pub step-goes : finish (stateOf r c) ≡ finish (stateOf r′ d)
+    step-goes = finish-goes (stateOf r c) (stateOf r′ d) stepped
+
+  pub step-stops : (d : Counts) → Done (step-of.Stop d) r r′ (step (stateOf r c)) → (finish (stateOf r c) ≡ ok (stateOf r′ d)) × Sound r′ d
+  unfolding meant Stays after
+  step-stops d t =
+      (finish-stops (stateOf r c) (stateOf r′ d) (sym (t .means)), record { firm = t .stays; range = of-out (λ (n : Next). InRange (after n)) (step (stateOf r c)) (stops (stateOf r′ d)) (step-range (stateOf r c) (s .range)) (sym (t .means)) })
+
+  pub step-refuses : (why : Refusal) → Done (step-of.Refused why) r r′ (step (stateOf r c)) → (finish (stateOf r c) ≡ no why) × (r′ ≡ r)
+  unfolding meant Stays
+  step-refuses why t = (finish-refused (stateOf r c) (stateOf r c) why (sym (t .means)), t .stays)
+
+-- ---- the loop: what is left is what there was
+
+pub record Running (p : List ℕ) (r : Rooms) (c : Counts) : Type 0 where
+  pub left : finish (stateOf r c) ≡ run p
+  pub sound : Sound r c
+  pub same : r .pickle ≡ p
+
+pub running-start : (r : Rooms) → Sound r start → Running (r .pickle) r start
+running-start r s = record { left = rw (start-of r) (sym (run-finish (r .pickle))); sound = s; same = refl }
+
+module _ (p : List ℕ) (r r′ : Rooms) (c : Counts) (h : Running p r c) (e : r′ .pickle ≡ r .pickle) where
+  pub running-next : (d : Counts) → Done (step-of.Next d) r r′ (step (stateOf r c)) → Running p r′ d
+  running-next d t = record { left = sym (step-goes r r′ c (h .sound) d t) ∙ h .left; sound = step-sound r r′ c (h .sound) d t; same = e ∙ h .same }
+
+  pub running-less : (d : Counts) → Done (step-of.Next d) r r′ (step (stateOf r c)) → length p - d .at < length p - c .at
+  running-less d t = rw (h .same) at (step-further r r′ c (h .sound) d t e)
+
+  pub ran-stopped : (d : Counts) → Done (step-of.Stop d) r r′ (step (stateOf r c)) → Ran (outcome.Stopped d) p r′
+  unfolding ended countsOf
+  ran-stopped d t = let x = step-stops r r′ c (h .sound) d t in record { means = sym (x .0) ∙ h .left; sound = x .1; same = e ∙ h .same }
+
+  pub ran-refused : (why : Refusal) → Done (step-of.Refused why) r r′ (step (stateOf r c)) → Ran (outcome.Refused c why) p r′
+  unfolding ended countsOf
+  ran-refused why t = let x = step-refuses r r′ c (h .sound) why t in record { means = sym (x .0) ∙ h .left; sound = rw (x .1) (h .sound); same = e ∙ h .same }
+
+-- ---- after n steps
+
+-- rooms and counts, one step after the other, as the code takes them
+pub record Steps (f : ℕ → Rooms) (g : ℕ → Counts) (n : ℕ) : Type 0 where
+  pub first : stateOf (f 0) (g 0) ≡ begin (f 0 .pickle)
+  pub each : (i : ℕ) → i < n → Done (step-of.Next (g (suc i))) (f i) (f (suc i)) (step (stateOf (f i) (g i)))
+
+-- the definition's state after n steps that go on
+unfoldable pub afterSteps : ℕ → List ℕ → Res State
+afterSteps zero p = ok (begin p)
+afterSteps (suc n) p = elim (afterSteps n p) [ no why ↦ no why | ok s ↦ elim (step s) [ no why ↦ no why | ok x ↦ elim x [ stops t ↦ ok t | goes t ↦ ok t ] ] ]
+
+-- After n steps of the code, its rooms and counts mean the definition's state after n.
+pub after-n-steps : (f : ℕ → Rooms) (g : ℕ → Counts) (n : ℕ) → Steps f g n → ok (stateOf (f n) (g n)) ≡ afterSteps n (f 0 .pickle)
+unfolding afterSteps meant
+after-n-steps f g zero s = ap ok (s .first)
+after-n-steps f g (suc n) s =
+    let e = after-n-steps f g n (record { first = s .first; each = λ i h. s .each i (omega arith) }) in
+    rw (← e, ← s .each n (omega arith) .means)

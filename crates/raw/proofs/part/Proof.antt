@@ -1,0 +1,12 @@
+-- `raw::part` meets its contract. Assumes nothing.
+use borrow.Author.Needs.{needs}
+use Rattle.raw.proofs.part.Statement.{statement}
+use Rattle.raw.proofs.part.Tie as tie
+use mathlib.Core.Path.{_∙_}
+use Rattle.raw.proofs.Laws.{part-cut}
+
+returns : tie.Need-returns
+returns c = c .part .ensures ∙ rw (c .before .least2 .ensures, c .before .before .least .ensures) (part-cut (c .before .before .before .before .args .bytes .now) (c .before .before .before .before .args .at) (c .before .before .before .before .args .len))
+
+pub part-spec : {M : Type 1} → statement M
+part-spec = tie.close (tie.spec (λ c κs. search needs) (λ c. search needs) (λ c κs. search needs) (λ c κs. search needs) returns)

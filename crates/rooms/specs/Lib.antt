@@ -1,0 +1,2 @@
+-- A room whose beginning is made zero.
+pub mod Cleared

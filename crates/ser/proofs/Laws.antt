@@ -1,0 +1,230 @@
+-- One law for each turn and each end of the code's loops, and for each way that a function writes. Assumes nothing.
+use Prim.Native.Nat.{ℕ, suc, zero, _+_, _-_, _^_, _/_, _%_, _≤_, _<_}
+use mathlib.Core.Bool.{Bool, true, false}
+use mathlib.Core.List.{List, [], _∷_, _++_}
+use mathlib.Core.Path.{_≡_, refl, sym}
+use native.Mathlib.Numerals.{add-one}
+use native.Mathlib.Omega.{arith}
+use mathlib.Core.Logic.{_≢_}
+use borrow.Author.Tests.{le-leb, lt-leb, ne-eqb}
+use lib.ListN.{length, set, getD, take, drop, drop-of-length-le}
+use lib.Seq.{sets, drop-cons, drop-drop}
+use Rattle.list.specs.Put.{Put, Room, Left, left-more, left-room, left-none, room-first, sets-last}
+use Rattle.op.specs.Table.{numberOf, numberIn, isNamed, place}
+use Rattle.value.specs.Value.{bit}
+use Rattle.value.specs.Shape.{moduleOf, nameOf}
+use Rattle.list.specs.Decimal.{signedText}
+use Rattle.list.specs.Listing.{newline}
+use Rattle.ser.specs.Image.{low, high, inI32, int, float, bytes, string, global, builtin, setOpening, bool, joined, listBatch, dictBatch, batch, batchesUpTo, batches, appends, tupleOpcode, tupleMark, tuple, objectOpcode, built, object, framed}
+use Rattle.ser.specs.Short.{high-length}
+use Rattle.ser.specs.Parts.{Same, Cuts, behind, ahead}
+
+-- ---- write_all: the bytes from i on are left
+
+module _ {o₀ o : List ℕ} {at next : ℕ} (s : List ℕ) (i : ℕ) (l : Left o₀ at s o next (drop i s)) where
+  bytes-left : i < length s → Left o₀ at s o next ((getD s i 0 ∷ []) ++ drop (i + 1) s)
+  bytes-left h = rw (add-one) (rw (drop-cons s i 0 h) at l)
+
+  pub bytes-room : Room at s → i < length s → Room next (getD s i 0 ∷ [])
+  bytes-room r h = room-first (drop (i + 1) s) (left-room r (bytes-left h))
+
+  pub bytes-turn : {o′ : List ℕ} {q : ℕ} → i < length s → Put o next (getD s i 0 ∷ []) o′ q → Left o₀ at s o′ q (drop (i + 1) s)
+  bytes-turn h p = left-more (drop (i + 1) s) (bytes-left h) p
+
+  pub bytes-done : length s ≤ i → Put o₀ at s o next
+  bytes-done h = left-none (rw (drop-of-length-le s h) at l)
+
+-- ---- put_low: the low bytes of what is left are left
+
+low-more : (k n : ℕ) → 0 < k → low k n ≡ (n % 256 ∷ []) ++ low (k - 1) (n / 256)
+unfolding low
+low-more zero n h = absurd (omega arith)
+low-more (suc k) n h = let e : suc k - 1 ≡ k = omega arith in rw e
+
+module _ {o₀ o b : List ℕ} {at next : ℕ} (k n : ℕ) (l : Left o₀ at b o next (low k n)) where
+  low-left : 0 < k → Left o₀ at b o next ((n % 256 ∷ []) ++ low (k - 1) (n / 256))
+  low-left h = rw (low-more k n h) at l
+
+  pub low-room : Room at b → 0 < k → Room next (n % 256 ∷ [])
+  low-room r h = room-first (low (k - 1) (n / 256)) (left-room r (low-left h))
+
+  pub low-turn : {o′ : List ℕ} {q : ℕ} → 0 < k → Put o next (n % 256 ∷ []) o′ q → Left o₀ at b o′ q (low (k - 1) (n / 256))
+  low-turn h p = left-more (low (k - 1) (n / 256)) (low-left h) p
+
+  pub low-done : k ≤ 0 → Put o₀ at b o next
+  unfolding low
+  low-done h = let e : k ≡ 0 = omega arith in left-none (rw e at l)
+
+-- ---- put_high: the last byte is stored first
+
+pub high-turn : (o o′ : List ℕ) (at k n : ℕ) → 0 < k → o′ ≡ set o (at + (k - 1)) (n % 256) → sets o′ at (high (k - 1) (n / 256)) ≡ sets o at (high k n)
+unfolding high
+high-turn o o′ at zero n h w = absurd (omega arith)
+high-turn o o′ at (suc k) n h w =
+    let e : suc k - 1 ≡ k = omega arith in
+    let x = high k (n / 256) in
+    rw (w, e) (rw (high-length k (n / 256)) at (sets-last x o at (n % 256)))
+
+pub high-done : (o₀ o : List ℕ) (at k m count n : ℕ) → k ≤ 0 → sets o at (high k m) ≡ sets o₀ at (high count n) → Put o₀ at (high count n) o (at + count)
+unfolding high
+high-done o₀ o at zero m count n h e = record { wrote = e; ends = rw (high-length count n) }
+high-done o₀ o at (suc k) m count n h e = absurd (omega arith)
+
+-- ---- opcodes by number
+
+-- the numbers compute
+unfoldable pub numbers : Unit {0}
+unfolding numberOf numberIn isNamed place
+numbers = tt
+
+pub bool-true : (b : Bool) → b ≡ true → 0x88 ∷ [] ≡ bool b
+unfolding bool numbers
+bool-true b e = sym (rw e)
+
+pub bool-false : (b : Bool) → b ≡ false → 0x89 ∷ [] ≡ bool b
+unfolding bool numbers
+bool-false b e = sym (rw e)
+
+module _ (n : ℕ) where
+  pub tuple-0 : n ≡ 0 → 0x29 ≡ numberOf (tupleOpcode n)
+  unfolding tupleOpcode numbers
+  tuple-0 e = rw e
+
+  pub tuple-1 : n ≡ 1 → 0x85 ≡ numberOf (tupleOpcode n)
+  unfolding tupleOpcode numbers
+  tuple-1 e = rw e
+
+  pub tuple-2 : n ≡ 2 → 0x86 ≡ numberOf (tupleOpcode n)
+  unfolding tupleOpcode numbers
+  tuple-2 e = rw e
+
+  pub tuple-3 : n ≡ 3 → 0x87 ≡ numberOf (tupleOpcode n)
+  unfolding tupleOpcode numbers
+  tuple-3 e = rw e
+
+  pub mark-none : n ≤ 3 → [] ≡ tupleMark n
+  unfolding tupleMark
+  mark-none h = sym (rw (le-leb n 3 h))
+
+  pub mark-some : 3 < n → 0x28 ∷ [] ≡ tupleMark n
+  unfolding tupleMark numbers
+  mark-some h = sym (rw (lt-leb n 3 h))
+
+pub tuple-more : (n : ℕ) → n ≢ 0 → n ≢ 1 → n ≢ 2 → n ≢ 3 → 0x74 ≡ numberOf (tupleOpcode n)
+unfolding tupleOpcode numbers
+tuple-more zero a b c d = absurd (a refl)
+tuple-more (suc zero) a b c d = absurd (b refl)
+tuple-more (suc (suc zero)) a b c d = absurd (c refl)
+tuple-more (suc (suc (suc zero))) a b c d = absurd (d refl)
+tuple-more (suc (suc (suc (suc n)))) a b c d = refl
+
+-- ---- numbers and text
+
+pub int-1 : (b : ℕ) → b ≤ 255 → int b ≡ (0x4B ∷ []) ++ low 1 b
+unfolding int numbers
+int-1 b h = rw (le-leb b 255 h)
+
+pub int-2 : (b : ℕ) → 255 < b → b ≤ 65535 → int b ≡ (0x4D ∷ []) ++ low 2 b
+unfolding int numbers
+int-2 b g h = rw (lt-leb b 255 g, le-leb b 65535 h)
+
+pub int-4 : (b : ℕ) → 65535 < b → inI32 b ≡ true → int b ≡ (0x4A ∷ []) ++ low 4 b
+unfolding int numbers
+int-4 b g h = let e : 255 < b = omega arith in rw (lt-leb b 255 e, lt-leb b 65535 g, h)
+
+pub int-text : (b : ℕ) → 65535 < b → inI32 b ≡ false → int b ≡ (0x49 ∷ []) ++ (signedText b ++ (newline ∷ []))
+unfolding int numbers
+int-text b g h = let e : 255 < b = omega arith in rw (lt-leb b 255 e, lt-leb b 65535 g, h)
+
+pub float-parts : (b : ℕ) → float b ≡ (0x47 ∷ []) ++ high 8 b
+unfolding float numbers
+float-parts b = refl
+
+pub bytes-short : (t : List ℕ) → length t ≤ 255 → bytes t ≡ (0x55 ∷ []) ++ (low 1 (length t) ++ t)
+unfolding bytes numbers
+bytes-short t h = rw (le-leb (length t) 255 h)
+
+pub bytes-long : (t : List ℕ) → 255 < length t → bytes t ≡ (0x54 ∷ []) ++ (low 4 (length t) ++ t)
+unfolding bytes numbers
+bytes-long t h = rw (lt-leb (length t) 255 h)
+
+pub string-parts : (t : List ℕ) → string t ≡ (0x58 ∷ []) ++ (low 4 (length t) ++ t)
+unfolding string numbers
+string-parts t = refl
+
+pub global-parts : (m k : List ℕ) → global m k ≡ (0x63 ∷ []) ++ (m ++ ((newline ∷ []) ++ (k ++ (newline ∷ []))))
+unfolding global numbers
+global-parts m k = refl
+
+pub set-parts : (k : List ℕ) → setOpening k ≡ global builtin k ++ (0x5D ∷ [])
+unfolding setOpening numbers
+set-parts k = refl
+
+pub names-global : (t : List ℕ) (p c : ℕ) (m k : List ℕ) → m ≡ take (c / 2 ^ 32) (drop p t) → k ≡ take (c % 2 ^ 32) (drop (p + c / 2 ^ 32) t) → global m k ≡ global (moduleOf c (drop p t)) (nameOf c (drop p t))
+names-global t p c m k e f = rw (e, f, drop-drop (c / 2 ^ 32) p t)
+
+-- ---- what the functions of the cycle make of the values
+
+pub batch-entry : {n : ℕ} (e : Bool) → e ≡ true → n ≡ 2 → Same n (batch e) (ahead joined (0x73 ∷ []))
+unfolding batch dictBatch ahead numbers
+batch-entry {n} e p h = record { same = λ s l. rw (p, l, h) }
+
+pub batch-entries : {n : ℕ} (e : Bool) → e ≡ true → n ≢ 2 → Same n (batch e) (behind (0x28 ∷ []) (ahead joined (0x75 ∷ [])))
+unfolding batch dictBatch behind ahead numbers
+batch-entries {n} e p h = record { same = λ s l. rw (p, l, ne-eqb n 2 h) }
+
+pub batch-items : {n : ℕ} (e : Bool) → e ≡ false → Same n (batch e) (behind (0x28 ∷ []) (ahead joined (0x65 ∷ [])))
+unfolding batch listBatch behind ahead numbers
+batch-items {n} e p = record { same = λ s l. rw p }
+
+pub appends-one : {n : ℕ} → n ≡ 1 → Same n appends (ahead joined (0x61 ∷ []))
+unfolding appends ahead numbers
+appends-one {n} h = record { same = same }
+  where
+    same : (s : List (List ℕ)) → length s ≡ n → appends s ≡ joined s ++ (0x61 ∷ [])
+    same [] l = absurd (omega arith)
+    same (x ∷ []) l = refl
+    same (x ∷ y ∷ s) l = absurd (omega arith)
+
+pub appends-many : {n : ℕ} → n ≢ 1 → Same n appends (batches false)
+unfolding appends batches batchesUpTo
+appends-many {n} h = record { same = same }
+  where
+    same : (s : List (List ℕ)) → length s ≡ n → appends s ≡ batches false s
+    same [] l = refl
+    same (x ∷ []) l = absurd (h (sym l))
+    same (x ∷ y ∷ s) l = refl
+
+pub tuple-parts : (n b : ℕ) → b ≡ numberOf (tupleOpcode n) → Same n tuple (behind (tupleMark n) (ahead joined (b ∷ [])))
+unfolding tuple behind ahead
+tuple-parts n b h = record { same = λ s l. rw (l, h) }
+
+pub object-cuts : (new : Bool) (b m : ℕ) → b ≡ numberOf (objectOpcode new) → Cuts 1 (suc m) m (object new) joined (behind (b ∷ []) built)
+unfolding object joined behind
+object-cuts new b m q = record { sum = omega arith; cuts = cuts }
+  where
+    cuts : (s : List (List ℕ)) → length s ≡ suc m → object new s ≡ joined (take 1 s) ++ behind (b ∷ []) built (drop 1 s)
+    cuts [] l = absurd (omega arith)
+    cuts (x ∷ s) l = rw q
+
+pub built-one : Same 1 built (ahead joined (0x62 ∷ []))
+unfolding built ahead numbers
+built-one = record { same = same }
+  where
+    same : (s : List (List ℕ)) → length s ≡ 1 → built s ≡ joined s ++ (0x62 ∷ [])
+    same [] l = absurd (omega arith)
+    same (x ∷ s) l = refl
+
+pub built-none : built [] ≡ []
+unfolding built
+built-none = refl
+
+pub bit-one : (s : Bool) → s ≡ true → bit s ≡ 1
+bit-one s e = rw e
+
+pub bit-none : (s : Bool) → s ≡ false → bit s ≤ 0
+bit-none s e = rw e (omega arith)
+
+pub framed-parts : {n : ℕ} → Same n framed (behind (0x80 ∷ []) (behind (2 ∷ []) (ahead joined (0x2E ∷ []))))
+unfolding framed behind ahead numbers
+framed-parts = record { same = λ s l. refl }

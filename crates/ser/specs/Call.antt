@@ -1,0 +1,55 @@
+-- The write call: a table's value as a pickle. 21, then 22 exactly where the pickle is longer than the lent output.
+use Prim.Native.Nat.{ℕ, _+_, _≤_, _<_}
+use mathlib.Core.List.{List, _++_}
+use mathlib.Core.Path.{_≡_, sym, _∙_}
+use native.Mathlib.Omega.{arith}
+use lib.ListN.{length, drop}
+use lib.Seq.{sets-eq}
+use Rattle.refusal.specs.declared.Answer.{Answer}
+use Rattle.refusal.specs.declared.Refusal.the-variants.{OutputFull}
+use Rattle.refusal.specs.Numbers.{refusedAnswer}
+use Rattle.value.specs.Value.{one}
+use Rattle.value.specs.WellFormed.{WellFormed}
+use Rattle.table.specs.Call.{told, done, answered, answered-full, answered-all, Call, call-one, call-good}
+use Rattle.list.specs.Put.{Put}
+use Rattle.list.specs.Walk.{whole-stands, whole-one}
+use Rattle.ser.specs.Image.{framed, pickled}
+use Rattle.ser.specs.Walk.{Ready, Puts}
+use Rattle.ser.specs.Short.{written-short}
+
+abbrev pub WriteCall : List ℕ → ℕ → List ℕ → List ℕ → List ℕ → Answer → Type 0
+WriteCall w n t o o′ r = Call pickled w n t o o′ r
+
+-- any two results that the call may have are one
+pub write-one : (w : List ℕ) (n : ℕ) (t o p q : List ℕ) (r s : Answer) → WriteCall w n t o p r → WriteCall w n t o q s → (r ≡ s) × (p ≡ q)
+write-one w n t o p q r s x y = call-one x y
+
+-- ---- the call measures, then writes
+
+module _ (w : List ℕ) (n : ℕ) (t : List ℕ) where
+  pub ready-all : WellFormed w n t → Ready framed w t 0 1 0
+  unfolding pickled
+  ready-all f = record { values = one (f .value); stands = whole-stands w n t f; counted = whole-one w n t f; room = record { counts = omega (arith, written-short w n t f) } }
+
+  put-pickled : (o o′ : List ℕ) (m : ℕ) → Puts framed w t 0 1 o 0 o′ m → (f : WellFormed w n t) → Put o 0 (pickled (f .value)) o′ m
+  unfolding pickled
+  put-pickled o o′ m x f = x (one (f .value)) (whole-stands w n t f) (whole-one w n t f)
+
+  module _ (none none′ : List ℕ) (m : ℕ) (measured : Puts framed w t 0 1 none 0 none′ m) (f : WellFormed w n t) (o : List ℕ) where
+    pub write-full : (r : Answer) → length o < m → r ≡ refusedAnswer OutputFull → WriteCall w n t o o r
+    write-full r h e =
+        call-good pickled w n t o o r f
+        (λ g. rw e (sym (answered-full (pickled (g .value)) o (omega (arith, put-pickled none none′ m measured g .ends)))))
+
+    pub write-all : (o′ : List ℕ) (p : ℕ) → m ≤ length o → Puts framed w t 0 1 o 0 o′ p → WriteCall w n t o o′ (done p)
+    write-all o′ p h x = call-good pickled w n t o o′ (done p) f good
+      where
+        good : (g : WellFormed w n t) → told (done p) o′ ≡ answered (pickled (g .value)) o
+        good g =
+            let b = pickled (g .value) in
+            let put = put-pickled o o′ p x g in
+            let long : length b ≤ length o = omega (arith, put-pickled none none′ m measured g .ends) in
+            let e : p ≡ length b = omega (arith, put .ends) in
+            let z : 0 + length b ≡ length b = omega arith in
+            let front : o′ ≡ b ++ drop (length b) o = put .wrote ∙ rw z at (sets-eq b o 0 (rw z long)) in
+            rw (answered-all b o long, e, front)

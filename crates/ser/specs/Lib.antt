@@ -1,0 +1,8 @@
+-- The bytes of a value (document 01, 'Writing'), and what the writer's functions promise.
+pub mod Image
+pub mod Examples
+pub mod Walk
+pub mod Parts
+pub mod Short
+pub mod Back
+pub mod Call

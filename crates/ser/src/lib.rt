@@ -1,0 +1,521 @@
+// Writing (ser.rs): a value's bytes, at protocol 2 as Python 2 writes it, without the memo. As in crate `list`, a function writes from
+// `at` on, as far as the output goes, and answers the next place; so the length is measured by writing to no output. `to_writer`
+// is left out.
+use refusal::Answer;
+use refusal::Refusal;
+use refusal::Which;
+ghost use mathlib.Core.Path.{_≡_};
+ghost use Prim.Native.Nat.{_≤_, suc, min};
+ghost use lib.ListN.{length, drop};
+ghost use Rattle.value.specs.Value.{bit};
+ghost use Rattle.value.specs.Stands.{labelAt, Reads};
+ghost use Rattle.list.specs.Put.{Put, Room};
+ghost use Rattle.op.specs.Table.{numberOf};
+ghost use Rattle.value.specs.Shape.{namesEnd, moduleOf, nameOf};
+ghost use Rattle.ser.specs.Image.{low, high, inI32, int, float, bytes, string, global, setOpening, bool, opening, joined, batch, batchSize, batches, appends, tupleMark, tupleOpcode, tuple, objectOpcode, object, framed};
+ghost use Rattle.ser.specs.Walk.{Ready, Puts, Wrote};
+ghost use Rattle.ser.specs.Call.{WriteCall};
+
+fn write_all(bytes: &[u8], output: &mut [u8], at: usize) -> usize
+    requires { ⌜ Room at (now bytes) ⌝ }
+    ensures { λ r. ⌜ Put (now (output .entry)) at (now (bytes .entry)) (now (output .exit)) r ⌝ }
+{
+    let mut i = 0;
+    let mut next = at;
+    while i < bytes.len() {
+        next = list::put_byte(bytes[i], output, next);
+        i += 1;
+    }
+    next
+}
+
+// The low `count` bytes of a number, low byte first.
+fn put_low(n: u64, count: usize, output: &mut [u8], at: usize) -> usize
+    requires { ⌜ Room at (low count n) ⌝ }
+    ensures { λ r. ⌜ Put (now (output .entry)) at (low count n) (now (output .exit)) r ⌝ }
+{
+    let mut rest = n;
+    let mut left = count;
+    let mut next = at;
+    while left > 0 {
+        next = list::put_byte((rest % 256) as u8, output, next);
+        rest /= 256;
+        left -= 1;
+    }
+    next
+}
+
+// The same, high byte first; the last one is stored first.
+fn put_high(n: u64, count: usize, output: &mut [u8], at: usize) -> usize
+    requires { ⌜ Room at (high count n) ⌝ }
+    ensures { λ r. ⌜ Put (now (output .entry)) at (high count n) (now (output .exit)) r ⌝ }
+{
+    let mut rest = n;
+    let mut places = count;
+    while places > 0 {
+        places -= 1;
+        list::store((rest % 256) as u8, output, at + places);
+        rest /= 256;
+    }
+    at + count
+}
+
+fn encode_bool(value: bool, output: &mut [u8], at: usize) -> usize
+    requires { ⌜ Room at (bool value) ⌝ }
+    ensures { λ r. ⌜ Put (now (output .entry)) at (bool value) (now (output .exit)) r ⌝ }
+{
+    if value {
+        return list::put_byte(op::NEWTRUE, output, at);
+    }
+    list::put_byte(op::NEWFALSE, output, at)
+}
+
+// Whether the i64 of 64 bits is one of an i32.
+fn in_i32(bits: u64) -> bool
+    ensures { λ r. ⌜ r ≡ inI32 bits ⌝ }
+{
+    if bits < 0x8000_0000 {
+        return true;
+    }
+    0xFFFF_FFFF_8000_0000 <= bits
+}
+
+// An i64, from its 64 bits.
+fn encode_i64(bits: u64, output: &mut [u8], at: usize) -> usize
+    requires { ⌜ Room at (int bits) ⌝ }
+    ensures { λ r. ⌜ Put (now (output .entry)) at (int bits) (now (output .exit)) r ⌝ }
+{
+    if bits <= 255 {
+        let next = list::put_byte(op::BININT1, output, at);
+        return put_low(bits, 1, output, next);
+    }
+    if bits <= 65535 {
+        let next = list::put_byte(op::BININT2, output, at);
+        return put_low(bits, 2, output, next);
+    }
+    if in_i32(bits) {
+        let next = list::put_byte(op::BININT, output, at);
+        return put_low(bits, 4, output, next);
+    }
+    let next = list::put_byte(op::INT, output, at);
+    let end = list::put_signed(bits, output, next);
+    list::put_byte(b'\n', output, end)
+}
+
+fn encode_f64(bits: u64, output: &mut [u8], at: usize) -> usize
+    requires { ⌜ Room at (float bits) ⌝ }
+    ensures { λ r. ⌜ Put (now (output .entry)) at (float bits) (now (output .exit)) r ⌝ }
+{
+    let next = list::put_byte(op::BINFLOAT, output, at);
+    put_high(bits, 8, output, next)
+}
+
+fn encode_bytes(value: &[u8], output: &mut [u8], at: usize) -> usize
+    requires { ⌜ Room at (bytes (now value)) ⌝ }
+    ensures { λ r. ⌜ Put (now (output .entry)) at (bytes (now (value .entry))) (now (output .exit)) r ⌝ }
+{
+    let len = value.len();
+    if len <= 255 {
+        let next = list::put_byte(op::SHORT_BINSTRING, output, at);
+        let end = put_low(len as u64, 1, output, next);
+        return write_all(value, output, end);
+    }
+    let next = list::put_byte(op::BINSTRING, output, at);
+    let end = put_low(len as u64, 4, output, next);
+    write_all(value, output, end)
+}
+
+fn encode_string(value: &[u8], output: &mut [u8], at: usize) -> usize
+    requires { ⌜ Room at (string (now value)) ⌝ }
+    ensures { λ r. ⌜ Put (now (output .entry)) at (string (now (value .entry))) (now (output .exit)) r ⌝ }
+{
+    let next = list::put_byte(op::BINUNICODE, output, at);
+    let end = put_low(value.len() as u64, 4, output, next);
+    write_all(value, output, end)
+}
+
+fn encode_global(module: &[u8], name: &[u8], output: &mut [u8], at: usize) -> usize
+    requires { ⌜ Room at (global (now «module») (now name)) ⌝ }
+    ensures { λ r. ⌜ Put (now (output .entry)) at (global (now («module» .entry)) (now (name .entry))) (now (output .exit)) r ⌝ }
+{
+    let a = list::put_byte(op::GLOBAL, output, at);
+    let b = write_all(module, output, a);
+    let c = list::put_byte(b'\n', output, b);
+    let d = write_all(name, output, c);
+    list::put_byte(b'\n', output, d)
+}
+
+// Python 2 has no set opcodes and pickles `set([items])`: the name, and the list that the items are appended to.
+fn encode_set(name: &[u8], output: &mut [u8], at: usize) -> usize
+    requires { ⌜ Room at (setOpening (now name)) ⌝ }
+    ensures { λ r. ⌜ Put (now (output .entry)) at (setOpening (now (name .entry))) (now (output .exit)) r ⌝ }
+{
+    let next = encode_global(b"__builtin__", name, output, at);
+    list::put_byte(op::EMPTY_LIST, output, next)
+}
+
+// A module and a name, whose texts stand side by side from `from` on; `lengths` has the module's in its upper half.
+fn encode_names(text: &[u8], from: u64, lengths: u64, output: &mut [u8], at: usize) -> usize
+    requires { ⌜ namesEnd from lengths ≤ length (now text) ⌝ }
+    requires { ⌜ Room at (global (moduleOf lengths (drop from (now text))) (nameOf lengths (drop from (now text)))) ⌝ }
+    ensures { λ r. ⌜ Put (now (output .entry)) at (global (moduleOf lengths (drop from (now (text .entry)))) (nameOf lengths (drop from (now (text .entry))))) (now (output .exit)) r ⌝ }
+{
+    let start = from as usize;
+    let first = (lengths / 0x1_0000_0000) as usize;
+    let second = (lengths % 0x1_0000_0000) as usize;
+    encode_global(
+        value::part(text, start, first),
+        value::part(text, start + first, second),
+        output,
+        at,
+    )
+}
+
+// What stands before the contents of record i.
+fn encode_opening(words: &[u64], text: &[u8], i: usize, output: &mut [u8], at: usize) -> usize
+    requires { ⌜ Reads (now words) (now text) i ⌝ }
+    requires { ⌜ Room at (opening (labelAt (now words) (now text) i)) ⌝ }
+    ensures { λ r. ⌜ Put (now (output .entry)) at (opening (labelAt (now (words .entry)) (now (text .entry)) i)) (now (output .exit)) r ⌝ }
+{
+    let kind = value::head_of(words[4 * i]).kind;
+    let second = words[4 * i + 1];
+    let third = words[4 * i + 2];
+    if kind > 10 {
+        return encode_names(text, second, third, output, at);
+    }
+    if kind > 5 {
+        if kind == 6 {
+            return list::put_byte(op::EMPTY_LIST, output, at);
+        }
+        if kind == 7 {
+            return at;
+        }
+        if kind == 8 {
+            return encode_set(b"set", output, at);
+        }
+        if kind == 9 {
+            return encode_set(b"frozenset", output, at);
+        }
+        return list::put_byte(op::EMPTY_DICT, output, at);
+    }
+    if kind == 0 {
+        return list::put_byte(op::NONE, output, at);
+    }
+    if kind == 1 {
+        return encode_bool(second == 1, output, at);
+    }
+    if kind == 2 {
+        return encode_i64(second, output, at);
+    }
+    if kind == 3 {
+        return encode_f64(second, output, at);
+    }
+    let value = value::part(text, second as usize, third as usize);
+    if kind == 4 {
+        return encode_bytes(value, output, at);
+    }
+    encode_string(value, output, at)
+}
+
+// The next record and the next place of the output.
+struct Place {
+    record: usize,
+    at: usize,
+}
+
+// How many items Python appends or sets at once.
+const BATCH: usize = 1000;
+
+// The values of a batch: an entry has two.
+fn batch_size(entries: bool) -> usize
+    ensures { λ r. ⌜ r ≡ batchSize entries ⌝ }
+{
+    if entries {
+        return 2 * BATCH;
+    }
+    BATCH
+}
+
+// Of so many values, those of the next batch.
+fn batch_of(left: usize, entries: bool) -> usize
+    ensures { λ r. ⌜ r ≡ min (batchSize entries) left ⌝ }
+{
+    let size = batch_size(entries);
+    if left < size {
+        return left;
+    }
+    size
+}
+
+// The value that begins at record i. This function and those below call one another; with each call fewer records are left, or as
+// many for a function that asks less of them.
+fn encode(words: &[u64], text: &[u8], i: usize, output: &mut [u8], at: usize) -> Place
+    requires { ⌜ Ready joined (now words) (now text) i 1 at ⌝ }
+    ensures { λ r. ⌜ Wrote joined (now (words .entry)) (now (text .entry)) i 1 (now (output .entry)) at (now (output .exit)) (r .record) (r .at) ⌝ }
+{
+    let head = value::head_of(words[4 * i]);
+    let kind = head.kind;
+    let next = encode_opening(words, text, i, output, at);
+    if kind < 6 {
+        return Place {
+            record: i + 1,
+            at: next,
+        };
+    }
+    if kind == 11 {
+        return Place {
+            record: i + 1,
+            at: next,
+        };
+    }
+    if kind == 12 {
+        return encode_object(words, text, i + 1, head.new, head.state, output, next);
+    }
+    let count = value::arity(words, i);
+    if kind == 6 {
+        return encode_appends(words, text, i + 1, count, output, next);
+    }
+    if kind == 7 {
+        return encode_tuple(words, text, i + 1, count, output, next);
+    }
+    if kind == 10 {
+        return encode_batches(words, text, i + 1, count, true, output, next);
+    }
+    let end = encode_appends(words, text, i + 1, count, output, next);
+    let argument = list::put_byte(op::TUPLE1, output, end.at);
+    Place {
+        record: end.record,
+        at: list::put_byte(op::REDUCE, output, argument),
+    }
+}
+
+// `count` values that stand side by side from record `from` on, one after the other.
+fn encode_items(
+    words: &[u64],
+    text: &[u8],
+    from: usize,
+    count: usize,
+    output: &mut [u8],
+    at: usize,
+) -> Place
+    requires { ⌜ Ready joined (now words) (now text) from count at ⌝ }
+    ensures { λ r. ⌜ Wrote joined (now (words .entry)) (now (text .entry)) from count (now (output .entry)) at (now (output .exit)) (r .record) (r .at) ⌝ }
+{
+    let mut i = from;
+    let mut left = count;
+    let mut next = at;
+    while left > 0 {
+        let end = encode(words, text, i, output, next);
+        i = end.record;
+        next = end.at;
+        left -= 1;
+    }
+    Place {
+        record: i,
+        at: next,
+    }
+}
+
+// A batch, of items or of entries.
+fn encode_batch(
+    words: &[u64],
+    text: &[u8],
+    from: usize,
+    count: usize,
+    entries: bool,
+    output: &mut [u8],
+    at: usize,
+) -> Place
+    requires { ⌜ Ready (batch entries) (now words) (now text) from count at ⌝ }
+    ensures { λ r. ⌜ Wrote (batch entries) (now (words .entry)) (now (text .entry)) from count (now (output .entry)) at (now (output .exit)) (r .record) (r .at) ⌝ }
+{
+    if entries {
+        if count == 2 {
+            let entry = encode_items(words, text, from, count, output, at);
+            return Place {
+                record: entry.record,
+                at: list::put_byte(op::SETITEM, output, entry.at),
+            };
+        }
+        let next = list::put_byte(op::MARK, output, at);
+        let end = encode_items(words, text, from, count, output, next);
+        return Place {
+            record: end.record,
+            at: list::put_byte(op::SETITEMS, output, end.at),
+        };
+    }
+    let next = list::put_byte(op::MARK, output, at);
+    let end = encode_items(words, text, from, count, output, next);
+    Place {
+        record: end.record,
+        at: list::put_byte(op::APPENDS, output, end.at),
+    }
+}
+
+// `count` values in batches.
+fn encode_batches(
+    words: &[u64],
+    text: &[u8],
+    from: usize,
+    count: usize,
+    entries: bool,
+    output: &mut [u8],
+    at: usize,
+) -> Place
+    requires { ⌜ Ready (batches entries) (now words) (now text) from count at ⌝ }
+    ensures { λ r. ⌜ Wrote (batches entries) (now (words .entry)) (now (text .entry)) from count (now (output .entry)) at (now (output .exit)) (r .record) (r .at) ⌝ }
+{
+    let mut i = from;
+    let mut left = count;
+    let mut next = at;
+    while left > 0 {
+        let size = batch_of(left, entries);
+        let end = encode_batch(words, text, i, size, entries, output, next);
+        i = end.record;
+        next = end.at;
+        left -= size;
+    }
+    Place {
+        record: i,
+        at: next,
+    }
+}
+
+// The items of a list, or of the list that is a set's argument.
+fn encode_appends(
+    words: &[u64],
+    text: &[u8],
+    from: usize,
+    count: usize,
+    output: &mut [u8],
+    at: usize,
+) -> Place
+    requires { ⌜ Ready appends (now words) (now text) from count at ⌝ }
+    ensures { λ r. ⌜ Wrote appends (now (words .entry)) (now (text .entry)) from count (now (output .entry)) at (now (output .exit)) (r .record) (r .at) ⌝ }
+{
+    if count == 1 {
+        let item = encode_items(words, text, from, count, output, at);
+        return Place {
+            record: item.record,
+            at: list::put_byte(op::APPEND, output, item.at),
+        };
+    }
+    encode_batches(words, text, from, count, false, output, at)
+}
+
+fn tuple_mark(len: usize, output: &mut [u8], at: usize) -> usize
+    requires { ⌜ Room at (tupleMark len) ⌝ }
+    ensures { λ r. ⌜ Put (now (output .entry)) at (tupleMark len) (now (output .exit)) r ⌝ }
+{
+    if len <= 3 {
+        return at;
+    }
+    list::put_byte(op::MARK, output, at)
+}
+
+fn tuple_opcode(len: usize) -> u8
+    ensures { λ r. ⌜ r ≡ numberOf (tupleOpcode len) ⌝ }
+{
+    if len == 0 {
+        return op::EMPTY_TUPLE;
+    }
+    if len == 1 {
+        return op::TUPLE1;
+    }
+    if len == 2 {
+        return op::TUPLE2;
+    }
+    if len == 3 {
+        return op::TUPLE3;
+    }
+    op::TUPLE
+}
+
+fn encode_tuple(
+    words: &[u64],
+    text: &[u8],
+    from: usize,
+    count: usize,
+    output: &mut [u8],
+    at: usize,
+) -> Place
+    requires { ⌜ Ready tuple (now words) (now text) from count at ⌝ }
+    ensures { λ r. ⌜ Wrote tuple (now (words .entry)) (now (text .entry)) from count (now (output .entry)) at (now (output .exit)) (r .record) (r .at) ⌝ }
+{
+    let next = tuple_mark(count, output, at);
+    let end = encode_items(words, text, from, count, output, next);
+    Place {
+        record: end.record,
+        at: list::put_byte(tuple_opcode(count), output, end.at),
+    }
+}
+
+fn object_opcode(new: bool) -> u8
+    ensures { λ r. ⌜ r ≡ numberOf (objectOpcode new) ⌝ }
+{
+    if new {
+        return op::NEWOBJ;
+    }
+    op::REDUCE
+}
+
+// An Object's arguments, which are a Tuple, and any state.
+fn encode_object(
+    words: &[u64],
+    text: &[u8],
+    from: usize,
+    new: bool,
+    state: bool,
+    output: &mut [u8],
+    at: usize,
+) -> Place
+    requires { ⌜ Ready (object new) (now words) (now text) from (suc (bit state)) at ⌝ }
+    ensures { λ r. ⌜ Wrote (object new) (now (words .entry)) (now (text .entry)) from (suc (bit state)) (now (output .entry)) at (now (output .exit)) (r .record) (r .at) ⌝ }
+{
+    let args = encode(words, text, from, output, at);
+    let made = list::put_byte(object_opcode(new), output, args.at);
+    if state {
+        let end = encode(words, text, args.record, output, made);
+        return Place {
+            record: end.record,
+            at: list::put_byte(op::BUILD, output, end.at),
+        };
+    }
+    Place {
+        record: args.record,
+        at: made,
+    }
+}
+
+// PROTO 2, the value, STOP.
+fn encode_pickle(words: &[u64], text: &[u8], output: &mut [u8]) -> usize
+    requires { ⌜ Ready framed (now words) (now text) 0 1 0 ⌝ }
+    ensures { λ r. ⌜ Puts framed (now (words .entry)) (now (text .entry)) 0 1 (now (output .entry)) 0 (now (output .exit)) r ⌝ }
+{
+    let proto = list::put_byte(op::PROTO, output, 0);
+    let next = list::put_byte(2, output, proto);
+    let end = encode(words, text, 0, output, next);
+    list::put_byte(op::STOP, output, end.at)
+}
+
+// BadTable, then OutputFull, else the bytes written; measured first, so that an output that is too short stays as it is.
+pub fn to_bytes(words: &[u64], count: usize, text: &[u8], output: &mut [u8]) -> Answer
+    ensures { λ r. ⌜ WriteCall (now (words .entry)) count (now (text .entry)) (now (output .entry)) (now (output .exit)) r ⌝ }
+{
+    if table::well_formed(words, count, text) {
+        let mut none: [u8; 0] = [];
+        let measured = encode_pickle(words, text, &mut none);
+        if output.len() < measured {
+            return refusal::refused(Refusal::OutputFull);
+        }
+        let length = encode_pickle(words, text, output);
+        Answer {
+            number: 0,
+            detail: 0,
+            length: length as u64,
+            count: 0,
+        }
+    } else {
+        refusal::refused(Refusal::BadTable(Which::First))
+    }
+}
