@@ -1,12 +1,14 @@
-"""What the program replay_table reads and prints: requests in, and for each an answer line (a list's
-ends with the bytes that it changed behind its length), with a listing after it."""
+"""What the program replay_table reads and prints: requests in, and for each an answer line (of list and write it
+ends with the bytes changed behind its length), with the listing or the pickle after it."""
 import os
 import subprocess
 import sys
 
 ROOT = os.path.join(os.path.dirname(os.path.abspath(__file__)), "..", "..")
 sys.path.insert(0, os.path.join(ROOT, "tests", "cases"))
-COMPARE, LIST = 1, 2
+from ask import ORACLE  # noqa: E402
+
+COMPARE, LIST, WRITE = 1, 2, 3
 
 
 def lent(words, text):
@@ -30,6 +32,13 @@ def listed(listing, output):
     if output < len(listing):
         return b"22\t0\t0\t0\t0\n"
     return b"0\t0\t%d\t0\t0\n" % len(listing) + listing
+
+
+def written(asked):
+    """The Rust's pickle of each table."""
+    lines = "".join("write %s\n" % a for a in asked)
+    done = subprocess.run([ORACLE], input=lines, capture_output=True, text=True, check=True)
+    return [bytes.fromhex(answer.split(" ")[1]) for answer in done.stdout.splitlines()]
 
 
 def program(requests):

@@ -1,7 +1,8 @@
-// Replays the calls on tables. Standard input has requests: eight numbers of four bytes, low byte first (1 compare or 2 list; words,
+// Replays the calls on tables. Standard input has requests: eight numbers of four bytes, low byte first (1 compare, 2 list or 3 write; words,
 // count and text length of one table; the same of another; the output's length), then the tables' words, high byte first, and
-// texts. For each a line has the answer, a list's with the number of bytes that it changed behind its length;
-// after a list that succeeds its output follows.
+// texts. For each a line has the answer, of list and write with the number of bytes changed behind its length;
+// after one of these that succeeds its output follows.
+use refusal::Answer;
 ghost use Prim.Native.Nat.{_≤_, _<_};
 ghost use lib.ListN.{length};
 ghost use Rattle.replay_table.specs.Small.{Small};
@@ -61,9 +62,17 @@ fn changed(output: &[u8], from: usize) -> usize
     n
 }
 
-fn show_list(words: &[u64], count: usize, text: &[u8], output: &mut [u8]) {
+// List, or write.
+fn put(call: usize, words: &[u64], count: usize, text: &[u8], output: &mut [u8]) -> Answer {
+    if call == 3 {
+        return pickle::qelemvir_to_bytes(words, count, text, output);
+    }
+    pickle::qelemvir_list(words, count, text, output)
+}
+
+fn show_list(call: usize, words: &[u64], count: usize, text: &[u8], output: &mut [u8]) {
     stain(output);
-    let r = pickle::qelemvir_list(words, count, text, output);
+    let r = put(call, words, count, text, output);
     io::print_decimal(1, r.number);
     tab();
     io::print_decimal(1, r.detail);
@@ -134,6 +143,7 @@ fn list_one(r: Request, bytes: &[u8], first: &mut [u64], output: &mut [u8]) {
     }
     fill(first, bytes);
     show_list(
+        r.call,
         &first[0..words],
         r.count,
         &bytes[from..end],
