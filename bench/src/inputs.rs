@@ -152,3 +152,69 @@ pub fn strings() -> Value {
         .flat_map(|text| [Value::String(String::from_utf8(text.to_vec()).unwrap()), draw.integer()])
         .collect())
 }
+
+/// A pickle with how many opcodes it has.
+pub struct Counted {
+    pub pickle: Vec<u8>,
+    pub opcodes: usize,
+}
+
+impl Counted {
+    fn op(&mut self, code: u8, rest: &[u8]) {
+        self.opcodes += 1;
+        self.pickle.push(code);
+        self.pickle.extend(rest);
+    }
+
+    /// Remembers the value on top, as Python does with every new text and container.
+    fn put(&mut self, key: u32) {
+        match u8::try_from(key) {
+            Ok(key) => self.op(b'q', &[key]),
+            Err(_) => self.op(b'r', &key.to_le_bytes()),
+        }
+    }
+
+    fn text(&mut self, text: &[u8], key: u32) {
+        self.op(b'U', &[&[text.len() as u8], text].concat());
+        self.put(key);
+    }
+}
+
+/// A sheet as Python 2 writes it with protocol 2: a dict of a tablet's number and a list of 285 records, each a dict of two ints and a
+/// text of 88 characters under keys that they share through the memo: 2,000 values.
+pub fn sheet() -> Counted {
+    let mut draw = Draw(9);
+    let mut sheet = Counted { pickle: Vec::new(), opcodes: 0 };
+    sheet.op(0x80, &[2]);
+    sheet.op(b'}', &[]);
+    sheet.put(1);
+    sheet.op(b'(', &[]);
+    sheet.text(b"tablet", 2);
+    sheet.op(b'K', &[17]);
+    sheet.text(b"records", 3);
+    sheet.op(b']', &[]);
+    sheet.put(4);
+    sheet.op(b'(', &[]);
+    for record in 0..285u32 {
+        sheet.op(b'}', &[]);
+        sheet.put(8 + 2 * record);
+        sheet.op(b'(', &[]);
+        for (i, key) in [&b"id"[..], b"answer", b"comment"].into_iter().enumerate() {
+            let number = 5 + i as u32;
+            if record == 0 { sheet.text(key, number) } else { sheet.op(b'h', &[number as u8]) }
+            match i {
+                0 => sheet.op(b'J', &(draw.below(1 << 30) as u32).to_le_bytes()),
+                1 => sheet.op(b'M', &(draw.below(1 << 16) as u16).to_le_bytes()),
+                _ => {
+                    let text: Vec<u8> = (0..88).map(|_| draw.plain()).collect();
+                    sheet.text(&text, 9 + 2 * record);
+                }
+            }
+        }
+        sheet.op(b'u', &[]);
+    }
+    sheet.op(b'e', &[]);
+    sheet.op(b'u', &[]);
+    sheet.op(b'.', &[]);
+    sheet
+}

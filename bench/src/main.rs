@@ -25,6 +25,7 @@ macro_rules! benchmarks {
 
 benchmarks! {
     literals
+    machine
     values
 }
 

@@ -35,6 +35,8 @@ pub struct Answer {
 extern "C" {
     fn probe_literal(pickle: *const u8, pickle_len: usize, room: *mut u8, room_len: usize) -> Literal;
 
+    fn probe_machine(pickle: *const u8, pickle_len: usize) -> Answer;
+
     fn qelemvir_compare(
         first: *const u64, first_len: usize, first_count: usize, first_text: *const u8, first_text_len: usize,
         second: *const u64, second_len: usize, second_count: usize, second_text: *const u8, second_text_len: usize,
@@ -50,6 +52,12 @@ extern "C" {
 pub fn literal(pickle: &[u8], room: &mut [u8]) -> Literal {
     // SAFETY: a slice passes as pointer and length; the contract asks nothing of them.
     unsafe { probe_literal(pickle.as_ptr(), pickle.len(), room.as_mut_ptr(), room.len()) }
+}
+
+/// The machine's run of a pickle: how much it read, and how many nodes it made.
+pub fn machine(pickle: &[u8]) -> Answer {
+    // SAFETY: as for literal.
+    unsafe { probe_machine(pickle.as_ptr(), pickle.len()) }
 }
 
 /// The order of the values of two tables, if both are well formed.

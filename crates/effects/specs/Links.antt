@@ -1,4 +1,4 @@
--- Links to the items of a container, one after the other; a container made of its items, and one that grows.
+-- Links to the items of a container, one after the other.
 use Prim.Native.Nat.{ℕ, suc, _+_, _-_, _*_, _<_, _≤_, max}
 use mathlib.Core.Bool.{Bool, true, false, cond}
 use mathlib.Core.List.{List, [], _∷_, _++_}

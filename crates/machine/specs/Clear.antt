@@ -16,13 +16,13 @@ pub record UsedBy (nodes owners children stack marks keys held unescaped : List 
   pub pickle : List ℕ
   pub firm : Firm (roomsOf pickle nodes owners children stack marks keys held unescaped) c
 
-zeros : (m i : ℕ) → _≡_ {A = ℕ} (getD (replicate m 0) i 0) 0
+pub zeros : (m i : ℕ) → _≡_ {A = ℕ} (getD (replicate m 0) i 0) 0
 zeros zero i = refl
 zeros (suc m) zero = refl
 zeros (suc m) (suc i) = zeros m i
 
 -- zero up to n and from n on
-all-zero : (l : List ℕ) (n m : ℕ) → length l ≡ m → n ≤ m → Blank n l → cleared n l ≡ replicate m 0
+pub all-zero : (l : List ℕ) (n m : ℕ) → length l ≡ m → n ≤ m → Blank n l → cleared n l ≡ replicate m 0
 unfolding cleared Blank
 all-zero l n m e h b = ext-getD 0 (replicate n 0 ++ drop n l) (replicate m 0) (rw (length-append, length-replicate, length-replicate, length-drop) (omega arith)) (λ i k. at i (decLt i n))
   where

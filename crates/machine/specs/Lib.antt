@@ -1,5 +1,6 @@
 -- The machine's step and run in the rooms that are lent.
 pub mod Lent
+pub mod Clear
 pub mod Ran
 pub mod Applied
-pub mod Clear
+pub mod Fresh

@@ -6,17 +6,16 @@ use lib.ListN.{length, getD, drop, length-drop}
 use native.Mathlib.Omega.{arith}
 use Rattle.refusal.specs.declared.Refusal.{Refusal}
 use Rattle.decoder.specs.declared.Counts.{Counts}
-use Rattle.decoder.specs.State.{State, Res, ok, no}
+use Rattle.decoder.specs.State.{State, Res, ok, no, _>>=_}
 use Rattle.decoder.specs.Run.{Next, goes, stops, step, run, start as begin}
 use Rattle.decoder.specs.Out.{Out, of-out}
 use Rattle.decoder.specs.Keeps.{after}
 use Rattle.decoder.specs.Shrinks.{step-less}
 use Rattle.decoder.specs.Fuel.{finish, run-finish, finish-refused, finish-stops, finish-goes}
-use Rattle.decoder.specs.Range.{InRange, step-range, start-range}
+use Rattle.decoder.specs.Range.{InRange, step-range}
 use Rattle.decoder.specs.Rooms.{Rooms, stateOf}
 use Rattle.decoder.specs.RoomReads.{start-of, input-of}
-use Rattle.decoder.specs.RoomKeeps.{kept-start}
-use Rattle.decoder.specs.Effects.{Firm, Sound, Lengths, Clean, Blank}
+use Rattle.decoder.specs.Effects.{Sound}
 use Rattle.effects.specs.declared.Step.{Step}
 use Rattle.effects.specs.declared.Step.the-variants as step-of
 use Rattle.effects.specs.Done.{meant, Stays, Done}
@@ -108,15 +107,20 @@ pub record Steps (f : ℕ → Rooms) (g : ℕ → Counts) (n : ℕ) : Type 0 whe
   pub first : stateOf (f 0) (g 0) ≡ begin (f 0 .pickle)
   pub each : (i : ℕ) → i < n → Done (step-of.Next (g (suc i))) (f i) (f (suc i)) (step (stateOf (f i) (g i)))
 
--- the definition's state after n steps that go on
-unfoldable pub afterSteps : ℕ → List ℕ → Res State
-afterSteps zero p = ok (begin p)
-afterSteps (suc n) p = elim (afterSteps n p) [ no why ↦ no why | ok s ↦ elim (step s) [ no why ↦ no why | ok x ↦ elim x [ stops t ↦ ok t | goes t ↦ ok t ] ] ]
+-- a step behind a step: a machine that has stopped stays as it is
+unfoldable pub onward : Next → Res Next
+onward (goes s) = step s
+onward (stops s) = ok (stops s)
 
--- After n steps of the code, its rooms and counts mean the definition's state after n.
-pub after-n-steps : (f : ℕ → Rooms) (g : ℕ → Counts) (n : ℕ) → Steps f g n → ok (stateOf (f n) (g n)) ≡ afterSteps n (f 0 .pickle)
-unfolding afterSteps meant
-after-n-steps f g zero s = ap ok (s .first)
+-- the definition after n steps
+unfoldable pub afterSteps : ℕ → List ℕ → Res Next
+afterSteps zero p = ok (goes (begin p))
+afterSteps (suc n) p = afterSteps n p >>= onward
+
+-- After n steps of the code that go on, its rooms and counts mean the definition's state after n.
+pub after-n-steps : (f : ℕ → Rooms) (g : ℕ → Counts) (n : ℕ) → Steps f g n → ok (goes (stateOf (f n) (g n))) ≡ afterSteps n (f 0 .pickle)
+unfolding afterSteps meant onward _>>=_
+after-n-steps f g zero s = ap (λ (t : State). ok (goes t)) (s .first)
 after-n-steps f g (suc n) s =
     let e = after-n-steps f g n (record { first = s .first; each = λ i h. s .each i (omega arith) }) in
-    rw (← e, ← s .each n (omega arith) .means)
+    rw (← e) (s .each n (omega arith) .means)

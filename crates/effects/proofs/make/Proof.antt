@@ -10,7 +10,6 @@ use mathlib.Core.Path.{_∙_}
 use native.Mathlib.Omega.{arith}
 use Rattle.effects.specs.Containers.{make-rooms, make-linkable, made-lent, make-full-lent, make-crowded-lent, make-high-lent}
 
-
 sub-items : tie.Need-sub-items
 sub-items c = omega (arith, (make-rooms _ _ _ _ _ _ _ (c .before .before .before .before .before .pre)) .3)
 
@@ -79,4 +78,3 @@ returns-4 c = rw (c .pushed .ensures) (made-lent _ _ _ _ _ _ _ (c .before .befor
 
 pub make-spec : {M : Type 1} → statement M
 make-spec = tie.close (tie.spec sub-items sub-if1 returns returns-2 returns-3 mul-first add-second mul-nodes slice-write-nodes mul-nodes-2 slice-write-nodes-2 link-all-requires cast-stack mul-stack slice-write-stack add-pushed pushed-requires same-length same-length-2 same-length-3 same-length-4 returns-4)
-

@@ -1,0 +1,47 @@
+//! Benchmark `machine`: the run of the opcodes to STOP.
+
+use std::hint::black_box;
+
+use crate::measure::Case;
+use crate::pickle::from_bytes_prefix;
+use crate::{inputs, ours};
+
+pub const ABOUT: &str = "the opcodes of a pickle up to STOP.
+Ours (probe_machine) runs the machine alone, in rooms of 230 KB that it makes zero on each call: it leaves a node table, of
+which no value is built. The Rust (from_bytes_prefix) does its whole reading: it runs the opcodes, builds the value and frees it.";
+
+pub fn cases() -> Vec<Case> {
+    let sheet = inputs::sheet();
+    println!("The sheet has {} opcodes in {} bytes.\n", sheet.opcodes, sheet.pickle.len());
+    vec![case("a sheet of 2,000 values", sheet.pickle), case("None", b"N.".to_vec())]
+}
+
+fn case(name: &'static str, pickle: Vec<u8>) -> Case {
+    let agree = same(&pickle);
+    let for_rust = pickle.clone();
+    Case {
+        name,
+        bytes: Some(pickle.len()),
+        agree,
+        ours: Box::new(move |calls| {
+            for _ in 0..calls {
+                black_box(ours::machine(black_box(&pickle)));
+            }
+        }),
+        rust: Some(Box::new(move |calls| {
+            for _ in 0..calls {
+                let _ = black_box(from_bytes_prefix(black_box(&for_rust)));
+            }
+        })),
+    }
+}
+
+/// Both read to the same place. What stands in the node table is the tests' affair.
+fn same(pickle: &[u8]) -> Result<(), String> {
+    let ours = ours::machine(pickle);
+    match from_bytes_prefix(pickle) {
+        Ok((_, length)) if ours.number == 0 && ours.length == length as u64 => Ok(()),
+        Ok((_, length)) => Err(format!("ours gives {}, detail {}, length {}; the Rust reads {length}", ours.number, ours.detail, ours.length)),
+        Err(why) => Err(format!("the Rust refuses: {why}")),
+    }
+}
