@@ -18,7 +18,7 @@ use Rattle.builder.specs.Letters.{Lettered, lettered-at, run-lettered}
 use Rattle.builder.specs.Measure.{measured}
 use Rattle.finish.specs.Finish.{Planned}
 
-pub run-planned : (p : List ℕ) (r : Rooms) (c : Counts) → Bytes p → Sound r c → r .pickle ≡ p → ok (stateOf r c) ≡ run p
+unfoldable pub run-planned : (p : List ℕ) (r : Rooms) (c : Counts) → Bytes p → Sound r c → r .pickle ≡ p → ok (stateOf r c) ≡ run p
     → (root : ℕ) → measured (one (tree (stateOf r c .nodes) root)) ≡ ok tt
     → {rs : List ℕ} {n : ℕ} (f : Flat (stateOf r c .nodes) (take n rs) (one (tree (stateOf r c .nodes) root))) → Within f → n ≡ size (one (tree (stateOf r c .nodes) root))
     → Planned p (r .unescaped) (r .nodes) rs n

@@ -5,9 +5,117 @@ use refusal::Answer;
 use refusal::Refusal;
 use refusal::Which;
 use table::Compared;
+ghost use mathlib.Core.Path.{_≡_};
+ghost use Rattle.builder.specs.Reading.{prefix, whole};
 ghost use Rattle.table.specs.Compare.{Compares};
+ghost use Rattle.table.specs.Length.{textLength};
+ghost use Rattle.de.specs.Slices.{slices, ReadCall};
 ghost use Rattle.ser.specs.Call.{WriteCall};
 ghost use Rattle.pickle.specs.List.{ListCall};
+
+// The value at the start of the data: the bytes read, the records, and its table and text.
+#[no_mangle]
+pub extern "C" fn qelemvir_from_bytes_prefix(
+    pickle: &[u8],
+    nodes: &mut [u64],
+    owners: &mut [u16],
+    children: &mut [u16],
+    stack: &mut [u16],
+    marks: &mut [u16],
+    keys: &mut [u32],
+    held: &mut [u16],
+    unescaped: &mut [u8],
+    starts: &mut [u16],
+    sorted: &mut [u16],
+    measures: &mut [u64],
+    flat: &mut [u64],
+    raw: &mut [u64],
+    texts: &mut [u8],
+    words: &mut [u64],
+    spare: &mut [u64],
+    order: &mut [u64],
+    other: &mut [u64],
+    table: &mut [u64],
+    text: &mut [u8],
+) -> Answer
+    ensures { λ a. ⌜ ReadCall (prefix (now (pickle .entry))) (slices (now (nodes .entry)) (now (owners .entry)) (now (children .entry)) (now (stack .entry)) (now (marks .entry)) (now (keys .entry)) (now (held .entry)) (now (unescaped .entry)) (now (starts .entry)) (now (sorted .entry)) (now (measures .entry)) (now (flat .entry)) (now (raw .entry)) (now (texts .entry)) (now (words .entry)) (now (spare .entry)) (now (order .entry)) (now (other .entry)) (now (table .entry)) (now (text .entry))) (slices (now (nodes .exit)) (now (owners .exit)) (now (children .exit)) (now (stack .exit)) (now (marks .exit)) (now (keys .exit)) (now (held .exit)) (now (unescaped .exit)) (now (starts .exit)) (now (sorted .exit)) (now (measures .exit)) (now (flat .exit)) (now (raw .exit)) (now (texts .exit)) (now (words .exit)) (now (spare .exit)) (now (order .exit)) (now (other .exit)) (now (table .exit)) (now (text .exit))) a ⌝ }
+{
+    de::from_bytes_prefix(
+        pickle,
+        nodes,
+        owners,
+        children,
+        stack,
+        marks,
+        keys,
+        held,
+        unescaped,
+        starts,
+        sorted,
+        measures,
+        flat,
+        raw,
+        texts,
+        words,
+        spare,
+        order,
+        other,
+        table,
+        text,
+    )
+}
+
+// The value that is the whole data: as the prefix reading, but 11 where that one succeeds and leaves bytes.
+#[no_mangle]
+pub extern "C" fn qelemvir_from_bytes(
+    pickle: &[u8],
+    nodes: &mut [u64],
+    owners: &mut [u16],
+    children: &mut [u16],
+    stack: &mut [u16],
+    marks: &mut [u16],
+    keys: &mut [u32],
+    held: &mut [u16],
+    unescaped: &mut [u8],
+    starts: &mut [u16],
+    sorted: &mut [u16],
+    measures: &mut [u64],
+    flat: &mut [u64],
+    raw: &mut [u64],
+    texts: &mut [u8],
+    words: &mut [u64],
+    spare: &mut [u64],
+    order: &mut [u64],
+    other: &mut [u64],
+    table: &mut [u64],
+    text: &mut [u8],
+) -> Answer
+    ensures { λ a. ⌜ ReadCall (whole (now (pickle .entry))) (slices (now (nodes .entry)) (now (owners .entry)) (now (children .entry)) (now (stack .entry)) (now (marks .entry)) (now (keys .entry)) (now (held .entry)) (now (unescaped .entry)) (now (starts .entry)) (now (sorted .entry)) (now (measures .entry)) (now (flat .entry)) (now (raw .entry)) (now (texts .entry)) (now (words .entry)) (now (spare .entry)) (now (order .entry)) (now (other .entry)) (now (table .entry)) (now (text .entry))) (slices (now (nodes .exit)) (now (owners .exit)) (now (children .exit)) (now (stack .exit)) (now (marks .exit)) (now (keys .exit)) (now (held .exit)) (now (unescaped .exit)) (now (starts .exit)) (now (sorted .exit)) (now (measures .exit)) (now (flat .exit)) (now (raw .exit)) (now (texts .exit)) (now (words .exit)) (now (spare .exit)) (now (order .exit)) (now (other .exit)) (now (table .exit)) (now (text .exit))) a ⌝ }
+{
+    de::from_bytes(
+        pickle,
+        nodes,
+        owners,
+        children,
+        stack,
+        marks,
+        keys,
+        held,
+        unescaped,
+        starts,
+        sorted,
+        measures,
+        flat,
+        raw,
+        texts,
+        words,
+        spare,
+        order,
+        other,
+        table,
+        text,
+    )
+}
 
 // The order of two values: -1, 0 or 1, or BadTable with sign 0.
 #[no_mangle]
@@ -67,4 +175,12 @@ pub extern "C" fn qelemvir_to_bytes(
     ensures { λ r. ⌜ WriteCall (now (words .entry)) count (now (text .entry)) (now (output .entry)) (now (output .exit)) r ⌝ }
 {
     ser::to_bytes(words, count, text, output)
+}
+
+// The length of a table's text, which a reading does not return and the calls on a table ask for.
+#[no_mangle]
+pub extern "C" fn qelemvir_text_len(words: &[u64], count: usize) -> usize
+    ensures { λ r. ⌜ r ≡ textLength (now (words .entry)) count ⌝ }
+{
+    table::text_len(words, count)
 }
