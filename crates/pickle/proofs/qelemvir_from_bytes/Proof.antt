@@ -4,8 +4,6 @@ use borrow.Author.Needs.{needs}
 use Rattle.pickle.proofs.qelemvir_from_bytes.Statement.{statement}
 use Rattle.pickle.proofs.qelemvir_from_bytes.Tie as tie
 
-
-
 from-bytes-requires : tie.Need-from-bytes-requires
 from-bytes-requires c κs = search needs
 
@@ -74,4 +72,3 @@ returns c = c .before .before .before .before .before .before .before .before .b
 
 pub qelemvir-from-bytes-spec : {M : Type 1} → statement M
 qelemvir-from-bytes-spec = tie.close (tie.spec from-bytes-requires same-length same-length-2 same-length-3 same-length-4 same-length-5 same-length-6 same-length-7 same-length-8 same-length-9 same-length-10 same-length-11 same-length-12 same-length-13 same-length-14 same-length-15 same-length-16 same-length-17 same-length-18 same-length-19 same-length-20 returns)
-

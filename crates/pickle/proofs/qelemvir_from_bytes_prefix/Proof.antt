@@ -4,8 +4,6 @@ use borrow.Author.Needs.{needs}
 use Rattle.pickle.proofs.qelemvir_from_bytes_prefix.Statement.{statement}
 use Rattle.pickle.proofs.qelemvir_from_bytes_prefix.Tie as tie
 
-
-
 from-bytes-prefix-requires : tie.Need-from-bytes-prefix-requires
 from-bytes-prefix-requires c κs = search needs
 
@@ -74,4 +72,3 @@ returns c = c .before .before .before .before .before .before .before .before .b
 
 pub qelemvir-from-bytes-prefix-spec : {M : Type 1} → statement M
 qelemvir-from-bytes-prefix-spec = tie.close (tie.spec from-bytes-prefix-requires same-length same-length-2 same-length-3 same-length-4 same-length-5 same-length-6 same-length-7 same-length-8 same-length-9 same-length-10 same-length-11 same-length-12 same-length-13 same-length-14 same-length-15 same-length-16 same-length-17 same-length-18 same-length-19 same-length-20 returns)
-
