@@ -192,5 +192,18 @@ def broken():
     yield "text above 65,536", *flat(table((BYTES, b"x" * 65537)))
 
 
+def broken_at(words, d):
+    """The words with one changed that the rules cannot allow: a record's last word, or a size."""
+    words = list(words)
+    at = 4 * d.below(len(words) // 4)
+    kind = words[at] % 16
+    if kind in CONTAINERS or kind == OBJECT:
+        size = at + (2 if kind in CONTAINERS else 3)
+        words[size] = (words[size] + d.pick([1, -1])) % (1 << 64)
+    else:
+        words[at + 3] = 1 + d.below(3)
+    return words
+
+
 def flat(made, count=None):
     return made[0], len(made[0]) // 4 if count is None else count, made[1]

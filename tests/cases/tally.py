@@ -9,7 +9,7 @@ NAMES = {
     5: "UnsupportedProtocol", 6: "StackUnderflow", 7: "MissingMemo", 8: "InvalidLiteral",
     9: "IntegerTooLarge", 10: "Invalid",
     11: "TrailingData", 12: "StackFull", 13: "MarksFull", 14: "MemoFull", 15: "NodesFull", 16: "LinksFull",
-    17: "TooDeep", 18: "TooManyValues", 19: "TextFull", 20: "FloatOutside",
+    17: "TooDeep", 18: "TooManyValues", 19: "TextFull", 20: "FloatOutside", 21: "BadTable",
 }
 ADDED = {2} | set(range(12, 21))    # refusals that the Rust doesn't have
 MOST = 20                           # differences shown
@@ -53,6 +53,14 @@ class Tally:
             self.different += 1
             if len(self.differences) < MOST:
                 self.differences.append((kind, data, expect, answer))
+
+    def merge(self, other):
+        """Add what another has counted."""
+        self.cases += other.cases
+        self.different += other.different
+        self.differences = (self.differences + other.differences)[:MOST]
+        for key, count in other.counts.items():
+            self.counts[key] = self.counts.get(key, 0) + count
 
     def table(self):
         """Lines: the kinds across, expected numbers down."""

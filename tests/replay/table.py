@@ -41,6 +41,13 @@ def written(asked):
     return [bytes.fromhex(answer.split(" ")[1]) for answer in done.stdout.splitlines()]
 
 
+def orders(pairs):
+    """The Rust's order of each pair of tables: -1, 0 or 1."""
+    lines = "".join("compare %s %s\n" % pair for pair in pairs)
+    done = subprocess.run([ORACLE], input=lines, capture_output=True, text=True, check=True)
+    return [int(answer.split(" ")[1]) for answer in done.stdout.splitlines()]
+
+
 def program(requests):
     done = subprocess.run([os.path.join(ROOT, "tests", "run"), "replay_table"], input=b"".join(requests),
                           stdout=subprocess.PIPE, check=True)

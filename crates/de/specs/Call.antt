@@ -1,23 +1,89 @@
--- The public calls from the inner reading: which slices are long enough, the rooms made zero, and a part of each lent and put back.
-use Prim.Native.Nat.{ℕ, _-_, _<_, _≤_}
+-- A public reading: 1 where a slice is too short, the rooms made zero, and the inner reading.
+use Prim.Native.Nat.{ℕ, _<_, _≤_}
 use mathlib.Core.Bool.{Bool, true, false, cond, _||_}
-use mathlib.Core.List.{List, [], _++_}
-use mathlib.Core.Path.{_≡_, refl, _∙_, ap, subst}
-use lib.ListN.{length, length-append, length-drop, length-replicate, length-take, take, drop, replicate, take-append-drop}
+use mathlib.Core.List.{List, _++_}
+use mathlib.Core.Path.{_≡_, refl, sym, _∙_, ap, subst}
+use lib.ListN.{length, length-replicate, take, drop, replicate}
 use lib.Seq.{take-at}
 use lib.Dec.{ltb}
 use borrow.Author.Tests.{ltb-false}
-use native.Mathlib.Omega.{arith}
 use Rattle.refusal.specs.declared.Refusal.the-variants.{ShortRoom, TooLong}
 use Rattle.refusal.specs.declared.Answer.{Answer}
 use Rattle.refusal.specs.Numbers.{refusedAnswer}
 use Rattle.rooms.specs.Cleared.{cleared}
 use Rattle.finish.specs.Finish.{Zero, Clear, Lent}
 use Rattle.builder.specs.Reading.{Reading, refuses, pickleLimit, stopped-long, prefix-refused}
-use Rattle.de.specs.Slices.{Slices, slices, short, blank, filled, reading, ReadCall}
-use Rattle.de.specs.Building.{Working}
-use Rattle.de.specs.Given.{due, due-refused}
-use Rattle.de.specs.Inner.{Zeroed}
+use Rattle.build.specs.Building.{Working}
+use Rattle.build.specs.Given.{due, due-refused}
+use Rattle.read.specs.Slices.{Slices, slices, filled}
+use Rattle.read.specs.Inner.{Zeroed}
+use Rattle.read.specs.Parts.{parts}
+
+-- one of them is shorter than stated
+unfoldable pub short : Slices → Bool
+short l =
+    ltb (length (l .nodes)) 8192
+    || ltb (length (l .owners)) 16384
+    || ltb (length (l .children)) 16384
+    || ltb (length (l .stack)) 2048
+    || ltb (length (l .marks)) 256
+    || ltb (length (l .keys)) 1024
+    || ltb (length (l .held)) 1024
+    || ltb (length (l .unescaped)) 65536
+    || ltb (length (l .starts)) 4098
+    || ltb (length (l .sorted)) 16384
+    || ltb (length (l .measures)) 4096
+    || ltb (length (l .flat)) 2048
+    || ltb (length (l .raw)) 8192
+    || ltb (length (l .texts)) 65536
+    || ltb (length (l .words)) 8192
+    || ltb (length (l .spare)) 8192
+    || ltb (length (l .order)) 2048
+    || ltb (length (l .other)) 2048
+    || ltb (length (l .table)) 8192
+    || ltb (length (l .text)) 65536
+
+-- the rooms zero up to their stated lengths, and the outputs as they are
+unfoldable pub blank : Slices → Slices
+blank l = record {
+  nodes = cleared 8192 (l .nodes);
+  owners = cleared 16384 (l .owners);
+  children = cleared 16384 (l .children);
+  stack = cleared 2048 (l .stack);
+  marks = cleared 256 (l .marks);
+  keys = cleared 1024 (l .keys);
+  held = cleared 1024 (l .held);
+  unescaped = cleared 65536 (l .unescaped);
+  starts = cleared 4098 (l .starts);
+  sorted = cleared 16384 (l .sorted);
+  measures = cleared 4096 (l .measures);
+  flat = cleared 2048 (l .flat);
+  raw = cleared 8192 (l .raw);
+  texts = cleared 65536 (l .texts);
+  words = cleared 8192 (l .words);
+  spare = cleared 8192 (l .spare);
+  order = cleared 2048 (l .order);
+  other = cleared 2048 (l .other);
+  table = l .table;
+  text = l .text;
+}
+
+-- what a call answers, and what it leaves of what it was lent
+pub record Left : Type 0 where
+  pub answer : Answer
+  pub slices : Slices
+
+-- 1 where a slice is short, and then nothing is touched; else the rooms are zero, and the reading x says the rest
+unfoldable pub reading : Reading → Slices → Left
+reading x l = cond (short l) (record { answer = refusedAnswer ShortRoom; slices = l }) (record { answer = x .answer; slices = filled x (blank l) })
+
+-- a call with the reading x that was lent l, leaves l′ and answers a
+abbrev pub ReadCall : Reading → Slices → Slices → Answer → Type 0
+ReadCall x l l′ a = record { answer = a; slices = l′ } ≡ reading x l
+
+-- answer and slices are determined
+pub read-one : (x : Reading) (l l′ l″ : Slices) (a b : Answer) → ReadCall x l l′ a → ReadCall x l l″ b → (a ≡ b) × (l′ ≡ l″)
+read-one x l l′ l″ a b e f = (ap (λ (y : Left). y .answer) (e ∙ sym f), ap (λ (y : Left). y .slices) (e ∙ sym f))
 
 -- every slice as long as stated, or longer
 pub record Long (l : Slices) : Type 0 where
@@ -95,110 +161,6 @@ long l e =
       table = ltb-false _ _ (x18 .1);
       text = ltb-false _ _ (x19 .1);
     }
-
--- ---- the stated parts of longer rooms
-
--- of the rooms of finish
-abbrev pub finishParts : Slices → Slices
-finishParts l = record {
-  nodes = l .nodes;
-  owners = l .owners;
-  children = l .children;
-  stack = l .stack;
-  marks = l .marks;
-  keys = l .keys;
-  held = l .held;
-  unescaped = l .unescaped;
-  starts = l .starts;
-  sorted = l .sorted;
-  measures = l .measures;
-  flat = l .flat;
-  raw = take 8192 (l .raw);
-  texts = take 65536 (l .texts);
-  words = take 8192 (l .words);
-  spare = take 8192 (l .spare);
-  order = take 2048 (l .order);
-  other = take 2048 (l .other);
-  table = l .table;
-  text = l .text;
-}
-
--- of those of plan
-abbrev pub planParts : Slices → Slices
-planParts l = record {
-  nodes = l .nodes;
-  owners = l .owners;
-  children = l .children;
-  stack = l .stack;
-  marks = l .marks;
-  keys = l .keys;
-  held = l .held;
-  unescaped = l .unescaped;
-  starts = take 4098 (l .starts);
-  sorted = take 16384 (l .sorted);
-  measures = take 4096 (l .measures);
-  flat = take 2048 (l .flat);
-  raw = l .raw;
-  texts = l .texts;
-  words = l .words;
-  spare = l .spare;
-  order = l .order;
-  other = l .other;
-  table = l .table;
-  text = l .text;
-}
-
--- of the machine's
-abbrev pub machineParts : Slices → Slices
-machineParts l = record {
-  nodes = take 8192 (l .nodes);
-  owners = take 16384 (l .owners);
-  children = take 16384 (l .children);
-  stack = take 2048 (l .stack);
-  marks = take 256 (l .marks);
-  keys = take 1024 (l .keys);
-  held = take 1024 (l .held);
-  unescaped = take 65536 (l .unescaped);
-  starts = l .starts;
-  sorted = l .sorted;
-  measures = l .measures;
-  flat = l .flat;
-  raw = l .raw;
-  texts = l .texts;
-  words = l .words;
-  spare = l .spare;
-  order = l .order;
-  other = l .other;
-  table = l .table;
-  text = l .text;
-}
-
-abbrev pub workingParts : Slices → Slices
-workingParts l = finishParts (planParts l)
-
-abbrev pub parts : Slices → Slices
-parts l = workingParts (machineParts l)
-
--- parts that were lent are put back as the reading leaves them, which is as they came
-module _ (x : Reading) (l : Slices) where
-  pub finish-back : (l′ : Slices) → l′ ≡ filled x (finishParts l) → slices (l′ .nodes) (l′ .owners) (l′ .children) (l′ .stack) (l′ .marks) (l′ .keys) (l′ .held) (l′ .unescaped) (l′ .starts) (l′ .sorted) (l′ .measures) (l′ .flat) (l′ .raw ++ drop 8192 (l .raw)) (l′ .texts ++ drop 65536 (l .texts)) (l′ .words ++ drop 8192 (l .words)) (l′ .spare ++ drop 8192 (l .spare)) (l′ .order ++ drop 2048 (l .order)) (l′ .other ++ drop 2048 (l .other)) (l′ .table) (l′ .text) ≡ filled x l
-  unfolding filled
-  finish-back l′ e = rw (e, take-append-drop 8192 (l .raw), take-append-drop 65536 (l .texts), take-append-drop 8192 (l .words), take-append-drop 8192 (l .spare), take-append-drop 2048 (l .order), take-append-drop 2048 (l .other))
-
-  pub plan-back : (l′ : Slices) → l′ ≡ filled x (planParts l) → slices (l′ .nodes) (l′ .owners) (l′ .children) (l′ .stack) (l′ .marks) (l′ .keys) (l′ .held) (l′ .unescaped) (l′ .starts ++ drop 4098 (l .starts)) (l′ .sorted ++ drop 16384 (l .sorted)) (l′ .measures ++ drop 4096 (l .measures)) (l′ .flat ++ drop 2048 (l .flat)) (l′ .raw) (l′ .texts) (l′ .words) (l′ .spare) (l′ .order) (l′ .other) (l′ .table) (l′ .text) ≡ filled x l
-  unfolding filled
-  plan-back l′ e = rw (e, take-append-drop 4098 (l .starts), take-append-drop 16384 (l .sorted), take-append-drop 4096 (l .measures), take-append-drop 2048 (l .flat))
-
-  pub machine-back : (l′ : Slices) → l′ ≡ filled x (machineParts l) → slices (l′ .nodes ++ drop 8192 (l .nodes)) (l′ .owners ++ drop 16384 (l .owners)) (l′ .children ++ drop 16384 (l .children)) (l′ .stack ++ drop 2048 (l .stack)) (l′ .marks ++ drop 256 (l .marks)) (l′ .keys ++ drop 1024 (l .keys)) (l′ .held ++ drop 1024 (l .held)) (l′ .unescaped ++ drop 65536 (l .unescaped)) (l′ .starts) (l′ .sorted) (l′ .measures) (l′ .flat) (l′ .raw) (l′ .texts) (l′ .words) (l′ .spare) (l′ .order) (l′ .other) (l′ .table) (l′ .text) ≡ filled x l
-  unfolding filled
-  machine-back l′ e = rw (e, take-append-drop 8192 (l .nodes), take-append-drop 16384 (l .owners), take-append-drop 16384 (l .children), take-append-drop 2048 (l .stack), take-append-drop 256 (l .marks), take-append-drop 1024 (l .keys), take-append-drop 1024 (l .held), take-append-drop 65536 (l .unescaped))
-
--- a part that is there
-pub part-fits : (n : ℕ) (l : List ℕ) → take n l ≡ replicate n 0 → n ≤ length l
-part-fits n l e = let x : length (take n l) ≡ n = ap length e ∙ length-replicate n 0 in omega (arith, length-take n l, x)
-
-pub part-same : (n : ℕ) (l e : List ℕ) → take n l ≡ replicate n 0 → length e ≡ length (take n l) → length (e ++ drop n l) ≡ length l
-part-same n l e z h = length-append e (drop n l) ∙ omega (arith, h, length-take n l, length-drop n l, part-fits n l z)
 
 -- ---- the rooms made zero
 

@@ -1,6 +1,4 @@
--- What the readings in code are asked and promise, by crate builder's readings.
-pub mod Slices
-pub mod Building
-pub mod Given
-pub mod Inner
+-- What the public readings promise.
 pub mod Call
+pub mod Theorems
+pub mod Shared

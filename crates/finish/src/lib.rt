@@ -46,10 +46,10 @@ fn settled(
 }
 
 // The table and text of the tree in order, from its flat records.
-pub fn finish(
+pub fn finish<'a>(
     count: usize,
-    pickle: &[u8],
-    unescaped: &[u8],
+    pickle: &'a [u8],
+    unescaped: &'a [u8],
     nodes: &[u64],
     flat: &[u64],
     raw: &mut [u64],

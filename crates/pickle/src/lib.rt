@@ -9,7 +9,8 @@ ghost use mathlib.Core.Path.{_≡_};
 ghost use Rattle.builder.specs.Reading.{prefix, whole};
 ghost use Rattle.table.specs.Compare.{Compares};
 ghost use Rattle.table.specs.Length.{textLength};
-ghost use Rattle.de.specs.Slices.{slices, ReadCall};
+ghost use Rattle.read.specs.Slices.{slices};
+ghost use Rattle.de.specs.Call.{ReadCall};
 ghost use Rattle.ser.specs.Call.{WriteCall};
 ghost use Rattle.pickle.specs.List.{ListCall};
 

@@ -34,6 +34,12 @@ part-cut l at len =
     let e : length l - min at (length l) ≡ length d = sym (length-drop (min at (length l)) l) in
     rw e (take-min len d ∙ ap (λ (x : List ℕ). take len x) (drop-min at l))
 
+-- the same of a part by its end, the lengths as they were found
+pub part-end : (l : List ℕ) (at len held from more : ℕ) → held ≡ length l → from ≡ min at held → more ≡ min len (held - from) → take (from + more - from) (drop from l) ≡ take len (drop at l)
+part-end l at len held from more h f m =
+    let e : from + more - from ≡ more = omega arith in
+    rw (e, m, f, h) (part-cut l at len)
+
 -- a run of stores behind another
 pub sets-append : (u v l : List ℕ) (n : ℕ) → sets (sets l n u) (n + length u) v ≡ sets l n (u ++ v)
 sets-append [] v l n = rw (add-zero n)

@@ -7,7 +7,7 @@ ghost use lib.ListN.{length, getD, take, drop};
 ghost use lib.Seq.{sets};
 ghost use Rattle.utf8.specs.Utf8.{repair};
 ghost use Rattle.text.specs.Pieces.{bytesOf};
-ghost use Rattle.text.specs.Text.{unescapeUnicode};
+ghost use Rattle.text.specs.Text.{pick, unescapeUnicode};
 ghost use Rattle.value.specs.Value.{BytesL, StringL, GlobalL};
 ghost use Rattle.value.specs.Shape.{kindIn, newIn};
 ghost use Rattle.decoder.specs.Rooms.{classIn, moduleOf, nameOf};
@@ -59,6 +59,38 @@ fn part(bytes: &[u8], at: u64, len: u64) -> &[u8]
 {
     let from = least(at as usize, bytes.len());
     value::part(bytes, from, least(len as usize, bytes.len() - from))
+}
+
+// How long the text is that holds a STRING's value.
+fn held_len(pickle: &[u8], unescaped: &[u8], escaped: bool) -> usize
+    ensures { λ r. ⌜ r ≡ length (pick escaped (now (unescaped .entry)) (now (pickle .entry))) ⌝ }
+{
+    if escaped {
+        unescaped.len()
+    } else {
+        pickle.len()
+    }
+}
+
+// A STRING's value: a part of whichever text holds it, as far as there is any.
+fn string_part<'a>(
+    pickle: &'a [u8],
+    unescaped: &'a [u8],
+    escaped: bool,
+    at: u64,
+    len: u64,
+) -> &'a [u8]
+    ensures { λ r. ⌜ now r ≡ take len (drop at (pick escaped (now (unescaped .entry)) (now (pickle .entry)))) ⌝ }
+{
+    let held = held_len(pickle, unescaped, escaped);
+    let from = least(at as usize, held);
+    text::part(
+        pickle,
+        unescaped,
+        escaped,
+        from,
+        from + least(len as usize, held - from),
+    )
 }
 
 // Bytes as they are.
@@ -113,11 +145,11 @@ fn names(pickle: &[u8], first: u64, second: u64, text: &mut [u8], at: usize) -> 
 }
 
 // The text of a node with these words; the answer has its lengths.
-fn decode(
+fn decode<'a>(
     first: u64,
     second: u64,
-    pickle: &[u8],
-    unescaped: &[u8],
+    pickle: &'a [u8],
+    unescaped: &'a [u8],
     nodes: &[u64],
     text: &mut [u8],
     at: usize,
@@ -130,10 +162,10 @@ fn decode(
     let from = second % 0x1_0000_0000;
     let len = second / 0x1_0000_0000;
     if kind == 4 {
-        return copy(part(pickle, from, len), text, at);
+        return copy(string_part(pickle, unescaped, false, from, len), text, at);
     }
     if kind == 13 {
-        return copy(part(unescaped, from, len), text, at);
+        return copy(string_part(pickle, unescaped, true, from, len), text, at);
     }
     if kind == 5 {
         return repaired(part(pickle, from, len), text, at);
@@ -221,11 +253,11 @@ fn values(flat: &[u64], from: usize, end: usize) -> usize
 }
 
 // Record i with its text; the place of the next text.
-fn put_record(
+fn put_record<'a>(
     flat: &[u64],
     i: usize,
-    pickle: &[u8],
-    unescaped: &[u8],
+    pickle: &'a [u8],
+    unescaped: &'a [u8],
     nodes: &[u64],
     table: &mut [u64],
     text: &mut [u8],
@@ -262,11 +294,11 @@ fn put_record(
 }
 
 // All records of the tree; the length of its text.
-pub fn expand(
+pub fn expand<'a>(
     flat: &[u64],
     count: usize,
-    pickle: &[u8],
-    unescaped: &[u8],
+    pickle: &'a [u8],
+    unescaped: &'a [u8],
     nodes: &[u64],
     table: &mut [u64],
     text: &mut [u8],

@@ -3,7 +3,7 @@
 use borrow.Author.Needs.{needs}
 use Rattle.de.proofs.from_bytes_prefix.Statement.{statement}
 use Rattle.de.proofs.from_bytes_prefix.Tie as tie
-use Rattle.de.specs.Given.{due}
+use Rattle.build.specs.Given.{due}
 
 reading-requires : tie.Need-reading-requires
 reading-requires c κs = search needs

@@ -4,7 +4,7 @@ use borrow.Author.Needs.{needs}
 use Rattle.de.proofs.is_short.Statement.{statement}
 use Rattle.de.proofs.is_short.Tie as tie
 use mathlib.Core.Path.{refl}
-use Rattle.de.specs.Slices.{short}
+use Rattle.de.specs.Call.{short}
 
 returns : tie.Need-returns
 unfolding short

@@ -5,8 +5,8 @@ use Rattle.de.proofs.reading.Statement.{statement}
 use Rattle.de.proofs.reading.Tie as tie
 use native.Mathlib.Omega.{arith}
 use mathlib.Core.Path.{refl, sym, _∙_, ap}
-use Rattle.de.specs.Slices.{slices, filled}
-use Rattle.de.specs.Given.{due}
+use Rattle.read.specs.Slices.{slices, filled}
+use Rattle.build.specs.Given.{due}
 use Rattle.de.specs.Call.{long, blank-is, zeroed, call-short, call-long, call-reads}
 
 is-short-requires : tie.Need-is-short-requires

@@ -4,42 +4,43 @@ use Rattle.raw.proofs.decode.Statement.{statement}
 use Rattle.raw.proofs.decode.Tie as tie
 use mathlib.Core.Path.{refl}
 use native.Mathlib.Numerals.{add-one}
+use Rattle.text.specs.Text.{pick}
 use Rattle.value.specs.Shape.{kindIn}
 use Rattle.decoder.specs.Rooms.{within, classIn}
 use Rattle.raw.specs.Label.{label-kind, no-text}
 use Rattle.raw.proofs.Laws.{object-room, object-wrote}
 
 copy-requires : tie.Need-copy-requires
-unfolding kindIn within classIn
-copy-requires c κs = let s = c .before .before .before .before .before .before .before .args in let e = label-kind (s .pickle .now) (s .unescaped .now) (s .nodes .now) (s .first) (s .second) 4 (c .before .before .if1 .taken) in rw (c .before .part .ensures) (rw e at (c .before .before .before .before .before .before .before .pre .1))
+unfolding kindIn within classIn pick
+copy-requires c κs = let s = c .before .before .before .before .before .before .before .args in let e = label-kind (s .pickle .now) (s .unescaped .now) (s .nodes .now) (s .first) (s .second) 4 (c .before .before .if1 .taken) in rw (c .before .string-part .ensures) (rw e at (c .before .before .before .before .before .before .before .pre .1))
 
 returns : tie.Need-returns
-unfolding kindIn within classIn
-returns c = let s = c .before .before .before .before .before .before .before .before .before .before .args in let e = label-kind (s .pickle .now) (s .unescaped .now) (s .nodes .now) (s .first) (s .second) 4 (c .before .before .before .before .before .if1 .taken) in rw e (rw (c .before .before .before .before .part .ensures) at (c .before .before .copy .ensures))
+unfolding kindIn within classIn pick
+returns c = let s = c .before .before .before .before .before .before .before .before .before .before .args in let e = label-kind (s .pickle .now) (s .unescaped .now) (s .nodes .now) (s .first) (s .second) 4 (c .before .before .before .before .before .if1 .taken) in rw e (rw (c .before .before .before .before .string-part .ensures) at (c .before .before .copy .ensures))
 
 copy-requires-2 : tie.Need-copy-requires-2
-unfolding kindIn within classIn
-copy-requires-2 c κs = let s = c .before .before .before .before .before .before .before .before .args in let e = label-kind (s .pickle .now) (s .unescaped .now) (s .nodes .now) (s .first) (s .second) 13 (c .before .before .if2 .taken) in rw (c .before .part2 .ensures) (rw e at (c .before .before .before .before .before .before .before .before .pre .1))
+unfolding kindIn within classIn pick
+copy-requires-2 c κs = let s = c .before .before .before .before .before .before .before .before .args in let e = label-kind (s .pickle .now) (s .unescaped .now) (s .nodes .now) (s .first) (s .second) 13 (c .before .before .if2 .taken) in rw (c .before .string-part2 .ensures) (rw e at (c .before .before .before .before .before .before .before .before .pre .1))
 
 returns-2 : tie.Need-returns-2
-unfolding kindIn within classIn
-returns-2 c = let s = c .before .before .before .before .before .before .before .before .before .before .before .args in let e = label-kind (s .pickle .now) (s .unescaped .now) (s .nodes .now) (s .first) (s .second) 13 (c .before .before .before .before .before .if2 .taken) in rw e (rw (c .before .before .before .before .part2 .ensures) at (c .before .before .copy2 .ensures))
+unfolding kindIn within classIn pick
+returns-2 c = let s = c .before .before .before .before .before .before .before .before .before .before .before .args in let e = label-kind (s .pickle .now) (s .unescaped .now) (s .nodes .now) (s .first) (s .second) 13 (c .before .before .before .before .before .if2 .taken) in rw e (rw (c .before .before .before .before .string-part2 .ensures) at (c .before .before .copy2 .ensures))
 
 repaired-requires : tie.Need-repaired-requires
 unfolding kindIn within classIn
-repaired-requires c κs = let s = c .before .before .before .before .before .before .before .before .before .args in let e = label-kind (s .pickle .now) (s .unescaped .now) (s .nodes .now) (s .first) (s .second) 5 (c .before .before .if3 .taken) in rw (c .before .part3 .ensures) (rw e at (c .before .before .before .before .before .before .before .before .before .pre .1))
+repaired-requires c κs = let s = c .before .before .before .before .before .before .before .before .before .args in let e = label-kind (s .pickle .now) (s .unescaped .now) (s .nodes .now) (s .first) (s .second) 5 (c .before .before .if3 .taken) in rw (c .before .part .ensures) (rw e at (c .before .before .before .before .before .before .before .before .before .pre .1))
 
 returns-3 : tie.Need-returns-3
 unfolding kindIn within classIn
-returns-3 c = let s = c .before .before .before .before .before .before .before .before .before .before .before .before .args in let e = label-kind (s .pickle .now) (s .unescaped .now) (s .nodes .now) (s .first) (s .second) 5 (c .before .before .before .before .before .if3 .taken) in rw e (rw (c .before .before .before .before .part3 .ensures) at (c .before .before .repaired .ensures))
+returns-3 c = let s = c .before .before .before .before .before .before .before .before .before .before .before .before .args in let e = label-kind (s .pickle .now) (s .unescaped .now) (s .nodes .now) (s .first) (s .second) 5 (c .before .before .before .before .before .if3 .taken) in rw e (rw (c .before .before .before .before .part .ensures) at (c .before .before .repaired .ensures))
 
 unescaped-line-requires : tie.Need-unescaped-line-requires
 unfolding kindIn within classIn
-unescaped-line-requires c κs = let s = c .before .before .before .before .before .before .before .before .before .before .args in let e = label-kind (s .pickle .now) (s .unescaped .now) (s .nodes .now) (s .first) (s .second) 14 (c .before .before .if4 .taken) in rw (c .before .part4 .ensures) (rw e at (c .before .before .before .before .before .before .before .before .before .before .pre .1))
+unescaped-line-requires c κs = let s = c .before .before .before .before .before .before .before .before .before .before .args in let e = label-kind (s .pickle .now) (s .unescaped .now) (s .nodes .now) (s .first) (s .second) 14 (c .before .before .if4 .taken) in rw (c .before .part2 .ensures) (rw e at (c .before .before .before .before .before .before .before .before .before .before .pre .1))
 
 returns-4 : tie.Need-returns-4
 unfolding kindIn within classIn
-returns-4 c = let s = c .before .before .before .before .before .before .before .before .before .before .before .before .before .args in let e = label-kind (s .pickle .now) (s .unescaped .now) (s .nodes .now) (s .first) (s .second) 14 (c .before .before .before .before .before .if4 .taken) in rw e (rw (c .before .before .before .before .part4 .ensures) at (c .before .before .unescaped-line .ensures))
+returns-4 c = let s = c .before .before .before .before .before .before .before .before .before .before .before .before .before .args in let e = label-kind (s .pickle .now) (s .unescaped .now) (s .nodes .now) (s .first) (s .second) 14 (c .before .before .before .before .before .if4 .taken) in rw e (rw (c .before .before .before .before .part2 .ensures) at (c .before .before .unescaped-line .ensures))
 
 names-requires : tie.Need-names-requires
 unfolding kindIn within classIn

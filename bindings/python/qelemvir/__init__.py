@@ -1,0 +1,23 @@
+"""Reads pickles of Python 2 (protocols 0 to 2) as plain data, by code that is proved to meet its contract: it ends on every input,
+refuses with exact numbers, and never lets sharing show. Nothing is imported, and no class is called.
+
+    value = qelemvir.loads(data)        # or Refused, or Unholdable
+    table = qelemvir.read(data)         # the same as a table of records: table.list(), table.to_bytes(), table < other
+"""
+
+from .refused import Refused
+from .table import Record, Table, read, read_prefix
+from .values import Global, Object, Unholdable
+
+__all__ = ["Global", "Object", "Record", "Refused", "Table", "Unholdable", "loads", "loads_prefix", "read", "read_prefix"]
+
+
+def loads(data):
+    """The value that the bytes are, with none left over."""
+    return read(data).value()
+
+
+def loads_prefix(data):
+    """The value at the start of the bytes, and how many of them it took."""
+    table, length = read_prefix(data)
+    return table.value(), length

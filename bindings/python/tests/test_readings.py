@@ -1,0 +1,124 @@
+"""Both readings on the stored pickles, what they take as input, and threads."""
+
+import array
+import pickle
+import sys
+import threading
+import unittest
+
+from support import cases_of, qelemvir, stored_refusals, stored_values
+
+SHARED = b"\x80\x02]q\0h\0K\x05a\x86."
+
+
+def refusal(call, data):
+    """Number and detail, or None."""
+    try:
+        call(data)
+    except qelemvir.Refused as why:
+        return why.number, why.detail
+    return None
+
+
+class Stored(unittest.TestCase):
+    def test_values(self):
+        for data, (words, text), length in stored_values():
+            with self.subTest(data.hex()):
+                table, read = qelemvir.read_prefix(data)
+                self.assertEqual((list(table.words), table.text, table.count), (words, text, len(words) // 4))
+                self.assertEqual(read, length)
+                if length == len(data):
+                    self.assertEqual(qelemvir.read(data), table)
+                else:
+                    self.assertEqual(refusal(qelemvir.read, data), (11, 0))
+
+    def test_refusals(self):
+        for data, number, detail in stored_refusals():
+            with self.subTest(data.hex()):
+                for call in (qelemvir.read, qelemvir.read_prefix, qelemvir.loads, qelemvir.loads_prefix):
+                    self.assertEqual(refusal(call, data), (number, detail))
+
+
+class Inputs(unittest.TestCase):
+    def test_bytes_of_all_kinds(self):
+        for data in (SHARED, bytearray(SHARED), memoryview(SHARED), memoryview(b"x" + SHARED)[1:], array.array("B", SHARED),
+                     memoryview(bytes(b for pair in zip(SHARED, SHARED) for b in pair))[::2]):
+            self.assertEqual(qelemvir.loads(data), ([5], [5]))
+            self.assertEqual(qelemvir.loads_prefix(data), (([5], [5]), 12))
+
+    def test_nothing_else(self):
+        for data in ("N.", 5, [78, 46], None):
+            with self.assertRaises(TypeError):
+                qelemvir.loads(data)
+
+    def test_prefix_and_whole(self):
+        self.assertEqual(qelemvir.loads_prefix(b"K\x05.K\x06."), (5, 3))
+        self.assertEqual(refusal(qelemvir.loads, b"K\x05.K\x06."), (11, 0))
+
+    def test_length(self):
+        self.assertEqual(qelemvir.loads_prefix(b"N." + b"x" * 65534), (None, 2))
+        self.assertEqual(refusal(qelemvir.loads_prefix, b"N." + b"x" * 65535), (2, 0))
+        self.assertEqual(refusal(qelemvir.loads, b"N." + b"x" * 65535), (2, 0))
+
+    def test_threads(self):
+        data = list(stored_values())[::5]
+        due = [qelemvir.read_prefix(pickled)[0].words for pickled, _, _ in data]
+        different = []
+
+        def reads():
+            for _ in range(5):
+                found = [qelemvir.read_prefix(pickled)[0].words for pickled, _, _ in data]
+                if found != due:
+                    different.append(found)
+
+        threads = [threading.Thread(target=reads) for _ in range(4)]
+        for thread in threads:
+            thread.start()
+        for thread in threads:
+            thread.join()
+        self.assertEqual(different, [])
+
+
+class Refusals(unittest.TestCase):
+    def test_words(self):
+        with self.assertRaises(qelemvir.Refused) as caught:
+            qelemvir.loads(b"i")
+        why = caught.exception
+        self.assertEqual((why.number, why.name, why.detail), (4, "UnsupportedOpcode", 0x69))
+        self.assertEqual(str(why), "the opcode with byte 69 is not read (UnsupportedOpcode: number 4, detail 105)")
+
+    def test_each_has_its_own(self):
+        details = {10: range(1, 8), 21: (1, 2)}
+        known = [qelemvir.Refused(number, detail) for number in range(1, 23) for detail in details.get(number, (0,))]
+        self.assertEqual(len({str(why).split(" (")[0] for why in known}), len(known))
+        self.assertEqual(len({why.name for why in known}), 22)
+
+    def test_names(self):
+        """Those of crate refusal, numbered in its order."""
+        self.assertEqual([qelemvir.Refused(n, 0).name for n in range(1, 23)], cases_of("Refusal"))
+
+    def test_later_numbers(self):
+        why = qelemvir.Refused(25, 3)
+        self.assertEqual((why.name, str(why)), ("Other", "refused (Other: number 25, detail 3)"))
+        self.assertEqual(str(qelemvir.Refused(10, 8)), "refused (Invalid: number 10, detail 8)")
+
+    def test_can_be_sent_on(self):
+        for why in (qelemvir.Refused(7, 4294967295), qelemvir.Unholdable(3, "is a list")):
+            again = pickle.loads(pickle.dumps(why))
+            self.assertEqual((type(again), str(again)), (type(why), str(why)))
+
+
+class Classes(unittest.TestCase):
+    def test_nothing_is_imported_or_called(self):
+        self.assertNotIn("antigravity", sys.modules)
+        value = qelemvir.loads(b"(cantigravity\nfly\ncos\n_exit\n(I3\ntRcno_such_module\nC\n)\x81}bt.")
+        self.assertEqual(value, (
+            qelemvir.Global("antigravity", "fly"),
+            qelemvir.Object("os", "_exit", (3,), False, None, False),
+            qelemvir.Object("no_such_module", "C", (), True, {}, True),
+        ))
+        self.assertNotIn("antigravity", sys.modules)
+
+
+if __name__ == "__main__":
+    unittest.main()

@@ -1,0 +1,204 @@
+-- What a reading in code gives: the definition's answer, and outputs that begin with what it fills.
+use Prim.Native.Nat.{ℕ, _-_, _*_, _<_, _≤_}
+use mathlib.Core.Bool.{Bool, true, false, cond, not, _&&_}
+use mathlib.Core.List.{List, _++_}
+use mathlib.Core.Path.{_≡_, refl, sym, _∙_, ap₂}
+use lib.ListN.{length, length-drop, getD, drop}
+use lib.Seq.{length-take-le, getD-take}
+use lib.Dec.{ltb}
+use borrow.Author.Tests.{ne-eqb}
+use native.Mathlib.Omega.{arith}
+use Rattle.refusal.specs.declared.Refusal.{Refusal}
+use Rattle.refusal.specs.declared.Refusal.the-variants.{StackUnderflow, TrailingData}
+use Rattle.refusal.specs.declared.Answer.{Answer}
+use Rattle.refusal.specs.Numbers.{numberOf, refusedAnswer}
+use Rattle.input.specs.Bytes.{Bytes}
+use Rattle.value.specs.Value.{Forest, one, size, text, table, table-length}
+use Rattle.decoder.specs.State.{State, Res, ok, no, _>>=_, need, last}
+use Rattle.decoder.specs.declared.Counts.{Counts}
+use Rattle.decoder.specs.Run.{run}
+use Rattle.decoder.specs.Rooms.{Rooms, stateOf}
+use Rattle.decoder.specs.Effects.{Firm}
+use Rattle.decoder.specs.Out.{every-at}
+use Rattle.decoder.specs.RoomReads.{input-of, stack-of, stack-length, nodes-length}
+use Rattle.machine.specs.Lent.{roomsOf}
+use Rattle.machine.specs.Ran.{Ran, ended, countsOf}
+use Rattle.machine.specs.declared.Outcome.{Outcome}
+use Rattle.machine.specs.declared.Outcome.the-variants as outcome
+use Rattle.builder.specs.Build.{tree}
+use Rattle.builder.specs.Settle.{settle}
+use Rattle.builder.specs.Measure.{measured}
+use Rattle.builder.specs.Reading.{Reading, refuses, reads, told, consumed, leaves, prefix, whole, pickleLimit, stopped-refused, stopped-empty, stopped-with, prefix-refused, prefix-told}
+use Rattle.builder.specs.Success.{refusal-number}
+use Rattle.build.specs.Building.{At, Ready, dueOf, Comes, Builds}
+use Rattle.build.specs.declared.Built.{Built}
+use Rattle.build.specs.declared.Built.the-variants as built
+
+-- the reading that is asked for
+unfoldable pub due : Bool → List ℕ → Reading
+due all p = cond all (whole p) (prefix p)
+
+pub record Gives (x : Reading) (a : Answer) (o q o′ q′ : List ℕ) : Type 0 where
+  pub answer : a ≡ x .answer
+  pub table-is : o′ ≡ x .words ++ drop (length (x .words)) o
+  pub text-is : q′ ≡ x .bytes ++ drop (length (x .bytes)) q
+
+-- the rooms that a run left, of which these are lent
+pub record RanIn (o : Outcome) (p nodes owners children stack unescaped : List ℕ) : Type 0 where
+  pub marks : List ℕ
+  pub keys : List ℕ
+  pub held : List ℕ
+  pub ran : Ran o p (roomsOf p nodes owners children stack marks keys held unescaped)
+  pub bytes : Bytes p
+
+-- ---- both readings from the prefix reading's answer
+
+-- what a tree comes to after n bytes, where `left` says whether bytes are left that may not be
+unfoldable pub toldLeft : Bool → ℕ → Forest → Reading
+toldLeft left n f = elim (dueOf left f) [ no why ↦ refuses why | ok u ↦ reads n (settle f) ]
+
+module _ (left : Bool) (n : ℕ) (f : Forest) where
+  pub left-refused : (why : Refusal) → dueOf left f ≡ no why → toldLeft left n f ≡ refuses why
+  unfolding toldLeft
+  left-refused why e = rw (e, toldLeft)
+
+  pub left-read : dueOf left f ≡ ok tt → toldLeft left n f ≡ reads n (settle f)
+  unfolding toldLeft
+  left-read e = rw (e, toldLeft)
+
+module _ (n : ℕ) (f : Forest) where
+  over : (left : Bool) (why : Refusal) → measured f ≡ no why → toldLeft left n f ≡ refuses why
+  unfolding dueOf _>>=_
+  over left why m = left-refused left n f why (rw m)
+
+  trailing : measured f ≡ ok tt → toldLeft true n f ≡ refuses TrailingData
+  unfolding dueOf _>>=_ need
+  trailing m = left-refused true n f TrailingData (rw m)
+
+  within : measured f ≡ ok tt → toldLeft false n f ≡ reads n (settle f)
+  unfolding dueOf _>>=_ need
+  within m = left-read false n f (rw m)
+
+  told-over : (why : Refusal) → measured f ≡ no why → told n f ≡ refuses why
+  unfolding told
+  told-over why m = rw (m, told)
+
+  told-within : measured f ≡ ok tt → told n f ≡ reads n (settle f)
+  unfolding told
+  told-within m = rw (m, told)
+
+module _ (p : List ℕ) where
+  pub due-refused : (all : Bool) (why : Refusal) → prefix p ≡ refuses why → due all p ≡ refuses why
+  unfolding due whole leaves
+  due-refused false why e = e
+  due-refused true why e = rw (e, ne-eqb (numberOf why .0) 0 (refusal-number why))
+
+  whole-reads : (n : ℕ) (f : Forest) → prefix p ≡ reads n f → whole p ≡ cond (ltb n (length p)) (refuses TrailingData) (reads n f)
+  unfolding whole leaves
+  whole-reads n f e = rw e
+
+  pub due-told : (all : Bool) (n : ℕ) (f : Forest) → prefix p ≡ told n f → due all p ≡ toldLeft (all && ltb n (length p)) n f
+  unfolding due
+  due-told all n f e = go (measured f) refl
+    where
+      fits : measured f ≡ ok tt → (all : Bool) → due all p ≡ toldLeft (all && ltb n (length p)) n f
+      fits m false = e ∙ told-within n f m ∙ sym (within n f m)
+      fits m true = whole-reads n (settle f) (e ∙ told-within n f m) ∙ go (ltb n (length p))
+        where
+          go : (left : Bool) → cond left (refuses TrailingData) (reads n (settle f)) ≡ toldLeft left n f
+          go true = sym (trailing n f m)
+          go false = sym (within n f m)
+
+      go : (r : Res (Unit {0})) → measured f ≡ r → due all p ≡ toldLeft (all && ltb n (length p)) n f
+      go (no why) m = due-refused all why (e ∙ told-over n f why m) ∙ sym (over n f (all && ltb n (length p)) why m)
+      go (ok u) m = fits m all
+
+-- ---- what an answer in code gives
+
+module _ (o q : List ℕ) where
+  pub gives-refused : (x : Reading) (why : Refusal) → x ≡ refuses why → Gives x (refusedAnswer why) o q o q
+  gives-refused x why e = rw e (record { answer = refl; table-is = refl; text-is = refl })
+
+  pub gives-read : (x : Reading) (n : ℕ) (f : Forest) (m : ℕ) (o′ q′ : List ℕ) → x ≡ reads n f → m ≡ size f → o′ ≡ table f 0 ++ drop (4 * size f) o → q′ ≡ text f ++ drop (length (text f)) q
+      → Gives x (record { number = 0; detail = 0; length = n; count = m }) o q o′ q′
+  gives-read x n f m o′ q′ e c t b = rw (e, c) (record { answer = refl; table-is = rw table-length t; text-is = b })
+
+-- ---- by how the run ended
+
+module _ {p nodes owners children stack unescaped : List ℕ} where
+  abbrev pub rooms : {o : Outcome} → RanIn o p nodes owners children stack unescaped → Rooms
+  rooms h = roomsOf p nodes owners children stack (h .marks) (h .keys) (h .held) unescaped
+
+  module _ (all : Bool) (o q : List ℕ) where
+    -- the machine refuses
+    pub gives-run : (c : Counts) (why : Refusal) → RanIn (outcome.Refused c why) p nodes owners children stack unescaped → Gives (due all p) (refusedAnswer why) o q o q
+    unfolding ended countsOf
+    gives-run c why h = gives-refused o q (due all p) why (due-refused p all why (prefix-refused p why (stopped-refused p why (h .ran .sound .firm .lengths .pickle) (sym (h .ran .means)))))
+
+  module _ (c : Counts) (h : RanIn (outcome.Stopped c) p nodes owners children stack unescaped) where
+    short : length p ≤ pickleLimit
+    unfolding countsOf
+    short = h .ran .sound .firm .lengths .pickle
+
+    pub firm : Firm (rooms h) c
+    unfolding countsOf
+    firm = h .ran .sound .firm
+
+    stops : run p ≡ ok (stateOf (rooms h) c)
+    unfolding ended
+    stops = sym (h .ran .means)
+
+    deep : length (stateOf (rooms h) c .stack) ≡ c .stack
+    deep = stack-length (rooms h) c (omega (arith, firm .stack, firm .deepest, firm .lengths .stack))
+
+    -- no value is left
+    pub gives-empty : (all : Bool) (o q : List ℕ) → c .stack ≡ 0 → Gives (due all p) (refusedAnswer StackUnderflow) o q o q
+    gives-empty all o q e = gives-refused o q (due all p) StackUnderflow (due-refused p all StackUnderflow (prefix-refused p StackUnderflow (stopped-empty p (stateOf (rooms h) c) short stops (omega (arith, deep, e)))))
+
+    -- a value is left
+    module _ (z : 0 < c .stack) where
+      abbrev root : ℕ
+      root = getD stack (c .stack - 1) 0
+
+      top-is : last (stateOf (rooms h) c .stack) ≡ root
+      top-is = rw (stack-of (rooms h) c, length-take-le (c .stack) stack (omega (arith, firm .stack, firm .deepest, firm .lengths .stack))) (getD-take (c .stack) stack (c .stack - 1) 0 (omega arith))
+
+      stopped-at : At p unescaped nodes owners children (c .nodes) (c .links) (rooms h) c
+      unfolding countsOf
+      stopped-at = record {
+        meant = record { ended = record { sound = h .ran .sound; words = refl; owners-are = refl; log-is = refl; count-is = refl; links-are = refl }; pickle = refl };
+        unescaped = refl;
+        stopped = sym stops;
+        bytes = h .bytes;
+      }
+
+      pub ready : Ready p unescaped nodes owners children (c .nodes) (c .links) root
+      unfolding countsOf
+      ready = record { rooms = rooms h; counts = c; at = stopped-at; known = known }
+        where
+          below : last (stateOf (rooms h) c .stack) < length (stateOf (rooms h) c .nodes)
+          below = every-at _ (length (stateOf (rooms h) c .stack) - 1) (stateOf (rooms h) c .stack) 0 (h .ran .sound .range .on-stack) (omega (arith, deep))
+
+          known : root < c .nodes
+          known = rw (top-is, nodes-length (rooms h) c) at below
+
+      consumed-at : consumed p (stateOf (rooms h) c) ≡ c .at
+      consumed-at = rw (input-of (rooms h) c, length-drop) (omega (arith, firm .at))
+
+      reads-to : prefix p ≡ told (c .at) (one (tree (stateOf (rooms h) c .nodes) root))
+      reads-to =
+          prefix-told p (stateOf (rooms h) c) (last (stateOf (rooms h) c .stack)) (stopped-with p (stateOf (rooms h) c) short stops (omega (arith, deep)))
+          ∙ ap₂ (λ (n i : ℕ). told n (one (tree (stateOf (rooms h) c .nodes) i))) consumed-at top-is
+
+      module _ (all : Bool) (o q o′ q′ : List ℕ) (b : Built) (B : Builds p unescaped nodes owners children (c .nodes) (c .links) root (all && ltb (c .at) (length p)) b o q o′ q′) where
+        pub gives-built-refused : (why : Refusal) → b ≡ built.Refused why → Gives (due all p) (refusedAnswer why) o q o′ q′
+        unfolding Builds Comes
+        gives-built-refused why e =
+            let x : Comes (all && ltb (c .at) (length p)) (one (tree (stateOf (rooms h) c .nodes) root)) (built.Refused why) o q o′ q′ = rw e at (B (rooms h) c stopped-at) in
+            rw (x .1, x .2) (gives-refused o q (due all p) why (due-told p all (c .at) _ reads-to ∙ left-refused _ (c .at) _ why (x .0)))
+
+        pub gives-built : (n : ℕ) → b ≡ built.Made n → Gives (due all p) (record { number = 0; detail = 0; length = c .at; count = n }) o q o′ q′
+        unfolding Builds Comes
+        gives-built n e =
+            let x : Comes (all && ltb (c .at) (length p)) (one (tree (stateOf (rooms h) c .nodes) root)) (built.Made n) o q o′ q′ = rw e at (B (rooms h) c stopped-at) in
+            gives-read o q (due all p) (c .at) _ n o′ q′ (due-told p all (c .at) _ reads-to ∙ left-read _ (c .at) _ (x .0)) (x .1) (x .2) (x .3)

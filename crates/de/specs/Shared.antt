@@ -1,0 +1,118 @@
+-- Demand 3's premise is neither empty nor always true: a pickle that shares a list meets it, one whose lists contain each other does not. And
+-- document 01's bench, held to the public call.
+use Prim.Native.Nat.{ℕ, zero, suc, _<_}
+use mathlib.Core.List.{List, [], _∷_}
+use mathlib.Core.Logic.{inr}
+use mathlib.Core.Path.{_≡_, refl, _∙_, ap}
+use lib.ListN.{getD}
+use native.Mathlib.Omega.{arith}
+use Rattle.refusal.specs.declared.Answer.{Answer}
+use Rattle.op.specs.Table.{rowIn, rowOf, knownName, opcodeOf}
+use Rattle.input.specs.Bytes.{lowFirst}
+use Rattle.value.specs.Value.{Label, I64L, ListL, TupleL, nil, node}
+use Rattle.decoder.specs.State.{Node, State, ok, _>>=_, need, bytes, byte, pop, top, popMany, pushId, pushNode, push, link, extend, find, has, insert, get, put}
+use Rattle.decoder.specs.Out.{Every}
+use Rattle.decoder.specs.Opcodes.{proto, lowBytes, binint1, made, tupleN, added, append, getBytes, putBytes}
+use Rattle.decoder.specs.Run.{going, does, decide, step, runs, start, run}
+use Rattle.builder.specs.Build.{at}
+use Rattle.builder.specs.Unfold.{WritesOut, nothing, afresh, In, here, there, Contains, direct, through, Reachable, NothingContainsItself}
+use Rattle.builder.specs.Reading.{Reading, reads, prefix}
+use Rattle.builder.specs.Bench.{Line, Holds, bench, bench-holds, building-holds}
+use Rattle.read.specs.Slices.{Slices}
+use Rattle.de.specs.Call.{reading, ReadCall}
+
+abbrev firstOf : Reading → List Reading → Reading
+firstOf d [] = d
+firstOf d (x ∷ l) = x
+
+abbrev rest : List Reading → List Reading
+rest [] = []
+rest (x ∷ l) = l
+
+unfoldable machine : Unit {0}
+unfolding lowFirst rowIn rowOf knownName opcodeOf _>>=_ need bytes byte pop top popMany pushId pushNode push link extend find has insert get put proto lowBytes binint1 made tupleN added append getBytes putBytes going does decide step runs start run
+machine = tt
+
+abbrev node-of : Label → List ℕ → Node
+node-of l ks = record { label = l; kids = ks }
+
+-- ---- document 01's worked input: a list is placed twice, and 5 added after that
+
+abbrev pub shared : List ℕ
+shared = 0x80 ∷ 0x02 ∷ 0x5D ∷ 0x71 ∷ 0x00 ∷ 0x68 ∷ 0x00 ∷ 0x4B ∷ 0x05 ∷ 0x61 ∷ 0x86 ∷ 0x2E ∷ []
+
+abbrev shared-nodes : List Node
+shared-nodes = node-of ListL (1 ∷ []) ∷ node-of (I64L 5) [] ∷ node-of TupleL (0 ∷ 0 ∷ []) ∷ []
+
+-- the nodes at STOP, and the root
+pub shared-stops : (s : State) × (run shared ≡ ok s) × (s .nodes ≡ shared-nodes) × (s .stack ≡ 2 ∷ [])
+unfolding machine
+shared-stops = (_, refl, refl, refl)
+
+-- contents have a lower rank
+ranked : (t : List Node) (rank : ℕ → ℕ) → ((i j : ℕ) → In j (at t i .kids) → rank j < rank i) → (root : ℕ) → NothingContainsItself t root
+unfolding NothingContainsItself
+ranked t rank h root i r c = let x = lower i i c in omega arith
+  where
+    lower : (i j : ℕ) → Contains t i j → rank j < rank i
+    lower i j (direct m) = h i j m
+    lower i j (through {k = k} m c) = let x = h i k m in let y = lower k j c in omega arith
+
+in-all : (P : ℕ → Type 0) (is : List ℕ) (j : ℕ) → In j is → Every P is → P j
+unfolding Every
+in-all P _ _ here a = a .0
+in-all P _ _ (there m) a = in-all P _ _ m (a .1)
+
+rank : ℕ → ℕ
+rank i = getD (1 ∷ 0 ∷ 2 ∷ []) i 0
+
+lower : (i : ℕ) → Every (λ (j : ℕ). rank j < rank i) (at shared-nodes i .kids)
+unfolding Every rank
+lower zero = (omega arith, tt)
+lower (suc zero) = tt
+lower (suc (suc zero)) = (omega arith, (omega arith, tt))
+lower (suc (suc (suc i))) = tt
+
+-- it meets the premise
+pub shared-apart : NothingContainsItself shared-nodes 2
+shared-apart = ranked shared-nodes rank (λ i j m. in-all (λ (k : ℕ). rank k < rank i) (at shared-nodes i .kids) j m (lower i)) 2
+
+-- its plain write-out: the list with its 5, twice
+pub shared-written : WritesOut shared-nodes (2 ∷ []) (node TupleL (node ListL (node (I64L 5) nil nil) (node ListL (node (I64L 5) nil nil) nil)) nil)
+shared-written = afresh (afresh (afresh nothing nothing) (afresh (afresh nothing nothing) nothing)) nothing
+
+-- so the call shows the 5 at both places
+pub shared-read : (l l′ : Slices) (a : Answer) → ReadCall (prefix shared) l l′ a → ReadCall (reads 12 (node TupleL (node ListL (node (I64L 5) nil nil) (node ListL (node (I64L 5) nil nil) nil)) nil)) l l′ a
+shared-read l l′ a c = c ∙ ap (λ (x : Reading). reading x l) (ap (firstOf (prefix shared)) building-holds)
+
+-- ---- two lists that contain each other
+
+abbrev pub entwined : List ℕ
+entwined = 0x5D ∷ 0x71 ∷ 0x00 ∷ 0x5D ∷ 0x71 ∷ 0x01 ∷ 0x68 ∷ 0x00 ∷ 0x61 ∷ 0x61 ∷ 0x68 ∷ 0x01 ∷ 0x86 ∷ 0x2E ∷ []
+
+abbrev entwined-nodes : List Node
+entwined-nodes = node-of ListL (1 ∷ []) ∷ node-of ListL (0 ∷ []) ∷ node-of TupleL (0 ∷ 1 ∷ []) ∷ []
+
+pub entwined-stops : (s : State) × (run entwined ≡ ok s) × (s .nodes ≡ entwined-nodes) × (s .stack ≡ 2 ∷ [])
+unfolding machine
+entwined-stops = (_, refl, refl, refl)
+
+-- it does not
+pub entwined-not : ¬ NothingContainsItself entwined-nodes 2
+unfolding NothingContainsItself Reachable
+entwined-not h = h 0 (inr (direct here)) (through here (direct here))
+
+-- ---- document 01's bench
+
+-- each of the nine pickles, read by the call, gives what stands beside it
+pub Called : List Line → Type 0
+Called t = Every (λ (n : Line). (l l′ : Slices) (a : Answer) → ReadCall (prefix (n .pickle)) l l′ a → ReadCall (n .reading) l l′ a) t
+
+called : (t : List Line) → Holds t → Called t
+unfolding Every Called
+called [] e = tt
+called (n ∷ t) e =
+    ((λ l l′ a c. c ∙ ap (λ (x : Reading). reading x l) (ap (firstOf (n .reading)) e)), called t (ap rest e))
+
+pub bench-called : Called bench
+bench-called = called bench bench-holds

@@ -1,0 +1,246 @@
+/* Qelemvir: reads, writes, orders and lists pickles of Python 2 (protocols 0 to 2), without calling anything that they name.
+
+   The functions are those of the static library that `rt staticlib pickle` makes, an archive for x86-64 with the System V calling
+   convention. Each is proved to accept all inputs, to end, and to touch nothing but what it is lent: it keeps nothing and allocates
+   nothing, and may be called from several threads at once with slices of their own. A slice is a pointer and a length in elements.
+   The pointer must be valid and aligned for its element, also where the length is 0; no slice that is written may overlap another.
+
+   A value is a table of records of four words and a text. Records stand in preorder, their texts in the same order without gaps:
+
+     word 0               word 1        word 2                           word 3
+     None                 0             0                                0
+     Bool, I64, F64       its bits      0                                0
+     Bytes, String        text place    length                           0
+     List .. FrozenSet    items         records in it with itself        0
+     Dict                 entries       records in it with itself        0
+     Global               text place    module length * 2^32 + name's    0
+     Object               as Global for its class                        records in it with itself
+
+   A name's text follows its module's directly. After an Object stand its arguments, as a Tuple, and then its state if it has one;
+   a Dict alternates key and value. Set items and dict keys stand in strictly ascending order. */
+#ifndef QELEMVIR_H
+#define QELEMVIR_H
+
+#include <stddef.h>
+#include <stdint.h>
+
+#ifdef __cplusplus
+extern "C" {
+#endif
+
+/* What a call but compare answers. A refusal has length and count 0, and has changed no output. */
+struct qelemvir_answer {
+    uint64_t number; /* 0, or why it refuses: enum qelemvir_refusal */
+    uint64_t detail; /* 0 unless said there */
+    uint64_t length; /* bytes read or written */
+    uint64_t count;  /* records of a reading; else 0 */
+};
+
+/* What compare answers. */
+struct qelemvir_compared {
+    uint64_t number; /* 0 or QELEMVIR_BAD_TABLE */
+    uint64_t detail; /* of QELEMVIR_BAD_TABLE: 1 for the first table, 2 for the second */
+    int64_t sign;    /* -1, 0 or 1; 0 where it refuses */
+};
+
+/* Why a call refuses. The readings test 1, then 2, then go opcode by opcode; 17, 18, 19 and then 11 come after STOP. */
+enum qelemvir_refusal {
+    QELEMVIR_SHORT_ROOM = 1,           /* a lent room or output is shorter than stated: nothing was touched */
+    QELEMVIR_TOO_LONG = 2,             /* the pickle's slice is longer than QELEMVIR_MOST_BYTES */
+    QELEMVIR_END_OF_INPUT = 3,         /* the pickle ends before its STOP */
+    QELEMVIR_UNSUPPORTED_OPCODE = 4,   /* none of protocols 0 to 2, or INST, OBJ, a persistent id, an extension; detail: the byte */
+    QELEMVIR_UNSUPPORTED_PROTOCOL = 5, /* above 2; detail: the number */
+    QELEMVIR_STACK_UNDERFLOW = 6,      /* an opcode, or STOP, needs a value or mark that is not there */
+    QELEMVIR_MISSING_MEMO = 7,         /* a GET of a memo number that was never put; detail: the number */
+    QELEMVIR_INVALID_LITERAL = 8,      /* a line or text without its opcode's form, or an INT or LONG outside 64 bits */
+    QELEMVIR_INTEGER_TOO_LARGE = 9,    /* a LONG1 or LONG4 outside 64 bits */
+    QELEMVIR_INVALID = 10,             /* something other than what an opcode needs; detail: enum qelemvir_invalid */
+    QELEMVIR_TRAILING_DATA = 11,       /* bytes are left behind STOP (the whole reading only) */
+    QELEMVIR_STACK_FULL = 12,          /* more than QELEMVIR_MOST_STACK values on the stack */
+    QELEMVIR_MARKS_FULL = 13,          /* more than QELEMVIR_MOST_MARKS marks open */
+    QELEMVIR_MEMO_FULL = 14,           /* more than QELEMVIR_MOST_MEMO different memo numbers */
+    QELEMVIR_NODES_FULL = 15,          /* more than QELEMVIR_MOST_NODES values made by opcodes */
+    QELEMVIR_LINKS_FULL = 16,          /* more than QELEMVIR_MOST_LINKS items in lists, tuples and (two each) dict entries */
+    QELEMVIR_TOO_DEEP = 17,            /* nested deeper than QELEMVIR_MOST_DEPTH, the argument of a set being a level */
+    QELEMVIR_TOO_MANY_VALUES = 18,     /* more than QELEMVIR_MOST_VALUES values, before equal keys or items collapse */
+    QELEMVIR_TEXT_FULL = 19,           /* more than QELEMVIR_MOST_TEXT bytes of text, before equal keys or items collapse */
+    QELEMVIR_FLOAT_OUTSIDE = 20,       /* inf, nan, or a FLOAT whose digits are above 2^53 or power of ten outside -22 to 22 */
+    QELEMVIR_BAD_TABLE = 21,           /* a table is not well formed; detail: 1, or 2 for the second table of compare */
+    QELEMVIR_OUTPUT_FULL = 22          /* what is to be written is longer than the lent output */
+};
+
+/* The details of QELEMVIR_INVALID. */
+enum qelemvir_invalid {
+    QELEMVIR_INVALID_LENGTH = 1,     /* a BINSTRING with a negative length */
+    QELEMVIR_INVALID_DICT_ITEMS = 2, /* a key without its value */
+    QELEMVIR_INVALID_LIST = 3,       /* APPEND or APPENDS to something that is no list */
+    QELEMVIR_INVALID_DICT = 4,       /* SETITEM or SETITEMS on something that is no dict */
+    QELEMVIR_INVALID_CLASS = 5,      /* REDUCE or NEWOBJ of something that is no global */
+    QELEMVIR_INVALID_ARGUMENTS = 6,  /* REDUCE or NEWOBJ with arguments that are no tuple */
+    QELEMVIR_INVALID_OBJECT = 7      /* BUILD on something that is no object */
+};
+
+/* A record's kind: word 0 modulo QELEMVIR_KINDS. */
+enum qelemvir_kind {
+    QELEMVIR_KIND_NONE = 0,
+    QELEMVIR_KIND_BOOL = 1,
+    QELEMVIR_KIND_I64 = 2,
+    QELEMVIR_KIND_F64 = 3,
+    QELEMVIR_KIND_BYTES = 4,
+    QELEMVIR_KIND_STRING = 5, /* valid UTF-8, as module and name are */
+    QELEMVIR_KIND_LIST = 6,
+    QELEMVIR_KIND_TUPLE = 7,
+    QELEMVIR_KIND_SET = 8,
+    QELEMVIR_KIND_FROZENSET = 9,
+    QELEMVIR_KIND_DICT = 10,
+    QELEMVIR_KIND_GLOBAL = 11,
+    QELEMVIR_KIND_OBJECT = 12
+};
+#define QELEMVIR_KINDS 16
+
+/* What word 0 of an Object has besides its kind. */
+#define QELEMVIR_OBJECT_NEW 16   /* made by NEWOBJ, not by REDUCE */
+#define QELEMVIR_OBJECT_STATE 32 /* a state follows its arguments */
+
+#define QELEMVIR_RECORD 4 /* words of a record */
+
+/* The numbers that stop a reading: so much is accepted, one more is refused. */
+#define QELEMVIR_MOST_BYTES 65536
+#define QELEMVIR_MOST_STACK 2048
+#define QELEMVIR_MOST_MARKS 256
+#define QELEMVIR_MOST_MEMO 1024
+#define QELEMVIR_MOST_NODES 4096
+#define QELEMVIR_MOST_LINKS 8192
+#define QELEMVIR_MOST_DEPTH 64
+#define QELEMVIR_MOST_VALUES 2048
+#define QELEMVIR_MOST_TEXT 65536
+
+/* What a reading is lent, in elements: 18 working rooms and two outputs. Longer slices do, and keep what is behind. */
+#define QELEMVIR_NODES 8192
+#define QELEMVIR_OWNERS 16384
+#define QELEMVIR_CHILDREN 16384
+#define QELEMVIR_STACK 2048
+#define QELEMVIR_MARKS 256
+#define QELEMVIR_KEYS 1024
+#define QELEMVIR_HELD 1024
+#define QELEMVIR_UNESCAPED 65536
+#define QELEMVIR_STARTS 4098
+#define QELEMVIR_SORTED 16384
+#define QELEMVIR_MEASURES 4096
+#define QELEMVIR_FLAT 2048
+#define QELEMVIR_RAW 8192
+#define QELEMVIR_TEXTS 65536
+#define QELEMVIR_WORDS 8192
+#define QELEMVIR_SPARE 8192
+#define QELEMVIR_ORDER 2048
+#define QELEMVIR_OTHER 2048
+#define QELEMVIR_TABLE 8192
+#define QELEMVIR_TEXT 65536
+
+/* Outputs of these lengths, in bytes, never give QELEMVIR_OUTPUT_FULL. */
+#define QELEMVIR_OUTPUT_MAX 122883  /* of to_bytes */
+#define QELEMVIR_LISTING_MAX 370688 /* of list */
+
+/* The parameters of a reading. */
+#define QELEMVIR_LENT                                       \
+    const uint8_t *pickle, size_t pickle_len,               \
+    uint64_t *nodes, size_t nodes_len,                      \
+    uint16_t *owners, size_t owners_len,                    \
+    uint16_t *children, size_t children_len,                \
+    uint16_t *stack, size_t stack_len,                      \
+    uint16_t *marks, size_t marks_len,                      \
+    uint32_t *keys, size_t keys_len,                        \
+    uint16_t *held, size_t held_len,                        \
+    uint8_t *unescaped, size_t unescaped_len,               \
+    uint16_t *starts, size_t starts_len,                    \
+    uint16_t *sorted, size_t sorted_len,                    \
+    uint64_t *measures, size_t measures_len,                \
+    uint64_t *flat, size_t flat_len,                        \
+    uint64_t *raw, size_t raw_len,                          \
+    uint8_t *texts, size_t texts_len,                       \
+    uint64_t *words, size_t words_len,                      \
+    uint64_t *spare, size_t spare_len,                      \
+    uint64_t *order, size_t order_len,                      \
+    uint64_t *other, size_t other_len,                      \
+    uint64_t *table, size_t table_len,                      \
+    uint8_t *text, size_t text_len
+
+/* Read the pickle at the start of the slice. On success `length` is the bytes read and `count` the records in `table`; of `table` and
+   `text` only what is filled has changed, and the table is well formed. The rooms may hold anything before. After every answer but
+   QELEMVIR_SHORT_ROOM they are zero up to their stated lengths. */
+struct qelemvir_answer qelemvir_from_bytes_prefix(QELEMVIR_LENT);
+
+/* Read a pickle that is the whole slice: the same answer, but for QELEMVIR_TRAILING_DATA exactly where the prefix reading succeeds
+   and leaves bytes. */
+struct qelemvir_answer qelemvir_from_bytes(QELEMVIR_LENT);
+
+/* The length of a well-formed table's text, which a reading does not return and the calls below ask for. */
+size_t qelemvir_text_len(const uint64_t *words, size_t words_len, size_t count);
+
+/* Write a value as a pickle of protocol 2: BAD_TABLE, then OUTPUT_FULL exactly where the pickle is longer than the output, else
+   `length` bytes at its start, what stands behind being kept. `text_len` must be the length of the table's text, here and below. */
+struct qelemvir_answer qelemvir_to_bytes(const uint64_t *words, size_t words_len, size_t count, const uint8_t *text, size_t text_len,
+                                         uint8_t *output, size_t output_len);
+
+/* Write a line for each record: depth from 0, kind, content, with tabs between. Refusals and output as for to_bytes. */
+struct qelemvir_answer qelemvir_list(const uint64_t *words, size_t words_len, size_t count, const uint8_t *text, size_t text_len,
+                                     uint8_t *output, size_t output_len);
+
+/* The total order of two values: by kind; false before true; integers by value, floats by IEEE totalOrder, text by bytes, sequences
+   item by item, dicts by key and value pairs, globals by module and name, objects by class, arguments, new, state. */
+struct qelemvir_compared qelemvir_compare(const uint64_t *first, size_t first_len, size_t first_count,
+                                          const uint8_t *first_text, size_t first_text_len,
+                                          const uint64_t *second, size_t second_len, size_t second_count,
+                                          const uint8_t *second_text, size_t second_text_len);
+
+/* The working rooms at their stated lengths, some 580 KB: make one, use it for any number of readings, one at a time. */
+struct qelemvir_rooms {
+    uint64_t nodes[QELEMVIR_NODES];
+    uint16_t owners[QELEMVIR_OWNERS];
+    uint16_t children[QELEMVIR_CHILDREN];
+    uint16_t stack[QELEMVIR_STACK];
+    uint16_t marks[QELEMVIR_MARKS];
+    uint32_t keys[QELEMVIR_KEYS];
+    uint16_t held[QELEMVIR_HELD];
+    uint8_t unescaped[QELEMVIR_UNESCAPED];
+    uint16_t starts[QELEMVIR_STARTS];
+    uint16_t sorted[QELEMVIR_SORTED];
+    uint64_t measures[QELEMVIR_MEASURES];
+    uint64_t flat[QELEMVIR_FLAT];
+    uint64_t raw[QELEMVIR_RAW];
+    uint8_t texts[QELEMVIR_TEXTS];
+    uint64_t words[QELEMVIR_WORDS];
+    uint64_t spare[QELEMVIR_SPARE];
+    uint64_t order[QELEMVIR_ORDER];
+    uint64_t other[QELEMVIR_OTHER];
+};
+
+/* The arguments of a reading in such rooms; `table` and `text` have QELEMVIR_TABLE words and QELEMVIR_TEXT bytes. */
+#define QELEMVIR_LEND(rooms, pickle, pickle_len, table, text)                                                    \
+    pickle, pickle_len, (rooms)->nodes, QELEMVIR_NODES, (rooms)->owners, QELEMVIR_OWNERS,                        \
+    (rooms)->children, QELEMVIR_CHILDREN, (rooms)->stack, QELEMVIR_STACK, (rooms)->marks, QELEMVIR_MARKS,        \
+    (rooms)->keys, QELEMVIR_KEYS, (rooms)->held, QELEMVIR_HELD, (rooms)->unescaped, QELEMVIR_UNESCAPED,          \
+    (rooms)->starts, QELEMVIR_STARTS, (rooms)->sorted, QELEMVIR_SORTED, (rooms)->measures, QELEMVIR_MEASURES,    \
+    (rooms)->flat, QELEMVIR_FLAT, (rooms)->raw, QELEMVIR_RAW, (rooms)->texts, QELEMVIR_TEXTS,                    \
+    (rooms)->words, QELEMVIR_WORDS, (rooms)->spare, QELEMVIR_SPARE, (rooms)->order, QELEMVIR_ORDER,              \
+    (rooms)->other, QELEMVIR_OTHER, table, QELEMVIR_TABLE, text, QELEMVIR_TEXT
+
+/* from_bytes_prefix in such rooms. */
+static inline struct qelemvir_answer qelemvir_read_prefix(struct qelemvir_rooms *rooms, const uint8_t *pickle, size_t pickle_len,
+                                                          uint64_t *table, uint8_t *text)
+{
+    return qelemvir_from_bytes_prefix(QELEMVIR_LEND(rooms, pickle, pickle_len, table, text));
+}
+
+/* from_bytes in such rooms. */
+static inline struct qelemvir_answer qelemvir_read(struct qelemvir_rooms *rooms, const uint8_t *pickle, size_t pickle_len,
+                                                   uint64_t *table, uint8_t *text)
+{
+    return qelemvir_from_bytes(QELEMVIR_LEND(rooms, pickle, pickle_len, table, text));
+}
+
+#ifdef __cplusplus
+}
+#endif
+
+#endif

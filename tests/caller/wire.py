@@ -1,0 +1,59 @@
+"""Requests to the program caller, which makes the library's calls: their form (struct request of caller.c), what comes back."""
+import os
+import struct
+import subprocess
+
+HERE = os.path.dirname(os.path.abspath(__file__))
+VALUE, PREFIX, WHOLE, WRITE, LIST, COMPARE = range(6)
+CALLS = ["value", "from_bytes_prefix", "from_bytes", "to_bytes", "list", "compare"]
+# The stated lengths of a reading's slices: 18 rooms, table and text.
+STATED = [8192, 16384, 16384, 2048, 256, 1024, 1024, 65536, 4098, 16384, 4096, 2048, 8192, 65536, 8192, 8192, 2048, 2048] + [8192, 65536]
+TABLE = 8192
+CURRENT, PREVIOUS = 0, 1    # the value last given, and the one before it
+HEAD = struct.Struct("<10Q")
+
+
+def request(call, tag, seed, answer=(0, 0, 0), which=0, size=0, words=(), data=b""):
+    numbers = [call, tag, seed, *answer, which, size, len(words), len(data)]
+    return HEAD.pack(*(n % (1 << 64) for n in numbers)) + struct.pack("<%dQ" % len(words), *words) + data + bytes(-len(data) % 8)
+
+
+def value(tag, seed, words, text, count=None, lent=None):
+    """A table for the calls that follow, of as many words as are lent: those given, then noise."""
+    count, lent = len(words) // 4 if count is None else count, len(words) if lent is None else lent
+    return request(VALUE, tag, seed, which=lent, size=count, words=words, data=text)
+
+
+def reading(call, tag, seed, pickle, answer, which=len(STATED), longer=0):
+    """A reading with number, detail and length due, and the current value where the number is 0. One slice may be lent longer than
+    stated by so many elements, or shorter."""
+    return request(call, tag, seed, answer, which, longer, data=pickle)
+
+
+def output(call, tag, seed, due):
+    """list or to_bytes of the current value, with outputs of several lengths, and the bytes due."""
+    return request(call, tag, seed, data=due)
+
+
+def comparison(tag, seed, sign, first, second):
+    return request(COMPARE, tag, seed, (0, 0, sign), first, second)
+
+
+def bad(tag, seed):
+    """Every call on the current table, which is not well formed, while the previous one is."""
+    yield from (request(call, tag, seed, (21, 1, 0)) for call in (WRITE, LIST))
+    for first, second, detail in ((CURRENT, PREVIOUS, 1), (PREVIOUS, CURRENT, 2), (CURRENT, CURRENT, 1)):
+        yield request(COMPARE, tag, seed, (21, detail, 0), first, second)
+
+
+def answered(requests):
+    """Make the calls: (tag, what differs) in order, and how many requests there were of each call."""
+    done = subprocess.run([os.path.join(HERE, "run")], input=b"".join(requests), stdout=subprocess.PIPE)
+    lines = done.stdout.decode().splitlines()
+    counts = [0] * len(CALLS)
+    if done.returncode == 0:
+        counts = [int(n) for n in lines.pop().split(" ")[1:]]
+    differences = [(int(tag), what) for tag, what in (line.split("\t", 1) for line in lines)]
+    if sum(counts) != len(requests) and not differences:
+        raise RuntimeError("caller: status %d, %d of %d requests done" % (done.returncode, sum(counts), len(requests)))
+    return differences, counts
