@@ -7,6 +7,11 @@ COMMENTS = [b"", b"none", b"better in the morning", b"it's worse", b'says "ok"',
             "\u65e5\u672c \U0001f600", "a\\b\nc"]
 OTHERS = [b"comment", b"tablet", b"visit", b"version", b"patient", b"weight", b"history", b"extra"]
 
+# The sample of samples/: two sheets that share the record which says that their reverse-scored item has been flipped.
+RECORD = {b"flipped": True, b"reverse": Set([2])}
+SAMPLE = [{b"answers": {1: 3, 2: 0}, b"max": 4, b"record": RECORD},
+          {b"answers": {1: 2, 2: 1}, b"max": 4, b"record": RECORD}]
+
 
 def answers(d, items, top):
     """Item numbers to answers, now and then out of range or of another kind."""

@@ -9,17 +9,18 @@ use native.Mathlib.Omega.{arith}
 use Rattle.refusal.specs.declared.Answer.{Answer}
 use Rattle.op.specs.Table.{rowIn, rowOf, knownName, opcodeOf}
 use Rattle.input.specs.Bytes.{lowFirst}
-use Rattle.value.specs.Value.{Label, I64L, ListL, TupleL, nil, node}
+use Rattle.value.specs.Value.{Label, Forest, I64L, ListL, TupleL, nil, node}
 use Rattle.decoder.specs.State.{Node, State, ok, _>>=_, need, bytes, byte, pop, top, popMany, pushId, pushNode, push, link, extend, find, has, insert, get, put}
 use Rattle.decoder.specs.Out.{Every}
 use Rattle.decoder.specs.Opcodes.{proto, lowBytes, binint1, made, tupleN, added, append, getBytes, putBytes}
 use Rattle.decoder.specs.Run.{going, does, decide, step, runs, start, run}
 use Rattle.builder.specs.Build.{at}
 use Rattle.builder.specs.Unfold.{WritesOut, nothing, afresh, In, here, there, Contains, direct, through, Reachable, NothingContainsItself}
-use Rattle.builder.specs.Reading.{Reading, reads, prefix}
-use Rattle.builder.specs.Bench.{Line, Holds, bench, bench-holds, building-holds}
+use Rattle.builder.specs.Reading.{Reading, told, consumed, prefix}
+use Rattle.builder.specs.Bench.{Line, Holds, bench, bench-holds}
 use Rattle.read.specs.Slices.{Slices}
 use Rattle.de.specs.Call.{reading, ReadCall}
+use Rattle.de.specs.Theorems.{Place, shown-here, shown-inside, shown-after, call-never-shows-sharing}
 
 abbrev firstOf : Reading → List Reading → Reading
 firstOf d [] = d
@@ -45,9 +46,9 @@ abbrev shared-nodes : List Node
 shared-nodes = node-of ListL (1 ∷ []) ∷ node-of (I64L 5) [] ∷ node-of TupleL (0 ∷ 0 ∷ []) ∷ []
 
 -- the nodes at STOP, and the root
-pub shared-stops : (s : State) × (run shared ≡ ok s) × (s .nodes ≡ shared-nodes) × (s .stack ≡ 2 ∷ [])
+pub shared-stops : (s : State) × (run shared ≡ ok s) × (s .nodes ≡ shared-nodes) × (s .stack ≡ 2 ∷ []) × (s .input ≡ [])
 unfolding machine
-shared-stops = (_, refl, refl, refl)
+shared-stops = (_, refl, refl, refl, refl)
 
 -- contents have a lower rank
 ranked : (t : List Node) (rank : ℕ → ℕ) → ((i j : ℕ) → In j (at t i .kids) → rank j < rank i) → (root : ℕ) → NothingContainsItself t root
@@ -78,12 +79,23 @@ pub shared-apart : NothingContainsItself shared-nodes 2
 shared-apart = ranked shared-nodes rank (λ i j m. in-all (λ (k : ℕ). rank k < rank i) (at shared-nodes i .kids) j m (lower i)) 2
 
 -- its plain write-out: the list with its 5, twice
-pub shared-written : WritesOut shared-nodes (2 ∷ []) (node TupleL (node ListL (node (I64L 5) nil nil) (node ListL (node (I64L 5) nil nil) nil)) nil)
+abbrev pub shared-forest : Forest
+shared-forest = node TupleL (node ListL (node (I64L 5) nil nil) (node ListL (node (I64L 5) nil nil) nil)) nil
+
+abbrev pub shared-written : WritesOut shared-nodes (2 ∷ []) shared-forest
 shared-written = afresh (afresh (afresh nothing nothing) (afresh (afresh nothing nothing) nothing)) nothing
 
--- so the call shows the 5 at both places
-pub shared-read : (l l′ : Slices) (a : Answer) → ReadCall (prefix shared) l l′ a → ReadCall (reads 12 (node TupleL (node ListL (node (I64L 5) nil nil) (node ListL (node (I64L 5) nil nil) nil)) nil)) l l′ a
-shared-read l l′ a c = c ∙ ap (λ (x : Reading). reading x l) (ap (firstOf (prefix shared)) building-holds)
+-- at both places of the list stands the 5, which was added after it was placed
+pub shared-places : Place 0 (node (I64L 5) nil nil) (2 ∷ []) shared-forest shared-written × Place 0 (node (I64L 5) nil nil) (2 ∷ []) shared-forest shared-written
+shared-places = (shown-inside shown-here, shown-inside (shown-after shown-here))
+
+-- so the call gives that write-out, by demand 3
+pub shared-read : (l l′ : Slices) (a : Answer) → ReadCall (prefix shared) l l′ a → ReadCall (told 12 shared-forest) l l′ a
+shared-read l l′ a c =
+    let x = shared-stops in
+    let e : consumed shared (x .0) ≡ 12 = rw (x .4) refl in
+    rw (← e)
+    (call-never-shows-sharing shared (x .0) (omega arith) (x .1) (rw (x .3) (omega arith)) (rw (x .2, x .3) shared-apart) shared-forest (rw (x .2, x .3) shared-written) l l′ a c)
 
 -- ---- two lists that contain each other
 

@@ -1,17 +1,19 @@
 -- What every reading by the public calls keeps to: sharing never shows, items added late show at each place, the answer and all slices are
 -- determined, and what is filled is a well-formed table. ReadCall x l l′ a is a call's whole promise, with x the prefix or the whole reading.
 use Prim.Native.Nat.{ℕ, _*_, _<_, _≤_}
-use mathlib.Core.Bool.{Bool, true, false}
+use mathlib.Core.Bool.{Bool, true, false, _&&_}
 use mathlib.Core.List.{List, [], _∷_, _++_}
 use mathlib.Core.Path.{_≡_, refl, sym, _∙_, ap}
+use mathlib.Core.Logic.{_⊎_, inl, inr}
 use lib.ListN.{length, length-append, take, drop}
 use lib.Seq.{take-append-seam, take-append-le}
 use native.Mathlib.Omega.{arith}
-use lib.Dec.{leb, ltb}
+use lib.Dec.{eqb, leb, ltb}
 use borrow.Author.Tests.{leb-true, leb-false, ltb-true, ltb-false}
 use Rattle.refusal.specs.declared.Refusal.{Refusal}
-use Rattle.refusal.specs.declared.Refusal.the-variants.{TooLong, StackUnderflow}
+use Rattle.refusal.specs.declared.Refusal.the-variants.{ShortRoom, TooLong, StackUnderflow, TrailingData}
 use Rattle.refusal.specs.declared.Answer.{Answer}
+use Rattle.refusal.specs.Numbers.{refusedAnswer}
 use Rattle.input.specs.Bytes.{Bytes}
 use Rattle.value.specs.Value.{Forest, node, one}
 use Rattle.value.specs.WellFormed.{WellFormed}
@@ -21,8 +23,8 @@ use Rattle.decoder.specs.Run.{run}
 use Rattle.builder.specs.Build.{at, tree}
 use Rattle.builder.specs.Measure.{measured}
 use Rattle.builder.specs.Settle.{settle}
-use Rattle.builder.specs.Unfold.{WritesOut, afresh, NothingContainsItself, write-out-unique, write-out}
-use Rattle.builder.specs.Reading.{Reading, refuses, reads, told, consumed, consumed-rest, prefix, whole, pickleLimit, stopped-long, stopped-refused, stopped-empty, stopped-with, prefix-refused, prefix-told, told-fits, sharing-never-shows}
+use Rattle.builder.specs.Unfold.{WritesOut, afresh, In, here, there, Contains, direct, through, Reachable, NothingContainsItself, write-out-unique, write-out}
+use Rattle.builder.specs.Reading.{Reading, refuses, reads, told, consumed, consumed-rest, prefix, whole, leaves, whole-trailing, whole-prefix, pickleLimit, stopped-long, stopped-refused, stopped-empty, stopped-with, prefix-refused, prefix-told, told-fits, sharing-never-shows}
 use Rattle.builder.specs.Success.{Formed, refusal-number, prefix-well-formed, whole-well-formed}
 use Rattle.read.specs.Slices.{Slices, filled}
 use Rattle.de.specs.Call.{Left, short, blank, reading, ReadCall}
@@ -43,19 +45,55 @@ module _ (p : List ℕ) (s : State) (fits : length p ≤ pickleLimit) (stops : r
 
 -- somewhere in a write-out stands the node i, with the contents c
 pub data Place {t : List Node} (i : ℕ) (c : Forest) : (is : List ℕ) (f : Forest) → WritesOut t is f → Type 0 where
-  here : {is : List ℕ} {r : Forest} {w : WritesOut t (at t i .kids) c} {x : WritesOut t is r} → Place i c (i ∷ is) (node (at t i .label) c r) (afresh w x)
-  inside : {j : ℕ} {is : List ℕ} {d r : Forest} {w : WritesOut t (at t j .kids) d} {x : WritesOut t is r} → Place i c (at t j .kids) d w → Place i c (j ∷ is) (node (at t j .label) d r) (afresh w x)
-  after : {j : ℕ} {is : List ℕ} {d r : Forest} {w : WritesOut t (at t j .kids) d} {x : WritesOut t is r} → Place i c is r x → Place i c (j ∷ is) (node (at t j .label) d r) (afresh w x)
+  shown-here : {is : List ℕ} {r : Forest} {w : WritesOut t (at t i .kids) c} {x : WritesOut t is r} → Place i c (i ∷ is) (node (at t i .label) c r) (afresh w x)
+  shown-inside : {j : ℕ} {is : List ℕ} {d r : Forest} {w : WritesOut t (at t j .kids) d} {x : WritesOut t is r} → Place i c (at t j .kids) d w → Place i c (j ∷ is) (node (at t j .label) d r) (afresh w x)
+  shown-after : {j : ℕ} {is : List ℕ} {d r : Forest} {w : WritesOut t (at t j .kids) d} {x : WritesOut t is r} → Place i c is r x → Place i c (j ∷ is) (node (at t j .label) d r) (afresh w x)
 
--- At each of its places a node shows all the contents that it has at STOP, whenever they were added and wherever it had been placed before.
-pub late-items-show : {t : List Node} (i : ℕ) (c : Forest) {is : List ℕ} {f : Forest} {w : WritesOut t is f} → Place i c is f w → WritesOut t (at t i .kids) c
-late-items-show i c (here {w = w}) = w
-late-items-show i c (inside p) = late-items-show i c p
-late-items-show i c (after p) = late-items-show i c p
+-- the contents at a place are the write-out of all that the node has at STOP
+pub place-shows : {t : List Node} (i : ℕ) (c : Forest) {is : List ℕ} {f : Forest} {w : WritesOut t is f} → Place i c is f w → WritesOut t (at t i .kids) c
+place-shows i c (shown-here {w = w}) = w
+place-shows i c (shown-inside p) = place-shows i c p
+place-shows i c (shown-after p) = place-shows i c p
 
--- so any two of its places show the same
+-- so any two places of a node show the same
 pub same-at-each-place : {t : List Node} (i : ℕ) (c d : Forest) {is js : List ℕ} {f g : Forest} {w : WritesOut t is f} {x : WritesOut t js g} → Place i c is f w → Place i d js g x → c ≡ d
-same-at-each-place i c d p q = write-out-unique (late-items-show i c p) (late-items-show i d q)
+same-at-each-place i c d p q = write-out-unique (place-shows i c p) (place-shows i d q)
+
+-- a node that is listed has a place
+listed-placed : {t : List Node} (i : ℕ) (is : List ℕ) (f : Forest) → In i is → (w : WritesOut t is f) → (c : Forest) × Place i c is f w
+listed-placed i _ _ here (afresh {c = c} w x) = (c, shown-here)
+listed-placed i _ _ (there m) (afresh w x) = let p = listed-placed i _ _ m x in (p .0, shown-after (p .1))
+
+-- and so has a node that a listed one contains
+contained-placed : {t : List Node} (j i : ℕ) (is : List ℕ) (f : Forest) → In j is → Contains t j i → (w : WritesOut t is f) → (c : Forest) × Place i c is f w
+contained-placed j i _ _ (there m) r (afresh w x) = let p = contained-placed j i _ _ m r x in (p .0, shown-after (p .1))
+contained-placed j i _ _ here (direct k) (afresh w x) = let p = listed-placed i _ _ k w in (p .0, shown-inside (p .1))
+contained-placed j i _ _ here (through k r) (afresh w x) = let p = contained-placed _ i _ _ k r w in (p .0, shown-inside (p .1))
+
+-- What the call fills is a write-out in which each node that the value left reaches has a place, and at every place of a node stand all
+-- the contents that it has at STOP, whenever an opcode added them and wherever the node had been placed before.
+pub record LateItems (p : List ℕ) (s : State) (l l′ : Slices) (a : Answer) : Type 0 where
+  pub forest : Forest
+  pub written : WritesOut (s .nodes) (last (s .stack) ∷ []) forest
+  pub called : ReadCall (told (consumed p s) forest) l l′ a
+  pub placed : (i : ℕ) → Reachable (s .nodes) (last (s .stack)) i → (c : Forest) × Place i c (last (s .stack) ∷ []) forest written
+  pub shown : (i : ℕ) (c : Forest) → Place i c (last (s .stack) ∷ []) forest written → WritesOut (s .nodes) (at (s .nodes) i .kids) c
+
+pub late-items-show : (p : List ℕ) (s : State) → length p ≤ pickleLimit → run p ≡ ok s → 0 < length (s .stack) → NothingContainsItself (s .nodes) (last (s .stack)) → (l l′ : Slices) (a : Answer) → ReadCall (prefix p) l l′ a → LateItems p s l l′ a
+unfolding Reachable
+late-items-show p s fits stops left apart l l′ a c =
+    let o = one-write-out p s fits stops left apart in
+    record {
+      forest = o .0;
+      written = o .1;
+      called = call-never-shows-sharing p s fits stops left apart (o .0) (o .1) l l′ a c;
+      placed = λ i r. from i (o .0) (o .1) r;
+      shown = λ i d q. place-shows i d q;
+    }
+  where
+    from : (i : ℕ) (f : Forest) (w : WritesOut (s .nodes) (last (s .stack) ∷ []) f) → (i ≡ last (s .stack)) ⊎ Contains (s .nodes) (last (s .stack)) i → (d : Forest) × Place i d (last (s .stack) ∷ []) f w
+    from i f w (inl e) = listed-placed i _ f (rw e here) w
+    from i f w (inr r) = contained-placed (last (s .stack)) i _ f here r w
 
 -- ---- 3. what a call leaves
 
@@ -63,79 +101,138 @@ same-at-each-place i c d p q = write-out-unique (late-items-show i c p) (late-it
 longer : (w r : List ℕ) (n : ℕ) (t : List ℕ) → WellFormed w n t → WellFormed (w ++ r) n t
 longer w r n t h = record { value = h .value; shape = h .shape; settle = h .settle; counted = h .counted; few = h .few; shallow = h .shallow; lent = rw length-append (let x = h .lent in omega arith); records = take-append-le (4 * n) w r (h .lent) ∙ h .records; texts = h .texts; short = h .short }
 
-module _ (x : Reading) (l l′ : Slices) (a : Answer) (c : ReadCall x l l′ a) (long : short l ≡ false) where
-  says : _≡_ {A = Left} (record { answer = a; slices = l′ }) (record { answer = x .answer; slices = filled x (blank l) })
+module _ (x : Reading) (l l′ : Slices) (a : Answer) (c : ReadCall x l l′ a) where
+  -- the reading's own answer, and the slices as it leaves them
+  module _ (long : short l ≡ false) where
+    says : _≡_ {A = Left} (record { answer = a; slices = l′ }) (record { answer = x .answer; slices = filled x (blank l) })
+    unfolding reading
+    says = c ∙ rw long
+
+    pub call-answer : a ≡ x .answer
+    call-answer = ap (λ (y : Left). y .answer) says
+
+    pub call-slices : l′ ≡ filled x (blank l)
+    call-slices = ap (λ (y : Left). y .slices) says
+
+    -- a refusal leaves every room zero and the outputs as they came
+    pub call-refused : (why : Refusal) → x ≡ refuses why → (a ≡ refusedAnswer why) × (l′ ≡ blank l)
+    unfolding filled
+    call-refused why e = (call-answer ∙ ap (λ (y : Reading). y .answer) e, call-slices ∙ ap (λ (y : Reading). filled y (blank l)) e)
+
+  -- success means that no slice was short
+  pub call-long-enough : a .number ≡ 0 → short l ≡ false
   unfolding reading
-  says = c ∙ rw long
-
-  pub call-answer : a ≡ x .answer
-  call-answer = ap (λ (y : Left). y .answer) says
-
-  pub call-table : l′ .table ≡ x .words ++ drop (length (x .words)) (l .table)
-  unfolding filled blank
-  call-table = ap (λ (y : Left). y .slices .table) says
-
-  pub call-text : l′ .text ≡ x .bytes ++ drop (length (x .bytes)) (l .text)
-  unfolding filled blank
-  call-text = ap (λ (y : Left). y .slices .text) says
+  call-long-enough z = go (short l) refl
+    where
+      go : (b : Bool) → short l ≡ b → b ≡ false
+      go false e = refl
+      go true e =
+          let q : _≡_ {A = Left} (record { answer = a; slices = l′ }) (record { answer = refusedAnswer ShortRoom; slices = l }) = c ∙ rw e in
+          absurd (refusal-number ShortRoom (sym (ap (λ (y : Left). y .answer .number) q) ∙ z))
 
   -- on success the table and the text that its records say are well formed: what compare, list and write ask
   pub call-well-formed : Formed x → a .number ≡ 0 → WellFormed (l′ .table) (a .count) (take (textLength (l′ .table) (a .count)) (l′ .text))
-  unfolding Formed
-  call-well-formed f e = go (f (ap (λ (y : Answer). y .number) (sym call-answer) ∙ e))
+  unfolding Formed filled blank
+  call-well-formed f e = go (f (ap (λ (y : Answer). y .number) (sym answer) ∙ e))
     where
+      long : short l ≡ false
+      long = call-long-enough e
+
+      answer : a ≡ x .answer
+      answer = call-answer long
+
+      table : l′ .table ≡ x .words ++ drop (length (x .words)) (l .table)
+      table = ap (λ (y : Slices). y .table) (call-slices long)
+
+      text : l′ .text ≡ x .bytes ++ drop (length (x .bytes)) (l .text)
+      text = ap (λ (y : Slices). y .text) (call-slices long)
+
       go : WellFormed (x .words) (x .answer .count) (x .bytes) → WellFormed (l′ .table) (a .count) (take (textLength (l′ .table) (a .count)) (l′ .text))
       go w =
           let t : WellFormed (x .words ++ drop (length (x .words)) (l .table)) (x .answer .count) (x .bytes) = longer (x .words) (drop (length (x .words)) (l .table)) (x .answer .count) (x .bytes) w in
           let n = text-length (x .words ++ drop (length (x .words)) (l .table)) (x .answer .count) (x .bytes) t in
-          rw (call-answer, call-table, call-text, n, take-append-seam (x .bytes) (drop (length (x .bytes)) (l .text))) t
+          rw (answer, table, text, n, take-append-seam (x .bytes) (drop (length (x .bytes)) (l .text))) t
 
 -- both readings, of bytes
-module _ (p : List ℕ) (b : Bytes p) (l l′ : Slices) (a : Answer) (long : short l ≡ false) (e : a .number ≡ 0) where
+module _ (p : List ℕ) (b : Bytes p) (l l′ : Slices) (a : Answer) (e : a .number ≡ 0) where
   pub prefix-call-formed : ReadCall (prefix p) l l′ a → WellFormed (l′ .table) (a .count) (take (textLength (l′ .table) (a .count)) (l′ .text))
-  prefix-call-formed c = call-well-formed (prefix p) l l′ a c long (prefix-well-formed p b) e
+  prefix-call-formed c = call-well-formed (prefix p) l l′ a c (prefix-well-formed p b) e
 
   pub whole-call-formed : ReadCall (whole p) l l′ a → WellFormed (l′ .table) (a .count) (take (textLength (l′ .table) (a .count)) (l′ .text))
-  whole-call-formed c = call-well-formed (whole p) l l′ a c long (whole-well-formed p b) e
+  whole-call-formed c = call-well-formed (whole p) l l′ a c (whole-well-formed p b) e
 
--- ---- the length
+-- ---- how a reading ends
 
--- how the prefix reading ends
-pub data Ends (p : List ℕ) : Type 0 where
-  refused : (why : Refusal) → prefix p ≡ refuses why → Ends p
-  read : (s : State) (f : Forest) → run p ≡ ok s → prefix p ≡ reads (consumed p s) f → Ends p
+-- with a refusal, or with a value at the STOP that the machine comes to
+pub data Ends (p : List ℕ) (x : Reading) : Type 0 where
+  refused : (why : Refusal) → x ≡ refuses why → Ends p x
+  read : (s : State) (f : Forest) → run p ≡ ok s → x ≡ reads (consumed p s) (settle f) → Ends p x
 
-pub ends : (p : List ℕ) → Ends p
+pub prefix-ends : (p : List ℕ) → Ends p (prefix p)
 unfolding told
-ends p = go (leb (length p) pickleLimit) refl
+prefix-ends p = go (leb (length p) pickleLimit) refl
   where
-    built : (s : State) (f : Forest) → run p ≡ ok s → prefix p ≡ told (consumed p s) f → (r : Res (Unit {0})) → measured f ≡ r → Ends p
+    built : (s : State) (f : Forest) → run p ≡ ok s → prefix p ≡ told (consumed p s) f → (r : Res (Unit {0})) → measured f ≡ r → Ends p (prefix p)
     built s f e t (no why) m = refused why (t ∙ rw (m, told))
-    built s f e t (ok u) m = read s (settle f) e (t ∙ told-fits (consumed p s) f m .0)
+    built s f e t (ok u) m = read s f e (t ∙ told-fits (consumed p s) f m .0)
 
-    stack : (s : State) → length p ≤ pickleLimit → run p ≡ ok s → (b : Bool) → ltb 0 (length (s .stack)) ≡ b → Ends p
+    stack : (s : State) → length p ≤ pickleLimit → run p ≡ ok s → (b : Bool) → ltb 0 (length (s .stack)) ≡ b → Ends p (prefix p)
     stack s h e true k = built s (one (tree (s .nodes) (last (s .stack)))) e (prefix-told p s (last (s .stack)) (stopped-with p s h e (ltb-true 0 (length (s .stack)) k))) (measured (one (tree (s .nodes) (last (s .stack))))) refl
     stack s h e false k = refused StackUnderflow (prefix-refused p StackUnderflow (stopped-empty p s h e (ltb-false 0 (length (s .stack)) k)))
 
-    runs : length p ≤ pickleLimit → (r : Res State) → run p ≡ r → Ends p
+    runs : length p ≤ pickleLimit → (r : Res State) → run p ≡ r → Ends p (prefix p)
     runs h (no why) e = refused why (prefix-refused p why (stopped-refused p why h e))
     runs h (ok s) e = stack s h e (ltb 0 (length (s .stack))) refl
 
-    go : (b : Bool) → leb (length p) pickleLimit ≡ b → Ends p
+    go : (b : Bool) → leb (length p) pickleLimit ≡ b → Ends p (prefix p)
     go true h = runs (leb-true (length p) pickleLimit h) (run p) refl
     go false h = refused TooLong (prefix-refused p TooLong (stopped-long p (leb-false (length p) pickleLimit h)))
 
--- on success the length is that of the beginning which the machine read up to its STOP, one byte at least
-pub prefix-call-length : (p : List ℕ) (l l′ : Slices) (a : Answer) → short l ≡ false → a .number ≡ 0 → ReadCall (prefix p) l l′ a
-    → (s : State) × (run p ≡ ok s) × (s .input ≡ drop (a .length) p) × (0 < a .length) × (a .length ≤ length p)
-prefix-call-length p l l′ a h z c = go (ends p)
+pub whole-ends : (p : List ℕ) → Ends p (whole p)
+whole-ends p = go (leaves p (prefix p)) refl
   where
-    answer : a ≡ prefix p .answer
-    answer = call-answer (prefix p) l l′ a c h
+    same : whole p ≡ prefix p → Ends p (prefix p) → Ends p (whole p)
+    same e (refused why r) = refused why (e ∙ r)
+    same e (read s f r t) = read s f r (e ∙ t)
 
-    go : Ends p → (s : State) × (run p ≡ ok s) × (s .input ≡ drop (a .length) p) × (0 < a .length) × (a .length ≤ length p)
-    go (refused why e) = absurd (refusal-number why (ap (λ (x : Reading). x .answer .number) (sym e) ∙ ap (λ (y : Answer). y .number) (sym answer) ∙ z))
-    go (read s f r e) =
-        let x = consumed-rest p s r in
-        let n : a .length ≡ consumed p s = ap (λ (y : Answer). y .length) answer ∙ ap (λ (y : Reading). y .answer .length) e in
-        (s, r, rw n (x .2), rw n (x .0), rw n (x .1))
+    go : (b : Bool) → leaves p (prefix p) ≡ b → Ends p (whole p)
+    go true e = refused TrailingData (whole-trailing p e)
+    go false e = same (whole-prefix p e) (prefix-ends p)
+
+-- ---- the length
+
+-- on success the length is that of the beginning which the machine read up to its STOP, one byte at least
+pub Read : List ℕ → Answer → Type 0
+Read p a = (s : State) × (run p ≡ ok s) × (s .input ≡ drop (a .length) p) × (0 < a .length) × (a .length ≤ length p)
+
+module _ (p : List ℕ) (x : Reading) (l l′ : Slices) (a : Answer) (z : a .number ≡ 0) (c : ReadCall x l l′ a) where
+  read-length : Ends p x → Read p a
+  unfolding Read
+  read-length (refused why e) = absurd (refusal-number why (ap (λ (y : Reading). y .answer .number) (sym e) ∙ ap (λ (y : Answer). y .number) (sym (call-answer x l l′ a c (call-long-enough x l l′ a c z))) ∙ z))
+  read-length (read s f r e) =
+      let y = consumed-rest p s r in
+      let n : a .length ≡ consumed p s = ap (λ (y : Answer). y .length) (call-answer x l l′ a c (call-long-enough x l l′ a c z)) ∙ ap (λ (y : Reading). y .answer .length) e in
+      (s, r, rw n (y .2), rw n (y .0), rw n (y .1))
+
+module _ (p : List ℕ) (l l′ : Slices) (a : Answer) (z : a .number ≡ 0) where
+  pub prefix-call-length : ReadCall (prefix p) l l′ a → Read p a
+  prefix-call-length c = read-length p (prefix p) l l′ a z c (prefix-ends p)
+
+  -- the whole reading reads all
+  pub whole-call-length : ReadCall (whole p) l l′ a → Read p a × (a .length ≡ length p)
+  unfolding leaves Read
+  whole-call-length c = (read-length p (whole p) l l′ a z c (whole-ends p), go (leaves p (prefix p)) refl (read-length p (whole p) l l′ a z c (whole-ends p)))
+    where
+      answer : a ≡ whole p .answer
+      answer = call-answer (whole p) l l′ a c (call-long-enough (whole p) l l′ a c z)
+
+      left : (n m : ℕ) → (eqb n 0 && ltb m (length p)) ≡ false → n ≡ 0 → length p ≤ m
+      left n m e q = ltb-false m (length p) (sym (rw (q, eqb) refl) ∙ e)
+
+      go : (b : Bool) → leaves p (prefix p) ≡ b → Read p a → a .length ≡ length p
+      go true e r = absurd (refusal-number TrailingData (ap (λ (y : Reading). y .answer .number) (sym (whole-trailing p e)) ∙ ap (λ (y : Answer). y .number) (sym answer) ∙ z))
+      go false e r =
+          let q : a ≡ prefix p .answer = answer ∙ ap (λ (y : Reading). y .answer) (whole-prefix p e) in
+          let k : length p ≤ a .length = left (a .number) (a .length) (rw q e) z in
+          let h = r .4 in
+          omega arith

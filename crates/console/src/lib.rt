@@ -1,0 +1,69 @@
+// What the programs that take a pickle on standard input share: reading it, the beginning of a buffer, and the line of a refusal.
+use refusal::Answer;
+
+// Standard input as whole data. One byte more than a pickle may have is enough to know that it is too long.
+pub fn read(table: &mut [u64], text: &mut [u8]) -> Answer {
+    let mut input = [0u8; 65537];
+    let n = io::read_full(0, &mut input);
+    let mut nodes = [0u64; 8192];
+    let mut owners = [0u16; 16384];
+    let mut children = [0u16; 16384];
+    let mut stack = [0u16; 2048];
+    let mut marks = [0u16; 256];
+    let mut keys = [0u32; 1024];
+    let mut held = [0u16; 1024];
+    let mut unescaped = [0u8; 65536];
+    let mut starts = [0u16; 4098];
+    let mut sorted = [0u16; 16384];
+    let mut measures = [0u64; 4096];
+    let mut flat = [0u64; 2048];
+    let mut raw = [0u64; 8192];
+    let mut texts = [0u8; 65536];
+    let mut words = [0u64; 8192];
+    let mut spare = [0u64; 8192];
+    let mut order = [0u64; 2048];
+    let mut other = [0u64; 2048];
+    pickle::qelemvir_from_bytes(
+        &input[0..n],
+        &mut nodes,
+        &mut owners,
+        &mut children,
+        &mut stack,
+        &mut marks,
+        &mut keys,
+        &mut held,
+        &mut unescaped,
+        &mut starts,
+        &mut sorted,
+        &mut measures,
+        &mut flat,
+        &mut raw,
+        &mut texts,
+        &mut words,
+        &mut spare,
+        &mut order,
+        &mut other,
+        table,
+        text,
+    )
+}
+
+// The first n bytes, or all where there are fewer.
+pub fn first(bytes: &[u8], n: usize) -> &[u8] {
+    if n <= bytes.len() {
+        return &bytes[0..n];
+    }
+    bytes
+}
+
+pub fn tab() {
+    io::write_all(1, b"\t");
+}
+
+pub fn show_refusal(number: u64, detail: u64) {
+    io::write_all(1, b"refused\t");
+    io::print_decimal(1, number);
+    tab();
+    io::print_decimal(1, detail);
+    io::write_all(1, b"\n");
+}
