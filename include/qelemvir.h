@@ -62,9 +62,9 @@ enum qelemvir_refusal {
     QELEMVIR_NODES_FULL = 15,          /* more than QELEMVIR_MOST_NODES values made by opcodes */
     QELEMVIR_LINKS_FULL = 16,          /* more than QELEMVIR_MOST_LINKS items in lists, tuples and (two each) dict entries */
     QELEMVIR_TOO_DEEP = 17,            /* nested deeper than QELEMVIR_MOST_DEPTH, the argument of a set being a level */
-    QELEMVIR_TOO_MANY_VALUES = 18,     /* more than QELEMVIR_MOST_VALUES values, before equal keys or items collapse */
-    QELEMVIR_TEXT_FULL = 19,           /* more than QELEMVIR_MOST_TEXT bytes of text, before equal keys or items collapse */
-    QELEMVIR_FLOAT_OUTSIDE = 20,       /* inf, nan, or a FLOAT whose digits are above 2^53 or power of ten outside -22 to 22 */
+    QELEMVIR_TOO_MANY_VALUES = 18,     /* more than QELEMVIR_MOST_VALUES values, the argument of a set and equal keys or items counted */
+    QELEMVIR_TEXT_FULL = 19,           /* more than QELEMVIR_MOST_TEXT bytes of text, counted over the same values */
+    QELEMVIR_FLOAT_OUTSIDE = 20,       /* inf, nan, or a FLOAT, not zero, with digits above 2^53 or a power of ten outside -22 to 22 */
     QELEMVIR_BAD_TABLE = 21,           /* a table is not well formed; detail: 1, or 2 for the second table of compare */
     QELEMVIR_OUTPUT_FULL = 22          /* what is to be written is longer than the lent output */
 };
@@ -193,7 +193,7 @@ struct qelemvir_compared qelemvir_compare(const uint64_t *first, size_t first_le
                                           const uint64_t *second, size_t second_len, size_t second_count,
                                           const uint8_t *second_text, size_t second_text_len);
 
-/* The working rooms at their stated lengths, some 580 KB: make one, use it for any number of readings, one at a time. */
+/* The working rooms at their stated lengths, some 590 KB: make one, use it for any number of readings, one at a time. */
 struct qelemvir_rooms {
     uint64_t nodes[QELEMVIR_NODES];
     uint16_t owners[QELEMVIR_OWNERS];

@@ -79,6 +79,12 @@ pub fn damaged() -> Vec<u8> {
     text
 }
 
+/// Bytes with no newline, whose pieces nobody can foretell: ASCII, continuations, starts, and a byte that stands nowhere.
+pub fn broken(length: usize) -> Vec<u8> {
+    let mut draw = Draw(12);
+    (0..length).map(|_| draw.among(&[0x61, 0x82, 0xC3, 0xE2, 0xFF])).collect()
+}
+
 /// The inside of a `str` literal: in each eight bytes plain ones and then an escape.
 pub fn escaped() -> Vec<u8> {
     let mut draw = Draw(4);
@@ -174,6 +180,14 @@ impl Counted {
         }
     }
 
+    /// The value that was remembered under this number.
+    fn get(&mut self, key: u32) {
+        match u8::try_from(key) {
+            Ok(key) => self.op(b'h', &[key]),
+            Err(_) => self.op(b'j', &key.to_le_bytes()),
+        }
+    }
+
     fn text(&mut self, text: &[u8], key: u32) {
         self.op(b'U', &[&[text.len() as u8], text].concat());
         self.put(key);
@@ -201,7 +215,7 @@ pub fn sheet() -> Counted {
         sheet.op(b'(', &[]);
         for (i, key) in [&b"id"[..], b"answer", b"comment"].into_iter().enumerate() {
             let number = 5 + i as u32;
-            if record == 0 { sheet.text(key, number) } else { sheet.op(b'h', &[number as u8]) }
+            if record == 0 { sheet.text(key, number) } else { sheet.get(number) }
             match i {
                 0 => sheet.op(b'J', &(draw.below(1 << 30) as u32).to_le_bytes()),
                 1 => sheet.op(b'M', &(draw.below(1 << 16) as u16).to_le_bytes()),
@@ -217,4 +231,122 @@ pub fn sheet() -> Counted {
     sheet.op(b'u', &[]);
     sheet.op(b'.', &[]);
     sheet
+}
+
+/// One patient's sheet of 30 items, some 300 bytes.
+pub fn small_sheet() -> Counted {
+    let mut forms = Forms::new(10);
+    forms.form(30, 9, 60);
+    forms.end()
+}
+
+/// A tablet's 15 sheets of 18 items, which share the set of reversed items: 800 values, some 4 KB.
+pub fn middle_sheet() -> Counted {
+    let mut forms = Forms::new(11);
+    forms.container(b'}');
+    forms.op(b'(', &[]);
+    forms.key(b"tablet");
+    forms.op(b'K', &[17]);
+    forms.key(b"records");
+    forms.container(b']');
+    forms.op(b'(', &[]);
+    for _ in 0..15 {
+        forms.form(18, 6, 150);
+    }
+    forms.op(b'e', &[]);
+    forms.op(b'u', &[]);
+    forms.end()
+}
+
+/// Writes sheets as Python 2 does with protocol 2: what is new is remembered under the next number, the rest comes from the memo.
+struct Forms {
+    sheet: Counted,
+    draw: Draw,
+    remembered: u32,
+    /// The keys so far, with their memo numbers.
+    keys: Vec<(&'static [u8], u32)>,
+    /// The memo number of the set of reversed items.
+    reverse: Option<u32>,
+}
+
+impl Forms {
+    fn new(seed: u64) -> Forms {
+        let mut sheet = Counted { pickle: Vec::new(), opcodes: 0 };
+        sheet.op(0x80, &[2]);
+        Forms { sheet, draw: Draw(seed), remembered: 0, keys: Vec::new(), reverse: None }
+    }
+
+    fn end(mut self) -> Counted {
+        self.op(b'.', &[]);
+        self.sheet
+    }
+
+    fn op(&mut self, code: u8, rest: &[u8]) {
+        self.sheet.op(code, rest);
+    }
+
+    fn next(&mut self) -> u32 {
+        self.remembered += 1;
+        self.remembered
+    }
+
+    /// An opcode that makes something that is remembered; its number.
+    fn container(&mut self, code: u8) -> u32 {
+        let number = self.next();
+        self.op(code, &[]);
+        self.sheet.put(number);
+        number
+    }
+
+    fn key(&mut self, name: &'static [u8]) {
+        if let Some(&(_, number)) = self.keys.iter().find(|(key, _)| *key == name) {
+            return self.sheet.get(number);
+        }
+        let number = self.next();
+        self.keys.push((name, number));
+        self.sheet.text(name, number);
+    }
+
+    /// A sheet: its answers by item, the set of the first `reversed` items, the greatest answer, whether it is flipped, a comment.
+    fn form(&mut self, items: u8, reversed: u8, comment: usize) {
+        self.container(b'}');
+        self.op(b'(', &[]);
+        self.key(b"answers");
+        self.container(b'}');
+        self.op(b'(', &[]);
+        for item in 1..=items {
+            let answer = self.draw.below(5) as u8;
+            self.op(b'K', &[item]);
+            self.op(b'K', &[answer]);
+        }
+        self.op(b'u', &[]);
+        self.key(b"reverse");
+        self.reverse(reversed);
+        self.key(b"max");
+        self.op(b'K', &[4]);
+        self.key(b"flipped");
+        self.op(0x88, &[]);
+        self.key(b"comment");
+        let text: Vec<u8> = (0..comment).map(|_| self.draw.plain()).collect();
+        let number = self.next();
+        self.sheet.text(&text, number);
+        self.op(b'u', &[]);
+    }
+
+    fn reverse(&mut self, reversed: u8) {
+        if let Some(number) = self.reverse {
+            return self.sheet.get(number);
+        }
+        let class = self.next();
+        self.op(b'c', b"__builtin__\nset\n");
+        self.sheet.put(class);
+        self.container(b']');
+        self.op(b'(', &[]);
+        for item in 1..=reversed {
+            self.op(b'K', &[item]);
+        }
+        self.op(b'e', &[]);
+        self.container(0x85);
+        self.reverse = Some(self.container(b'R'));
+    }
 }

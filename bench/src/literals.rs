@@ -2,7 +2,7 @@
 
 use std::hint::black_box;
 
-use crate::measure::Case;
+use crate::measure::{side, Case};
 use crate::pickle::{from_bytes_prefix, Value};
 use crate::{inputs, ours};
 
@@ -50,16 +50,13 @@ fn case(name: &'static str, bytes: Option<usize>, pickle: Vec<u8>) -> Case {
         name,
         bytes,
         agree,
-        ours: Box::new(move |calls| {
-            for _ in 0..calls {
-                black_box(ours::literal(black_box(&pickle), black_box(&mut room)));
-            }
+        ours: side(move || {
+            black_box(ours::literal(black_box(&pickle), black_box(&mut room)));
         }),
-        rust: Some(Box::new(move |calls| {
-            for _ in 0..calls {
-                let _ = black_box(from_bytes_prefix(black_box(&for_rust)));
-            }
+        rust: Some(side(move || {
+            let _ = black_box(from_bytes_prefix(black_box(&for_rust)));
         })),
+        cpython: None,
     }
 }
 

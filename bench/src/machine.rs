@@ -2,7 +2,7 @@
 
 use std::hint::black_box;
 
-use crate::measure::Case;
+use crate::measure::{side, Case};
 use crate::pickle::from_bytes_prefix;
 use crate::{inputs, ours};
 
@@ -23,16 +23,13 @@ fn case(name: &'static str, pickle: Vec<u8>) -> Case {
         name,
         bytes: Some(pickle.len()),
         agree,
-        ours: Box::new(move |calls| {
-            for _ in 0..calls {
-                black_box(ours::machine(black_box(&pickle)));
-            }
+        ours: side(move || {
+            black_box(ours::machine(black_box(&pickle)));
         }),
-        rust: Some(Box::new(move |calls| {
-            for _ in 0..calls {
-                let _ = black_box(from_bytes_prefix(black_box(&for_rust)));
-            }
+        rust: Some(side(move || {
+            let _ = black_box(from_bytes_prefix(black_box(&for_rust)));
         })),
+        cpython: None,
     }
 }
 

@@ -4,12 +4,20 @@
 // Rust's own start reads the memory map of its process, of which the kit's emulator dies: the C library calls `main` here.
 #![no_main]
 
+mod cpython;
+mod hostile;
 mod inputs;
 mod measure;
 mod ours;
 /// The unchanged Rust, of which a benchmark calls what it needs.
 #[allow(dead_code, unused_imports, unused_macros)]
 mod pickle;
+/// The rooms as the Rust binding has them, which knows an answer under the name `calls::Answer`.
+#[allow(dead_code)]
+mod rooms;
+mod calls {
+    pub use crate::ours::Answer;
+}
 /// The tests' own, of which the driver only makes tables.
 #[allow(dead_code)]
 mod table;
@@ -27,6 +35,8 @@ benchmarks! {
     literals
     machine
     values
+    reading
+    writing
 }
 
 #[no_mangle]

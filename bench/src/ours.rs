@@ -1,6 +1,7 @@
 //! The proved code as functions of Rust. Nothing checks these declarations against the Rattle source: a change there must
 //! be made here too.
 
+use crate::rooms::{qelemvir_from_bytes_prefix, Rooms};
 use crate::table::Table;
 
 /// As crate `probe` has it.
@@ -46,6 +47,11 @@ extern "C" {
         words: *const u64, words_len: usize, count: usize, text: *const u8, text_len: usize,
         output: *mut u8, output_len: usize,
     ) -> Answer;
+
+    fn qelemvir_to_bytes(
+        words: *const u64, words_len: usize, count: usize, text: *const u8, text_len: usize,
+        output: *mut u8, output_len: usize,
+    ) -> Answer;
 }
 
 /// The literal at the start of a pickle, and STOP; its text is put at the start of the room.
@@ -83,4 +89,21 @@ pub fn list(table: &Table, output: &mut [u8]) -> Answer {
             output.as_mut_ptr(), output.len(),
         )
     }
+}
+
+/// The value of a table as a pickle, put at the start of the output, if the table is well formed.
+pub fn to_bytes(table: &Table, output: &mut [u8]) -> Answer {
+    let Table { words, text } = table;
+    // SAFETY: as for list.
+    unsafe {
+        qelemvir_to_bytes(
+            words.as_ptr(), words.len(), table.records(), text.as_ptr(), text.len(),
+            output.as_mut_ptr(), output.len(),
+        )
+    }
+}
+
+/// The value at the start of a pickle, put at the start of the rooms' table and text.
+pub fn from_bytes_prefix(pickle: &[u8], rooms: &mut Rooms) -> Answer {
+    rooms.lend(qelemvir_from_bytes_prefix, pickle)
 }

@@ -4,7 +4,7 @@ use std::cmp::Ordering;
 use std::fmt::Write;
 use std::hint::black_box;
 
-use crate::measure::Case;
+use crate::measure::{side, Case};
 use crate::pickle::Value;
 use crate::table::{self, Table};
 use crate::{inputs, ours};
@@ -33,17 +33,14 @@ fn compare(name: &'static str, first: Value, second: Value) -> Case {
         name,
         bytes: None,
         agree,
-        ours: Box::new(move |calls| {
+        ours: side(move || {
             let [first, second] = &tables;
-            for _ in 0..calls {
-                black_box(ours::compare(black_box(first), black_box(second)));
-            }
+            black_box(ours::compare(black_box(first), black_box(second)));
         }),
-        rust: Some(Box::new(move |calls| {
-            for _ in 0..calls {
-                black_box(black_box(&first).cmp(black_box(&second)));
-            }
+        rust: Some(side(move || {
+            black_box(black_box(&first).cmp(black_box(&second)));
         })),
+        cpython: None,
     }
 }
 
@@ -66,12 +63,11 @@ fn list(name: &'static str, value: Value) -> Case {
         name,
         bytes: Some(table.text.len()),
         agree,
-        ours: Box::new(move |calls| {
-            for _ in 0..calls {
-                black_box(ours::list(black_box(&table), black_box(&mut output)));
-            }
+        ours: side(move || {
+            black_box(ours::list(black_box(&table), black_box(&mut output)));
         }),
         rust: None,
+        cpython: None,
     }
 }
 
