@@ -70,10 +70,10 @@ fn compare_ints(x: u64, y: u64) -> Order
         if y < 0x8000_0000_0000_0000 {
             return compare_numbers(x, y);
         }
-        return Order::Greater;
+        return Order::Greater; // y alone is negative
     }
     if y < 0x8000_0000_0000_0000 {
-        return Order::Less;
+        return Order::Less; // x alone is negative
     }
     compare_numbers(x, y)
 }
