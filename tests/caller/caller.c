@@ -15,8 +15,8 @@
 
 #include "qelemvir.h"
 
-enum call { VALUE, PREFIX, WHOLE, WRITE, LIST, COMPARE, CALLS };
-static const char *const names[CALLS] = {"value", "from_bytes_prefix", "from_bytes", "to_bytes", "list", "compare"};
+enum call { VALUE, PREFIX, WHOLE, WRITE, LIST, COMPARE, LAWS, CALLS };
+static const char *const names[CALLS] = {"value", "from_bytes_prefix", "from_bytes", "to_bytes", "list", "compare", "compare's laws"};
 
 /* A request; words and bytes follow it, filled up to a whole number of words. */
 struct request {
@@ -121,14 +121,21 @@ static struct {
 };
 static struct memory *const table = &slices[ROOMS].memory, *const text = &slices[ROOMS + 1].memory;
 
-/* The value last given and the one before it, with noise behind the words. */
+/* The value last given and the two before it, with noise behind the words. */
+#define VALUES 3
 #define MOST_WORDS 16384
 #define MOST_TEXT 131072
 static struct value {
     struct memory words, text;
     size_t words_len, count, text_len;
-} values[2];
+} values[VALUES];
 static unsigned current;
+
+/* The value last given, or the one before it, and so on. */
+static const struct value *given(uint64_t before)
+{
+    return &values[(current + VALUES - before % VALUES) % VALUES];
+}
 
 /* Output of list and to_bytes. */
 #define LONGER 256
@@ -138,7 +145,7 @@ static void make_memory(void)
 {
     for (size_t i = 0; i < SLICES; i++)
         slices[i].memory = new_memory(slices[i].element * slices[i].stated);
-    for (size_t i = 0; i < 2; i++) {
+    for (size_t i = 0; i < VALUES; i++) {
         values[i].words = new_memory(sizeof(uint64_t) * MOST_WORDS);
         values[i].text = new_memory(MOST_TEXT);
     }
@@ -147,7 +154,7 @@ static void make_memory(void)
 
 static void take_value(const struct request *r, const uint8_t *data)
 {
-    current = 1 - current;
+    current = (current + 1) % VALUES;
     struct value *v = &values[current];
     if (r->which > MOST_WORDS || r->words > r->which || r->bytes > MOST_TEXT)
         fail("a value that is too large");
@@ -208,7 +215,7 @@ static void check_rooms(const struct request *r)
 /* The outputs have the current value, if there is one due, and are as they were behind it. */
 static void check_value(const struct request *r)
 {
-    const struct value *v = &values[current];
+    const struct value *v = given(0);
     size_t filled = r->number ? 0 : sizeof(uint64_t) * QELEMVIR_RECORD * v->count, written = r->number ? 0 : v->text_len;
     if (memcmp(table->at, v->words.at, filled) != 0) {
         const uint64_t *got = (uint64_t *)table->at, *due = (uint64_t *)v->words.at;
@@ -248,7 +255,7 @@ static void check_in_rooms(const struct request *r, const uint8_t *pickle, struc
 
 static void check_reading(const struct request *r, const uint8_t *pickle)
 {
-    struct qelemvir_answer due = {r->number, r->detail, r->length, r->number ? 0 : values[current].count};
+    struct qelemvir_answer due = {r->number, r->detail, r->length, r->number ? 0 : given(0)->count};
     lend(r);
     check_answer(r, reading(r->call, pickle, r->bytes), due);
     check_rooms(r);
@@ -260,7 +267,7 @@ static void check_reading(const struct request *r, const uint8_t *pickle)
 /* to_bytes or list of the current value with an output of so many bytes. */
 static void check_output_of(const struct request *r, const uint8_t *due, size_t length)
 {
-    const struct value *v = &values[current];
+    const struct value *v = given(0);
     int fits = r->number == 0 && r->bytes <= length;
     struct qelemvir_answer wanted = {fits ? 0 : r->number ? r->number : QELEMVIR_OUTPUT_FULL, r->detail, fits ? r->bytes : 0, 0};
     output.bytes = length;
@@ -285,15 +292,51 @@ static void check_output(const struct request *r, const uint8_t *due)
     check_output_of(r, due, r->bytes + 1 + mix(r->seed) % LONGER);
 }
 
+static struct qelemvir_compared compared(const struct value *a, const struct value *b)
+{
+    return qelemvir_compare((uint64_t *)a->words.at, a->words_len, a->count, a->text.at, a->text_len, (uint64_t *)b->words.at,
+                            b->words_len, b->count, b->text.at, b->text_len);
+}
+
 static void check_compare(const struct request *r)
 {
-    const struct value *a = &values[current ^ r->which], *b = &values[current ^ r->size];
-    struct qelemvir_compared got = qelemvir_compare((uint64_t *)a->words.at, a->words_len, a->count, a->text.at, a->text_len,
-                                                    (uint64_t *)b->words.at, b->words_len, b->count, b->text.at, b->text_len);
+    struct qelemvir_compared got = compared(given(r->which), given(r->size));
     if (got.number != r->number || got.detail != r->detail || got.sign != (int64_t)r->length)
         differs(r, "number %llu detail %llu sign %lld, due is %llu %llu %lld", (unsigned long long)got.number,
                 (unsigned long long)got.detail, (long long)got.sign, (unsigned long long)r->number, (unsigned long long)r->detail,
                 (long long)r->length);
+}
+
+/* The same records up to their counts, and the same text. */
+static int identical(const struct value *a, const struct value *b)
+{
+    return a->count == b->count && a->text_len == b->text_len &&
+           memcmp(a->words.at, b->words.at, sizeof(uint64_t) * QELEMVIR_RECORD * a->count) == 0 &&
+           memcmp(a->text.at, b->text.at, a->text_len) == 0;
+}
+
+/* Of the three values last given: the sign is turned round with the arguments, transitive, and 0 for identical tables alone. */
+static void check_laws(const struct request *r)
+{
+    int64_t sign[VALUES][VALUES];
+    for (size_t i = 0; i < VALUES; i++)
+        for (size_t j = 0; j < VALUES; j++) {
+            struct qelemvir_compared got = compared(given(i), given(j));
+            sign[i][j] = got.sign;
+            if (got.number != 0 || got.detail != 0 || got.sign < -1 || got.sign > 1)
+                differs(r, "number %llu detail %llu sign %lld of values %zu and %zu", (unsigned long long)got.number,
+                        (unsigned long long)got.detail, (long long)got.sign, i, j);
+            if ((got.sign == 0) != identical(given(i), given(j)))
+                differs(r, "sign %lld of values %zu and %zu", (long long)got.sign, i, j);
+        }
+    for (size_t i = 0; i < VALUES; i++)
+        for (size_t j = 0; j < VALUES; j++) {
+            if (sign[i][j] != -sign[j][i])
+                differs(r, "sign %lld of values %zu and %zu, not turned round", (long long)sign[i][j], i, j);
+            for (size_t k = 0; k < VALUES; k++)
+                if (sign[i][j] < 0 && sign[j][k] < 0 && sign[i][k] >= 0)
+                    differs(r, "value %zu is before %zu and that before %zu, but not the first before the last", i, j, k);
+        }
 }
 
 static const struct request *at_work;
@@ -323,6 +366,9 @@ static void answer_request(const struct request *r, const uint8_t *data)
         break;
     case COMPARE:
         check_compare(r);
+        break;
+    case LAWS:
+        check_laws(r);
         break;
     default:
         fail("no such call");

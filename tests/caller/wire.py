@@ -4,8 +4,8 @@ import struct
 import subprocess
 
 HERE = os.path.dirname(os.path.abspath(__file__))
-VALUE, PREFIX, WHOLE, WRITE, LIST, COMPARE = range(6)
-CALLS = ["value", "from_bytes_prefix", "from_bytes", "to_bytes", "list", "compare"]
+VALUE, PREFIX, WHOLE, WRITE, LIST, COMPARE, LAWS = range(7)
+CALLS = ["value", "from_bytes_prefix", "from_bytes", "to_bytes", "list", "compare", "compare's laws"]
 # The stated lengths of a reading's slices: 18 rooms, table and text.
 STATED = [8192, 16384, 16384, 2048, 256, 1024, 1024, 65536, 4098, 16384, 4096, 2048, 8192, 65536, 8192, 8192, 2048, 2048] + [8192, 65536]
 TABLE = 8192
@@ -37,6 +37,11 @@ def output(call, tag, seed, due):
 
 def comparison(tag, seed, sign, first, second):
     return request(COMPARE, tag, seed, (0, 0, sign), first, second)
+
+
+def laws(tag, seed):
+    """The laws of compare on the three values last given."""
+    return request(LAWS, tag, seed)
 
 
 def bad(tag, seed):

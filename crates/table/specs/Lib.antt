@@ -9,6 +9,7 @@ pub mod Check
 pub mod Decides
 pub mod Verdict
 pub mod Compare
+pub mod CompareLaws
 pub mod Call
 pub mod Length
 pub mod Examples
