@@ -109,11 +109,18 @@ def cut(text, size):
     return [int(text[i:i + size], 16) for i in range(0, len(text), size)]
 
 
+def wrong_links(kind, word, places):
+    first = word >> 32
+    together = list(range(first, first + len(places)))
+    return word % (1 << 32) != len(places) or (places != together if kind == 7 else bool(places) and places[0] < first)
+
+
 def rendered(pickle, words, owners, children, unescaped):
     """The node table in the form of `trace`."""
-    held = {}
-    for owner, child in zip(owners, children):
+    held, links = {}, {}
+    for place, (owner, child) in enumerate(zip(owners, children)):
         held.setdefault(owner, []).append(str(child))
+        links.setdefault(owner, []).append(place)
 
     def names(i):
         a, b = words[2 * i], words[2 * i + 1]
@@ -122,9 +129,10 @@ def rendered(pickle, words, owners, children, unescaped):
     def node(i):
         a, b = words[2 * i], words[2 * i + 1]
         kind = a % 16
-        # what a node does not use of its words is zero, and a container's second word is how many links it has
+        # what a node does not use of its words is zero; the halves of a container's second word are how many links it has and where
+        # the log had come to when it was made, and a tuple's links stand there together
         spare = 0 if kind == 11 else a // 16 if kind != 12 else 0 if a // 32 % 2 else b >> 32
-        if spare or kind == 0 and b or kind == 1 and b > 1 or kind in HOLD and b != len(held.get(i, [])):
+        if spare or kind == 0 and b or kind == 1 and b > 1 or kind in HOLD and wrong_links(kind, b, links.get(i, [])):
             return "words/%016x,%016x/-" % (a, b)
         if kind == 0:
             return "none/-/-"

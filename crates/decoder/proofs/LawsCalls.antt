@@ -1,5 +1,5 @@
 -- What each return of the classes' opcodes says of their definitions. Assumes nothing.
-use Prim.Native.Nat.{ℕ, suc, zero, _+_, _-_, _*_, _/_, _%_, _<_, _≤_}
+use Prim.Native.Nat.{ℕ, suc, zero, _+_, _-_, _*_, _^_, _/_, _%_, _<_, _≤_}
 use mathlib.Core.Bool.{Bool, true, false, cond, _&&_}
 use mathlib.Core.List.{List, [], _∷_}
 use mathlib.Core.Path.{_≡_, refl, sym, _∙_, ap}
@@ -19,18 +19,18 @@ use Rattle.value.specs.Value.{Label, SetL, FrozenSetL}
 use Rattle.value.specs.Shape.{kindIn}
 use Rattle.decoder.specs.declared.NodeId.{NodeId}
 use Rattle.decoder.specs.declared.CallRead.{CallRead}
-use Rattle.decoder.specs.declared.Effect.the-variants.{Push, Build, Refused}
+use Rattle.decoder.specs.declared.Effect.the-variants.{Push, Build}
 use Rattle.decoder.specs.declared.CallRead.the-variants.{None, Of}
 use Rattle.decoder.specs.Opcodes.{builtin, setName, frozensetName, object, setOf, reduced, called, build}
 use Rattle.decoder.specs.Run.{going}
-use Rattle.decoder.specs.Rooms.{Rooms, Counts, items, first, second, within, moduleOf, nameOf, nodeIs, kidsOf, stateOf, Holds, aList, aTuple, aDict, Counted}
+use Rattle.decoder.specs.Rooms.{Rooms, Counts, first, second, within, moduleOf, nameOf, nodeIs, kidsOf, stateOf, Holds, aList, aTuple, aDict, Counted, Together, Placed}
 use Rattle.decoder.specs.RoomLists.{holds-below}
 use Rattle.decoder.specs.RoomReads.{objectWord, object-made, object-node}
 use Rattle.decoder.specs.RoomKeeps.{class-none, class-made, used-none}
-use Rattle.decoder.specs.Effects.{Firm, Sound, Lent, Says, Fits, enacted}
+use Rattle.decoder.specs.Effects.{Firm, Sound, Lent, Says, Fits, enacted, refusing, says-refused}
 use Rattle.decoder.specs.Reads.{cutTo, firm-cut}
-use Rattle.decoder.specs.StackSteps.{says-refused, on-stack, stack-room}
-use Rattle.decoder.specs.ReadsCalls.{Makes, Calls, Call, ReadsCall, lower-node, upper-node, build-short, build-no-object, build-object, Made, aSet, aFrozenSet, anObject, made-of, call-short, call-no-class, call-no-arguments, call-both, madeKind, same-builtin, same-set, same-frozenset, items-last, items-before, only}
+use Rattle.decoder.specs.StackSteps.{on-stack, stack-room}
+use Rattle.decoder.specs.ReadsCalls.{Makes, Calls, Call, ReadsCall, lower-node, upper-node, build-short, build-no-object, build-object, Made, aSet, aFrozenSet, anObject, made-of, call-short, call-no-class, call-no-arguments, call-both, madeKind, same-builtin, same-set, same-frozenset}
 
 -- ---- the two topmost values
 
@@ -147,25 +147,6 @@ module _ (p : List ℕ) (a b n : ℕ) where
       unfolding madeKind
       kind-neither f g = rw (kind-raw, e, le-leb n 1 few, f, g)
 
--- ---- the one item
-
--- the log's first i links hold what all of them do of o's items, l
-module _ (owners children : List ℕ) (links i o : ℕ) (l : List ℕ) (some : 0 < i) (h : i ≤ links) (p : links ≤ length owners) (q : links ≤ length children) (left : items (take i owners) (take i children) o ≡ l) where
-  next : suc (i - 1) ≡ i
-  next = omega arith
-
-  pub item-found : getD owners (i - 1) 0 ≡ o → length l ≡ 1 → l ≡ getD children (i - 1) 0 ∷ []
-  item-found e one =
-      let f = sym left ∙ (rw next at (items-last owners children (i - 1) (omega arith) (omega arith) o e)) in
-      f ∙ only (items (take (i - 1) owners) (take (i - 1) children) o) (getD children (i - 1) 0) (rw f at one)
-
-  pub item-later : getD owners (i - 1) 0 ≢ o → items (take (i - 1) owners) (take (i - 1) children) o ≡ l
-  item-later d = sym (rw next at (items-before owners children (i - 1) (omega arith) (omega arith) o d)) ∙ left
-
-pub item-none : (owners children l : List ℕ) (i o : ℕ) → i ≤ 0 → items (take i owners) (take i children) o ≡ l → length l ≡ 1 → ⊥
-unfolding items
-item-none owners children l i o h e one = let z : i ≡ 0 = omega arith in let f : [] ≡ l = rw z at e in let g = ap length f in omega arith
-
 -- ---- calls
 
 -- what the code's answer says of rooms that it was read from
@@ -174,7 +155,7 @@ module _ (c : Counts) (ws st : List ℕ) (k : CallRead) (reads : ReadsCall c ws 
   unfolding ReadsCall Call
   call-of x y d = rw d at (reads r s e f)
 
-  pub call-refused : (makes : Makes) (why : Refusal) → k ≡ None why → Says (Refused why) r c (going (called makes (stateOf r c)))
+  pub call-refused : (makes : Makes) (why : Refusal) → k ≡ None why → Says (refusing c why) r c (going (called makes (stateOf r c)))
   unfolding ReadsCall Call going
   call-refused makes why d = says-refused why r c (going (called makes (stateOf r c))) (rw ((rw d at (reads r s e f)) makes))
 
@@ -183,8 +164,8 @@ module _ (r : Rooms) (c : Counts) (s : Sound r c) (x y : ℕ) (call : Calls c r 
   pub call-rooms : (suc (2 * x) < length (r .nodes)) × (suc (2 * y) < length (r .nodes)) × (x < 4096) × (y < 4096)
   call-rooms = let a = node-room r c x s (call .class-node) in let b = node-room r c y s (call .args-node) in let d = s .firm .nodes in let h = call .class-node in let i = call .args-node in omega arith
 
-  -- the tuple's second word counts its items
-  pub call-count : second (r .nodes) y ≡ length (kidsOf r c y)
+  -- the low half of the tuple's second word counts its items
+  pub call-count : second (r .nodes) y % 2 ^ 32 ≡ length (kidsOf r c y)
   unfolding Counted
   call-count = s .firm .kept .counted y (call .args-node) (aTuple (call .args-kind))
 
@@ -222,7 +203,7 @@ module _ (r : Rooms) (c : Counts) (s : Sound r c) (x y : ℕ) (call : Calls c r 
       holds k b low high (aTuple e) = absurd (omega arith)
       holds k b low high (aDict e) = absurd (omega arith)
 
-  module _ (k : ℕ) (made : k ≡ madeKind (name .0) (name .1) (second (r .nodes) y)) (c₁ : Counts) (rest : c₁ ≡ cutTo c (c .at) (c .stack - 2) (c .marks)) where
+  module _ (k : ℕ) (made : k ≡ madeKind (name .0) (name .1) (second (r .nodes) y % 2 ^ 32)) (c₁ : Counts) (rest : c₁ ≡ cutTo c (c .at) (c .stack - 2) (c .marks)) where
     view : Made name y (kidsOf r c y) (reduced name y (kidsOf r c y)) k
     view = rw (made, call-count) (made-of name y (kidsOf r c y))
 
@@ -245,23 +226,26 @@ module _ (r : Rooms) (c : Counts) (s : Sound r c) (x y : ℕ) (call : Calls c r 
 
     -- a set has at most one argument
     pub reduce-few : k ≢ 12 → length (kidsOf r c y) ≤ 1
-    reduce-few d = go (decLt 1 (second (r .nodes) y))
+    reduce-few d = go (decLt 1 (second (r .nodes) y % 2 ^ 32))
       where
-        go : Dec (1 < second (r .nodes) y) → length (kidsOf r c y) ≤ 1
-        go (yes h) = absurd (d (made ∙ kind-many (r .pickle) (first (r .nodes) x) (second (r .nodes) x) (second (r .nodes) y) h))
+        go : Dec (1 < second (r .nodes) y % 2 ^ 32) → length (kidsOf r c y) ≤ 1
+        go (yes h) = absurd (d (made ∙ kind-many (r .pickle) (first (r .nodes) x) (second (r .nodes) x) (second (r .nodes) y % 2 ^ 32) h))
         go (no h) = let e = call-count in omega arith
 
--- what REDUCE read of rooms with the pickle p and the nodes' words ws: a and b are the class's words, n the arguments' number, k the kind of what is made
-pub record Found (r : Rooms) (c : Counts) (x y n k : ℕ) : Type 0 where
+-- what REDUCE read of the rooms: w is the arguments' second word, k the kind of what is made
+pub record Found (r : Rooms) (c : Counts) (x y w k : ℕ) : Type 0 where
   pub call : Calls c r x y
-  pub count : n ≡ length (kidsOf r c y)
-  pub kind : k ≡ madeKind (moduleOf (r .pickle) (first (r .nodes) x)) (nameOf (r .pickle) (second (r .nodes) x)) (second (r .nodes) y)
+  pub word : w ≡ second (r .nodes) y
+  pub count : w % 2 ^ 32 ≡ length (kidsOf r c y)
+  pub kind : k ≡ madeKind (moduleOf (r .pickle) (first (r .nodes) x)) (nameOf (r .pickle) (second (r .nodes) x)) (second (r .nodes) y % 2 ^ 32)
 
-pub found : (r : Rooms) (c : Counts) (p ws : List ℕ) (x y a b n k : ℕ) → Sound r c → r .pickle ≡ p → r .nodes ≡ ws → Calls c r x y → a ≡ first ws x → b ≡ second ws x → n ≡ second ws y
-    → k ≡ madeKind (moduleOf p a) (nameOf p b) n → Found r c x y n k
-found r c p ws x y a b n k s e f call g h i j = record {
+-- of the pickle p and the nodes' words ws: a and b are the class's words
+pub found : (r : Rooms) (c : Counts) (p ws : List ℕ) (x y a b w k : ℕ) → Sound r c → r .pickle ≡ p → r .nodes ≡ ws → Calls c r x y → a ≡ first ws x → b ≡ second ws x → w ≡ second ws y
+    → k ≡ madeKind (moduleOf p a) (nameOf p b) (w % 2 ^ 32) → Found r c x y w k
+found r c p ws x y a b w k s e f call g h i j = record {
   call = call;
-  count = i ∙ rw (← f) (call-count r c s x y call);
+  word = i ∙ rw f;
+  count = rw (i, ← f) (call-count r c s x y call);
   kind = j ∙ rw (g, h, i, e, f);
 }
 
@@ -269,27 +253,49 @@ pub first-none : (l : List ℕ) (d : ℕ) → length l ≡ 0 → d ≡ getD l 0 
 first-none [] d h = refl
 first-none (x ∷ l) d h = absurd (omega arith)
 
--- an argument that is there is the only one
-pub found-one : (r : Rooms) (c : Counts) (x y n k : ℕ) → Sound r c → Found r c x y n k → k ≢ 12 → n ≢ 0 → length (kidsOf r c y) ≡ 1
-found-one r c x y n k s f d z = one (length (kidsOf r c y)) (reduce-few r c s x y (f .call) k (f .kind) (cutTo c (c .at) (c .stack - 2) (c .marks)) refl d) (λ e. z (f .count ∙ e))
-  where
-    one : (m : ℕ) → m ≤ 1 → m ≢ 0 → m ≡ 1
-    one zero h v = absurd (v refl)
-    one (suc m) h v = omega arith
+first-some : (l : List ℕ) (d : ℕ) → length l ≡ 1 → getD l 0 0 ≡ getD l 0 d
+first-some [] d h = absurd (omega arith)
+first-some (x ∷ l) d h = refl
 
--- the log's used part is in its rooms
-pub links-rooms : (r : Rooms) (c : Counts) → Sound r c → (c .links ≤ length (r .owners)) × (c .links ≤ length (r .children))
-links-rooms r c s = let a = s .firm .lengths .owners in let b = s .firm .lengths .children in let d = s .firm .links in omega arith
+module _ (r : Rooms) (c : Counts) (x y w k : ℕ) (s : Sound r c) (f : Found r c x y w k) (d : k ≢ 12) (z : w % 2 ^ 32 ≢ 0) where
+  -- an argument that is there is the only one
+  one : length (kidsOf r c y) ≡ 1
+  one = go (length (kidsOf r c y)) (reduce-few r c s x y (f .call) k (f .kind) (cutTo c (c .at) (c .stack - 2) (c .marks)) refl d) (λ e. z (f .count ∙ e))
+    where
+      go : (m : ℕ) → m ≤ 1 → m ≢ 0 → m ≡ 1
+      go zero h v = absurd (v refl)
+      go (suc m) h v = omega arith
+
+  together : Together w (kidsOf r c y) (r .children) (c .links)
+  unfolding Placed
+  together = rw (f .word) (s .firm .kept .placed y (f .call .args-node) (f .call .args-kind))
+
+  -- its link stands where the tuple's word says
+  pub item-room : w / 2 ^ 32 < length (r .children)
+  item-room =
+      let a = together .ends in
+      let b = f .count in
+      let e = one in
+      let l = s .firm .lengths .children in
+      let m = s .firm .links in
+      omega arith
+
+  pub item-there : getD (r .children) (w / 2 ^ 32) 0 ≡ getD (kidsOf r c y) 0 y
+  item-there =
+      let b = f .count in
+      let e = one in
+      let n : w / 2 ^ 32 + 0 ≡ w / 2 ^ 32 = omega arith in
+      sym (rw n at (together .child 0 (omega arith))) ∙ first-some (kidsOf r c y) y one
 
 -- ---- BUILD
 
 module _ (r : Rooms) (c : Counts) (s : Sound r c) (ws st : List ℕ) (e : r .nodes ≡ ws) (f : r .stack ≡ st) where
-  pub says-build-short : c .stack < 2 → Says (Refused StackUnderflow) r c (going (build (stateOf r c)))
+  pub says-build-short : c .stack < 2 → Says (refusing c StackUnderflow) r c (going (build (stateOf r c)))
   unfolding going
   says-build-short h = says-refused StackUnderflow r c (going (build (stateOf r c))) (rw (build-short r c s h))
 
   module _ (two : 2 ≤ c .stack) where
-    pub says-no-object : kindIn (first ws (getD st (c .stack - 2) 0)) ≢ 12 → Says (Refused (Invalid Object)) r c (going (build (stateOf r c)))
+    pub says-no-object : kindIn (first ws (getD st (c .stack - 2) 0)) ≢ 12 → Says (refusing c (Invalid Object)) r c (going (build (stateOf r c)))
     unfolding going
     says-no-object d = says-refused (Invalid Object) r c (going (build (stateOf r c))) (rw (build-no-object r c s two _ _ (at c ws st r (c .stack - 2) f) (at c ws st r (c .stack - 1) f) (rw e d)))
 

@@ -18,20 +18,20 @@ use Rattle.decoder.specs.declared.NodeId.{NodeId}
 use Rattle.decoder.specs.declared.KeyRead.{KeyRead}
 use Rattle.decoder.specs.declared.KeyRead.the-variants.{None, At}
 use Rattle.decoder.specs.declared.Effect.{Effect}
-use Rattle.decoder.specs.declared.Effect.the-variants.{Share, Remember, Refused}
+use Rattle.decoder.specs.declared.Effect.the-variants.{Share, Remember}
 use Rattle.decoder.specs.State.{State, Res, ok, _>>=_, leaf, find, get, put}
 use Rattle.decoder.specs.State as state
 use Rattle.decoder.specs.Opcodes.{lowBytes}
 use Rattle.decoder.specs.Run.{going}
-use Rattle.decoder.specs.Rooms.{Rooms, Counts, stateOf, Absent}
+use Rattle.decoder.specs.Rooms.{Rooms, Counts, stateOf, Absent, Numbered}
 use Rattle.decoder.specs.RoomMemo.{find-absent, find-present}
 use Rattle.decoder.specs.RoomReads.{memo-of, nodes-length}
 use Rattle.decoder.specs.Effect.{kept}
 use Rattle.decoder.specs.Range.{known-below}
-use Rattle.decoder.specs.Effects.{Sound, Says, Fits, Lent, Decides, enacted, put-is}
+use Rattle.decoder.specs.Effects.{Sound, Says, Fits, Lent, Decides, enacted, put-is, refusing, says-refused}
 use Rattle.decoder.specs.Reads.{cutTo, bytes-short, bytes-got, line-none, line-got, top-none, top-got}
 use Rattle.decoder.specs.ReadsMemo.{keyLine, keyed, Key, ReadsKey, sound-read}
-use Rattle.decoder.specs.StackSteps.{says-refused, on-stack}
+use Rattle.decoder.specs.StackSteps.{on-stack}
 
 -- ---- reading the number
 
@@ -70,7 +70,7 @@ module _ (r : Rooms) (c : Counts) (p : List ℕ) (s : Sound r c) (q : r .pickle 
 -- ---- an opcode that reads a number first
 
 module _ (f : State → Res (ℕ × State)) (does : ℕ → State → Res State) (op : State → Res State) (is : (s : State) → op s ≡ keyed f does s) (r : Rooms) (c : Counts) where
-  key-refused : (why : Refusal) → Key f c r (None why) → Says (Refused why) r c (going (op (stateOf r c)))
+  key-refused : (why : Refusal) → Key f c r (None why) → Says (refusing c why) r c (going (op (stateOf r c)))
   unfolding Key keyed _>>=_ going
   key-refused why e = says-refused why r c (going (op (stateOf r c))) (rw (is (stateOf r c), e))
 
@@ -80,7 +80,7 @@ module _ (f : State → Res (ℕ × State)) (does : ℕ → State → Res State)
 
 -- the same in all rooms: k is what was read of the pickle p, P what the opcode knows of the rooms, Q what is left for the rest of it
 module _ (f : State → Res (ℕ × State)) (does : ℕ → State → Res State) (op : State → Res State) (is : (s : State) → op s ≡ keyed f does s) (c : Counts) (p : List ℕ) where
-  pub op-refused : (P : Rooms → Type 0) → ((r : Rooms) → P r → r .pickle ≡ p) → (k : KeyRead) → ReadsKey f c p k → (why : Refusal) → k ≡ None why → Decides c P (λ s. going (op s)) (Refused why)
+  pub op-refused : (P : Rooms → Type 0) → ((r : Rooms) → P r → r .pickle ≡ p) → (k : KeyRead) → ReadsKey f c p k → (why : Refusal) → k ≡ None why → Decides c P (λ s. going (op s)) (refusing c why)
   unfolding Decides ReadsKey
   op-refused P first k reads why e r s q = key-refused f does op is r c why (rw e at (reads r s (first r q)))
 
@@ -115,7 +115,11 @@ module _ (r : Rooms) (c : Counts) (s : Sound r c) (key : MemoKey) where
   pub memo-rooms : (c .memo ≤ length (r .keys)) × (c .memo ≤ length (r .held))
   memo-rooms = let a = s .firm .lengths .keys in let b = s .firm .lengths .held in let d = s .firm .memo in omega arith
 
-  pub get-missing : Absent (r .keys) (c .memo) (key .0) → Says (Refused (MissingMemo (key .0))) r c (going (get (key .0) (stateOf r c)))
+  -- what a look-up asks for
+  pub slot-rooms : (keys : List ℕ) → r .keys ≡ keys → (c .memo ≤ length keys) × (0 < length keys) × Numbered keys (c .memo) (c .greatest)
+  slot-rooms keys e = rw (← e) (memo-rooms .0, (let a = s .firm .lengths .keys in omega arith), s .firm .numbered)
+
+  pub get-missing : Absent (r .keys) (c .memo) (key .0) → Says (refusing c (MissingMemo (key .0))) r c (going (get (key .0) (stateOf r c)))
   unfolding get _>>=_ going
   get-missing h = says-refused (MissingMemo (key .0)) r c (going (get (key .0) (stateOf r c))) (rw (memo-of r c, find-absent (r .keys) (r .held) (c .memo) (key .0) (memo-rooms .0) (memo-rooms .1) h))
 
@@ -125,10 +129,10 @@ module _ (r : Rooms) (c : Counts) (s : Sound r c) (key : MemoKey) where
       let t : find (stateOf r c .memo) (key .0) ≡ ok (n .0) = rw (memo-of r c, m) (find-present (r .keys) (r .held) (c .memo) (key .0) (memo-rooms .0) (memo-rooms .1) i h e a) in
       record { enacts = rw t; fits = (s .firm, rw (nodes-length r c) at (known-below (stateOf r c) (n .0) (s .range) (kept (key .0) (n .0) t))) }
 
-  pub put-none : c .stack ≡ 0 → Says (Refused StackUnderflow) r c (going (put (key .0) (stateOf r c)))
+  pub put-none : c .stack ≡ 0 → Says (refusing c StackUnderflow) r c (going (put (key .0) (stateOf r c)))
   unfolding _>>=_ going
   put-none e = says-refused StackUnderflow r c (going (put (key .0) (stateOf r c))) (rw (put-is (key .0) (stateOf r c), top-none r c (s .firm) e))
 
-  pub put-some : (n : NodeId) → 0 < c .stack → n .0 ≡ getD (r .stack) (c .stack - 1) 0 → Says (Remember c key n) r c (going (put (key .0) (stateOf r c)))
+  pub put-some : (n : NodeId) → 0 < c .stack → n .0 ≡ getD (r .stack) (c .stack - 1) 0 → Says (Remember c n 0 key) r c (going (put (key .0) (stateOf r c)))
   unfolding enacted Fits _>>=_ going
   put-some n h e = record { enacts = rw (put-is (key .0) (stateOf r c), top-got r c (s .firm) h, e); fits = (s .firm, rw e (on-stack r c s (c .stack - 1) (omega arith))) }

@@ -37,30 +37,30 @@ use Rattle.text.specs.declared.Decoded.the-variants as decoded
 use Rattle.text.specs.declared.Quoted.{Quoted}
 use Rattle.text.specs.declared.Quoted.the-variants as quoted
 use Rattle.value.specs.Value.{Label, BoolL, I64L, F64L, BytesL, StringL, GlobalL}
-use Rattle.decoder.specs.declared.Effect.the-variants.{Push, Go, Unescape, Refused}
+use Rattle.decoder.specs.declared.Effect.the-variants.{Push, Go, Unescape}
 use Rattle.decoder.specs.State.{ok, no, _>>=_, need, byte, bytes, push}
 use Rattle.decoder.specs.Opcodes.{intLabel, signedLength, proto, string, binstring, global}
 use Rattle.decoder.specs.Run.{going}
 use Rattle.decoder.specs.Rooms.{Rooms, Counts, stateOf, atTo}
-use Rattle.decoder.specs.Effects.{Sound, Says, Fits, Decides, enacted}
+use Rattle.decoder.specs.Effects.{Sound, Says, Fits, Decides, enacted, refusing}
 use Rattle.decoder.specs.Reads.{cutTo, bytes-short, bytes-got, line-none, line-got}
-use Rattle.decoder.specs.ReadsPickle.{Makes, firm-read, says-refused, says-go, pushed-step, short, enough, ended, lined, leaf-got, first-byte, line-part, line-inside, makes-as, makes-bytes, makes-unicode, makes-global}
+use Rattle.decoder.specs.ReadsPickle.{Makes, firm-read, refused-going, says-go, pushed-step, short, enough, ended, lined, leaf-got, first-byte, line-part, line-inside, makes-as, makes-bytes, makes-unicode, makes-global}
 
 -- ---- PROTO
 
 module _ (c : Counts) (p : List ℕ) where
-  pub proto-ends : length p - c .at < 1 → Decides c (λ r. r .pickle ≡ p) (λ s. going (proto s)) (Refused EndOfInput)
+  pub proto-ends : length p - c .at < 1 → Decides c (λ r. r .pickle ≡ p) (λ s. going (proto s)) (refusing c EndOfInput)
   unfolding Decides proto byte _>>=_
-  proto-ends h r s q = says-refused r c s EndOfInput (proto (stateOf r c)) (rw (short c p 1 h r s q))
+  proto-ends h r s q = refused-going r c s EndOfInput (proto (stateOf r c)) (rw (short c p 1 h r s q))
 
   module _ (h : 1 ≤ length p - c .at) where
     read : (r : Rooms) → Sound r c → r .pickle ≡ p → byte (stateOf r c) ≡ ok (getD p (c .at) 0, stateOf r (atTo c (c .at + 1)))
     unfolding byte _>>=_
     read r s q = rw (enough c p 1 h r s q, first-byte p (c .at))
 
-    pub proto-new : 2 < getD p (c .at) 0 → Decides c (λ r. r .pickle ≡ p) (λ s. going (proto s)) (Refused (UnsupportedProtocol (getD p (c .at) 0)))
+    pub proto-new : 2 < getD p (c .at) 0 → Decides c (λ r. r .pickle ≡ p) (λ s. going (proto s)) (refusing c (UnsupportedProtocol (getD p (c .at) 0)))
     unfolding Decides proto _>>=_ need
-    proto-new k r s q = says-refused r c s (UnsupportedProtocol (getD p (c .at) 0)) (proto (stateOf r c)) (rw (read r s q, lt-leb (getD p (c .at) 0) 2 k))
+    proto-new k r s q = refused-going r c s (UnsupportedProtocol (getD p (c .at) 0)) (proto (stateOf r c)) (rw (read r s q, lt-leb (getD p (c .at) 0) 2 k))
 
     pub proto-known : (c₁ : Counts) → getD p (c .at) 0 ≤ 2 → c₁ ≡ cutTo c (c .at + 1) (c .stack) (c .marks) → Decides c (λ r. r .pickle ≡ p) (λ s. going (proto s)) (Go c₁)
     unfolding Decides proto _>>=_ need
@@ -246,27 +246,27 @@ length-is (pos n) h k = refl
 length-is (negsuc n) h k = let y = ltb-false (2 ^ 64 - suc n) (2 ^ 63) (bits-sign (negsuc n) h) in absurd (omega arith)
 
 module _ (c : Counts) (p : List ℕ) where
-  pub binstring-ends : length p - c .at < 4 → Decides c (λ r. r .pickle ≡ p) (λ s. going (binstring s)) (Refused EndOfInput)
+  pub binstring-ends : length p - c .at < 4 → Decides c (λ r. r .pickle ≡ p) (λ s. going (binstring s)) (refusing c EndOfInput)
   unfolding Decides binstring _>>=_
-  binstring-ends h r s q = says-refused r c s EndOfInput (binstring (stateOf r c)) (rw (short c p 4 h r s q))
+  binstring-ends h r s q = refused-going r c s EndOfInput (binstring (stateOf r c)) (rw (short c p 4 h r s q))
 
   module _ (B : Bytes p) (h : 4 ≤ length p - c .at) (v : ℕ) (e : v ≡ bits64 (denotes (take 4 (drop (c .at) p)))) where
     word : inI64 (denotes (take 4 (drop (c .at) p))) ≡ true
     word = short-in (take 4 (drop (c .at) p)) (bytes-take 4 (drop (c .at) p) (bytes-drop (c .at) p B)) (simp length-take (omega arith))
 
-    pub binstring-below : 0x7FFF_FFFF_FFFF_FFFF < v → Decides c (λ r. r .pickle ≡ p) (λ s. going (binstring s)) (Refused (Invalid Length))
+    pub binstring-below : 0x7FFF_FFFF_FFFF_FFFF < v → Decides c (λ r. r .pickle ≡ p) (λ s. going (binstring s)) (refusing c (Invalid Length))
     unfolding Decides binstring _>>=_
     binstring-below k r s q =
-        says-refused r c s (Invalid Length) (binstring (stateOf r c)) (rw (enough c p 4 h r s q, length-below (denotes (take 4 (drop (c .at) p))) word (rw e at k)))
+        refused-going r c s (Invalid Length) (binstring (stateOf r c)) (rw (enough c p 4 h r s q, length-below (denotes (take 4 (drop (c .at) p))) word (rw e at k)))
 
     module _ (k : v ≤ 0x7FFF_FFFF_FFFF_FFFF) where
       behind : (r : Rooms) → Sound r c → r .pickle ≡ p → binstring (stateOf r c) ≡ (bytes v (stateOf r (atTo c (c .at + 4))) >>= λ x. push (BytesL (x .0)) (x .1))
       unfolding binstring _>>=_
       behind r s q = rw (enough c p 4 h r s q, length-is (denotes (take 4 (drop (c .at) p))) word (rw e at k), ← e)
 
-      pub binstring-short : length p - c .at - 4 < v → Decides c (λ r. r .pickle ≡ p) (λ s. going (binstring s)) (Refused EndOfInput)
+      pub binstring-short : length p - c .at - 4 < v → Decides c (λ r. r .pickle ≡ p) (λ s. going (binstring s)) (refusing c EndOfInput)
       unfolding Decides _>>=_
-      binstring-short m r s q = says-refused r c s EndOfInput (binstring (stateOf r c)) (behind r s q ∙ rw (bytes-short r (atTo c (c .at + 4)) v (rw q (omega arith)) (rw q (omega arith))))
+      binstring-short m r s q = refused-going r c s EndOfInput (binstring (stateOf r c)) (behind r s q ∙ rw (bytes-short r (atTo c (c .at + 4)) v (rw q (omega arith)) (rw q (omega arith))))
 
       pub binstring-push : (w : ℕ) (c₁ : Counts) → v ≤ length p - c .at - 4 → w ≡ v * 2 ^ 32 + (c .at + 4) → c .at + 4 < 2 ^ 32 → c₁ ≡ cutTo c (c .at + 4 + v) (c .stack) (c .marks)
           → Decides c (λ r. r .pickle ≡ p) (λ s. going (binstring s)) (Push c₁ 4 w)
@@ -281,14 +281,14 @@ module _ (c : Counts) (p : List ℕ) where
 -- ---- GLOBAL
 
 module _ (c : Counts) (p : List ℕ) where
-  pub global-ends : newlineOf p (c .at) ≡ refused EndOfInput 0 → Decides c (λ r. r .pickle ≡ p) (λ s. going (global s)) (Refused EndOfInput)
+  pub global-ends : newlineOf p (c .at) ≡ refused EndOfInput 0 → Decides c (λ r. r .pickle ≡ p) (λ s. going (global s)) (refusing c EndOfInput)
   unfolding Decides global _>>=_
-  global-ends e r s q = says-refused r c s EndOfInput (global (stateOf r c)) (rw (ended c p e r s q))
+  global-ends e r s q = refused-going r c s EndOfInput (global (stateOf r c)) (rw (ended c p e r s q))
 
   module _ (i : ℕ) (e : newlineOf p (c .at) ≡ got i) where
-    pub global-cut : newlineOf p (i + 1) ≡ refused EndOfInput 0 → Decides c (λ r. r .pickle ≡ p) (λ s. going (global s)) (Refused EndOfInput)
+    pub global-cut : newlineOf p (i + 1) ≡ refused EndOfInput 0 → Decides c (λ r. r .pickle ≡ p) (λ s. going (global s)) (refusing c EndOfInput)
     unfolding Decides global _>>=_
-    global-cut f r s q = says-refused r c s EndOfInput (global (stateOf r c)) (rw (lined c p i e r s q, line-none r (atTo c (i + 1)) (rw q f)))
+    global-cut f r s q = refused-going r c s EndOfInput (global (stateOf r c)) (rw (lined c p i e r s q, line-none r (atTo c (i + 1)) (rw q f)))
 
     module _ (j : ℕ) (f : newlineOf p (i + 1) ≡ got j) (l m : List ℕ) (d : l ≡ lineOf p (c .at) i) (g : m ≡ lineOf p (i + 1) j) where
       both : (r : Rooms) → Sound r c → r .pickle ≡ p → global (stateOf r c) ≡ push (GlobalL (repair l) (repair m)) (stateOf r (atTo c (j + 1)))

@@ -3,9 +3,11 @@
 use Prim.Native.Nat.{ℕ, _+_, _*_, _<_, _≤_}
 use mathlib.Core.Bool.{true, cond}
 use mathlib.Core.List.{List, [], _∷_}
-use mathlib.Core.Path.{_≡_, refl}
+use mathlib.Core.Path.{_≡_, refl, sym}
+use mathlib.Core.Logic.{_≢_}
 use lib.ListN.{length, getD, take, drop, set}
 use lib.Dec.{leb, ltb}
+use Rattle.refusal.specs.declared.Refusal.{Refusal}
 use Rattle.refusal.specs.declared.Refusal.the-variants.{MemoFull}
 use Rattle.text.specs.Pieces.{bytesOf, reads}
 use Rattle.text.specs.Text.{unescapeString}
@@ -17,7 +19,7 @@ use Rattle.decoder.specs.State.{State, Res, ok, no, _>>=_, need, memoLim
 use Rattle.decoder.specs.Opcodes.{mark, made}
 use Rattle.decoder.specs.Run.{Next, goes, stops, going}
 use Rattle.decoder.specs.Range.{InRange}
-use Rattle.decoder.specs.Rooms.{Rooms, Counts, first, nodeIs, stateOf, Holds, Class, Used, Kept}
+use Rattle.decoder.specs.Rooms.{Rooms, Counts, first, nodeIs, stateOf, Holds, Class, Used, Numbered, Kept}
 
 -- ---- the parts of a step that follow what it read and took
 
@@ -57,11 +59,11 @@ enacted (Mark c) r h = going (mark (stateOf r c))
 enacted (Go c) r h = ok (goes (stateOf r c))
 enacted (Make c k) r h = going (container k r (above (c .stack) h (r .stack)) (stateOf r c))
 enacted (Extend c o) r h = going (grow (o .0) (above (c .stack) h (r .stack)) (stateOf r c))
-enacted (Remember c k i) r h = going (remember (k .0) (i .0) (stateOf r c))
+enacted (Remember c i w k) r h = going (remember (k .0) (i .0) (stateOf r c))
 enacted (Build c o i) r h = ok (goes (state (o .0) (i .0) (stateOf r c)))
 enacted (Unescape c from n) r h = going (push (BytesL (bytesOf (unescapeString (take n (drop from (r .pickle)))))) (stateOf r c))
 enacted (Stop c) r h = ok (stops (stateOf r c))
-enacted (Refused why) r h = no why
+enacted (Refused c v w why) r h = no why
 
 -- ---- what holds of the rooms and counts
 
@@ -103,6 +105,7 @@ pub record Firm (r : Rooms) (c : Counts) : Type 0 where
   pub marks : c .marks ≤ c .most
   pub most : c .most ≤ marksLimit
   pub memo : c .memo ≤ memoLimit
+  pub numbered : Numbered (r .keys) (c .memo) (c .greatest)
   pub kept : Kept (r .nodes) (r .owners) (r .children) (c .links) (c .nodes) (c .unescaped)
   pub clean : Clean r c
 
@@ -119,19 +122,27 @@ Fits (Share c i) r h = Firm r c × (i .0 < c .nodes)
 Fits (Mark c) r h = Firm r c
 Fits (Go c) r h = Firm r c
 Fits (Make c k) r h = Firm r c × (c .stack ≤ h) × (h ≤ c .deepest) × Holds k
-Fits (Extend c o) r h = Firm r c × (c .stack ≤ h) × (h ≤ c .deepest) × (o .0 < c .nodes) × Holds (first (r .nodes) (o .0))
-Fits (Remember c k i) r h = Firm r c × (i .0 < c .nodes)
+Fits (Extend c o) r h = Firm r c × (c .stack ≤ h) × (h ≤ c .deepest) × (o .0 < c .nodes) × Holds (first (r .nodes) (o .0)) × (kindIn (first (r .nodes) (o .0)) ≢ 7)
+Fits (Remember c i w k) r h = Firm r c × (i .0 < c .nodes)
 Fits (Build c o i) r h = Firm r c × (o .0 < c .nodes) × (i .0 < c .nodes) × (kindIn (first (r .nodes) (o .0)) ≡ 12)
 Fits (Unescape c from n) r h =
     Firm r c × (from + n ≤ length (r .pickle)) × (reads (unescapeString (take n (drop from (r .pickle)))) ≡ true)
     × (c .unescaped + length (bytesOf (unescapeString (take n (drop from (r .pickle))))) ≤ c .at)
 Fits (Stop c) r h = Firm r c
-Fits (Refused why) r h = Unit {0}
+Fits (Refused c v w why) r h = Unit {0}
 
 -- e is the step n of the machine with the rooms r and counts c
 pub record Says (e : Effect) (r : Rooms) (c : Counts) (n : Res Next) : Type 0 where
   pub enacts : enacted e r (c .stack) ≡ n
   pub fits : Fits e r (c .stack)
+
+-- a refusal as the code answers it: counts and words only fill an effect's room, and mean nothing
+abbrev pub refusing : Counts → Refusal → Effect
+refusing c why = Refused c 0 0 why
+
+pub says-refused : (why : Refusal) (r : Rooms) (c : Counts) (n : Res Next) → n ≡ no why → Says (refusing c why) r c n
+unfolding enacted Fits
+says-refused why r c n e = record { enacts = sym e; fits = tt }
 
 -- some rooms of which P holds, with these counts
 pub record Lent (c : Counts) (P : Rooms → Type 0) : Type 0 where

@@ -20,7 +20,7 @@ use Rattle.decoder.specs.Effects.{Lengths, Clean, Firm, above}
 
 -- place, stack and marks moved
 abbrev pub cutTo : Counts → ℕ → ℕ → ℕ → Counts
-cutTo c a n m = record { at = a; nodes = c .nodes; links = c .links; stack = n; deepest = c .deepest; marks = m; most = c .most; memo = c .memo; unescaped = c .unescaped }
+cutTo c a n m = record { at = a; nodes = c .nodes; links = c .links; stack = n; deepest = c .deepest; marks = m; most = c .most; memo = c .memo; greatest = c .greatest; unescaped = c .unescaped }
 
 pub firm-cut : (r : Rooms) (c : Counts) (a n m : ℕ) → Firm r c → c .at ≤ a → a ≤ length (r .pickle) → n ≤ c .stack → m ≤ c .marks → Firm r (cutTo c a n m)
 firm-cut r c a n m f h i k l = record {
@@ -34,6 +34,7 @@ firm-cut r c a n m f h i k l = record {
   marks = let x = f .marks in omega arith;
   most = f .most;
   memo = f .memo;
+  numbered = f .numbered;
   kept = f .kept;
   clean = record { nodes = f .clean .nodes; owners = f .clean .owners; children = f .clean .children; stack = f .clean .stack; marks = f .clean .marks; keys = f .clean .keys; held = f .clean .held; unescaped = f .clean .unescaped };
 }

@@ -5,7 +5,6 @@ use mathlib.Core.List.{List, [], _∷_, _++_, map, flatten}
 use mathlib.Core.Path.{_≡_, refl, sym, _∙_, ap}
 use mathlib.Core.Logic.{_≢_}
 use lib.ListN.{length, length-append, getD, take}
-use lib.Seq.{set-getD}
 use lib.Dec.{leb, ltb}
 use borrow.Author.Tests.{eq-eqb, ne-eqb}
 use native.Mathlib.Omega.{arith}
@@ -21,8 +20,7 @@ use Rattle.decoder.specs.declared.CallRead.{CallRead}
 use Rattle.decoder.specs.declared.CallRead.the-variants.{None, Of}
 use Rattle.decoder.specs.State.{Node, ok, no, _>>=_, need, pop, top, pushNode}
 use Rattle.decoder.specs.Opcodes.{isTuple, isObject, classOf, builtin, setName, frozensetName, object, setOf, reduced, called, build}
-use Rattle.decoder.specs.Rooms.{Rooms, Counts, items, first, second, moduleOf, nameOf, nodeIs, kidsOf, nodeOf, stateOf}
-use Rattle.decoder.specs.RoomLists.{items-own, items-other}
+use Rattle.decoder.specs.Rooms.{Rooms, Counts, first, second, moduleOf, nameOf, nodeIs, kidsOf, nodeOf, stateOf}
 use Rattle.decoder.specs.RoomReads.{node-at, tuple-kind, object-kind, class-kind}
 use Rattle.decoder.specs.Effects.{Firm, Sound, state}
 use Rattle.decoder.specs.Reads.{cutTo, firm-cut, pop-none, pop-got, top-none, top-got}
@@ -212,18 +210,3 @@ module _ (s : List ℕ) where
   pub same-frozenset : same (repair s) frozensetName ≡ same s frozensetName
   unfolding ascii evaluates
   same-frozenset = same-repair s frozensetName refl refl
-
--- ---- the one item of a tuple
-
--- the log's link n is o's, or not
-module _ (owners children : List ℕ) (n : ℕ) (h : n < length owners) (k : n < length children) where
-  pub items-last : (o : ℕ) → getD owners n 0 ≡ o → items (take (suc n) owners) (take (suc n) children) o ≡ items (take n owners) (take n children) o ++ (getD children n 0 ∷ [])
-  items-last o e = rw (set-getD owners n 0, set-getD children n 0, e) at (items-own owners children n (getD owners n 0) (getD children n 0) h k)
-
-  pub items-before : (o : ℕ) → getD owners n 0 ≢ o → items (take (suc n) owners) (take (suc n) children) o ≡ items (take n owners) (take n children) o
-  items-before o d = rw (set-getD owners n 0, set-getD children n 0) at (items-other owners children n (getD owners n 0) (getD children n 0) h k o (λ e. d (sym e)))
-
--- of one item the last is the only one
-pub only : (l : List ℕ) (x : ℕ) → length (l ++ (x ∷ [])) ≡ 1 → l ++ (x ∷ []) ≡ x ∷ []
-only [] x h = refl
-only (y ∷ l) x h = absurd (omega (arith, length-append l (x ∷ [])))

@@ -24,7 +24,7 @@ use Rattle.input.specs.declared.LineEnd.the-variants as ends
 use Rattle.decoder.specs.declared.Effect.{Effect}
 use Rattle.decoder.specs.declared.Part.{Part}
 use Rattle.decoder.specs.declared.Part.the-variants.{Short, At}
-use Rattle.decoder.specs.declared.Effect.the-variants.{Push, Go, Refused}
+use Rattle.decoder.specs.declared.Effect.the-variants.{Push, Go}
 use Rattle.decoder.specs.State.{State, Res, ok, no, _>>=_, leaf, plain, bytes, line, push}
 use Rattle.decoder.specs.Opcodes.{lowBytes}
 use Rattle.decoder.specs.Run.{going}
@@ -32,7 +32,7 @@ use Rattle.decoder.specs.Rooms.{Rooms, Counts, moduleOf, nameOf, nodeIs,
 use Rattle.decoder.specs.RoomLists.{within-at}
 use Rattle.decoder.specs.RoomReads.{node-kind, kind-made, rest-made}
 use Rattle.decoder.specs.RoomKeeps.{class-none, used-none}
-use Rattle.decoder.specs.Effects.{Firm, Sound, Says, Fits, Lent, Decides, enacted}
+use Rattle.decoder.specs.Effects.{Firm, Sound, Says, Fits, Lent, Decides, enacted, refusing, says-refused}
 use Rattle.decoder.specs.Reads.{cutTo, firm-cut, bytes-short, bytes-got, line-none, line-got}
 
 -- ---- what the parts of the code answer
@@ -85,9 +85,9 @@ no-links k t (aTuple e) = wrong (kindIn k) 7 t refl e
 no-links k t (aDict e) = wrong (kindIn k) 10 t refl e
 
 module _ (r : Rooms) (c : Counts) (s : Sound r c) where
-  pub says-refused : (why : Refusal) (m : Res State) → m ≡ no why → Says (Refused why) r c (going m)
-  unfolding enacted Fits going
-  says-refused why m e = record { enacts = rw e; fits = tt }
+  pub refused-going : (why : Refusal) (m : Res State) → m ≡ no why → Says (refusing c why) r c (going m)
+  unfolding going
+  refused-going why m e = says-refused why r c (going m) (rw e)
 
   pub firm-read : (a : ℕ) → c .at ≤ a → a ≤ length (r .pickle) → Firm r (cutTo c a (c .stack) (c .marks))
   firm-read a h k = firm-cut r c a (c .stack) (c .marks) (s .firm) h k (omega arith) (omega arith)
@@ -141,9 +141,9 @@ module _ (c : Counts) (p : List ℕ) where
   lent-size l = rw (l .agrees) at (l .sound .firm .lengths .pickle)
 
   -- a step whose first part is refused
-  pub refused-step : {A : Type 0} (m : State → Res A) (f : A → Res State) (why : Refusal) → ((r : Rooms) → Sound r c → r .pickle ≡ p → m (stateOf r c) ≡ no why) → Decides c (λ r. r .pickle ≡ p) (λ s. going (m s >>= f)) (Refused why)
+  pub refused-step : {A : Type 0} (m : State → Res A) (f : A → Res State) (why : Refusal) → ((r : Rooms) → Sound r c → r .pickle ≡ p → m (stateOf r c) ≡ no why) → Decides c (λ r. r .pickle ≡ p) (λ s. going (m s >>= f)) (refusing c why)
   unfolding Decides _>>=_
-  refused-step m f why h r s q = says-refused r c s why (m (stateOf r c) >>= f) (rw (h r s q))
+  refused-step m f why h r s q = refused-going r c s why (m (stateOf r c) >>= f) (rw (h r s q))
 
   -- a step that reads to a, and has a plain node
   pub pushed-step : (m : State → Res State) (a k b : ℕ) (l : Label) (c₁ : Counts) → ((r : Rooms) → Sound r c → r .pickle ≡ p → m (stateOf r c) ≡ push l (stateOf r (atTo c a)))
@@ -160,15 +160,15 @@ module _ (c : Counts) (p : List ℕ) where
   lined i e r s q = rw (line-got r c i (rw q e), q)
 
   module _ {A : Type 0} (read : List ℕ → Read A) (label : A → Label) where
-    pub line-ends : newlineOf p (c .at) ≡ refused EndOfInput 0 → Decides c (λ r. r .pickle ≡ p) (λ s. going (literal read label s)) (Refused EndOfInput)
+    pub line-ends : newlineOf p (c .at) ≡ refused EndOfInput 0 → Decides c (λ r. r .pickle ≡ p) (λ s. going (literal read label s)) (refusing c EndOfInput)
     line-ends e = refused-step line (λ q. leaf (read (q .0)) >>= λ v. push (label v) (q .1)) EndOfInput (ended e)
 
     -- l is the line to the newline at i
     module _ (i : ℕ) (e : newlineOf p (c .at) ≡ got i) (l : List ℕ) (d : l ≡ lineOf p (c .at) i) where
-      pub line-bad : (why : Refusal) (j : ℕ) → turned label (read l) ≡ refused why j → Decides c (λ r. r .pickle ≡ p) (λ s. going (literal read label s)) (Refused why)
+      pub line-bad : (why : Refusal) (j : ℕ) → turned label (read l) ≡ refused why j → Decides c (λ r. r .pickle ≡ p) (λ s. going (literal read label s)) (refusing c why)
       unfolding Decides _>>=_
       line-bad why j f r s q =
-          says-refused r c s why (literal read label (stateOf r c)) (rw (lined i e r s q, ← d) (leaf-bad label (read l) why j (stateOf r (atTo c (i + 1))) f))
+          refused-going r c s why (literal read label (stateOf r c)) (rw (lined i e r s q, ← d) (leaf-bad label (read l) why j (stateOf r (atTo c (i + 1))) f))
 
       pub line-push : (k b : ℕ) (n : Label) (c₁ : Counts) → turned label (read l) ≡ got n → Makes p k b n → c₁ ≡ cutTo c (i + 1) (c .stack) (c .marks)
           → Decides c (λ r. r .pickle ≡ p) (λ s. going (literal read label s)) (Push c₁ k b)
@@ -188,7 +188,7 @@ module _ (c : Counts) (p : List ℕ) where
   enough n h r s q = rw (bytes-got r c n (s .firm .at) (rw q h), q)
 
   module _ (n : ℕ) (label : List ℕ → Label) where
-    pub bytes-end : length p - c .at < n → Decides c (λ r. r .pickle ≡ p) (λ s. going (fixed n label s)) (Refused EndOfInput)
+    pub bytes-end : length p - c .at < n → Decides c (λ r. r .pickle ≡ p) (λ s. going (fixed n label s)) (refusing c EndOfInput)
     bytes-end h = refused-step (bytes n) (λ q. push (label (q .0)) (q .1)) EndOfInput (short n h)
 
     pub bytes-push : (k b : ℕ) (c₁ : Counts) → c .at ≤ length p → n ≤ length p - c .at → Makes p k b (label (take n (drop (c .at) p))) → c₁ ≡ cutTo c (c .at + n) (c .stack) (c .marks)
@@ -231,7 +231,7 @@ module _ (c : Counts) (p : List ℕ) (n : ℕ) where
   unfolding Found Is counted _>>=_
   none-counted h r s q = low-is n (stateOf r c) (λ x. bytes (x .0) (x .1)) ∙ rw (short c p n h r s q)
 
-  pub part-ends : (f : List ℕ × State → Res State) (t : Part) → Found c (λ r. r .pickle ≡ p) (counted n) t → t ≡ Short → Decides c (λ r. r .pickle ≡ p) (λ s. going (counted n s >>= f)) (Refused EndOfInput)
+  pub part-ends : (f : List ℕ × State → Res State) (t : Part) → Found c (λ r. r .pickle ≡ p) (counted n) t → t ≡ Short → Decides c (λ r. r .pickle ≡ p) (λ s. going (counted n s >>= f)) (refusing c EndOfInput)
   unfolding Found Is
   part-ends f t h e = refused-step c p (counted n) f EndOfInput (rw e at h)
 
@@ -247,10 +247,10 @@ module _ (c : Counts) (p : List ℕ) (n : ℕ) where
 
     -- l is the part
     module _ {A : Type 0} (read : List ℕ → Read A) (label : A → Label) (l : List ℕ) (d : l ≡ take m (drop a p)) where
-      pub part-bad : (why : Refusal) (j : ℕ) → turned label (read l) ≡ refused why j → Decides c (λ r. r .pickle ≡ p) (λ s. going (part read label (counted n s))) (Refused why)
+      pub part-bad : (why : Refusal) (j : ℕ) → turned label (read l) ≡ refused why j → Decides c (λ r. r .pickle ≡ p) (λ s. going (part read label (counted n s))) (refusing c why)
       unfolding Decides _>>=_
       part-bad why j f r s q =
-          says-refused r c s why (part read label (counted n (stateOf r c))) (rw (found r s q .0, ← d) (leaf-bad label (read l) why j (stateOf r (atTo c (a + m))) f))
+          refused-going r c s why (part read label (counted n (stateOf r c))) (rw (found r s q .0, ← d) (leaf-bad label (read l) why j (stateOf r (atTo c (a + m))) f))
 
       pub part-push : (k b : ℕ) (o : Label) (c₁ : Counts) → (c .at ≤ a) × (a + m ≤ length p) → turned label (read l) ≡ got o → Makes p k b o → c₁ ≡ cutTo c (a + m) (c .stack) (c .marks)
           → Decides c (λ r. r .pickle ≡ p) (λ s. going (part read label (counted n s))) (Push c₁ k b)

@@ -33,7 +33,7 @@ sharedRooms = record {
 }
 
 abbrev pub sharedCounts : Counts
-sharedCounts = record { at = 12; nodes = 3; links = 3; stack = 1; deepest = 2; marks = 0; most = 1; memo = 1; unescaped = 0 }
+sharedCounts = record { at = 12; nodes = 3; links = 3; stack = 1; deepest = 2; marks = 0; most = 1; memo = 1; greatest = 0; unescaped = 0 }
 
 pub shared-rooms : run (sharedRooms .pickle) ≡ ok (stateOf sharedRooms sharedCounts)
 unfolding evaluates
@@ -54,7 +54,7 @@ objectRooms = record {
 }
 
 abbrev pub objectCounts : Counts
-objectCounts = record { at = 32; nodes = 8; links = 0; stack = 5; deepest = 7; marks = 0; most = 0; memo = 0; unescaped = 1 }
+objectCounts = record { at = 32; nodes = 8; links = 0; stack = 5; deepest = 7; marks = 0; most = 0; memo = 0; greatest = 0; unescaped = 1 }
 
 pub object-rooms : stateOf objectRooms objectCounts
     ≡ record {

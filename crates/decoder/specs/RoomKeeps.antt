@@ -1,15 +1,15 @@
 -- What the code keeps of its rooms is kept by each change of them.
-use Prim.Native.Nat.{ℕ, suc, _*_, _<_, _≤_}
+use Prim.Native.Nat.{ℕ, suc, _+_, _*_, _^_, _/_, _%_, _<_, _≤_}
 use mathlib.Core.Bool.{Bool}
-use mathlib.Core.List.{List}
+use mathlib.Core.List.{List, [], _∷_, _++_}
 use mathlib.Core.Path.{_≡_, refl, sym, _∙_, ap}
 use mathlib.Core.Logic.{_≢_}
-use lib.ListN.{length, length-append, getD, take, set}
-use lib.Seq.{getD-set-same, getD-set-other}
+use lib.ListN.{length, length-append, getD, take, set, List·getD-append}
+use lib.Seq.{getD-set-same, getD-set-other, getD-at}
 use native.Mathlib.Decide.{ℕ-discrete}
 use native.Mathlib.Omega.{arith}
 use Rattle.value.specs.Shape.{kindIn}
-use Rattle.decoder.specs.Rooms.{items, first, second, wordsSet, classIn, Holds, aList, aTuple, aDict, Owned, Holding, Class, Classed, Used, AllUsed, Counted, Built, Kept}
+use Rattle.decoder.specs.Rooms.{items, first, second, wordsSet, classIn, Holds, aList, aTuple, aDict, Owned, Holding, Class, Classed, Used, AllUsed, Counted, Together, Placed, Built, Kept}
 use Rattle.decoder.specs.RoomLists.{items-own, items-other, items-new, first-other, second-other, first-set, second-set, words-second, holds-below}
 use Rattle.decoder.specs.RoomReads.{objectWord, object-made}
 
@@ -141,21 +141,37 @@ used-more ws n m m′ l h i z k = let v = h i z k in omega arith
 
 -- ---- the words that count items
 
+-- no items yet, and none of the links there are
+unfoldable pub Empty : ℕ → ℕ → ℕ → Type 0
+Empty links a b = Holds a → (b % 2 ^ 32 ≡ 0) × (b / 2 ^ 32 ≤ links)
+
+pub empty-zero : (links a b : ℕ) → (Holds a → b ≡ 0) → Empty links a b
+unfolding Empty
+empty-zero links a b z t = let e = z t in (omega arith, omega arith)
+
+-- a word that counts one item more
+module _ (b : ℕ) (small : suc (b % 2 ^ 32) < 2 ^ 32) where
+  pub suc-low : suc b % 2 ^ 32 ≡ suc (b % 2 ^ 32)
+  suc-low = omega arith
+
+  pub suc-high : suc b / 2 ^ 32 ≡ b / 2 ^ 32
+  suc-high = omega arith
+
 module _ (ws owners children : List ℕ) (links n : ℕ) (h : Counted ws owners children links n) where
   -- words set for a node that is no container with items
-  set-counted : (o a b : ℕ) → suc (2 * o) < length ws → (Holds a → b ≡ length (items (take links owners) (take links children) o)) → (i : ℕ) → (i ≢ o → i < n)
-      → Holds (first (wordsSet ws o a b) i) → second (wordsSet ws o a b) i ≡ length (items (take links owners) (take links children) i)
+  set-counted : (o a b : ℕ) → suc (2 * o) < length ws → (Holds a → b % 2 ^ 32 ≡ length (items (take links owners) (take links children) o)) → (i : ℕ) → (i ≢ o → i < n)
+      → Holds (first (wordsSet ws o a b) i) → second (wordsSet ws o a b) i % 2 ^ 32 ≡ length (items (take links owners) (take links children) i)
   unfolding Counted
   set-counted o a b room new i l = go (ℕ-discrete i o)
     where
-      go : Dec (i ≡ o) → Holds (first (wordsSet ws o a b) i) → second (wordsSet ws o a b) i ≡ length (items (take links owners) (take links children) i)
+      go : Dec (i ≡ o) → Holds (first (wordsSet ws o a b) i) → second (wordsSet ws o a b) i % 2 ^ 32 ≡ length (items (take links owners) (take links children) i)
       go (yes e) = rw (e, first-set ws o a b room, second-set ws o a b room) new
       go (no d) = rw (first-other ws o a b i d, second-other ws o a b i d) (h i (l d))
 
   -- a node more, which owns nothing yet
-  pub counted-node : (a b : ℕ) → suc (2 * n) < length ws → links ≤ length owners → Owned owners links n → (Holds a → b ≡ 0) → Counted (wordsSet ws n a b) owners children links (suc n)
-  unfolding Counted Owned
-  counted-node a b room l own new i z = set-counted n a b room (λ t. new t ∙ sym (ap length (items-new owners children links n (λ k y e. let v = own k y in omega arith) l))) i (λ d. omega arith)
+  pub counted-node : (a b : ℕ) → suc (2 * n) < length ws → items (take links owners) (take links children) n ≡ [] → Empty links a b → Counted (wordsSet ws n a b) owners children links (suc n)
+  unfolding Counted Empty
+  counted-node a b room none new i z = set-counted n a b room (λ t. new t .0 ∙ sym (ap length none)) i (λ d. omega arith)
 
   -- words changed of a node that is no container
   pub counted-words : (o a b : ℕ) → suc (2 * o) < length ws → (Holds a → ⊥) → Counted (wordsSet ws o a b) owners children links n
@@ -163,10 +179,10 @@ module _ (ws owners children : List ℕ) (links n : ℕ) (h : Counted ws owners 
   counted-words o a b room none i z = set-counted o a b room (λ t. absurd (none t)) i (λ d. z)
 
   -- a link more, and the owner's count with it
-  pub counted-link : (o k : ℕ) → suc (2 * o) < length ws → o < n → links < length owners → links < length children
+  pub counted-link : (o k : ℕ) → suc (2 * o) < length ws → o < n → links < length owners → links < length children → suc (second ws o % 2 ^ 32) < 2 ^ 32
       → Counted (set ws (suc (2 * o)) (suc (second ws o))) (set owners links o) (set children links k) (suc links) n
   unfolding Counted
-  counted-link o k room z l l′ i y = rw (← words-second ws o (suc (second ws o))) (go (ℕ-discrete i o))
+  counted-link o k room z l l′ small i y = rw (← words-second ws o (suc (second ws o))) (go (ℕ-discrete i o))
     where
       a : ℕ
       a = first ws o
@@ -174,36 +190,102 @@ module _ (ws owners children : List ℕ) (links n : ℕ) (h : Counted ws owners 
       b : ℕ
       b = suc (second ws o)
 
-      go : Dec (i ≡ o) → Holds (first (wordsSet ws o a b) i) → second (wordsSet ws o a b) i ≡ length (items (take (suc links) (set owners links o)) (take (suc links) (set children links k)) i)
-      go (yes e) = rw (e, first-set ws o a b room, second-set ws o a b room, items-own owners children links o k l l′, length-append) (λ t. let v = h o z t in omega arith)
+      go : Dec (i ≡ o) → Holds (first (wordsSet ws o a b) i) → second (wordsSet ws o a b) i % 2 ^ 32 ≡ length (items (take (suc links) (set owners links o)) (take (suc links) (set children links k)) i)
+      go (yes e) = rw (e, first-set ws o a b room, second-set ws o a b room, items-own owners children links o k l l′, length-append, suc-low (second ws o) small) (λ t. let v = h o z t in omega arith)
       go (no d) = rw (first-other ws o a b i d, second-other ws o a b i d, items-other owners children links o k l l′ i d) (h i y)
+
+-- ---- the links of Tuples
+
+-- a link more that is not among them
+together-more : (b k links : ℕ) (is children : List ℕ) → Together b is children links → Together b is (set children links k) (suc links)
+together-more b k links is children t =
+    let e = t .ends in
+    record { ends = omega arith; child = λ j h. t .child j h ∙ sym (getD-set-other children links (b / 2 ^ 32 + j) k 0 (λ z. omega arith)) }
+
+-- a link more behind them
+module _ (b k links : ℕ) (is children : List ℕ) (t : Together b is children links) (many : b % 2 ^ 32 ≡ length is) (end : b / 2 ^ 32 + b % 2 ^ 32 ≡ links) (room : links < length children) (small : suc (b % 2 ^ 32) < 2 ^ 32) where
+  together-own : Together (suc b) (is ++ (k ∷ [])) (set children links k) (suc links)
+  together-own = record {
+    ends = rw (suc-low b small, suc-high b small) (omega arith);
+    child = λ j h. rw (suc-high b small) (at j (rw (suc-low b small) at h) (ℕ-discrete j (b % 2 ^ 32)));
+  }
+    where
+      at : (j : ℕ) → j < suc (b % 2 ^ 32) → Dec (j ≡ b % 2 ^ 32) → getD (is ++ (k ∷ [])) j 0 ≡ getD (set children links k) (b / 2 ^ 32 + j) 0
+      at j h (yes e) = rw (e, end, getD-set-same children links k 0 room) (getD-at is k [] 0 (b % 2 ^ 32) (sym many))
+      at j h (no d) = List·getD-append is (k ∷ []) 0 j (omega arith) ∙ together-more b k links is children t .child j (omega arith)
+
+module _ (ws owners children : List ℕ) (links n : ℕ) (h : Placed ws owners children links n) where
+  -- words set for a node that is no Tuple with items
+  set-placed : (o a b : ℕ) → suc (2 * o) < length ws → (kindIn a ≡ 7 → Together b (items (take links owners) (take links children) o) children links) → (i : ℕ) → (i ≢ o → i < n)
+      → kindIn (first (wordsSet ws o a b) i) ≡ 7 → Together (second (wordsSet ws o a b) i) (items (take links owners) (take links children) i) children links
+  unfolding Placed
+  set-placed o a b room new i l = go (ℕ-discrete i o)
+    where
+      go : Dec (i ≡ o) → kindIn (first (wordsSet ws o a b) i) ≡ 7 → Together (second (wordsSet ws o a b) i) (items (take links owners) (take links children) i) children links
+      go (yes e) = rw (e, first-set ws o a b room, second-set ws o a b room) new
+      go (no d) = rw (first-other ws o a b i d, second-other ws o a b i d) (h i (l d))
+
+  -- a node more, which owns nothing yet
+  pub placed-node : (a b : ℕ) → suc (2 * n) < length ws → Empty links a b → Placed (wordsSet ws n a b) owners children links (suc n)
+  unfolding Placed Empty
+  placed-node a b room new i z =
+      set-placed n a b room (λ t. let e = new (aTuple t) in let u = e .0 in let v = e .1 in record { ends = omega arith; child = λ j y. absurd (omega arith) }) i (λ d. omega arith)
+
+  -- words changed of a node that is no Tuple
+  pub placed-words : (o a b : ℕ) → suc (2 * o) < length ws → kindIn a ≢ 7 → Placed (wordsSet ws o a b) owners children links n
+  unfolding Placed
+  placed-words o a b room none i z = set-placed o a b room (λ t. absurd (none t)) i (λ d. z)
+
+  -- a link more: of a Tuple only behind its last
+  pub placed-link : (o k : ℕ) → suc (2 * o) < length ws → o < n → links < length owners → links < length children → suc (second ws o % 2 ^ 32) < 2 ^ 32 → Counted ws owners children links n
+      → (kindIn (first ws o) ≡ 7 → second ws o / 2 ^ 32 + second ws o % 2 ^ 32 ≡ links)
+      → Placed (set ws (suc (2 * o)) (suc (second ws o))) (set owners links o) (set children links k) (suc links) n
+  unfolding Placed Counted
+  placed-link o k room z l l′ small counted end i y = rw (← words-second ws o (suc (second ws o))) (go (ℕ-discrete i o))
+    where
+      a : ℕ
+      a = first ws o
+
+      b : ℕ
+      b = suc (second ws o)
+
+      go : Dec (i ≡ o) → kindIn (first (wordsSet ws o a b) i) ≡ 7 → Together (second (wordsSet ws o a b) i) (items (take (suc links) (set owners links o)) (take (suc links) (set children links k)) i) (set children links k) (suc links)
+      go (yes e) =
+          rw (e, first-set ws o a b room, second-set ws o a b room, items-own owners children links o k l l′)
+          (λ t. together-own (second ws o) k links (items (take links owners) (take links children) o) children (h o z t) (counted o z (aTuple t)) (end t) l′ small)
+      go (no d) =
+          rw (first-other ws o a b i d, second-other ws o a b i d, items-other owners children links o k l l′ i d)
+          (λ t. together-more (second ws i) k links (items (take links owners) (take links children) i) children (h i y t))
 
 -- ---- all of it together
 
 pub kept-start : (ws owners children : List ℕ) → Kept ws owners children 0 0 0
-unfolding Owned Holding Classed AllUsed Counted
-kept-start ws owners children = record { owned = λ k l. absurd (omega arith); holding = λ k l. absurd (omega arith); classed = λ i l. absurd (omega arith); used = λ i l. absurd (omega arith); counted = λ i l. absurd (omega arith) }
+unfolding Owned Holding Classed AllUsed Counted Placed
+kept-start ws owners children = record { owned = λ k l. absurd (omega arith); holding = λ k l. absurd (omega arith); classed = λ i l. absurd (omega arith); used = λ i l. absurd (omega arith); counted = λ i l. absurd (omega arith); placed = λ i l. absurd (omega arith) }
 
 module _ (ws owners children : List ℕ) (links n m : ℕ) (h : Kept ws owners children links n m) where
   -- a node more
-  pub kept-node : (a b : ℕ) → suc (2 * n) < length ws → links ≤ length owners → Class ws n a → Used m a b → (Holds a → b ≡ 0) → Kept (wordsSet ws n a b) owners children links (suc n) m
+  pub kept-node : (a b : ℕ) → suc (2 * n) < length ws → links ≤ length owners → Class ws n a → Used m a b → Empty links a b → Kept (wordsSet ws n a b) owners children links (suc n) m
+  unfolding Owned
   kept-node a b room l class used new = record {
     owned = owned-node owners links n (h .owned);
     holding = holding-node ws owners links n (h .owned) (h .holding) a b;
     classed = classed-node ws n a b room (h .classed) class;
     used = used-node ws n m n a b room (h .used) used refl;
-    counted = counted-node ws owners children links n (h .counted) a b room l (h .owned) new;
+    counted = counted-node ws owners children links n (h .counted) a b room (items-new owners children links n (λ k y e. let v = h .owned k y in omega arith) l) new;
+    placed = placed-node ws owners children links n (h .placed) a b room new;
   }
 
   -- a link more, with its owner's count
-  pub kept-link : (o k : ℕ) → suc (2 * o) < length ws → o < n → Holds (first ws o) → links < length owners → links < length children
+  pub kept-link : (o k : ℕ) → suc (2 * o) < length ws → o < n → Holds (first ws o) → links < length owners → links < length children → suc (second ws o % 2 ^ 32) < 2 ^ 32 → (kindIn (first ws o) ≡ 7 → second ws o / 2 ^ 32 + second ws o % 2 ^ 32 ≡ links)
       → Kept (set ws (suc (2 * o)) (suc (second ws o))) (set owners links o) (set children links k) (suc links) n m
-  kept-link o k room z t l l′ = record {
+  kept-link o k room z t l l′ small end = record {
     owned = owned-link owners links n o l z (h .owned);
     holding = rw (← words-second ws o (suc (second ws o))) (holding-words ws (set owners links o) (suc links) o (first ws o) (suc (second ws o)) room refl (holding-link ws owners links o l t (h .holding)));
     classed = rw (← words-second ws o (suc (second ws o))) (classed-words ws n o (first ws o) (suc (second ws o)) room refl refl (h .classed));
     used = rw (← words-second ws o (suc (second ws o))) (used-words ws n m o (first ws o) (suc (second ws o)) room (h .used) (used-none m (first ws o) (suc (second ws o)) (λ e. let v = holds-below (first ws o) t in omega arith)));
-    counted = counted-link ws owners children links n (h .counted) o k room z l l′;
+    counted = counted-link ws owners children links n (h .counted) o k room z l l′ small;
+    placed = placed-link ws owners children links n (h .placed) o k room z l l′ small (h .counted) end;
   }
 
   -- BUILD
@@ -216,8 +298,9 @@ module _ (ws owners children : List ℕ) (links n m : ℕ) (h : Kept ws owners c
         classed = classed-words ws n o a b room (e ∙ sym k) (new .class) (h .classed);
         used = used-words ws n m o a b room (h .used) (used-none m a b (λ q. omega arith));
         counted = counted-words ws owners children links n (h .counted) o a b room (λ t. let v = holds-below a t in omega arith);
+        placed = placed-words ws owners children links n (h .placed) o a b room (λ q. omega arith);
       }
 
   -- unescaped text more
   pub kept-text : (m′ : ℕ) → m ≤ m′ → Kept ws owners children links n m′
-  kept-text m′ l = record { owned = h .owned; holding = h .holding; classed = h .classed; used = used-more ws n m m′ l (h .used); counted = h .counted }
+  kept-text m′ l = record { owned = h .owned; holding = h .holding; classed = h .classed; used = used-more ws n m m′ l (h .used); counted = h .counted; placed = h .placed }

@@ -1,17 +1,20 @@
 -- The memo as two rooms, its numbers and their nodes: what `find`, `has` and `insert` say of them.
-use Prim.Native.Nat.{ℕ, suc, zero, _<_, _≤_}
+use Prim.Native.Nat.{ℕ, suc, zero, _+_, _<_, _≤_, max}
 use mathlib.Core.Bool.{Bool, true, false, cond}
 use mathlib.Core.List.{List, [], _∷_, _++_}
 use mathlib.Core.Path.{_≡_, refl, sym, _∙_, ap}
+use mathlib.Core.Logic.{_≢_}
 use lib.ListN.{length, getD, take, set}
-use lib.Seq.{take-set-lt, take-suc-set, length-take-le, getD-take}
+use lib.Seq.{take-set-lt, take-suc-set, length-take-le, getD-take, getD-set-same, getD-set-other}
 use lib.Dec.{eqb}
 use borrow.Author.Tests.{eq-eqb, ne-eqb}
+use native.Mathlib.Decide.{ℕ-discrete}
 use native.Mathlib.Omega.{arith}
 use Rattle.refusal.specs.declared.Refusal.the-variants.{MissingMemo}
-use Rattle.decoder.specs.State.{ok, no, find, has, insert}
+use Rattle.decoder.specs.State.{ok, find, has, insert}
+use Rattle.decoder.specs.State as state
 use Rattle.decoder.specs.Memo.{find-missing}
-use Rattle.decoder.specs.Rooms.{entries, Absent}
+use Rattle.decoder.specs.Rooms.{entries, Absent, Numbered}
 
 entries-append : (ks hs : List ℕ) (k h : ℕ) → length ks ≡ length hs → entries (ks ++ (k ∷ [])) (hs ++ (h ∷ [])) ≡ entries ks hs ++ ((k, h) ∷ [])
 unfolding entries
@@ -70,7 +73,7 @@ module _ (keys held : List ℕ) (n k : ℕ) (h : n ≤ length keys) (h′ : n �
     pub has-absent : has (entries (take n keys) (take n held)) k ≡ false
     has-absent = has-entries (take n keys) (take n held) k (rw (length-take-le n keys h) (absent-take n (omega arith) none))
 
-    pub find-absent : find (entries (take n keys) (take n held)) k ≡ no (MissingMemo k)
+    pub find-absent : find (entries (take n keys) (take n held)) k ≡ state.no (MissingMemo k)
     find-absent = find-missing (entries (take n keys) (take n held)) k has-absent
 
     pub insert-absent : (i : ℕ) → n < length keys → n < length held → entries (take (suc n) (set keys n k)) (take (suc n) (set held n i)) ≡ insert (entries (take n keys) (take n held)) k i
@@ -89,3 +92,41 @@ module _ (keys held : List ℕ) (n k : ℕ) (h : n ≤ length keys) (h′ : n �
     insert-present i =
         rw (take-set-lt n held j i l)
         (insert-entries k i (take n keys) (take n held) j (rw (length-take-le n keys h) l) (rw (length-take-le n held h′) l) (getD-take n keys j 0 l ∙ e) (absent-take j (omega arith) before))
+
+-- ---- different numbers, all below m
+
+pub numbered-none : (keys : List ℕ) (m : ℕ) → Numbered keys 0 m
+numbered-none keys m = record { once = λ i h. absurd (omega arith); below = λ i h. absurd (omega arith) }
+
+module _ (keys : List ℕ) (n m : ℕ) (numbered : Numbered keys n m) where
+  -- a number that is not below m is not there
+  pub absent-above : (k : ℕ) → m ≤ k → Absent keys n k
+  unfolding Absent
+  absent-above k h i l e = let x = numbered .below i l in omega arith
+
+  -- one that is there stands nowhere before
+  pub absent-before : (i k : ℕ) → i < n → getD keys i 0 ≡ k → Absent keys i k
+  absent-before i k l e = rw e at (numbered .once i l)
+
+  -- a number more
+  module _ (k : ℕ) (room : n < length keys) (none : Absent keys n k) where
+    earlier : (i : ℕ) → i < n → getD (set keys n k) i 0 ≡ getD keys i 0
+    earlier i l = getD-set-other keys n i k 0 (λ e. omega arith)
+
+    latest : getD (set keys n k) n 0 ≡ k
+    latest = getD-set-same keys n k 0 room
+
+    same-absent : (i x : ℕ) → i ≤ n → Absent keys i x → Absent (set keys n k) i x
+    unfolding Absent
+    same-absent i x l a j h = rw (earlier j (omega arith)) (a j h)
+
+    pub numbered-more : Numbered (set keys n k) (n + 1) (max m (k + 1))
+    numbered-more = record { once = λ i h. first i h (ℕ-discrete i n); below = λ i h. under i h (ℕ-discrete i n) }
+      where
+        first : (i : ℕ) → i < n + 1 → Dec (i ≡ n) → Absent (set keys n k) i (getD (set keys n k) i 0)
+        first i h (yes e) = rw (e, latest) (same-absent n k (omega arith) none)
+        first i h (no d) = let l : i < n = omega arith in rw (earlier i l) (same-absent i (getD keys i 0) (omega arith) (numbered .once i l))
+
+        under : (i : ℕ) → i < n + 1 → Dec (i ≡ n) → getD (set keys n k) i 0 < max m (k + 1)
+        under i h (yes e) = rw (e, latest) (omega arith)
+        under i h (no d) = let l : i < n = omega arith in let x = numbered .below i l in rw (earlier i l) (omega arith)

@@ -24,7 +24,7 @@ use Rattle.decoder.specs.RoomLists.{length-tab, getD-tab}
 -- ---- the parts of the state
 
 -- with nothing read yet
-pub start-of : (r : Rooms) → stateOf r (record { at = 0; nodes = 0; links = 0; stack = 0; deepest = 0; marks = 0; most = 0; memo = 0; unescaped = 0 }) ≡ start (r .pickle)
+pub start-of : (r : Rooms) → stateOf r (record { at = 0; nodes = 0; links = 0; stack = 0; deepest = 0; marks = 0; most = 0; memo = 0; greatest = 0; unescaped = 0 }) ≡ start (r .pickle)
 unfolding stateOf tab entries start
 start-of r = refl
 

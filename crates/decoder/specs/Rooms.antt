@@ -148,31 +148,31 @@ unescapedIn r l = record { pickle = r .pickle; nodes = r .nodes; owners = r .own
 -- ---- one count changed
 
 abbrev pub atTo : Counts → ℕ → Counts
-atTo c n = record { at = n; nodes = c .nodes; links = c .links; stack = c .stack; deepest = c .deepest; marks = c .marks; most = c .most; memo = c .memo; unescaped = c .unescaped }
+atTo c n = record { at = n; nodes = c .nodes; links = c .links; stack = c .stack; deepest = c .deepest; marks = c .marks; most = c .most; memo = c .memo; greatest = c .greatest; unescaped = c .unescaped }
 
 abbrev pub nodesTo : Counts → ℕ → Counts
-nodesTo c n = record { at = c .at; nodes = n; links = c .links; stack = c .stack; deepest = c .deepest; marks = c .marks; most = c .most; memo = c .memo; unescaped = c .unescaped }
+nodesTo c n = record { at = c .at; nodes = n; links = c .links; stack = c .stack; deepest = c .deepest; marks = c .marks; most = c .most; memo = c .memo; greatest = c .greatest; unescaped = c .unescaped }
 
 abbrev pub linksTo : Counts → ℕ → Counts
-linksTo c n = record { at = c .at; nodes = c .nodes; links = n; stack = c .stack; deepest = c .deepest; marks = c .marks; most = c .most; memo = c .memo; unescaped = c .unescaped }
+linksTo c n = record { at = c .at; nodes = c .nodes; links = n; stack = c .stack; deepest = c .deepest; marks = c .marks; most = c .most; memo = c .memo; greatest = c .greatest; unescaped = c .unescaped }
 
 abbrev pub stackTo : Counts → ℕ → Counts
-stackTo c n = record { at = c .at; nodes = c .nodes; links = c .links; stack = n; deepest = c .deepest; marks = c .marks; most = c .most; memo = c .memo; unescaped = c .unescaped }
+stackTo c n = record { at = c .at; nodes = c .nodes; links = c .links; stack = n; deepest = c .deepest; marks = c .marks; most = c .most; memo = c .memo; greatest = c .greatest; unescaped = c .unescaped }
 
 abbrev pub deepestTo : Counts → ℕ → Counts
-deepestTo c n = record { at = c .at; nodes = c .nodes; links = c .links; stack = c .stack; deepest = n; marks = c .marks; most = c .most; memo = c .memo; unescaped = c .unescaped }
+deepestTo c n = record { at = c .at; nodes = c .nodes; links = c .links; stack = c .stack; deepest = n; marks = c .marks; most = c .most; memo = c .memo; greatest = c .greatest; unescaped = c .unescaped }
 
 abbrev pub marksTo : Counts → ℕ → Counts
-marksTo c n = record { at = c .at; nodes = c .nodes; links = c .links; stack = c .stack; deepest = c .deepest; marks = n; most = c .most; memo = c .memo; unescaped = c .unescaped }
+marksTo c n = record { at = c .at; nodes = c .nodes; links = c .links; stack = c .stack; deepest = c .deepest; marks = n; most = c .most; memo = c .memo; greatest = c .greatest; unescaped = c .unescaped }
 
 abbrev pub mostTo : Counts → ℕ → Counts
-mostTo c n = record { at = c .at; nodes = c .nodes; links = c .links; stack = c .stack; deepest = c .deepest; marks = c .marks; most = n; memo = c .memo; unescaped = c .unescaped }
+mostTo c n = record { at = c .at; nodes = c .nodes; links = c .links; stack = c .stack; deepest = c .deepest; marks = c .marks; most = n; memo = c .memo; greatest = c .greatest; unescaped = c .unescaped }
 
 abbrev pub memoTo : Counts → ℕ → Counts
-memoTo c n = record { at = c .at; nodes = c .nodes; links = c .links; stack = c .stack; deepest = c .deepest; marks = c .marks; most = c .most; memo = n; unescaped = c .unescaped }
+memoTo c n = record { at = c .at; nodes = c .nodes; links = c .links; stack = c .stack; deepest = c .deepest; marks = c .marks; most = c .most; memo = n; greatest = c .greatest; unescaped = c .unescaped }
 
 abbrev pub unescapedTo : Counts → ℕ → Counts
-unescapedTo c n = record { at = c .at; nodes = c .nodes; links = c .links; stack = c .stack; deepest = c .deepest; marks = c .marks; most = c .most; memo = c .memo; unescaped = n }
+unescapedTo c n = record { at = c .at; nodes = c .nodes; links = c .links; stack = c .stack; deepest = c .deepest; marks = c .marks; most = c .most; memo = c .memo; greatest = c .greatest; unescaped = n }
 
 -- ---- what the code keeps
 
@@ -206,6 +206,11 @@ AllUsed ws n m = (i : ℕ) → i < n → Used m (first ws i) (second ws i)
 unfoldable pub Absent : List ℕ → ℕ → ℕ → Type 0
 Absent keys n k = (i : ℕ) → i < n → getD keys i 0 ≢ k
 
+-- the first n memo numbers are different ones, all below m
+pub record Numbered (keys : List ℕ) (n m : ℕ) : Type 0 where
+  pub once : (i : ℕ) → i < n → Absent keys i (getD keys i 0)
+  pub below : (i : ℕ) → i < n → getD keys i 0 < m
+
 -- the words a′ and b′ are those of an Object with a and b, but that its state is i
 pub record Built (a b a′ b′ i : ℕ) : Type 0 where
   pub kind : kindIn a′ ≡ 12
@@ -215,9 +220,18 @@ pub record Built (a b a′ b′ i : ℕ) : Type 0 where
   pub arguments : b′ % 2 ^ 32 ≡ b % 2 ^ 32
   pub item : b′ / 2 ^ 32 ≡ i
 
--- the second word of each container among n nodes is the number of its items
+-- the low half of a container's second word is the number of its items
 unfoldable pub Counted : List ℕ → List ℕ → List ℕ → ℕ → ℕ → Type 0
-Counted ws owners children links n = (i : ℕ) → i < n → Holds (first ws i) → second ws i ≡ length (items (take links owners) (take links children) i)
+Counted ws owners children links n = (i : ℕ) → i < n → Holds (first ws i) → second ws i % 2 ^ 32 ≡ length (items (take links owners) (take links children) i)
+
+-- `is` are the children of links that stand together: the halves of the word b are their number and the place of the first
+pub record Together (b : ℕ) (is children : List ℕ) (links : ℕ) : Type 0 where
+  pub ends : b / 2 ^ 32 + b % 2 ^ 32 ≤ links
+  pub child : (j : ℕ) → j < b % 2 ^ 32 → getD is j 0 ≡ getD children (b / 2 ^ 32 + j) 0
+
+-- a Tuple's links do, as it never grows
+unfoldable pub Placed : List ℕ → List ℕ → List ℕ → ℕ → ℕ → Type 0
+Placed ws owners children links n = (i : ℕ) → i < n → kindIn (first ws i) ≡ 7 → Together (second ws i) (items (take links owners) (take links children) i) children links
 
 -- every owner is a List, Tuple or Dict
 unfoldable pub Holding : List ℕ → List ℕ → ℕ → Type 0
@@ -230,3 +244,4 @@ pub record Kept (ws owners children : List ℕ) (links n m : ℕ) : Type 0 where
   pub classed : Classed ws n
   pub used : AllUsed ws n m
   pub counted : Counted ws owners children links n
+  pub placed : Placed ws owners children links n

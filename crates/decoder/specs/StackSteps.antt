@@ -17,20 +17,16 @@ use Rattle.value.specs.Value.{Label}
 use Rattle.value.specs.Shape.{kindIn}
 use Rattle.decoder.specs.declared.Taken.the-variants.{Short, From}
 use Rattle.decoder.specs.declared.NodeId.{NodeId}
-use Rattle.decoder.specs.declared.Effect.the-variants.{Share, Go, Make, Extend, Refused}
+use Rattle.decoder.specs.declared.Effect.the-variants.{Share, Go, Make, Extend}
 use Rattle.decoder.specs.State.{State, Res, ok, no, _>>=_, need, nodeAt, pop, top}
 use Rattle.decoder.specs.Opcodes.{popOne, popToMark, dup, list, tuple, tupleN, pairs, dict, isList, isDict, added, append, appends, setitem, setitems}
 use Rattle.decoder.specs.Run.{Next, going}
 use Rattle.decoder.specs.Out.{every-at}
 use Rattle.decoder.specs.Rooms.{Rooms, Counts, first, second, nodeIs, kidsOf, stateOf, stackTo, Holds, aList, aTuple, aDict}
 use Rattle.decoder.specs.RoomReads.{stack-of, stack-length, nodes-length, node-at, list-kind, dict-kind}
-use Rattle.decoder.specs.Effects.{Firm, Sound, Lent, Fits, Says, enacted, container, grow, above}
+use Rattle.decoder.specs.Effects.{Firm, Sound, Lent, Fits, Says, refusing, says-refused, enacted, container, grow, above}
 use Rattle.decoder.specs.Reads.{cutTo, firm-cut, mark-none, mark-above, mark-got, top-none, top-got, pop-none, pop-got, many-none, many-got}
 use Rattle.decoder.specs.Items.{Took, TakesMark, Grows, lists, dicts, isGrown}
-
-pub says-refused : (why : Refusal) (r : Rooms) (c : Counts) (n : Res Next) → n ≡ no why → Says (Refused why) r c n
-unfolding enacted Fits
-says-refused why r c n e = record { enacts = sym e; fits = tt }
 
 module _ (r : Rooms) (c : Counts) (s : Sound r c) where
   in-room : c .stack ≤ length (r .stack)
@@ -151,12 +147,16 @@ module _ (r : Rooms) (c : Counts) (s : Sound r c) where
   grows-holds k a (lists h) e = aList (e ∙ h)
   grows-holds k a (dicts h) e = aDict (e ∙ h)
 
+  grows-other : (k a : ℕ) → Grows k → kindIn a ≡ k → kindIn a ≢ 7
+  grows-other k a (lists h) e z = omega arith
+  grows-other k a (dicts h) e z = omega arith
+
   pub grown-extends : (keep m k : ℕ) (why : Wanted) → Grows k → keep ≤ c .stack → m ≤ c .marks → keep ≢ 0 → kindIn (first (r .nodes) (getD (r .stack) (keep - 1) 0)) ≡ k
       → Says (Extend (cutTo c (c .at) keep m) (record { 0 = getD (r .stack) (keep - 1) 0 })) r c (going (added (isGrown k) (Invalid why) (above keep (c .stack) (r .stack)) (stateOf r (cutTo c (c .at) keep m))))
   unfolding enacted Fits
   grown-extends keep m k why g l f h e = record {
     enacts = sym (added-grows keep m k why (above keep (c .stack) (r .stack)) g l f h e);
-    fits = (cut-firm keep m l f, l, s .firm .stack, on-stack (keep - 1) (omega arith), grows-holds k (first (r .nodes) (getD (r .stack) (keep - 1) 0)) g e);
+    fits = (cut-firm keep m l f, l, s .firm .stack, on-stack (keep - 1) (omega arith), grows-holds k (first (r .nodes) (getD (r .stack) (keep - 1) 0)) g e, grows-other k (first (r .nodes) (getD (r .stack) (keep - 1) 0)) g e);
   }
 
   -- one value, two values
@@ -277,7 +277,7 @@ module _ (c : Counts) (l : List ℕ) where
   -- the owner's words are n
   module _ (n : List ℕ) (r : Rooms) (s : Sound r c) (a : r .nodes ≡ n) (b : r .stack ≡ l) (keep m k : ℕ) (why : Wanted) (g : Grows k) (low : keep ≤ c .stack) (fewer : m ≤ c .marks) (h : keep ≢ 0) where
     pub wrong-lent : kindIn (first n (getD l (keep - 1) 0)) ≢ k
-        → Says (Refused (Invalid why)) r c (going (added (isGrown k) (Invalid why) (above keep (c .stack) (r .stack)) (stateOf r (cutTo c (c .at) keep m))))
+        → Says (refusing c (Invalid why)) r c (going (added (isGrown k) (Invalid why) (above keep (c .stack) (r .stack)) (stateOf r (cutTo c (c .at) keep m))))
     wrong-lent d = says-refused (Invalid why) r c (going (added (isGrown k) (Invalid why) (above keep (c .stack) (r .stack)) (stateOf r (cutTo c (c .at) keep m)))) (added-wrong r c s keep m k why (above keep (c .stack) (r .stack)) g low fewer h (rw (a, b) d))
 
     pub extends-lent : kindIn (first n (getD l (keep - 1) 0)) ≡ k

@@ -21,8 +21,7 @@ use text::Quoted;
 use text::string_len;
 use text::unicode_len;
 ghost use mathlib.Core.Path.{_≡_};
-ghost use mathlib.Core.List.{List, [], _∷_};
-ghost use Prim.Native.Nat.{_+_, _-_, _*_, _^_, _<_, _≤_};
+ghost use Prim.Native.Nat.{_+_, _-_, _*_, _^_, _/_, _<_, _≤_};
 ghost use lib.ListN.{length, getD, take, drop};
 ghost use Rattle.decoder.specs.State.{get, put};
 ghost use Rattle.decoder.specs.Opcodes.{proto, popOne, popToMark, dup, int, binint, binint1, binint2, long, longN, float, binfloat, string, binstring, shortBinstring, unicode, binunicode, global, list, tuple, tupleN, dict, append, appends, setitem, setitems, getLine, getBytes, putLine, putBytes, lowBytes, reduce, newobj, build};
@@ -32,7 +31,7 @@ ghost use Rattle.decoder.specs.Reads.{cutTo};
 ghost use Rattle.decoder.specs.ReadsPickle.{Found, counted};
 ghost use Rattle.decoder.specs.Items.{TakesMark, Grows, Adds};
 ghost use Rattle.value.specs.Shape.{kindIn};
-ghost use Rattle.decoder.specs.Rooms.{first, second, items, moduleOf, nameOf, Absent};
+ghost use Rattle.decoder.specs.Rooms.{first, second, moduleOf, nameOf, Absent, Numbered};
 ghost use Rattle.decoder.specs.ReadsMemo.{keyLine, ReadsKey};
 ghost use Rattle.decoder.specs.ReadsCalls.{Calls, ReadsCall, madeKind};
 ghost use Rattle.number.specs.Space.{same};
@@ -43,7 +42,8 @@ pub struct NodeId(pub usize);
 // A number that a pickle gives an entry of the memo.
 pub struct MemoKey(pub u32);
 
-// The place in the pickle, and how much of each room is used; of stack and marks also how much ever was.
+// The place in the pickle, and how much of each room is used; of stack and marks also how much ever was. `greatest` is above every
+// number in the memo.
 pub struct Counts {
     pub at: usize,
     pub nodes: usize,
@@ -53,6 +53,7 @@ pub struct Counts {
     pub marks: usize,
     pub most: usize,
     pub memo: usize,
+    pub greatest: usize,
     pub unescaped: usize,
 }
 
@@ -64,11 +65,11 @@ pub enum Effect {
     Go(Counts),
     Make(Counts, u64),
     Extend(Counts, NodeId),
-    Remember(Counts, MemoKey, NodeId),
+    Remember(Counts, NodeId, u64, MemoKey),
     Build(Counts, NodeId, NodeId),
     Unescape(Counts, usize, usize),
     Stop(Counts),
-    Refused(Refusal),
+    Refused(Counts, u64, u64, Refusal),
 }
 
 // The kinds of a node's first word. 0 to 12 are those of a table's record; Bytes that had an escape stand in the room of unescaped text,
@@ -116,6 +117,7 @@ pub fn cut(c: Counts, at: usize, stack: usize, marks: usize) -> Counts
         marks: marks,
         most: c.most,
         memo: c.memo,
+        greatest: c.greatest,
         unescaped: c.unescaped,
     }
 }
@@ -184,11 +186,11 @@ pub fn proto(pickle: &[u8], c: Counts) -> Effect
 {
     let at = c.at;
     if pickle.len() - at < 1 {
-        return Effect::Refused(Refusal::EndOfInput);
+        return Effect::Refused(c, 0, 0, Refusal::EndOfInput);
     }
     let p = pickle[at];
     if 2 < p {
-        return Effect::Refused(Refusal::UnsupportedProtocol(p));
+        return Effect::Refused(c, 0, 0, Refusal::UnsupportedProtocol(p));
     }
     Effect::Go(read_to(c, at + 1))
 }
@@ -199,11 +201,11 @@ pub fn int(pickle: &[u8], c: Counts) -> Effect
     ensures { λ e. ⌜ Decides c (λ r. r .pickle ≡ now (pickle .entry)) (λ s. going (int s)) e ⌝ }
 {
     match newline(pickle, c.at) {
-        LineEnd::End => Effect::Refused(Refusal::EndOfInput),
+        LineEnd::End => Effect::Refused(c, 0, 0, Refusal::EndOfInput),
         LineEnd::At(end) => match number::int(line(pickle, c.at, end)) {
             IntLiteral::Bool(b) => Effect::Push(read_to(c, end + 1), BOOL, b as u64),
             IntLiteral::I64(v) => Effect::Push(read_to(c, end + 1), I64, v),
-            IntLiteral::Invalid => Effect::Refused(Refusal::InvalidLiteral),
+            IntLiteral::Invalid => Effect::Refused(c, 0, 0, Refusal::InvalidLiteral),
         },
     }
 }
@@ -215,7 +217,7 @@ pub fn binint(pickle: &[u8], c: Counts) -> Effect
 {
     let at = c.at;
     if pickle.len() - at < 4 {
-        return Effect::Refused(Refusal::EndOfInput);
+        return Effect::Refused(c, 0, 0, Refusal::EndOfInput);
     }
     Effect::Push(read_to(c, at + 4), I64, i32_at(pickle, at))
 }
@@ -227,7 +229,7 @@ pub fn binint1(pickle: &[u8], c: Counts) -> Effect
 {
     let at = c.at;
     if pickle.len() - at < 1 {
-        return Effect::Refused(Refusal::EndOfInput);
+        return Effect::Refused(c, 0, 0, Refusal::EndOfInput);
     }
     Effect::Push(read_to(c, at + 1), I64, pickle[at] as u64)
 }
@@ -239,7 +241,7 @@ pub fn binint2(pickle: &[u8], c: Counts) -> Effect
 {
     let at = c.at;
     if pickle.len() - at < 2 {
-        return Effect::Refused(Refusal::EndOfInput);
+        return Effect::Refused(c, 0, 0, Refusal::EndOfInput);
     }
     Effect::Push(read_to(c, at + 2), I64, u16_at(pickle, at) as u64)
 }
@@ -250,10 +252,10 @@ pub fn long(pickle: &[u8], c: Counts) -> Effect
     ensures { λ e. ⌜ Decides c (λ r. r .pickle ≡ now (pickle .entry)) (λ s. going (long s)) e ⌝ }
 {
     match newline(pickle, c.at) {
-        LineEnd::End => Effect::Refused(Refusal::EndOfInput),
+        LineEnd::End => Effect::Refused(c, 0, 0, Refusal::EndOfInput),
         LineEnd::At(end) => match number::long_text(line(pickle, c.at, end)) {
             I64Literal::Value(v) => Effect::Push(read_to(c, end + 1), I64, v),
-            I64Literal::Invalid => Effect::Refused(Refusal::InvalidLiteral),
+            I64Literal::Invalid => Effect::Refused(c, 0, 0, Refusal::InvalidLiteral),
         },
     }
 }
@@ -264,12 +266,12 @@ pub fn long1(pickle: &[u8], c: Counts) -> Effect
     ensures { λ e. ⌜ Decides c (λ r. r .pickle ≡ now (pickle .entry)) (λ s. going (longN 1 s)) e ⌝ }
 {
     match part1(pickle, c) {
-        Part::Short => Effect::Refused(Refusal::EndOfInput),
+        Part::Short => Effect::Refused(c, 0, 0, Refusal::EndOfInput),
         Part::At(at, len) => {
             let end = at + len;
             match input::long(&pickle[at..end]) {
                 Integer::Value(v) => Effect::Push(read_to(c, end), I64, v),
-                Integer::TooLarge => Effect::Refused(Refusal::IntegerTooLarge),
+                Integer::TooLarge => Effect::Refused(c, 0, 0, Refusal::IntegerTooLarge),
             }
         }
     }
@@ -281,12 +283,12 @@ pub fn long4(pickle: &[u8], c: Counts) -> Effect
     ensures { λ e. ⌜ Decides c (λ r. r .pickle ≡ now (pickle .entry)) (λ s. going (longN 4 s)) e ⌝ }
 {
     match part4(pickle, c) {
-        Part::Short => Effect::Refused(Refusal::EndOfInput),
+        Part::Short => Effect::Refused(c, 0, 0, Refusal::EndOfInput),
         Part::At(at, len) => {
             let end = at + len;
             match input::long(&pickle[at..end]) {
                 Integer::Value(v) => Effect::Push(read_to(c, end), I64, v),
-                Integer::TooLarge => Effect::Refused(Refusal::IntegerTooLarge),
+                Integer::TooLarge => Effect::Refused(c, 0, 0, Refusal::IntegerTooLarge),
             }
         }
     }
@@ -298,11 +300,11 @@ pub fn float(pickle: &[u8], c: Counts) -> Effect
     ensures { λ e. ⌜ Decides c (λ r. r .pickle ≡ now (pickle .entry)) (λ s. going (float s)) e ⌝ }
 {
     match newline(pickle, c.at) {
-        LineEnd::End => Effect::Refused(Refusal::EndOfInput),
+        LineEnd::End => Effect::Refused(c, 0, 0, Refusal::EndOfInput),
         LineEnd::At(end) => match parse_f64(line(pickle, c.at, end)) {
             F64Literal::Bits(v) => Effect::Push(read_to(c, end + 1), F64, v),
-            F64Literal::Invalid => Effect::Refused(Refusal::InvalidLiteral),
-            F64Literal::Outside => Effect::Refused(Refusal::FloatOutside),
+            F64Literal::Invalid => Effect::Refused(c, 0, 0, Refusal::InvalidLiteral),
+            F64Literal::Outside => Effect::Refused(c, 0, 0, Refusal::FloatOutside),
         },
     }
 }
@@ -314,7 +316,7 @@ pub fn binfloat(pickle: &[u8], c: Counts) -> Effect
 {
     let at = c.at;
     if pickle.len() - at < 8 {
-        return Effect::Refused(Refusal::EndOfInput);
+        return Effect::Refused(c, 0, 0, Refusal::EndOfInput);
     }
     Effect::Push(read_to(c, at + 8), F64, f64_at(pickle, at))
 }
@@ -325,7 +327,7 @@ pub fn string(pickle: &[u8], c: Counts) -> Effect
     ensures { λ e. ⌜ Decides c (λ r. r .pickle ≡ now (pickle .entry)) (λ s. going (string s)) e ⌝ }
 {
     match newline(pickle, c.at) {
-        LineEnd::End => Effect::Refused(Refusal::EndOfInput),
+        LineEnd::End => Effect::Refused(c, 0, 0, Refusal::EndOfInput),
         LineEnd::At(end) => {
             let l = line(pickle, c.at, end);
             let len = l.len();
@@ -334,7 +336,7 @@ pub fn string(pickle: &[u8], c: Counts) -> Effect
                     Effect::Push(read_to(c, end + 1), BYTES, text_word(c.at + 1, len - 2))
                 }
                 Quoted::Escaped(_) => Effect::Unescape(read_to(c, end + 1), c.at, len),
-                Quoted::Refused(_) => Effect::Refused(Refusal::InvalidLiteral),
+                Quoted::Refused(_) => Effect::Refused(c, 0, 0, Refusal::InvalidLiteral),
             }
         }
     }
@@ -347,15 +349,15 @@ pub fn binstring(pickle: &[u8], c: Counts) -> Effect
 {
     let at = c.at;
     if pickle.len() - at < 4 {
-        return Effect::Refused(Refusal::EndOfInput);
+        return Effect::Refused(c, 0, 0, Refusal::EndOfInput);
     }
     let len = i32_at(pickle, at);
     if 0x7FFF_FFFF_FFFF_FFFF < len {
-        return Effect::Refused(Refusal::Invalid(Wanted::Length));
+        return Effect::Refused(c, 0, 0, Refusal::Invalid(Wanted::Length));
     }
     let size = len as usize;
     if pickle.len() - at - 4 < size {
-        return Effect::Refused(Refusal::EndOfInput);
+        return Effect::Refused(c, 0, 0, Refusal::EndOfInput);
     }
     Effect::Push(read_to(c, at + 4 + size), BYTES, text_word(at + 4, size))
 }
@@ -366,7 +368,7 @@ pub fn short_binstring(pickle: &[u8], c: Counts) -> Effect
     ensures { λ e. ⌜ Decides c (λ r. r .pickle ≡ now (pickle .entry)) (λ s. going (shortBinstring s)) e ⌝ }
 {
     match part1(pickle, c) {
-        Part::Short => Effect::Refused(Refusal::EndOfInput),
+        Part::Short => Effect::Refused(c, 0, 0, Refusal::EndOfInput),
         Part::At(at, len) => Effect::Push(read_to(c, at + len), BYTES, text_word(at, len)),
     }
 }
@@ -377,7 +379,7 @@ pub fn unicode(pickle: &[u8], c: Counts) -> Effect
     ensures { λ e. ⌜ Decides c (λ r. r .pickle ≡ now (pickle .entry)) (λ s. going (unicode s)) e ⌝ }
 {
     match newline(pickle, c.at) {
-        LineEnd::End => Effect::Refused(Refusal::EndOfInput),
+        LineEnd::End => Effect::Refused(c, 0, 0, Refusal::EndOfInput),
         LineEnd::At(end) => {
             let l = line(pickle, c.at, end);
             let len = l.len();
@@ -385,7 +387,7 @@ pub fn unicode(pickle: &[u8], c: Counts) -> Effect
                 Decoded::Len(_) => {
                     Effect::Push(read_to(c, end + 1), UNICODE, text_word(c.at, len))
                 }
-                Decoded::Refused(_) => Effect::Refused(Refusal::InvalidLiteral),
+                Decoded::Refused(_) => Effect::Refused(c, 0, 0, Refusal::InvalidLiteral),
             }
         }
     }
@@ -397,7 +399,7 @@ pub fn binunicode(pickle: &[u8], c: Counts) -> Effect
     ensures { λ e. ⌜ Decides c (λ r. r .pickle ≡ now (pickle .entry)) (λ s. going (binunicode s)) e ⌝ }
 {
     match part4(pickle, c) {
-        Part::Short => Effect::Refused(Refusal::EndOfInput),
+        Part::Short => Effect::Refused(c, 0, 0, Refusal::EndOfInput),
         Part::At(at, len) => Effect::Push(read_to(c, at + len), STRING, text_word(at, len)),
     }
 }
@@ -408,11 +410,11 @@ pub fn global(pickle: &[u8], c: Counts) -> Effect
     ensures { λ e. ⌜ Decides c (λ r. r .pickle ≡ now (pickle .entry)) (λ s. going (global s)) e ⌝ }
 {
     match newline(pickle, c.at) {
-        LineEnd::End => Effect::Refused(Refusal::EndOfInput),
+        LineEnd::End => Effect::Refused(c, 0, 0, Refusal::EndOfInput),
         LineEnd::At(end) => {
             let from = end + 1;
             match newline(pickle, from) {
-                LineEnd::End => Effect::Refused(Refusal::EndOfInput),
+                LineEnd::End => Effect::Refused(c, 0, 0, Refusal::EndOfInput),
                 LineEnd::At(to) => {
                     let module = line(pickle, c.at, end).len();
                     let name = line(pickle, from, to).len();
@@ -456,7 +458,7 @@ pub fn pop(c: Counts) -> Effect
 {
     let values = c.stack;
     if values == 0 {
-        return Effect::Refused(Refusal::StackUnderflow);
+        return Effect::Refused(c, 0, 0, Refusal::StackUnderflow);
     }
     Effect::Go(cut(c, c.at, values - 1, c.marks))
 }
@@ -466,7 +468,7 @@ pub fn pop_mark(marks: &[u16], c: Counts) -> Effect
     ensures { λ e. ⌜ Decides c (λ r. r .marks ≡ now (marks .entry)) (λ s. going (popToMark s)) e ⌝ }
 {
     match above_mark(marks, c) {
-        Taken::Short => Effect::Refused(Refusal::StackUnderflow),
+        Taken::Short => Effect::Refused(c, 0, 0, Refusal::StackUnderflow),
         Taken::From(m) => Effect::Go(cut(c, c.at, m, c.marks - 1)),
     }
 }
@@ -477,7 +479,7 @@ pub fn dup(stack: &[u16], c: Counts) -> Effect
     ensures { λ e. ⌜ Decides c (λ r. r .stack ≡ now (stack .entry)) (λ s. going (dup s)) e ⌝ }
 {
     if c.stack == 0 {
-        return Effect::Refused(Refusal::StackUnderflow);
+        return Effect::Refused(c, 0, 0, Refusal::StackUnderflow);
     }
     let i = c.stack - 1;
     Effect::Share(c, NodeId(stack[i] as usize))
@@ -490,7 +492,7 @@ pub fn list(marks: &[u16], c: Counts) -> Effect
     ensures { λ e. ⌜ Decides c (λ r. r .marks ≡ now (marks .entry)) (λ s. going (list s)) e ⌝ }
 {
     match above_mark(marks, c) {
-        Taken::Short => Effect::Refused(Refusal::StackUnderflow),
+        Taken::Short => Effect::Refused(c, 0, 0, Refusal::StackUnderflow),
         Taken::From(m) => Effect::Make(cut(c, c.at, m, c.marks - 1), LIST),
     }
 }
@@ -500,7 +502,7 @@ pub fn tuple(marks: &[u16], c: Counts) -> Effect
     ensures { λ e. ⌜ Decides c (λ r. r .marks ≡ now (marks .entry)) (λ s. going (tuple s)) e ⌝ }
 {
     match above_mark(marks, c) {
-        Taken::Short => Effect::Refused(Refusal::StackUnderflow),
+        Taken::Short => Effect::Refused(c, 0, 0, Refusal::StackUnderflow),
         Taken::From(m) => Effect::Make(cut(c, c.at, m, c.marks - 1), TUPLE),
     }
 }
@@ -512,7 +514,7 @@ pub fn small_tuple(c: Counts, code: u8) -> Effect
 {
     let n = (code - 0x84) as usize;
     if c.stack < n {
-        return Effect::Refused(Refusal::StackUnderflow);
+        return Effect::Refused(c, 0, 0, Refusal::StackUnderflow);
     }
     Effect::Make(cut(c, c.at, c.stack - n, c.marks), TUPLE)
 }
@@ -522,12 +524,12 @@ pub fn dict(marks: &[u16], c: Counts) -> Effect
     ensures { λ e. ⌜ Decides c (λ r. r .marks ≡ now (marks .entry)) (λ s. going (dict s)) e ⌝ }
 {
     match above_mark(marks, c) {
-        Taken::Short => Effect::Refused(Refusal::StackUnderflow),
+        Taken::Short => Effect::Refused(c, 0, 0, Refusal::StackUnderflow),
         Taken::From(m) => {
             if (c.stack - m) % 2 == 0 {
                 Effect::Make(cut(c, c.at, m, c.marks - 1), DICT)
             } else {
-                Effect::Refused(Refusal::Invalid(Wanted::DictItems))
+                Effect::Refused(c, 0, 0, Refusal::Invalid(Wanted::DictItems))
             }
         }
     }
@@ -557,14 +559,14 @@ fn grown(
     ensures { λ e. ⌜ Adds c (now (nodes .entry)) (now (stack .entry)) keep marks container why e ⌝ }
 {
     if keep == 0 {
-        return Effect::Refused(Refusal::StackUnderflow);
+        return Effect::Refused(c, 0, 0, Refusal::StackUnderflow);
     }
     let i = keep - 1;
     let owner = stack[i] as usize;
     if kind(nodes, NodeId(owner)) == container {
         return Effect::Extend(cut(c, c.at, keep, marks), NodeId(owner));
     }
-    Effect::Refused(Refusal::Invalid(why))
+    Effect::Refused(c, 0, 0, Refusal::Invalid(why))
 }
 
 pub fn append(nodes: &[u64], stack: &[u16], c: Counts) -> Effect
@@ -572,7 +574,7 @@ pub fn append(nodes: &[u64], stack: &[u16], c: Counts) -> Effect
     ensures { λ e. ⌜ Decides c (λ r. (r .nodes ≡ now (nodes .entry)) × (r .stack ≡ now (stack .entry))) (λ s. going (append s)) e ⌝ }
 {
     if c.stack == 0 {
-        return Effect::Refused(Refusal::StackUnderflow);
+        return Effect::Refused(c, 0, 0, Refusal::StackUnderflow);
     }
     grown(nodes, stack, c, c.stack - 1, c.marks, LIST, Wanted::List)
 }
@@ -582,7 +584,7 @@ pub fn appends(nodes: &[u64], stack: &[u16], marks: &[u16], c: Counts) -> Effect
     ensures { λ e. ⌜ Decides c (λ r. (r .nodes ≡ now (nodes .entry)) × (r .stack ≡ now (stack .entry)) × (r .marks ≡ now (marks .entry))) (λ s. going (appends s)) e ⌝ }
 {
     match above_mark(marks, c) {
-        Taken::Short => Effect::Refused(Refusal::StackUnderflow),
+        Taken::Short => Effect::Refused(c, 0, 0, Refusal::StackUnderflow),
         Taken::From(m) => grown(nodes, stack, c, m, c.marks - 1, LIST, Wanted::List),
     }
 }
@@ -592,7 +594,7 @@ pub fn setitem(nodes: &[u64], stack: &[u16], c: Counts) -> Effect
     ensures { λ e. ⌜ Decides c (λ r. (r .nodes ≡ now (nodes .entry)) × (r .stack ≡ now (stack .entry))) (λ s. going (setitem s)) e ⌝ }
 {
     if c.stack < 2 {
-        return Effect::Refused(Refusal::StackUnderflow);
+        return Effect::Refused(c, 0, 0, Refusal::StackUnderflow);
     }
     grown(nodes, stack, c, c.stack - 2, c.marks, DICT, Wanted::Dict)
 }
@@ -602,12 +604,12 @@ pub fn setitems(nodes: &[u64], stack: &[u16], marks: &[u16], c: Counts) -> Effec
     ensures { λ e. ⌜ Decides c (λ r. (r .nodes ≡ now (nodes .entry)) × (r .stack ≡ now (stack .entry)) × (r .marks ≡ now (marks .entry))) (λ s. going (setitems s)) e ⌝ }
 {
     match above_mark(marks, c) {
-        Taken::Short => Effect::Refused(Refusal::StackUnderflow),
+        Taken::Short => Effect::Refused(c, 0, 0, Refusal::StackUnderflow),
         Taken::From(m) => {
             if (c.stack - m) % 2 < 1 {
                 grown(nodes, stack, c, m, c.marks - 1, DICT, Wanted::Dict)
             } else {
-                Effect::Refused(Refusal::Invalid(Wanted::DictItems))
+                Effect::Refused(c, 0, 0, Refusal::Invalid(Wanted::DictItems))
             }
         }
     }
@@ -621,8 +623,8 @@ enum KeyRead {
     At(usize, MemoKey),
 }
 
-// The place of a memo number among the first `memo`, or `memo`.
-pub fn slot(keys: &[u32], memo: usize, key: MemoKey) -> usize
+// The place of a memo number among the first `memo`, or `memo`, by a search, oldest first.
+fn search(keys: &[u32], memo: usize, key: MemoKey) -> usize
     requires { ⌜ memo ≤ length (now keys) ⌝ }
     ensures { λ r. ⌜ (r ≤ memo) × Absent (now (keys .entry)) r (key .0) × (r < memo → getD (now (keys .entry)) r 0 ≡ key .0) ⌝ }
 {
@@ -635,6 +637,27 @@ pub fn slot(keys: &[u32], memo: usize, key: MemoKey) -> usize
         i += 1;
     }
     memo
+}
+
+// The same: at once where no number is so great, or where the numbers were put in order.
+pub fn slot(keys: &[u32], memo: usize, greatest: usize, key: MemoKey) -> usize
+    requires { ⌜ (memo ≤ length (now keys)) × (0 < length (now keys)) × Numbered (now keys) memo greatest ⌝ }
+    ensures { λ r. ⌜ (r ≤ memo) × Absent (now (keys .entry)) r (key .0) × (r < memo → getD (now (keys .entry)) r 0 ≡ key .0) ⌝ }
+{
+    let k = key.0;
+    if greatest <= k as usize {
+        return memo;
+    }
+    let first = keys[0];
+    if first <= k {
+        let guess = (k - first) as usize;
+        if guess < memo {
+            if keys[guess] == k {
+                return guess;
+            }
+        }
+    }
+    search(keys, memo, key)
 }
 
 // GET's, PUT's: a line.
@@ -679,11 +702,11 @@ fn get(keys: &[u32], held: &[u16], c: Counts, key: MemoKey) -> Effect
     requires { ⌜ Lent c (λ r. (r .keys ≡ now keys) × (r .held ≡ now held)) ⌝ }
     ensures { λ e. ⌜ Decides c (λ r. (r .keys ≡ now (keys .entry)) × (r .held ≡ now (held .entry))) (λ s. going (get (key .0) s)) e ⌝ }
 {
-    let i = slot(keys, c.memo, key);
+    let i = slot(keys, c.memo, c.greatest, key);
     if i < c.memo {
         return Effect::Share(c, NodeId(held[i] as usize));
     }
-    Effect::Refused(Refusal::MissingMemo(key.0))
+    Effect::Refused(c, 0, 0, Refusal::MissingMemo(key.0))
 }
 
 pub fn get_line(pickle: &[u8], keys: &[u32], held: &[u16], c: Counts) -> Effect
@@ -691,7 +714,7 @@ pub fn get_line(pickle: &[u8], keys: &[u32], held: &[u16], c: Counts) -> Effect
     ensures { λ e. ⌜ Decides c (λ r. (r .pickle ≡ now (pickle .entry)) × (r .keys ≡ now (keys .entry)) × (r .held ≡ now (held .entry))) (λ s. going (getLine s)) e ⌝ }
 {
     match key_line(pickle, c) {
-        KeyRead::None(why) => Effect::Refused(why),
+        KeyRead::None(why) => Effect::Refused(c, 0, 0, why),
         KeyRead::At(at, key) => get(keys, held, read_to(c, at), key),
     }
 }
@@ -701,7 +724,7 @@ pub fn binget(pickle: &[u8], keys: &[u32], held: &[u16], c: Counts) -> Effect
     ensures { λ e. ⌜ Decides c (λ r. (r .pickle ≡ now (pickle .entry)) × (r .keys ≡ now (keys .entry)) × (r .held ≡ now (held .entry))) (λ s. going (getBytes 1 s)) e ⌝ }
 {
     match key_byte(pickle, c) {
-        KeyRead::None(why) => Effect::Refused(why),
+        KeyRead::None(why) => Effect::Refused(c, 0, 0, why),
         KeyRead::At(at, key) => get(keys, held, read_to(c, at), key),
     }
 }
@@ -711,7 +734,7 @@ pub fn long_binget(pickle: &[u8], keys: &[u32], held: &[u16], c: Counts) -> Effe
     ensures { λ e. ⌜ Decides c (λ r. (r .pickle ≡ now (pickle .entry)) × (r .keys ≡ now (keys .entry)) × (r .held ≡ now (held .entry))) (λ s. going (getBytes 4 s)) e ⌝ }
 {
     match key_word(pickle, c) {
-        KeyRead::None(why) => Effect::Refused(why),
+        KeyRead::None(why) => Effect::Refused(c, 0, 0, why),
         KeyRead::At(at, key) => get(keys, held, read_to(c, at), key),
     }
 }
@@ -722,10 +745,10 @@ fn put(stack: &[u16], c: Counts, key: MemoKey) -> Effect
     ensures { λ e. ⌜ Decides c (λ r. r .stack ≡ now (stack .entry)) (λ s. going (put (key .0) s)) e ⌝ }
 {
     if c.stack == 0 {
-        return Effect::Refused(Refusal::StackUnderflow);
+        return Effect::Refused(c, 0, 0, Refusal::StackUnderflow);
     }
     let top = c.stack - 1;
-    Effect::Remember(c, key, NodeId(stack[top] as usize))
+    Effect::Remember(c, NodeId(stack[top] as usize), 0, key)
 }
 
 pub fn put_line(pickle: &[u8], stack: &[u16], c: Counts) -> Effect
@@ -733,7 +756,7 @@ pub fn put_line(pickle: &[u8], stack: &[u16], c: Counts) -> Effect
     ensures { λ e. ⌜ Decides c (λ r. (r .pickle ≡ now (pickle .entry)) × (r .stack ≡ now (stack .entry))) (λ s. going (putLine s)) e ⌝ }
 {
     match key_line(pickle, c) {
-        KeyRead::None(why) => Effect::Refused(why),
+        KeyRead::None(why) => Effect::Refused(c, 0, 0, why),
         KeyRead::At(at, key) => put(stack, read_to(c, at), key),
     }
 }
@@ -743,7 +766,7 @@ pub fn binput(pickle: &[u8], stack: &[u16], c: Counts) -> Effect
     ensures { λ e. ⌜ Decides c (λ r. (r .pickle ≡ now (pickle .entry)) × (r .stack ≡ now (stack .entry))) (λ s. going (putBytes 1 s)) e ⌝ }
 {
     match key_byte(pickle, c) {
-        KeyRead::None(why) => Effect::Refused(why),
+        KeyRead::None(why) => Effect::Refused(c, 0, 0, why),
         KeyRead::At(at, key) => put(stack, read_to(c, at), key),
     }
 }
@@ -753,7 +776,7 @@ pub fn long_binput(pickle: &[u8], stack: &[u16], c: Counts) -> Effect
     ensures { λ e. ⌜ Decides c (λ r. (r .pickle ≡ now (pickle .entry)) × (r .stack ≡ now (stack .entry))) (λ s. going (putBytes 4 s)) e ⌝ }
 {
     match key_word(pickle, c) {
-        KeyRead::None(why) => Effect::Refused(why),
+        KeyRead::None(why) => Effect::Refused(c, 0, 0, why),
         KeyRead::At(at, key) => put(stack, read_to(c, at), key),
     }
 }
@@ -860,36 +883,29 @@ fn made_kind(pickle: &[u8], a: u64, b: u64, n: u64) -> u64
     OBJECT
 }
 
-// The one item of a node, from the newest end of the log.
-fn only_item(owners: &[u16], children: &[u16], links: usize, owner: NodeId) -> usize
-    requires { ⌜ (links ≤ length (now owners)) × (links ≤ length (now children)) × (length (items (take links (now owners)) (take links (now children)) (owner .0)) ≡ 1) ⌝ }
-    ensures { λ r. ⌜ items (take links (now (owners .entry))) (take links (now (children .entry))) (owner .0) ≡ r ∷ [] ⌝ }
+// The one item of a tuple with the second word `word`: its links stand together, from the place in the high half on.
+fn only_item(children: &[u16], word: u64) -> NodeId
+    requires { ⌜ word / 2 ^ 32 < length (now children) ⌝ }
+    ensures { λ r. ⌜ r .0 ≡ getD (now (children .entry)) (word / 2 ^ 32) 0 ⌝ }
 {
-    let of = owner.0;
-    let mut i = links;
-    while 0 < i {
-        i -= 1;
-        if owners[i] as usize == of {
-            return children[i] as usize;
-        }
-    }
-    0
+    let at = (word / 0x1_0000_0000) as usize;
+    NodeId(children[at] as usize)
 }
 
 // REDUCE of a class and its arguments.
 fn reduced(
     pickle: &[u8],
     nodes: &[u64],
-    owners: &[u16],
     children: &[u16],
     c: Counts,
     class: NodeId,
     arguments: NodeId,
 ) -> Effect
-    requires { ⌜ Lent c (λ r. (r .pickle ≡ now pickle) × (r .nodes ≡ now nodes) × (r .owners ≡ now owners) × (r .children ≡ now children) × Calls c r (class .0) (arguments .0)) ⌝ }
-    ensures { λ e. ⌜ Decides c (λ r. (r .pickle ≡ now (pickle .entry)) × (r .nodes ≡ now (nodes .entry)) × (r .owners ≡ now (owners .entry)) × (r .children ≡ now (children .entry)) × Calls c r (class .0) (arguments .0)) (λ s. going (reduce s)) e ⌝ }
+    requires { ⌜ Lent c (λ r. (r .pickle ≡ now pickle) × (r .nodes ≡ now nodes) × (r .children ≡ now children) × Calls c r (class .0) (arguments .0)) ⌝ }
+    ensures { λ e. ⌜ Decides c (λ r. (r .pickle ≡ now (pickle .entry)) × (r .nodes ≡ now (nodes .entry)) × (r .children ≡ now (children .entry)) × Calls c r (class .0) (arguments .0)) (λ s. going (reduce s)) e ⌝ }
 {
-    let n = second_word(nodes, arguments);
+    let word = second_word(nodes, arguments);
+    let n = word % 0x1_0000_0000;
     let made = made_kind(
         pickle,
         first_word(nodes, class),
@@ -904,35 +920,17 @@ fn reduced(
     if n == 0 {
         return Effect::Push(rest, made, arguments.0 as u64);
     }
-    Effect::Push(
-        rest,
-        made,
-        only_item(owners, children, c.links, arguments) as u64,
-    )
+    let item = only_item(children, word);
+    Effect::Push(rest, made, item.0 as u64)
 }
 
-pub fn reduce(
-    pickle: &[u8],
-    nodes: &[u64],
-    owners: &[u16],
-    children: &[u16],
-    stack: &[u16],
-    c: Counts,
-) -> Effect
-    requires { ⌜ Lent c (λ r. (r .pickle ≡ now pickle) × (r .nodes ≡ now nodes) × (r .owners ≡ now owners) × (r .children ≡ now children) × (r .stack ≡ now stack)) ⌝ }
-    ensures { λ e. ⌜ Decides c (λ r. (r .pickle ≡ now (pickle .entry)) × (r .nodes ≡ now (nodes .entry)) × (r .owners ≡ now (owners .entry)) × (r .children ≡ now (children .entry)) × (r .stack ≡ now (stack .entry))) (λ s. going (reduce s)) e ⌝ }
+pub fn reduce(pickle: &[u8], nodes: &[u64], children: &[u16], stack: &[u16], c: Counts) -> Effect
+    requires { ⌜ Lent c (λ r. (r .pickle ≡ now pickle) × (r .nodes ≡ now nodes) × (r .children ≡ now children) × (r .stack ≡ now stack)) ⌝ }
+    ensures { λ e. ⌜ Decides c (λ r. (r .pickle ≡ now (pickle .entry)) × (r .nodes ≡ now (nodes .entry)) × (r .children ≡ now (children .entry)) × (r .stack ≡ now (stack .entry))) (λ s. going (reduce s)) e ⌝ }
 {
     match class_and_arguments(nodes, stack, c) {
-        CallRead::None(why) => Effect::Refused(why),
-        CallRead::Of(class, arguments) => reduced(
-            pickle,
-            nodes,
-            owners,
-            children,
-            c,
-            class,
-            arguments,
-        ),
+        CallRead::None(why) => Effect::Refused(c, 0, 0, why),
+        CallRead::Of(class, arguments) => reduced(pickle, nodes, children, c, class, arguments),
     }
 }
 
@@ -942,7 +940,7 @@ pub fn newobj(nodes: &[u64], stack: &[u16], c: Counts) -> Effect
     ensures { λ e. ⌜ Decides c (λ r. (r .nodes ≡ now (nodes .entry)) × (r .stack ≡ now (stack .entry))) (λ s. going (newobj s)) e ⌝ }
 {
     match class_and_arguments(nodes, stack, c) {
-        CallRead::None(why) => Effect::Refused(why),
+        CallRead::None(why) => Effect::Refused(c, 0, 0, why),
         CallRead::Of(class, arguments) => Effect::Push(
             cut(c, c.at, c.stack - 2, c.marks),
             OBJECT + 16 + 64 * class.0 as u64,
@@ -957,14 +955,14 @@ pub fn build(nodes: &[u64], stack: &[u16], c: Counts) -> Effect
     ensures { λ e. ⌜ Decides c (λ r. (r .nodes ≡ now (nodes .entry)) × (r .stack ≡ now (stack .entry))) (λ s. going (build s)) e ⌝ }
 {
     if c.stack < 2 {
-        return Effect::Refused(Refusal::StackUnderflow);
+        return Effect::Refused(c, 0, 0, Refusal::StackUnderflow);
     }
     let i = c.stack - 2;
     let j = c.stack - 1;
     let object = NodeId(stack[i] as usize);
     let state = NodeId(stack[j] as usize);
     if kind(nodes, object) != OBJECT {
-        return Effect::Refused(Refusal::Invalid(Wanted::Object));
+        return Effect::Refused(c, 0, 0, Refusal::Invalid(Wanted::Object));
     }
     Effect::Build(cut(c, c.at, j, c.marks), object, state)
 }

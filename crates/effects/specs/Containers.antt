@@ -1,5 +1,5 @@
 -- A container made of its items, and one that grows.
-use Prim.Native.Nat.{ℕ, suc, _+_, _-_, _*_, _<_, _≤_, max}
+use Prim.Native.Nat.{ℕ, suc, _+_, _-_, _*_, _^_, _/_, _%_, _<_, _≤_, max}
 use mathlib.Core.Bool.{true, false}
 use mathlib.Core.List.{List, [], _∷_, _++_}
 use mathlib.Core.Path.{_≡_, refl, sym, _∙_, ap}
@@ -20,8 +20,9 @@ use Rattle.decoder.specs.Opcodes.{made}
 use Rattle.decoder.specs.Run.{goes, going}
 use Rattle.decoder.specs.Rooms.{Rooms, first, nodeIs, wordsSet, stateOf, wordsIn, logIn, stackIn, linksTo, nodesTo, Class, Holds, aList, aTuple, aDict}
 use Rattle.decoder.specs.RoomReads.{nodes-length, stack-length, links-of}
-use Rattle.decoder.specs.RoomLists.{first-set, holds-below}
-use Rattle.decoder.specs.RoomKeeps.{class-none, used-none}
+use Rattle.decoder.specs.RoomLists.{first-set, second-set, holds-below}
+use Rattle.decoder.specs.RoomKeeps.{Empty, class-none, used-none}
+use Rattle.decoder.specs.RoomLaws.{node-count}
 use Rattle.decoder.specs.RoomLinks.{extend-new}
 use Rattle.decoder.specs.Effects.{Firm, Fits, enacted, container, grow, above}
 use Rattle.effects.specs.declared.Step.{Step}
@@ -78,7 +79,7 @@ module _ (r : Rooms) (c : Counts) (had : ℕ) (f : Firm r c) (low : c .stack ≤
 -- ---- a container that grows
 
 module _ (r : Rooms) (c : Counts) (o had : ℕ) (f : Fits (Extend c (record { 0 = o })) r had) where
-  pub extend-full : linksLimit - c .links < had - c .stack → Done (step.Refused LinksFull) r r (enacted (Extend c (record { 0 = o })) r had)
+  pub extend-full : linksLimit - c .links < had - c .stack → Done (step.Refused c LinksFull) r r (enacted (Extend c (record { 0 = o })) r had)
   unfolding enacted Fits going grow _>>=_
   extend-full h = done-refused LinksFull r (going (grow o (above (c .stack) had (r .stack)) (stateOf r c))) (rw (links-short r c had (f .0) (f .1) (f .2) h))
 
@@ -137,7 +138,7 @@ module _ (r : Rooms) (c : Counts) (k had : ℕ) (f : Fits (Make c k) r had) wher
   abbrev n : ℕ
   n = c .links + (had - c .stack)
 
-  pub make-full : linksLimit - c .links < had - c .stack → Done (step.Refused LinksFull) r r (enacted (Make c k) r had)
+  pub make-full : linksLimit - c .links < had - c .stack → Done (step.Refused c LinksFull) r r (enacted (Make c k) r had)
   unfolding enacted going container made _>>=_
   make-full h = done-refused LinksFull r (going (container k r is (stateOf r c))) (rw (links-short r c had firm low high h))
 
@@ -147,7 +148,7 @@ module _ (r : Rooms) (c : Counts) (k had : ℕ) (f : Fits (Make c k) r had) wher
     unfolding container made _>>=_
     rest = rw (links-enough r c had firm low high h)
 
-    pub make-crowded : nodesLimit ≤ c .nodes → Done (step.Refused NodesFull) r r (enacted (Make c k) r had)
+    pub make-crowded : nodesLimit ≤ c .nodes → Done (step.Refused c NodesFull) r r (enacted (Make c k) r had)
     unfolding enacted going
     make-crowded l = done-refused NodesFull r (going (container k r is (stateOf r c))) (rw (rest, crowded r c n (record { label = label; kids = is }) l))
 
@@ -156,13 +157,20 @@ module _ (r : Rooms) (c : Counts) (k had : ℕ) (f : Fits (Make c k) r had) wher
       pushing : container k r is (stateOf r c) ≡ pushId (c .nodes) (withNodes (withLinks (stateOf r c) n) (stateOf r c .nodes ++ (record { label = label; kids = is } ∷ [])))
       pushing = rest ∙ roomy r c n (record { label = label; kids = is }) l
 
-      pub make-high : stackLimit ≤ c .stack → Done (step.Refused StackFull) r r (enacted (Make c k) r had)
+      pub make-high : stackLimit ≤ c .stack → Done (step.Refused c StackFull) r r (enacted (Make c k) r had)
       unfolding enacted going
       make-high m = done-refused StackFull r (going (container k r is (stateOf r c))) (rw (pushing, piled r c (c .nodes) (withNodes (withLinks (stateOf r c) n) (stateOf r c .nodes ++ (record { label = label; kids = is } ∷ []))) firm refl m))
 
+      -- its second word, before it has links
+      abbrev pub word : ℕ
+      word = c .links * 2 ^ 32
+
+      word-parts : (word % 2 ^ 32 ≡ 0) × (word / 2 ^ 32 ≡ c .links)
+      word-parts = (omega arith, omega arith)
+
       -- the node without links
       abbrev pub r₁ : Rooms
-      r₁ = withNode r c firm k 0
+      r₁ = withNode r c firm k word
 
       abbrev pub c₁ : Counts
       c₁ = oneNode r c firm
@@ -171,10 +179,11 @@ module _ (r : Rooms) (c : Counts) (k had : ℕ) (f : Fits (Make c k) r had) wher
       none = class-none (r .nodes) (c .nodes) k (λ e. let v = holds-below k kin in omega arith)
 
       pub bare-firm : Firm r₁ c₁
-      bare-firm = node-firm r c firm l k 0 none (used-none (c .unescaped) k 0 (λ e. let v = holds-below k kin in omega arith)) (λ t. refl)
+      unfolding Empty
+      bare-firm = node-firm r c firm l k word none (used-none (c .unescaped) k word (λ e. let v = holds-below k kin in omega arith)) (λ t. let x = word-parts .1 in (word-parts .0, omega arith))
 
       bare : stateOf r₁ c₁ ≡ withNodes (stateOf r c) (stateOf r c .nodes ++ (plain label ∷ []))
-      bare = node-pushed r c firm l k 0 none ∙ ap (λ (x : Node). withNodes (stateOf r c) (stateOf r c .nodes ++ (x ∷ []))) (plain-made (r .pickle) (r .unescaped) (r .nodes) k 0 kin)
+      bare = node-pushed r c firm l k word none ∙ ap (λ (x : Node). withNodes (stateOf r c) (stateOf r c .nodes ++ (x ∷ []))) (node-count (r .pickle) (r .unescaped) k 0 [] (r .nodes) word kin ∙ plain-made (r .pickle) (r .unescaped) (r .nodes) k 0 kin)
 
       module _ (ns ws cs : List ℕ) (d : Linked r₁ c₁ (c .nodes) is n ns ws cs) where
         filled : stateOf (linkedIn r₁ ns ws cs) (linksTo c₁ n) ≡ withNodes (withLinks (stateOf r c) n) (stateOf r c .nodes ++ (record { label = label; kids = is } ∷ []))
@@ -201,7 +210,7 @@ module _ (nodes owners children stack : List ℕ) (c : Counts) (k had : ℕ) (a 
       let y = f .deepest in
       (sym (ap length (a .nodes-are)) ∙ f .lengths .nodes, sym (ap length (a .stack-is)) ∙ f .lengths .stack, f .links, a .fits .1, omega arith)
 
-  pub make-linkable : had - c .stack ≤ linksLimit - c .links → c .nodes < nodesLimit → Linkable (set (set nodes (2 * c .nodes) k) (2 * c .nodes + 1) 0) owners children stack (c .stack) had (c .links) (c .nodes)
+  pub make-linkable : had - c .stack ≤ linksLimit - c .links → c .nodes < nodesLimit → Linkable (set (set nodes (2 * c .nodes) k) (2 * c .nodes + 1) (c .links * 2 ^ 32)) owners children stack (c .stack) had (c .links) (c .nodes)
   make-linkable h l =
       let v = make-rooms in
       let x = v .0 in
@@ -209,42 +218,44 @@ module _ (nodes owners children stack : List ℕ) (c : Counts) (k had : ℕ) (a 
       let z = v .2 in
       let w = v .4 in
       let q = v .3 in
-      rw (words-plus nodes (c .nodes) k 0) (record {
+      rw (words-plus nodes (c .nodes) k (c .links * 2 ^ 32)) (record {
         rooms = r₁ (a .rooms) c k had (a .fits) h l;
         counts = c₁ (a .rooms) c k had (a .fits) h l;
-        nodes-are = ap (λ (t : List ℕ). wordsSet t (c .nodes) k 0) (a .nodes-are);
+        nodes-are = ap (λ (t : List ℕ). wordsSet t (c .nodes) k (c .links * 2 ^ 32)) (a .nodes-are);
         owners-are = a .owners-are;
         children-are = a .children-are;
         stack-is = refl;
         links-are = refl;
         firm = bare-firm (a .rooms) c k had (a .fits) h l;
         inside = omega arith;
-        holds = rw (first-set nodes (c .nodes) k 0 (omega arith)) (kin (a .rooms) c k had (a .fits));
+        holds = rw (first-set nodes (c .nodes) k (c .links * 2 ^ 32) (omega arith)) (kin (a .rooms) c k had (a .fits));
+        end = rw (second-set nodes (c .nodes) k (c .links * 2 ^ 32) (omega arith)) (λ t. omega arith);
         low = q;
         high = omega arith;
         room = omega arith;
       })
 
   pub made-lent : (ns ws cs : List ℕ) (n : ℕ) → had - c .stack ≤ linksLimit - c .links → c .nodes < nodesLimit → c .stack < stackLimit → n ≡ c .links + (had - c .stack)
-      → LinkAll (set (set nodes (2 * c .nodes) k) (2 * c .nodes + 1) 0) owners children stack (c .stack) (c .links) (c .nodes) had ns ws cs n
+      → LinkAll (set (set nodes (2 * c .nodes) k) (2 * c .nodes + 1) (c .links * 2 ^ 32)) owners children stack (c .stack) (c .links) (c .nodes) had ns ws cs n
       → Makes nodes owners children stack c k had ns ws cs (set stack (c .stack) (c .nodes)) (step.Next (pushedTo c (c .nodes + 1) n))
   unfolding Makes LinkAll
   made-lent ns ws cs n h l m e d r p q s t f =
       let v = make-rooms in
       let x = v .0 in
       rw (e, ← t) (make-done r c k had f h l ns ws cs
-      (rw (e, ← t) at (d (r₁ r c k had f h l) (c₁ r c k had f h l) (ap (λ (y : List ℕ). wordsSet y (c .nodes) k 0) p ∙ sym (words-plus nodes (c .nodes) k 0)) q s refl refl (bare-firm r c k had f h l) (omega arith)
-      (rw (words-plus nodes (c .nodes) k 0, first-set nodes (c .nodes) k 0 (omega arith)) (kin r c k had f)))) m)
+      (rw (e, ← t) at (d (r₁ r c k had f h l) (c₁ r c k had f h l) (ap (λ (y : List ℕ). wordsSet y (c .nodes) k (c .links * 2 ^ 32)) p ∙ sym (words-plus nodes (c .nodes) k (c .links * 2 ^ 32))) q s refl refl (bare-firm r c k had f h l) (omega arith)
+      (rw (words-plus nodes (c .nodes) k (c .links * 2 ^ 32), first-set nodes (c .nodes) k (c .links * 2 ^ 32) (omega arith)) (kin r c k had f))
+      (rw (words-plus nodes (c .nodes) k (c .links * 2 ^ 32), second-set nodes (c .nodes) k (c .links * 2 ^ 32) (omega arith)) (λ z. omega arith)))) m)
 
-  pub make-full-lent : linksLimit - c .links < had - c .stack → Makes nodes owners children stack c k had nodes owners children stack (step.Refused LinksFull)
+  pub make-full-lent : linksLimit - c .links < had - c .stack → Makes nodes owners children stack c k had nodes owners children stack (step.Refused c LinksFull)
   unfolding Makes
   make-full-lent h r p q s t f = rw (← p, ← q, ← s, ← t) (make-full r c k had f h)
 
-  pub make-crowded-lent : had - c .stack ≤ linksLimit - c .links → nodesLimit ≤ c .nodes → Makes nodes owners children stack c k had nodes owners children stack (step.Refused NodesFull)
+  pub make-crowded-lent : had - c .stack ≤ linksLimit - c .links → nodesLimit ≤ c .nodes → Makes nodes owners children stack c k had nodes owners children stack (step.Refused c NodesFull)
   unfolding Makes
   make-crowded-lent h l r p q s t f = rw (← p, ← q, ← s, ← t) (make-crowded r c k had f h l)
 
-  pub make-high-lent : had - c .stack ≤ linksLimit - c .links → c .nodes < nodesLimit → stackLimit ≤ c .stack → Makes nodes owners children stack c k had nodes owners children stack (step.Refused StackFull)
+  pub make-high-lent : had - c .stack ≤ linksLimit - c .links → c .nodes < nodesLimit → stackLimit ≤ c .stack → Makes nodes owners children stack c k had nodes owners children stack (step.Refused c StackFull)
   unfolding Makes
   make-high-lent h l m r p q s t f = rw (← p, ← q, ← s, ← t) (make-high r c k had f h l m)
 
@@ -261,13 +272,13 @@ module _ (nodes owners children stack : List ℕ) (c : Counts) (o had : ℕ) (a 
       let y = f .deepest in
       let x = a .fits .2 in
       let w : length stack ≡ 2048 = sym (ap length (a .stack-is)) ∙ f .lengths .stack in
-      record { rooms = a .rooms; counts = c; nodes-are = a .nodes-are; owners-are = a .owners-are; children-are = a .children-are; stack-is = refl; links-are = refl; firm = f; inside = a .fits .3; holds = rw (a .nodes-are) at (a .fits .4); low = a .fits .1; high = omega arith; room = omega arith }
+      record { rooms = a .rooms; counts = c; nodes-are = a .nodes-are; owners-are = a .owners-are; children-are = a .children-are; stack-is = refl; links-are = refl; firm = f; inside = a .fits .3; holds = rw (a .nodes-are) at (a .fits .4); end = λ z. absurd (a .fits .5 (rw (a .nodes-are) z)); low = a .fits .1; high = omega arith; room = omega arith }
 
   pub extended-lent : (ns ws cs : List ℕ) (n : ℕ) → had - c .stack ≤ linksLimit - c .links → n ≡ c .links + (had - c .stack) → LinkAll nodes owners children stack (c .stack) (c .links) o had ns ws cs n
       → Extends nodes owners children stack c o had ns ws cs (step.Next (linksTo c n))
   unfolding Extends LinkAll Fits
-  extended-lent ns ws cs n h e d r p q s t f = rw e (extend-done r c o had f ns ws cs h (rw (e, ← t) at (d r c p q s refl refl (f .0) (f .3) (rw p at (f .4)))))
+  extended-lent ns ws cs n h e d r p q s t f = rw e (extend-done r c o had f ns ws cs h (rw (e, ← t) at (d r c p q s refl refl (f .0) (f .3) (rw p at (f .4)) (λ z. absurd (f .5 (rw p z))))))
 
-  pub extend-full-lent : linksLimit - c .links < had - c .stack → Extends nodes owners children stack c o had nodes owners children (step.Refused LinksFull)
+  pub extend-full-lent : linksLimit - c .links < had - c .stack → Extends nodes owners children stack c o had nodes owners children (step.Refused c LinksFull)
   unfolding Extends
   extend-full-lent h r p q s t f = rw (← p, ← q, ← s) (extend-full r c o had f h)

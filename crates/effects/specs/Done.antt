@@ -20,26 +20,26 @@ use Rattle.effects.specs.declared.Step.the-variants as step
 unfoldable pub meant : Step → Rooms → Res Next
 meant (step.Next c) r = ok (goes (stateOf r c))
 meant (step.Stop c) r = ok (stops (stateOf r c))
-meant (step.Refused why) r = no why
+meant (step.Refused c why) r = no why
 
 -- the rooms r′ after a step from r: firm, and on a refusal as they were
 unfoldable pub Stays : Step → Rooms → Rooms → Type 0
 Stays (step.Next c) r r′ = Firm r′ c
 Stays (step.Stop c) r r′ = Firm r′ c
-Stays (step.Refused why) r r′ = r′ ≡ r
+Stays (step.Refused c why) r r′ = r′ ≡ r
 
 -- the step t from the rooms r to r′ is n
 pub record Done (t : Step) (r r′ : Rooms) (n : Res Next) : Type 0 where
   pub means : meant t r′ ≡ n
   pub stays : Stays t r r′
 
-pub done-refused : (why : Refusal) (r : Rooms) (n : Res Next) → n ≡ no why → Done (step.Refused why) r r n
+pub done-refused : {c : Counts} (why : Refusal) (r : Rooms) (n : Res Next) → n ≡ no why → Done (step.Refused c why) r r n
 unfolding meant Stays
 done-refused why r n e = record { means = sym e; stays = refl }
 
 -- a value more on the stack
 abbrev pub pushedTo : Counts → ℕ → ℕ → Counts
-pushedTo c n l = record { at = c .at; nodes = n; links = l; stack = c .stack + 1; deepest = max (c .deepest) (c .stack + 1); marks = c .marks; most = c .most; memo = c .memo; unescaped = c .unescaped }
+pushedTo c n l = record { at = c .at; nodes = n; links = l; stack = c .stack + 1; deepest = max (c .deepest) (c .stack + 1); marks = c .marks; most = c .most; memo = c .memo; greatest = c .greatest; unescaped = c .unescaped }
 
 -- ---- zero from a number on
 

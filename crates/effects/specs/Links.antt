@@ -1,10 +1,10 @@
 -- Links to the items of a container, one after the other.
-use Prim.Native.Nat.{ℕ, suc, _+_, _-_, _*_, _<_, _≤_, max}
+use Prim.Native.Nat.{ℕ, suc, zero, _+_, _-_, _*_, _^_, _/_, _%_, _<_, _≤_, max}
 use mathlib.Core.Bool.{Bool, true, false, cond}
 use mathlib.Core.List.{List, [], _∷_, _++_}
 use mathlib.Core.Path.{_≡_, refl, sym, _∙_, ap}
 use lib.ListN.{length, length-set, length-take, length-drop, getD, take, drop, set, drop-of-length-le}
-use lib.Seq.{take-suc, drop-append-le, length-take-le, getD-set-other}
+use lib.Seq.{take-suc, drop-append-le, length-take-le, getD-set-same, getD-set-other, set-set, set-getD}
 use lib.Dec.{leb, eqb}
 use borrow.Author.Tests.{le-leb, lt-leb}
 use native.Mathlib.Numerals.{add-one}
@@ -20,7 +20,7 @@ use Rattle.decoder.specs.Run.{goes, going}
 use Rattle.decoder.specs.Rooms.{Rooms, items, first, second, nodeIs, stateOf, wordsIn, logIn, stackIn, linksTo, nodesTo, Counted, Holds, aList, aTuple, aDict}
 use Rattle.decoder.specs.RoomReads.{nodes-length, links-of}
 use Rattle.decoder.specs.RoomLists.{words-second, first-set}
-use Rattle.decoder.specs.RoomKeeps.{kept-link, class-none, used-none}
+use Rattle.decoder.specs.RoomKeeps.{kept-link, suc-low, suc-high, class-none, used-none}
 use Rattle.decoder.specs.RoomLists.{holds-below}
 use Rattle.decoder.specs.RoomLinks.{extend-none, extend-new, link-next, link-counted}
 use Rattle.decoder.specs.Effects.{Lengths, Clean, Firm, Fits, enacted, container, grow, above}
@@ -40,6 +40,7 @@ pub record Linked (r : Rooms) (c : Counts) (o : ℕ) (xs : List ℕ) (n : ℕ) (
   pub state : stateOf (linkedIn r ns ws cs) (linksTo c n) ≡ extend o xs (withLinks (stateOf r c) n)
   pub firm : Firm (linkedIn r ns ws cs) (linksTo c n)
   pub holds : Holds (first ns o)
+  pub end : kindIn (first ns o) ≡ 7 → second ns o / 2 ^ 32 + second ns o % 2 ^ 32 ≡ n
 
 -- rooms in which o is a container, to which the values from `from` to `to` can be linked
 pub record Linkable (nodes owners children stack : List ℕ) (from to links o : ℕ) : Type 0 where
@@ -53,6 +54,7 @@ pub record Linkable (nodes owners children stack : List ℕ) (from to links o : 
   pub firm : Firm rooms counts
   pub inside : o < counts .nodes
   pub holds : Holds (first nodes o)
+  pub end : kindIn (first nodes o) ≡ 7 → second nodes o / 2 ^ 32 + second nodes o % 2 ^ 32 ≡ links
   pub low : from ≤ to
   pub high : to ≤ length stack
   pub room : links + (to - from) ≤ linksLimit
@@ -60,7 +62,7 @@ pub record Linkable (nodes owners children stack : List ℕ) (from to links o : 
 -- what the loop keeps, and at its end promises: the values up to i are linked
 unfoldable pub LinkAll : List ℕ → List ℕ → List ℕ → List ℕ → ℕ → ℕ → ℕ → ℕ → List ℕ → List ℕ → List ℕ → ℕ → Type 0
 LinkAll nodes owners children stack from links o i ns ws cs n =
-    (r : Rooms) (c : Counts) → r .nodes ≡ nodes → r .owners ≡ owners → r .children ≡ children → c .stack ≡ from → c .links ≡ links → Firm r c → o < c .nodes → Holds (first nodes o)
+    (r : Rooms) (c : Counts) → r .nodes ≡ nodes → r .owners ≡ owners → r .children ≡ children → c .stack ≡ from → c .links ≡ links → Firm r c → o < c .nodes → Holds (first nodes o) → (kindIn (first nodes o) ≡ 7 → second nodes o / 2 ^ 32 + second nodes o % 2 ^ 32 ≡ links)
     → Linked r c o (above from i stack) n ns ws cs
 
 -- no more items than links
@@ -85,13 +87,13 @@ above-more n i l h k =
     rw (add-one i, take-suc l i 0 k) (drop-append-le n (take i l) (getD l i 0 ∷ []) (omega arith))
 
 module _ (r : Rooms) (c : Counts) (o : ℕ) where
-  linked-start : Firm r c → Holds (first (r .nodes) o) → Linked r c o [] (c .links) (r .nodes) (r .owners) (r .children)
+  linked-start : Firm r c → Holds (first (r .nodes) o) → (kindIn (first (r .nodes) o) ≡ 7 → second (r .nodes) o / 2 ^ 32 + second (r .nodes) o % 2 ^ 32 ≡ c .links) → Linked r c o [] (c .links) (r .nodes) (r .owners) (r .children)
   unfolding stateOf
-  linked-start f h = record { state = sym (extend-none o (stateOf r c)); firm = f; holds = h }
+  linked-start f h e = record { state = sym (extend-none o (stateOf r c)); firm = f; holds = h; end = e }
 
   module _ (xs : List ℕ) (n : ℕ) (ns ws cs : List ℕ) (l : Linked r c o xs n ns ws cs) where
     -- the number of an owner's items is small
-    pub count-small : o < c .nodes → second ns o ≤ n
+    pub count-small : o < c .nodes → second ns o % 2 ^ 32 ≤ n
     unfolding Counted
     count-small h =
         let few = items-few (take n ws) (take n cs) o in
@@ -118,6 +120,9 @@ module _ (r : Rooms) (c : Counts) (o : ℕ) where
       child-room : n < length cs
       child-room = let x = l .firm .lengths .children in omega arith
 
+      small : suc (second ns o % 2 ^ 32) < 2 ^ 32
+      small = let x = count-small h in omega arith
+
       next-state : stateOf (linkedIn r ns′ (set ws n o) (set cs n k)) (linksTo c (suc n)) ≡ extend o (xs ++ (k ∷ [])) (withLinks (stateOf r c) (suc n))
       next-state =
           link-next o k xs n (suc n) (stateOf r c) (stateOf r₁ c₁) (stateOf (linkedIn r ns′ (set ws n o) (set cs n k)) (linksTo c (suc n))) (rw (nodes-length r₁ c₁) h) (l .state)
@@ -135,7 +140,8 @@ module _ (r : Rooms) (c : Counts) (o : ℕ) where
         marks = f .marks;
         most = f .most;
         memo = f .memo;
-        kept = kept-link ns ws cs n (c .nodes) (c .unescaped) (f .kept) o k room h (l .holds) owner-room child-room;
+        numbered = f .numbered;
+        kept = kept-link ns ws cs n (c .nodes) (c .unescaped) (f .kept) o k room h (l .holds) owner-room child-room small (l .end);
         clean = record { nodes = blank-set (2 * c .nodes) (2 * c .nodes) ns (f .clean .nodes) (omega arith) (suc (2 * o)) (suc (second ns o)) (omega arith); owners = blank-set n (suc n) ws (f .clean .owners) (omega arith) n o (omega arith); children = blank-set n (suc n) cs (f .clean .children) (omega arith) n k (omega arith); stack = f .clean .stack; marks = f .clean .marks; keys = f .clean .keys; held = f .clean .held; unescaped = f .clean .unescaped };
       }
 
@@ -143,41 +149,96 @@ module _ (r : Rooms) (c : Counts) (o : ℕ) where
       unfolding first
       next-holds = rw (getD-set-other ns (suc (2 * o)) (2 * o) (suc (second ns o)) 0 (λ e. omega arith)) (l .holds)
 
+      next-end : kindIn (first ns′ o) ≡ 7 → second ns′ o / 2 ^ 32 + second ns′ o % 2 ^ 32 ≡ suc n
+      unfolding first second
+      next-end =
+          rw (getD-set-other ns (suc (2 * o)) (2 * o) (suc (second ns o)) 0 (λ e. omega arith), getD-set-same ns (suc (2 * o)) (suc (second ns o)) 0 room, suc-low (second ns o) small, suc-high (second ns o) small)
+          (λ t. let e = l .end t in omega arith)
+
       pub linked-more : Linked r c o (xs ++ (k ∷ [])) (n + 1) (set ns (2 * o + 1) (getD ns (2 * o + 1) 0 + 1)) (set ws n o) (set cs n k)
       unfolding second
-      linked-more = rw (add-one n, add-one (2 * o), add-one (getD ns (suc (2 * o)) 0)) (record { state = next-state; firm = next-firm; holds = next-holds })
+      linked-more = rw (add-one n, add-one (2 * o), add-one (getD ns (suc (2 * o)) 0)) (record { state = next-state; firm = next-firm; holds = next-holds; end = next-end })
 
--- ---- the loop
+-- ---- many links
+
+-- l with f 0, f 1, .., f (n - 1) from `at` on
+unfoldable pub filled : List ℕ → ℕ → (ℕ → ℕ) → ℕ → List ℕ
+filled l at f zero = l
+filled l at f (suc n) = set (filled l at f n) (at + n) (f n)
+
+filled-length : (l : List ℕ) (at : ℕ) (f : ℕ → ℕ) (n : ℕ) → length (filled l at f n) ≡ length l
+unfolding filled
+filled-length l at f zero = refl
+filled-length l at f (suc n) = length-set (filled l at f n) (at + n) (f n) ∙ filled-length l at f n
+
+-- a filling loop's start, its turn, and its end
+module _ (l : List ℕ) (at : ℕ) (f : ℕ → ℕ) where
+  pub filled-none : l ≡ filled l at f 0
+  unfolding filled
+  filled-none = refl
+
+  pub filled-more : (i : ℕ) (m : List ℕ) → m ≡ filled l at f i → set m (at + i) (f i) ≡ filled l at f (i + 1)
+  unfolding filled
+  filled-more i m e = rw (e, add-one i)
+
+  pub filled-same : (i : ℕ) (m : List ℕ) → m ≡ filled l at f i → length m ≡ length l
+  filled-same i m e = ap length e ∙ filled-length l at f i
+
+  pub filled-end : (i n : ℕ) (m : List ℕ) → m ≡ filled l at f i → i ≤ n → n ≤ i → m ≡ filled l at f n
+  filled-end i n m e h k = let z : i ≡ n = omega arith in rw (← z) e
 
 module _ (nodes owners children stack : List ℕ) (from links o : ℕ) where
-  pub link-none : LinkAll nodes owners children stack from links o from nodes owners children links
+  link-none : LinkAll nodes owners children stack from links o from nodes owners children links
   unfolding LinkAll
-  link-none r c p q s t u f h k = rw (above-none from stack, ← p, ← q, ← s, ← u) (linked-start r c o f (rw p k))
+  link-none r c p q s t u f h k e = rw (above-none from stack, ← p, ← q, ← s, ← u) (linked-start r c o f (rw p k) (rw (p, u) e))
 
-  module _ (i : ℕ) (ns ws cs : List ℕ) (n : ℕ) (l : LinkAll nodes owners children stack from links o i ns ws cs n) where
-    pub link-one : from ≤ i → i < length stack → n < linksLimit → LinkAll nodes owners children stack from links o (i + 1) (set ns (2 * o + 1) (getD ns (2 * o + 1) 0 + 1)) (set ws n o) (set cs n (getD stack i 0)) (n + 1)
-    unfolding LinkAll
-    link-one a b z r c p q s t u f h k = rw (above-more from i stack a b) (linked-more r c o (above from i stack) n ns ws cs (l r c p q s t u f h k) h z (getD stack i 0))
+  link-one : (i : ℕ) (ns ws cs : List ℕ) (n : ℕ) → LinkAll nodes owners children stack from links o i ns ws cs n → from ≤ i → i < length stack → n < linksLimit
+      → LinkAll nodes owners children stack from links o (i + 1) (set ns (2 * o + 1) (getD ns (2 * o + 1) 0 + 1)) (set ws n o) (set cs n (getD stack i 0)) (n + 1)
+  unfolding LinkAll
+  link-one i ns ws cs n l a b z r c p q s t u f h k e = rw (above-more from i stack a b) (linked-more r c o (above from i stack) n ns ws cs (l r c p q s t u f h k e) h z (getD stack i 0))
 
-    -- what it needs of its rooms
-    pub link-rooms : (to : ℕ) → Linkable nodes owners children stack from to links o → (length ns ≡ 8192) × (length ws ≡ 16384) × (length cs ≡ 16384) × (getD ns (2 * o + 1) 0 ≤ n) × (o < 4096)
-    unfolding LinkAll second
-    link-rooms to a =
-        let m = l (a .rooms) (a .counts) (a .nodes-are) (a .owners-are) (a .children-are) (a .stack-is) (a .links-are) (a .firm) (a .inside) (a .holds) in
-        let v = count-small (a .rooms) (a .counts) o (above from i stack) n ns ws cs m (a .inside) in
+  -- the owner at the new places, the values beside it, and their number added to the owner's count
+  abbrev owning : ℕ → List ℕ
+  owning n = filled owners links (λ k. o) n
+
+  abbrev holding : ℕ → List ℕ
+  holding n = filled children links (λ k. getD stack (from + k) 0) n
+
+  abbrev counting : ℕ → List ℕ
+  counting n = set nodes (2 * o + 1) (getD nodes (2 * o + 1) 0 + n)
+
+  pub link-many : (n : ℕ) → from + n ≤ length stack → links + n ≤ linksLimit → 2 * o + 1 < length nodes → LinkAll nodes owners children stack from links o (from + n) (counting n) (owning n) (holding n) (links + n)
+  unfolding filled
+  link-many zero a b h =
+      let x : from + 0 ≡ from = omega arith in
+      let y : links + 0 ≡ links = omega arith in
+      let z : getD nodes (2 * o + 1) 0 + 0 ≡ getD nodes (2 * o + 1) 0 = omega arith in
+      rw (x, y, z, set-getD nodes (2 * o + 1) 0) link-none
+  link-many (suc n) a b h =
+      let m = link-many n (omega arith) (omega arith) h in
+      let x : from + n + 1 ≡ from + suc n = omega arith in
+      let y : links + n + 1 ≡ links + suc n = omega arith in
+      let z : getD nodes (2 * o + 1) 0 + n + 1 ≡ getD nodes (2 * o + 1) 0 + suc n = omega arith in
+      rw (getD-set-same nodes (2 * o + 1) (getD nodes (2 * o + 1) 0 + n) 0 h, set-set nodes (2 * o + 1) (getD nodes (2 * o + 1) 0 + n) (getD nodes (2 * o + 1) 0 + n + 1), x, y, z) at
+      (link-one (from + n) (counting n) (owning n) (holding n) (links + n) m (omega arith) (omega arith) (omega arith))
+
+  module _ (to : ℕ) (a : Linkable nodes owners children stack from to links o) where
+    -- what linking needs of its rooms
+    pub link-rooms : (length nodes ≡ 8192) × (length owners ≡ 16384) × (length children ≡ 16384) × (getD nodes (2 * o + 1) 0 % 2 ^ 32 ≤ links) × (o < 4096)
+    unfolding second
+    link-rooms =
+        let f = a .firm in
         let x = a .inside in
-        let y = a .firm .nodes in
-        (m .firm .lengths .nodes, m .firm .lengths .owners, m .firm .lengths .children, rw (add-one (2 * o)) v, omega arith)
+        let y = f .nodes in
+        let v = count-small (a .rooms) (a .counts) o [] (a .counts .links) (a .rooms .nodes) (a .rooms .owners) (a .rooms .children) (linked-start (a .rooms) (a .counts) o f (rw (a .nodes-are) (a .holds)) (rw (a .nodes-are, a .links-are) (a .end))) x in
+        (sym (ap length (a .nodes-are)) ∙ f .lengths .nodes, sym (ap length (a .owners-are)) ∙ f .lengths .owners, sym (ap length (a .children-are)) ∙ f .lengths .children, rw (a .nodes-are, a .links-are, ← add-one (2 * o)) at v, omega arith)
 
-    -- a linking loop that has come to its end
-    pub link-end : (to : ℕ) → n ≡ links + (i - from) → i ≤ to → to ≤ i → (n ≡ links + (to - from)) × LinkAll nodes owners children stack from links o to ns ws cs n
-    link-end to e a b = let z : i ≡ to = omega arith in (omega arith, rw (← z) l)
-
-    -- rooms keep their lengths
-    pub link-lengths : (to : ℕ) → Linkable nodes owners children stack from to links o → (length ns ≡ length nodes) × (length ws ≡ length owners) × (length cs ≡ length children)
-    link-lengths to a =
-        let v = link-rooms to a in
-        let x = a .firm .lengths .nodes in
-        let y = a .firm .lengths .owners in
-        let z = a .firm .lengths .children in
-        (v .0 ∙ sym x ∙ ap length (a .nodes-are), v .1 ∙ sym y ∙ ap length (a .owners-are), v .2 ∙ sym z ∙ ap length (a .children-are))
+    pub link-end : LinkAll nodes owners children stack from links o to (counting (to - from)) (owning (to - from)) (holding (to - from)) (links + (to - from))
+    link-end =
+        let v = link-rooms in
+        let l = a .low in
+        let h = a .high in
+        let r = a .room in
+        let x : from + (to - from) ≡ to = omega arith in
+        let y : 2 * o + 1 < length nodes = omega (arith, v .0, v .4) in
+        rw x at (link-many (to - from) (omega arith) (omega arith) y)

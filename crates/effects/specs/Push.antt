@@ -18,7 +18,7 @@ use Rattle.decoder.specs.Run.{goes, going}
 use Rattle.decoder.specs.Rooms.{Rooms, nodeIs, wordsSet, stateOf, wordsIn, stackIn, marksIn, nodesTo, stackTo, deepestTo, marksTo, mostTo, Class, Used, Holds, Kept}
 use Rattle.decoder.specs.RoomLaws.{node-more, stack-more, marks-more}
 use Rattle.decoder.specs.RoomReads.{nodes-length, stack-length, marks-length}
-use Rattle.decoder.specs.RoomKeeps.{kept-node}
+use Rattle.decoder.specs.RoomKeeps.{Empty, empty-zero, kept-node}
 use Rattle.decoder.specs.Effects.{Lengths, Clean, Firm, Fits, enacted, Blank}
 use Rattle.effects.specs.declared.Step.{Step}
 use Rattle.effects.specs.declared.Step.the-variants as step
@@ -71,6 +71,7 @@ module _ (r : Rooms) (c : Counts) (f : Firm r c) where
     marks = f .marks;
     most = f .most;
     memo = f .memo;
+    numbered = f .numbered;
     kept = f .kept;
     clean = record { nodes = f .clean .nodes; owners = f .clean .owners; children = f .clean .children; stack = blank-set (c .deepest) (max (c .deepest) (c .stack + 1)) (r .stack) (f .clean .stack) (omega arith) (c .stack) i (omega arith); marks = f .clean .marks; keys = f .clean .keys; held = f .clean .held; unescaped = f .clean .unescaped };
   }
@@ -106,9 +107,9 @@ module _ (r : Rooms) (c : Counts) (f : Firm r c) where
     unfolding pushNode _>>=_ need
     node-then = rw (nodes-length r c, lt-ltb (c .nodes) nodesLimit h, node-pushed)
 
-    pub node-firm : Used (c .unescaped) a b → (Holds a → b ≡ 0) → Firm (withNode a b) oneNode
+    pub node-firm : Used (c .unescaped) a b → Empty (c .links) a b → Firm (withNode a b) oneNode
     unfolding wordsSet
-    node-firm used zero = record {
+    node-firm used empty = record {
       lengths = record { pickle = f .lengths .pickle; nodes = length-set (set (r .nodes) (2 * c .nodes) a) (suc (2 * c .nodes)) b ∙ length-set (r .nodes) (2 * c .nodes) a ∙ f .lengths .nodes; owners = f .lengths .owners; children = f .lengths .children; stack = f .lengths .stack; marks = f .lengths .marks; keys = f .lengths .keys; held = f .lengths .held; unescaped = f .lengths .unescaped };
       at = f .at;
       unescaped = f .unescaped;
@@ -119,14 +120,15 @@ module _ (r : Rooms) (c : Counts) (f : Firm r c) where
       marks = f .marks;
       most = f .most;
       memo = f .memo;
-      kept = rw (add-one (c .nodes)) (kept-node (r .nodes) (r .owners) (r .children) (c .links) (c .nodes) (c .unescaped) (f .kept) a b words-room log-room class used zero);
+      numbered = f .numbered;
+      kept = rw (add-one (c .nodes)) (kept-node (r .nodes) (r .owners) (r .children) (c .links) (c .nodes) (c .unescaped) (f .kept) a b words-room log-room class used empty);
       clean = record { nodes = blank-set (2 * (c .nodes + 1)) (2 * (c .nodes + 1)) (set (r .nodes) (2 * c .nodes) a) (blank-set (2 * c .nodes) (2 * (c .nodes + 1)) (r .nodes) (f .clean .nodes) (omega arith) (2 * c .nodes) a (omega arith)) (omega arith) (suc (2 * c .nodes)) b (omega arith); owners = f .clean .owners; children = f .clean .children; stack = f .clean .stack; marks = f .clean .marks; keys = f .clean .keys; held = f .clean .held; unescaped = f .clean .unescaped };
     }
 
 -- ---- what the functions answer
 
 module _ (r : Rooms) (h : ℕ) (c : Counts) where
-  pub push-id-full : (i : ℕ) → Fits (Share c (record { 0 = i })) r h → stackLimit ≤ c .stack → Done (step.Refused StackFull) r r (enacted (Share c (record { 0 = i })) r h)
+  pub push-id-full : (i : ℕ) → Fits (Share c (record { 0 = i })) r h → stackLimit ≤ c .stack → Done (step.Refused c StackFull) r r (enacted (Share c (record { 0 = i })) r h)
   unfolding enacted Fits going
   push-id-full i f l = done-refused StackFull r (going (pushId i (stateOf r c))) (rw (id-full r c (f .0) l i))
 
@@ -135,21 +137,21 @@ module _ (r : Rooms) (h : ℕ) (c : Counts) where
   push-id-done i f l = record { means = rw (id-pushed r c (f .0) l i); stays = id-firm r c (f .0) l i }
 
   module _ (a b : ℕ) (f : Fits (Push c a b) r h) where
-    pub push-node-full : nodesLimit ≤ c .nodes → Done (step.Refused NodesFull) r r (enacted (Push c a b) r h)
+    pub push-node-full : nodesLimit ≤ c .nodes → Done (step.Refused c NodesFull) r r (enacted (Push c a b) r h)
     unfolding enacted Fits going
     push-node-full l = done-refused NodesFull r (going (pushNode (nodeIs (r .pickle) (r .unescaped) (r .nodes) [] a b) (stateOf r c))) (rw (node-full r c (f .0) l (nodeIs (r .pickle) (r .unescaped) (r .nodes) [] a b)))
 
-    pub push-node-high : c .nodes < nodesLimit → stackLimit ≤ c .stack → Done (step.Refused StackFull) r r (enacted (Push c a b) r h)
+    pub push-node-high : c .nodes < nodesLimit → stackLimit ≤ c .stack → Done (step.Refused c StackFull) r r (enacted (Push c a b) r h)
     unfolding enacted Fits going
     push-node-high l k =
         done-refused StackFull r (going (pushNode (nodeIs (r .pickle) (r .unescaped) (r .nodes) [] a b) (stateOf r c)))
-        (rw (node-then r c (f .0) l a b (f .1), id-full (withNode r c (f .0) a b) (oneNode r c (f .0)) (node-firm r c (f .0) l a b (f .1) (f .2) (f .3)) k (c .nodes)))
+        (rw (node-then r c (f .0) l a b (f .1), id-full (withNode r c (f .0) a b) (oneNode r c (f .0)) (node-firm r c (f .0) l a b (f .1) (f .2) (empty-zero (c .links) a b (f .3))) k (c .nodes)))
 
     pub push-node-done : c .nodes < nodesLimit → c .stack < stackLimit
         → Done (step.Next (pushedTo c (c .nodes + 1) (c .links))) r (stackIn (wordsIn r (wordsSet (r .nodes) (c .nodes) a b)) (set (r .stack) (c .stack) (c .nodes))) (enacted (Push c a b) r h)
     unfolding enacted Fits going meant Stays
     push-node-done l k =
-        let g = node-firm r c (f .0) l a b (f .1) (f .2) (f .3) in
+        let g = node-firm r c (f .0) l a b (f .1) (f .2) (empty-zero (c .links) a b (f .3)) in
         record {
           means = rw (node-then r c (f .0) l a b (f .1), id-pushed (withNode r c (f .0) a b) (oneNode r c (f .0)) g k (c .nodes));
           stays = id-firm (withNode r c (f .0) a b) (oneNode r c (f .0)) g k (c .nodes);
@@ -158,7 +160,7 @@ module _ (r : Rooms) (h : ℕ) (c : Counts) where
   -- ---- a mark
 
   abbrev pub markedTo : Counts
-  markedTo = record { at = c .at; nodes = c .nodes; links = c .links; stack = c .stack; deepest = c .deepest; marks = c .marks + 1; most = max (c .most) (c .marks + 1); memo = c .memo; unescaped = c .unescaped }
+  markedTo = record { at = c .at; nodes = c .nodes; links = c .links; stack = c .stack; deepest = c .deepest; marks = c .marks + 1; most = max (c .most) (c .marks + 1); memo = c .memo; greatest = c .greatest; unescaped = c .unescaped }
 
   module _ (f : Firm r c) where
     marks-held : length (stateOf r c .marks) ≡ c .marks
@@ -194,11 +196,12 @@ module _ (r : Rooms) (h : ℕ) (c : Counts) where
       marks = omega arith;
       most = let x = f .most in omega arith;
       memo = f .memo;
+      numbered = f .numbered;
       kept = f .kept;
       clean = record { nodes = f .clean .nodes; owners = f .clean .owners; children = f .clean .children; stack = f .clean .stack; marks = blank-set (c .most) (max (c .most) (c .marks + 1)) (r .marks) (f .clean .marks) (omega arith) (c .marks) (c .stack) (omega arith); keys = f .clean .keys; held = f .clean .held; unescaped = f .clean .unescaped };
     }
 
-  pub put-mark-full : Fits (Mark c) r h → marksLimit ≤ c .marks → Done (step.Refused MarksFull) r r (enacted (Mark c) r h)
+  pub put-mark-full : Fits (Mark c) r h → marksLimit ≤ c .marks → Done (step.Refused c MarksFull) r r (enacted (Mark c) r h)
   unfolding enacted Fits going
   put-mark-full f l = done-refused MarksFull r (going (mark (stateOf r c))) (rw (mark-is-full f l))
 

@@ -104,6 +104,7 @@ module _ (r : Rooms) (c : Counts) (o i h : ℕ) (f : Fits (Build c (record { 0 =
           marks = g .marks;
           most = g .most;
           memo = g .memo;
+          numbered = g .numbered;
           kept = kept-build (r .nodes) (r .owners) (r .children) (c .links) (c .nodes) (c .unescaped) (g .kept) o a′ b′ i (omega arith) (f .3) t;
           clean = record { nodes = blank-set (2 * c .nodes) (2 * c .nodes) (set (r .nodes) (2 * o) a′) (blank-set (2 * c .nodes) (2 * c .nodes) (r .nodes) (g .clean .nodes) (omega arith) (2 * o) a′ (omega arith)) (omega arith) (suc (2 * o)) b′ (omega arith); owners = g .clean .owners; children = g .clean .children; stack = g .clean .stack; marks = g .clean .marks; keys = g .clean .keys; held = g .clean .held; unescaped = g .clean .unescaped };
         };
@@ -165,11 +166,11 @@ module _ (r : Rooms) (c : Counts) (from n h : ℕ) (f : Fits (Unescape c from n)
       let y = f .0 .at in
       (f .1, f .2, omega arith, f .0 .lengths .pickle, f .0 .lengths .unescaped, f .0 .lengths .nodes, f .0 .lengths .stack)
 
-  pub unescape-full : nodesLimit ≤ c .nodes → Done (step.Refused NodesFull) r r (enacted (Unescape c from n) r h)
+  pub unescape-full : nodesLimit ≤ c .nodes → Done (step.Refused c NodesFull) r r (enacted (Unescape c from n) r h)
   unfolding enacted going push
   unescape-full l = done-refused NodesFull r (going (push (BytesL text) (stateOf r c))) (rw (node-full r c firm l (plain (BytesL text))))
 
-  pub unescape-high : c .nodes < nodesLimit → stackLimit ≤ c .stack → Done (step.Refused StackFull) r r (enacted (Unescape c from n) r h)
+  pub unescape-high : c .nodes < nodesLimit → stackLimit ≤ c .stack → Done (step.Refused c StackFull) r r (enacted (Unescape c from n) r h)
   unfolding enacted going push
   unescape-high l m = done-refused StackFull r (going (push (BytesL text) (stateOf r c))) (rw (any-high r c firm (plain (BytesL text)) l m))
 
@@ -206,6 +207,7 @@ module _ (r : Rooms) (c : Counts) (from n h : ℕ) (f : Fits (Unescape c from n)
       marks = g .marks;
       most = g .most;
       memo = g .memo;
+      numbered = g .numbered;
       kept = kept-text (r .nodes) (r .owners) (r .children) (c .links) (c .nodes) (c .unescaped) (g .kept) (c .unescaped + length text) (omega arith);
       clean = record { nodes = g .clean .nodes; owners = g .clean .owners; children = g .clean .children; stack = g .clean .stack; marks = g .clean .marks; keys = g .clean .keys; held = g .clean .held; unescaped = λ i j. b .after i j ∙ g .clean .unescaped i (omega arith) };
     }
@@ -228,15 +230,15 @@ module _ (r : Rooms) (c : Counts) (from n h : ℕ) (f : Fits (Unescape c from n)
     unfolding meant Stays
     unescaped-done (step.Next d) r′ l m e = record { means = e .means ∙ same-step; stays = e .stays }
     unescaped-done (step.Stop d) r′ l m e = record { means = e .means ∙ same-step; stays = e .stays }
-    unescaped-done (step.Refused why) r′ l m e = absurd (refuses why l m (sym (e .means ∙ same-step)))
+    unescaped-done (step.Refused d why) r′ l m e = absurd (refuses why l m (sym (e .means ∙ same-step)))
 
 -- of the rooms that were lent
 module _ (pickle nodes stack unescaped : List ℕ) (c : Counts) (from n : ℕ) (k : Unescapable pickle nodes stack unescaped c from n) where
-  pub unescape-full-lent : nodesLimit ≤ c .nodes → Unescapes pickle nodes stack unescaped c from n nodes stack unescaped (step.Refused NodesFull)
+  pub unescape-full-lent : nodesLimit ≤ c .nodes → Unescapes pickle nodes stack unescaped c from n nodes stack unescaped (step.Refused c NodesFull)
   unfolding Unescapes
   unescape-full-lent l r h p q s t f = rw (← q, ← s, ← t) (unescape-full r c from n h f l)
 
-  pub unescape-high-lent : c .nodes < nodesLimit → stackLimit ≤ c .stack → Unescapes pickle nodes stack unescaped c from n nodes stack unescaped (step.Refused StackFull)
+  pub unescape-high-lent : c .nodes < nodesLimit → stackLimit ≤ c .stack → Unescapes pickle nodes stack unescaped c from n nodes stack unescaped (step.Refused c StackFull)
   unfolding Unescapes
   unescape-high-lent l m r h p q s t f = rw (← q, ← s, ← t) (unescape-high r c from n h f l m)
 

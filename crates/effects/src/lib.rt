@@ -9,13 +9,13 @@ use refusal::Refusal;
 use text::unescape_string;
 ghost use mathlib.Core.Bool.{cond};
 ghost use mathlib.Core.Path.{_≡_};
-ghost use Prim.Native.Nat.{_+_, _-_, _*_, _<_, _≤_, max};
+ghost use Prim.Native.Nat.{_+_, _-_, _*_, _^_, _%_, _<_, _≤_, max};
 ghost use lib.ListN.{length, getD, set};
 ghost use Rattle.value.specs.Shape.{stateIn};
 ghost use Rattle.decoder.specs.Rooms.{Rooms};
 ghost use Rattle.effects.specs.Done.{pushedTo};
 ghost use Rattle.effects.specs.Push.{PushNode, PushId, PutMark};
-ghost use Rattle.effects.specs.Links.{Linkable, LinkAll};
+ghost use Rattle.effects.specs.Links.{filled, Linkable, LinkAll};
 ghost use Rattle.effects.specs.Containers.{Makeable, Makes, Extendable, Extends};
 ghost use Rattle.effects.specs.Memo.{Rememberable, Remembers};
 ghost use Rattle.effects.specs.Words.{Buildable, Builds, Unescapable, Unescapes};
@@ -24,7 +24,7 @@ ghost use Rattle.effects.specs.Words.{Buildable, Builds, Unescapable, Un
 pub enum Step {
     Next(Counts),
     Stop(Counts),
-    Refused(Refusal),
+    Refused(Counts, Refusal),
 }
 
 // Document 01's limits, and so the rooms' lengths.
@@ -59,6 +59,7 @@ fn pushed(c: Counts, nodes: usize, links: usize) -> Counts
         marks: c.marks,
         most: c.most,
         memo: c.memo,
+        greatest: c.greatest,
         unescaped: c.unescaped,
     }
 }
@@ -69,10 +70,10 @@ pub fn push_node(nodes: &mut [u64], stack: &mut [u16], c: Counts, a: u64, b: u64
     ensures { λ t. ⌜ PushNode (now (nodes .entry)) (now (stack .entry)) c a b (now (nodes .exit)) (now (stack .exit)) t ⌝ }
 {
     if NODES <= c.nodes {
-        return Step::Refused(Refusal::NodesFull);
+        return Step::Refused(c, Refusal::NodesFull);
     }
     if STACK <= c.stack {
-        return Step::Refused(Refusal::StackFull);
+        return Step::Refused(c, Refusal::StackFull);
     }
     let first = 2 * c.nodes;
     let second = first + 1;
@@ -89,7 +90,7 @@ pub fn push_id(stack: &mut [u16], c: Counts, id: NodeId) -> Step
     ensures { λ t. ⌜ PushId (now (stack .entry)) c (id .0) (now (stack .exit)) t ⌝ }
 {
     if STACK <= c.stack {
-        return Step::Refused(Refusal::StackFull);
+        return Step::Refused(c, Refusal::StackFull);
     }
     let top = c.stack;
     stack[top] = id.0 as u16;
@@ -102,7 +103,7 @@ pub fn put_mark(marks: &mut [u16], c: Counts) -> Step
     ensures { λ t. ⌜ PutMark (now (marks .entry)) c (now (marks .exit)) t ⌝ }
 {
     if MARKS <= c.marks {
-        return Step::Refused(Refusal::MarksFull);
+        return Step::Refused(c, Refusal::MarksFull);
     }
     let last = c.marks;
     marks[last] = c.stack as u16;
@@ -116,11 +117,48 @@ pub fn put_mark(marks: &mut [u16], c: Counts) -> Step
         marks: marks,
         most: most(c.most, marks),
         memo: c.memo,
+        greatest: c.greatest,
         unescaped: c.unescaped,
     })
 }
 
-// Links from `owner` to what stands on the stack from `from` to `to`, in order; its second word counts its items.
+// `owner` at the `n` places of the log from `links` on.
+fn fill_owners(owners: &mut [u16], links: usize, n: usize, owner: NodeId)
+    requires { ⌜ (links + n ≤ length (now owners)) × (owner .0 < 65536) ⌝ }
+    ensures { λ _. ⌜ now (owners .exit) ≡ filled (now (owners .entry)) links (λ k. owner .0) n ⌝ }
+{
+    let id = owner.0 as u16;
+    let mut i = 0;
+    while i < n {
+        let at = links + i;
+        owners[at] = id;
+        i += 1;
+    }
+}
+
+// What stands on the stack from `from` on, at the `n` places of the log from `links` on.
+fn copy_children(children: &mut [u16], links: usize, n: usize, stack: &[u16], from: usize)
+    requires { ⌜ (links + n ≤ length (now children)) × (from + n ≤ length (now stack)) ⌝ }
+    ensures { λ _. ⌜ now (children .exit) ≡ filled (now (children .entry)) links (λ k. getD (now (stack .entry)) (from + k) 0) n ⌝ }
+{
+    let mut i = 0;
+    while i < n {
+        let at = links + i;
+        let value = from + i;
+        children[at] = stack[value];
+        i += 1;
+    }
+}
+
+// A container's second word with `n` items more: its low half counts them.
+fn with_items(word: u64, n: usize) -> u64
+    requires { ⌜ word % 2 ^ 32 + n < 2 ^ 32 ⌝ }
+    ensures { λ r. ⌜ r ≡ word + n ⌝ }
+{
+    word + n as u64
+}
+
+// Links from `owner` to what stands on the stack from `from` to `to`, in order.
 fn link_all(
     nodes: &mut [u64],
     owners: &mut [u16],
@@ -134,18 +172,12 @@ fn link_all(
     requires { ⌜ Linkable (now nodes) (now owners) (now children) (now stack) from to links (owner .0) ⌝ }
     ensures { λ n. ⌜ (n ≡ links + (to - from)) × LinkAll (now (nodes .entry)) (now (owners .entry)) (now (children .entry)) (now (stack .entry)) from links (owner .0) to (now (nodes .exit)) (now (owners .exit)) (now (children .exit)) n ⌝ }
 {
-    let id = owner.0;
-    let count = 2 * id + 1;
-    let mut i = from;
-    let mut n = links;
-    while i < to {
-        owners[n] = id as u16;
-        children[n] = stack[i];
-        nodes[count] = nodes[count] + 1;
-        i += 1;
-        n += 1;
-    }
-    n
+    let n = to - from;
+    fill_owners(owners, links, n, owner);
+    copy_children(children, links, n, stack, from);
+    let count = 2 * owner.0 + 1;
+    nodes[count] = with_items(nodes[count], n);
+    links + n
 }
 
 // A container of what stood above `c.stack`: LinksFull, NodesFull, then StackFull.
@@ -163,19 +195,19 @@ pub fn make(
 {
     let items = had - c.stack;
     if LINKS - c.links < items {
-        return Step::Refused(Refusal::LinksFull); // the first of the three
+        return Step::Refused(c, Refusal::LinksFull); // the first of the three
     }
     if NODES <= c.nodes {
-        return Step::Refused(Refusal::NodesFull);
+        return Step::Refused(c, Refusal::NodesFull);
     }
     if STACK <= c.stack {
-        return Step::Refused(Refusal::StackFull);
+        return Step::Refused(c, Refusal::StackFull);
     }
     let id = c.nodes;
     let first = 2 * id;
     let second = first + 1;
     nodes[first] = kind;
-    nodes[second] = 0;
+    nodes[second] = c.links as u64 * 0x1_0000_0000; // no items yet, and where its links begin
     let links = link_all(
         nodes,
         owners,
@@ -205,7 +237,7 @@ pub fn extend(
     ensures { λ t. ⌜ Extends (now (nodes .entry)) (now (owners .entry)) (now (children .entry)) (now (stack .entry)) c (owner .0) had (now (nodes .exit)) (now (owners .exit)) (now (children .exit)) t ⌝ }
 {
     if LINKS - c.links < had - c.stack {
-        return Step::Refused(Refusal::LinksFull);
+        return Step::Refused(c, Refusal::LinksFull);
     }
     let links = link_all(nodes, owners, children, stack, c.stack, had, c.links, owner);
     Step::Next(Counts {
@@ -217,6 +249,7 @@ pub fn extend(
         marks: c.marks,
         most: c.most,
         memo: c.memo,
+        greatest: c.greatest,
         unescaped: c.unescaped,
     })
 }
@@ -260,10 +293,10 @@ pub fn unescape(
     ensures { λ t. ⌜ Unescapes (now (pickle .entry)) (now (nodes .entry)) (now (stack .entry)) (now (unescaped .entry)) c from len (now (nodes .exit)) (now (stack .exit)) (now (unescaped .exit)) t ⌝ }
 {
     if NODES <= c.nodes {
-        return Step::Refused(Refusal::NodesFull);
+        return Step::Refused(c, Refusal::NodesFull);
     }
     if STACK <= c.stack {
-        return Step::Refused(Refusal::StackFull);
+        return Step::Refused(c, Refusal::StackFull);
     }
     let used = c.unescaped;
     let end = from + len;
@@ -281,6 +314,7 @@ pub fn unescape(
             marks: c.marks,
             most: c.most,
             memo: c.memo,
+            greatest: c.greatest,
             unescaped: used + n,
         },
         UNESCAPED,
@@ -293,13 +327,13 @@ pub fn remember(keys: &mut [u32], held: &mut [u16], c: Counts, key: MemoKey, id:
     requires { ⌜ Rememberable (now keys) (now held) c (key .0) (id .0) ⌝ }
     ensures { λ t. ⌜ Remembers (now (keys .entry)) (now (held .entry)) c (key .0) (id .0) (now (keys .exit)) (now (held .exit)) t ⌝ }
 {
-    let place = slot(keys, c.memo, key);
+    let place = slot(keys, c.memo, c.greatest, key);
     if place < c.memo {
         held[place] = id.0 as u16;
         return Step::Next(c);
     }
     if MEMO <= c.memo {
-        return Step::Refused(Refusal::MemoFull);
+        return Step::Refused(c, Refusal::MemoFull);
     }
     keys[place] = key.0;
     held[place] = id.0 as u16;
@@ -312,6 +346,7 @@ pub fn remember(keys: &mut [u32], held: &mut [u16], c: Counts, key: MemoKey, id:
         marks: c.marks,
         most: c.most,
         memo: c.memo + 1,
+        greatest: most(c.greatest, key.0 as usize + 1),
         unescaped: c.unescaped,
     })
 }

@@ -36,9 +36,9 @@ module _ (r : Rooms) (h : ℕ) (c : Counts) where
   pub extendable : (o : NodeId) → Fits (Extend c o) r h → Extendable (r .nodes) (r .owners) (r .children) (r .stack) c (o .0) h
   extendable o f = record { rooms = r; nodes-are = refl; owners-are = refl; children-are = refl; stack-is = refl; fits = f }
 
-  pub rememberable : (k : MemoKey) (i : NodeId) → Fits (Remember c k i) r h → Rememberable (r .keys) (r .held) c (k .0) (i .0)
+  pub rememberable : (i : NodeId) (w : ℕ) (k : MemoKey) → Fits (Remember c i w k) r h → Rememberable (r .keys) (r .held) c (k .0) (i .0)
   unfolding Fits
-  rememberable k i f = record { rooms = r; keys-are = refl; held-are = refl; fits = f }
+  rememberable i w k f = record { rooms = r; keys-are = refl; held-are = refl; fits = f }
 
   pub buildable : (o i : NodeId) → Fits (Build c o i) r h → Buildable (r .nodes) c (o .0) (i .0)
   unfolding Fits
@@ -57,6 +57,6 @@ module _ (r : Rooms) (h : ℕ) (c : Counts) where
   unfolding Fits enacted meant Stays
   stops f = record { means = refl; stays = f }
 
-pub refuses : (r : Rooms) (h : ℕ) (why : Refusal) → Done (step.Refused why) r r (enacted (Refused why) r h)
+pub refuses : (r : Rooms) (h : ℕ) (c : Counts) (v w : ℕ) (why : Refusal) → Done (step.Refused c why) r r (enacted (Refused c v w why) r h)
 unfolding enacted
-refuses r h why = done-refused why r (enacted (Refused why) r h) refl
+refuses r h c v w why = done-refused why r (enacted (Refused c v w why) r h) refl

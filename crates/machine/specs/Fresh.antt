@@ -7,6 +7,7 @@ use native.Mathlib.Omega.{arith}
 use Rattle.decoder.specs.Rooms.{stateOf}
 use Rattle.decoder.specs.RoomReads.{start-of}
 use Rattle.decoder.specs.RoomKeeps.{kept-start}
+use Rattle.decoder.specs.RoomMemo.{numbered-none}
 use Rattle.decoder.specs.Range.{start-range}
 use Rattle.decoder.specs.Effects.{Firm, Sound, Lengths, Clean, Blank}
 use Rattle.machine.specs.Lent.{roomsOf}
@@ -44,6 +45,7 @@ fresh p h = record {
     marks = omega arith;
     most = omega arith;
     memo = omega arith;
+    numbered = numbered-none (replicate 1024 0) 0;
     kept = kept-start (replicate 8192 0) (replicate 16384 0) (replicate 16384 0);
     clean = record {
       nodes = blank 8192;

@@ -15,7 +15,7 @@ use Rattle.op.specs.declared.Opcode.{Opcode}
 use Rattle.op.specs.declared.Opcode.the-variants.{MARK, STOP, POP, «POP_MARK», DUP, FLOAT, INT, BININT, BININT1, LONG, BININT2, NONE, REDUCE, STRING, BINSTRING, «SHORT_BINSTRING», UNICODE, BINUNICODE, APPEND, BUILD, GLOBAL, DICT, «EMPTY_DICT», APPENDS, GET, BINGET, «LONG_BINGET», LIST, «EMPTY_LIST», PUT, BINPUT, «LONG_BINPUT», SETITEM, TUPLE, «EMPTY_TUPLE», SETITEMS, BINFLOAT, PROTO, NEWOBJ, TUPLE1, TUPLE2, TUPLE3, NEWTRUE, NEWFALSE, LONG1, LONG4}
 use Rattle.decoder.specs.declared.Counts.{Counts}
 use Rattle.decoder.specs.declared.Effect.{Effect}
-use Rattle.decoder.specs.declared.Effect.the-variants.{Push, Mark, Stop, Refused}
+use Rattle.decoder.specs.declared.Effect.the-variants.{Push, Mark, Stop}
 use Rattle.value.specs.Value.{Label, NoneL, BoolL, ListL, TupleL, DictL}
 use Rattle.value.specs.Shape.{kindIn}
 use Rattle.decoder.specs.State.{State, Res, ok, _>>=_, byte, bytes, plain, push}
@@ -24,7 +24,7 @@ use Rattle.decoder.specs.Run.{Next, goes, stops, going, does, decide, step}
 use Rattle.decoder.specs.Rooms.{Rooms, nodeIs, stateOf, Holds, aList, aTuple, aDict}
 use Rattle.decoder.specs.RoomKeeps.{class-none, used-none}
 use Rattle.decoder.specs.Pickletools.{decided}
-use Rattle.decoder.specs.Effects.{Firm, Sound, Lent, Decides, Says, Fits, enacted}
+use Rattle.decoder.specs.Effects.{Firm, Sound, Lent, Decides, Says, Fits, enacted, refusing}
 use Rattle.decoder.specs.Reads.{cutTo, bytes-short, bytes-got}
 use Rattle.decoder.specs.ReadsMemo.{sound-read}
 
@@ -32,10 +32,9 @@ abbrev pub roomsOf : List ℕ → List ℕ → List ℕ → List ℕ → List �
 roomsOf p n w c s m k h u = record { pickle = p; nodes = n; owners = w; children = c; stack = s; marks = m; keys = k; held = h; unescaped = u }
 
 -- rooms with these lists
-pub record Agrees (p n w d s m k h : List ℕ) (r : Rooms) : Type 0 where
+pub record Agrees (p n d s m k h : List ℕ) (r : Rooms) : Type 0 where
   pub pickle : r .pickle ≡ p
   pub nodes : r .nodes ≡ n
-  pub owners : r .owners ≡ w
   pub children : r .children ≡ d
   pub stack : r .stack ≡ s
   pub marks : r .marks ≡ m
@@ -100,15 +99,15 @@ unknown b h = go (opcodeOf b) refl
     go none e = refl
     go (some o) e = absurd (h o (sym (decided b o e)))
 
-module _ (p n w d s m k h : List ℕ) (c : Counts) where
+module _ (p n d s m k h : List ℕ) (c : Counts) where
   abbrev pub Lists : Rooms → Type 0
-  Lists = Agrees p n w d s m k h
+  Lists = Agrees p n d s m k h
 
   abbrev pub c₁ : Counts
   c₁ = cutTo c (c .at + 1) (c .stack) (c .marks)
 
   -- at the end of the pickle
-  pub ended : length p ≤ c .at → Decides c Lists step (Refused EndOfInput)
+  pub ended : length p ≤ c .at → Decides c Lists step (refusing c EndOfInput)
   unfolding Decides step byte _>>=_ enacted Fits
   ended l r z a =
       let e : length (r .pickle) ≡ length p = ap length (a .pickle) in
@@ -139,7 +138,7 @@ module _ (p n w d s m k h : List ℕ) (c : Counts) where
         record { enacts = x .enacts ∙ sym (read r z a ∙ rw (q, named o)); fits = x .fits }
 
     -- no opcode
-    pub unsupported : ((o : Opcode) → getD p (c .at) 0 ≢ numberOf o) → Decides c Lists step (Refused (UnsupportedOpcode (getD p (c .at) 0)))
+    pub unsupported : ((o : Opcode) → getD p (c .at) 0 ≢ numberOf o) → Decides c Lists step (refusing c (UnsupportedOpcode (getD p (c .at) 0)))
     unfolding Decides decide enacted Fits
     unsupported h r z a = record { enacts = sym (read r z a ∙ rw (unknown (getD p (c .at) 0) h)); fits = tt }
 
@@ -193,18 +192,18 @@ module _ (c : Counts) where
 
 -- ---- TUPLE1 to TUPLE3, and what no arm takes
 
-module _ (p n w d s m k h : List ℕ) (c : Counts) (l : c .at < length p) where
-  pub tuples : (e : Effect) → 133 ≤ getD p (c .at) 0 → getD p (c .at) 0 < 136 → Decides (c₁ p n w d s m k h c) (λ r. Unit {0}) (λ t. going (tupleN (getD p (c .at) 0 - 0x84) t)) e → Decides c (Agrees p n w d s m k h) step e
+module _ (p n d s m k h : List ℕ) (c : Counts) (l : c .at < length p) where
+  pub tuples : (e : Effect) → 133 ≤ getD p (c .at) 0 → getD p (c .at) 0 < 136 → Decides (c₁ p n d s m k h c) (λ r. Unit {0}) (λ t. going (tupleN (getD p (c .at) 0 - 0x84) t)) e → Decides c (Agrees p n d s m k h) step e
   unfolding does numberOf numberIn isNamed place
   tuples e a b t = go (getD p (c .at) 0) refl
     where
-      at : (o : Opcode) (i : ℕ) → getD p (c .at) 0 ≡ i → i ≡ numberOf o → Decides (c₁ p n w d s m k h c) (λ r. Unit {0}) (does o) e → Decides c (Agrees p n w d s m k h) step e
-      at o i q z y = arm p n w d s m k h c l o (λ r. Unit {0}) e (q ∙ z) (λ r x. tt) y
+      at : (o : Opcode) (i : ℕ) → getD p (c .at) 0 ≡ i → i ≡ numberOf o → Decides (c₁ p n d s m k h c) (λ r. Unit {0}) (does o) e → Decides c (Agrees p n d s m k h) step e
+      at o i q z y = arm p n d s m k h c l o (λ r. Unit {0}) e (q ∙ z) (λ r x. tt) y
 
-      go : (i : ℕ) → getD p (c .at) 0 ≡ i → Decides c (Agrees p n w d s m k h) step e
+      go : (i : ℕ) → getD p (c .at) 0 ≡ i → Decides c (Agrees p n d s m k h) step e
       go i q = pick (ℕ-discrete i 133) (ℕ-discrete i 134)
         where
-          pick : Dec (i ≡ 133) → Dec (i ≡ 134) → Decides c (Agrees p n w d s m k h) step e
+          pick : Dec (i ≡ 133) → Dec (i ≡ 134) → Decides c (Agrees p n d s m k h) step e
           pick (yes z) y = at TUPLE1 133 (q ∙ z) refl (rw (q ∙ z) at t)
           pick (no z) (yes y) = at TUPLE2 134 (q ∙ y) refl (rw (q ∙ y) at t)
           pick (no z) (no y) = let u : i ≡ 135 = omega arith in at TUPLE3 135 (q ∙ u) refl (rw (q ∙ u) at t)

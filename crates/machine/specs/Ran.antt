@@ -24,7 +24,7 @@ use Rattle.machine.specs.declared.Outcome.the-variants as outcome
 
 -- nothing read or used
 abbrev pub start : Counts
-start = record { at = 0; nodes = 0; links = 0; stack = 0; deepest = 0; marks = 0; most = 0; memo = 0; unescaped = 0 }
+start = record { at = 0; nodes = 0; links = 0; stack = 0; deepest = 0; marks = 0; most = 0; memo = 0; greatest = 0; unescaped = 0 }
 
 -- what an outcome means
 unfoldable pub ended : Outcome → Rooms → Res State
@@ -71,9 +71,9 @@ module _ (r r′ : Rooms) (c : Counts) (s : Sound r c) where
   step-stops d t =
       (finish-stops (stateOf r c) (stateOf r′ d) (sym (t .means)), record { firm = t .stays; range = of-out (λ (n : Next). InRange (after n)) (step (stateOf r c)) (stops (stateOf r′ d)) (step-range (stateOf r c) (s .range)) (sym (t .means)) })
 
-  pub step-refuses : (why : Refusal) → Done (step-of.Refused why) r r′ (step (stateOf r c)) → (finish (stateOf r c) ≡ no why) × (r′ ≡ r)
+  pub step-refuses : (d : Counts) (why : Refusal) → Done (step-of.Refused d why) r r′ (step (stateOf r c)) → (finish (stateOf r c) ≡ no why) × (r′ ≡ r)
   unfolding meant Stays
-  step-refuses why t = (finish-refused (stateOf r c) (stateOf r c) why (sym (t .means)), t .stays)
+  step-refuses d why t = (finish-refused (stateOf r c) (stateOf r c) why (sym (t .means)), t .stays)
 
 -- ---- the loop: what is left is what there was
 
@@ -96,9 +96,9 @@ module _ (p : List ℕ) (r r′ : Rooms) (c : Counts) (h : Running p r c) (e : r
   unfolding ended countsOf
   ran-stopped d t = let x = step-stops r r′ c (h .sound) d t in record { means = sym (x .0) ∙ h .left; sound = x .1; same = e ∙ h .same }
 
-  pub ran-refused : (why : Refusal) → Done (step-of.Refused why) r r′ (step (stateOf r c)) → Ran (outcome.Refused c why) p r′
+  pub ran-refused : (d : Counts) (why : Refusal) → Done (step-of.Refused d why) r r′ (step (stateOf r c)) → Ran (outcome.Refused c why) p r′
   unfolding ended countsOf
-  ran-refused why t = let x = step-refuses r r′ c (h .sound) why t in record { means = sym (x .0) ∙ h .left; sound = rw (x .1) (h .sound); same = e ∙ h .same }
+  ran-refused d why t = let x = step-refuses r r′ c (h .sound) d why t in record { means = sym (x .0) ∙ h .left; sound = rw (x .1) (h .sound); same = e ∙ h .same }
 
 -- ---- after n steps
 

@@ -54,11 +54,11 @@ pub fn apply(
         Effect::Go(c) => Step::Next(c),
         Effect::Make(c, kind) => make(nodes, owners, children, stack, c, kind, had),
         Effect::Extend(c, owner) => extend(nodes, owners, children, stack, c, owner, had),
-        Effect::Remember(c, key, id) => remember(keys, held, c, key, id),
+        Effect::Remember(c, id, _, key) => remember(keys, held, c, key, id),
         Effect::Build(c, object, state) => build(nodes, c, object, state),
         Effect::Unescape(c, from, len) => unescape(pickle, nodes, stack, unescaped, c, from, len),
         Effect::Stop(c) => Step::Stop(c),
-        Effect::Refused(why) => Step::Refused(why),
+        Effect::Refused(c, _, _, why) => Step::Refused(c, why),
     }
 }
 
@@ -66,7 +66,6 @@ pub fn apply(
 pub fn decide(
     pickle: &[u8],
     nodes: &[u64],
-    owners: &[u16],
     children: &[u16],
     stack: &[u16],
     marks: &[u16],
@@ -74,12 +73,12 @@ pub fn decide(
     held: &[u16],
     c: Counts,
 ) -> Effect
-    requires { ⌜ Lent c (Agrees (now pickle) (now nodes) (now owners) (now children) (now stack) (now marks) (now keys) (now held)) ⌝ }
-    ensures { λ e. ⌜ Decides c (Agrees (now (pickle .entry)) (now (nodes .entry)) (now (owners .entry)) (now (children .entry)) (now (stack .entry)) (now (marks .entry)) (now (keys .entry)) (now (held .entry))) step e ⌝ }
+    requires { ⌜ Lent c (Agrees (now pickle) (now nodes) (now children) (now stack) (now marks) (now keys) (now held)) ⌝ }
+    ensures { λ e. ⌜ Decides c (Agrees (now (pickle .entry)) (now (nodes .entry)) (now (children .entry)) (now (stack .entry)) (now (marks .entry)) (now (keys .entry)) (now (held .entry))) step e ⌝ }
 {
     let at = c.at;
     if pickle.len() <= at {
-        return Effect::Refused(Refusal::EndOfInput);
+        return Effect::Refused(c, 0, 0, Refusal::EndOfInput);
     }
     let code = pickle[at];
     let d = Counts {
@@ -91,6 +90,7 @@ pub fn decide(
         marks: c.marks,
         most: c.most,
         memo: c.memo,
+        greatest: c.greatest,
         unescaped: c.unescaped,
     };
     match code {
@@ -106,7 +106,7 @@ pub fn decide(
         op::LONG => decoder::long(pickle, d),
         op::BININT2 => decoder::binint2(pickle, d),
         op::NONE => Effect::Push(d, NONE, 0),
-        op::REDUCE => decoder::reduce(pickle, nodes, owners, children, stack, d),
+        op::REDUCE => decoder::reduce(pickle, nodes, children, stack, d),
         op::STRING => decoder::string(pickle, d),
         op::BINSTRING => decoder::binstring(pickle, d),
         op::SHORT_BINSTRING => decoder::short_binstring(pickle, d),
@@ -138,7 +138,7 @@ pub fn decide(
         op::LONG1 => decoder::long1(pickle, d),
         op::LONG4 => decoder::long4(pickle, d),
         0x85..=0x87 => decoder::small_tuple(d, code),
-        _ => Effect::Refused(Refusal::UnsupportedOpcode(code)),
+        _ => Effect::Refused(c, 0, 0, Refusal::UnsupportedOpcode(code)),
     }
 }
 
@@ -158,7 +158,7 @@ pub fn take_step(
     requires { ⌜ Sound (roomsOf (now pickle) (now nodes) (now owners) (now children) (now stack) (now marks) (now keys) (now held) (now unescaped)) c ⌝ }
     ensures { λ t. ⌜ Done t (roomsOf (now (pickle .entry)) (now (nodes .entry)) (now (owners .entry)) (now (children .entry)) (now (stack .entry)) (now (marks .entry)) (now (keys .entry)) (now (held .entry)) (now (unescaped .entry))) (roomsOf (now (pickle .entry)) (now (nodes .exit)) (now (owners .exit)) (now (children .exit)) (now (stack .exit)) (now (marks .exit)) (now (keys .exit)) (now (held .exit)) (now (unescaped .exit))) (step (stateOf (roomsOf (now (pickle .entry)) (now (nodes .entry)) (now (owners .entry)) (now (children .entry)) (now (stack .entry)) (now (marks .entry)) (now (keys .entry)) (now (held .entry)) (now (unescaped .entry))) c)) ⌝ }
 {
-    let e = decide(pickle, nodes, owners, children, stack, marks, keys, held, c);
+    let e = decide(pickle, nodes, children, stack, marks, keys, held, c);
     apply(
         pickle,
         nodes,
@@ -204,6 +204,7 @@ pub fn run(
         marks: 0,
         most: 0,
         memo: 0,
+        greatest: 0,
         unescaped: 0,
     };
     loop {
@@ -222,7 +223,7 @@ pub fn run(
         match t {
             Step::Next(d) => c = d,
             Step::Stop(d) => return Outcome::Stopped(d),
-            Step::Refused(why) => return Outcome::Refused(c, why),
+            Step::Refused(_, why) => return Outcome::Refused(c, why),
         }
     }
 }

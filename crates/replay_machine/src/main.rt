@@ -53,6 +53,7 @@ fn steps(
         marks: 0,
         most: 0,
         memo: 0,
+        greatest: 0,
         unescaped: 0,
     };
     loop {
@@ -72,7 +73,7 @@ fn steps(
         match t {
             Step::Next(d) => c = d,
             Step::Stop(d) => return Outcome::Stopped(d),
-            Step::Refused(why) => return Outcome::Refused(c, why),
+            Step::Refused(_, why) => return Outcome::Refused(c, why),
         }
     }
 }

@@ -9,9 +9,9 @@ use Rattle.decoder.proofs.grown.Reads as grown-reads
 use Prim.Native.Nat.{_-_}
 use mathlib.Core.Path.{refl}
 use native.Mathlib.Omega.{arith}
-use Rattle.decoder.specs.Effects.{Decides}
+use Rattle.decoder.specs.Effects.{Decides, says-refused}
 use Rattle.decoder.specs.Items.{TakesMark, Adds, lists, dicts}
-use Rattle.decoder.specs.StackSteps.{says-refused, took-below, appends-underflow, appends-adds}
+use Rattle.decoder.specs.StackSteps.{took-below, appends-underflow, appends-adds}
 
 above-mark-requires : tie.Need-above-mark-requires
 above-mark-requires c κs = (record { rooms = c .before .before .before .pre .rooms; sound = c .before .before .before .pre .sound; agrees = c .before .before .before .pre .agrees .2 })

@@ -9,9 +9,9 @@ use Rattle.decoder.proofs.cut.Reads as cut-reads
 use Prim.Native.Nat.{_-_}
 use mathlib.Core.Path.{refl}
 use native.Mathlib.Omega.{arith}
-use Rattle.decoder.specs.Effects.{Decides}
+use Rattle.decoder.specs.Effects.{Decides, says-refused}
 use Rattle.decoder.specs.Items.{TakesMark, Adds, lists, dicts}
-use Rattle.decoder.specs.StackSteps.{says-refused, took-below, dict-underflow, dict-odd, dict-makes}
+use Rattle.decoder.specs.StackSteps.{took-below, dict-underflow, dict-odd, dict-makes}
 
 above-mark-requires : tie.Need-above-mark-requires
 above-mark-requires c κs = search needs

@@ -6,12 +6,12 @@ use native.Mathlib.Omega.{arith}
 use mathlib.Core.Path.{_≡_, sym, ap}
 use lib.ListN.{length, getD}
 use Rattle.decoder.specs.Effects.{Decides}
-use Rattle.decoder.proofs.LawsMemo.{memo-rooms, get-missing, get-found}
+use Rattle.decoder.proofs.LawsMemo.{memo-rooms, slot-rooms, get-missing, get-found}
 
 slot-requires : tie.Need-slot-requires
 slot-requires c κs =
     let l = c .before .before .pre in
-    rw (ap length (l .agrees .0)) at (memo-rooms (l .rooms) (c .before .before .args .c) (l .sound) (c .before .before .args .key) .0)
+    slot-rooms (l .rooms) (c .before .before .args .c) (l .sound) (c .before .before .args .key) _ (l .agrees .0)
 
 shared-slice-read-t9 : tie.Need-shared-slice-read-t9
 shared-slice-read-t9 c =

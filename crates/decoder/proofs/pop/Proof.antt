@@ -8,9 +8,9 @@ use Rattle.decoder.proofs.cut.Reads as cut-reads
 use Prim.Native.Nat.{_-_}
 use mathlib.Core.Path.{refl}
 use native.Mathlib.Omega.{arith}
-use Rattle.decoder.specs.Effects.{Decides}
+use Rattle.decoder.specs.Effects.{Decides, says-refused}
 use Rattle.decoder.specs.Items.{TakesMark, Adds, lists, dicts}
-use Rattle.decoder.specs.StackSteps.{says-refused, pop-underflow, pop-goes}
+use Rattle.decoder.specs.StackSteps.{pop-underflow, pop-goes}
 
 returns : tie.Need-returns
 unfolding Decides

@@ -7,9 +7,9 @@ use Rattle.decoder.proofs.grown.Reads as grown-reads
 use Prim.Native.Nat.{_-_}
 use mathlib.Core.Path.{refl}
 use native.Mathlib.Omega.{arith}
-use Rattle.decoder.specs.Effects.{Decides}
+use Rattle.decoder.specs.Effects.{Decides, says-refused}
 use Rattle.decoder.specs.Items.{TakesMark, Adds, lists, dicts}
-use Rattle.decoder.specs.StackSteps.{says-refused, setitem-underflow, setitem-adds}
+use Rattle.decoder.specs.StackSteps.{setitem-underflow, setitem-adds}
 
 returns : tie.Need-returns
 unfolding Decides

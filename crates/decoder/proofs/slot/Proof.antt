@@ -1,30 +1,15 @@
--- `decoder::slot` meets its contract. The loop's invariant: none of the numbers passed is the key. Assumes nothing.
+-- `decoder::slot` meets its contract: a number is above all, stands where it was guessed, or is searched. Assumes nothing.
+use borrow.Author.Needs.{needs}
 use Rattle.decoder.proofs.slot.Statement.{statement}
 use Rattle.decoder.proofs.slot.Tie as tie
-use borrow.Author.Needs.{needs}
-use Prim.Native.Nat.{_≤_, _-_}
 use native.Mathlib.Omega.{arith}
-use mathlib.Core.Path.{_≡_}
-use Rattle.decoder.specs.Rooms.{Absent}
-use Rattle.decoder.proofs.LawsMemo.{absent-none, absent-more}
+use Rattle.decoder.specs.RoomMemo.{absent-above, absent-before}
 
-abbrev Inv-loop : tie.InvT-loop
-Inv-loop keys memo k i₀ i = (i ≤ memo) × Absent keys i k
+returns : tie.Need-returns
+returns c = (omega arith, absent-above _ _ _ (c .before .before .pre .2) _ (c .if1 .taken), λ h. absurd (omega arith))
 
-abbrev μ-loop : tie.MeasureT-loop
-μ-loop keys memo k i₀ i = memo - i
-
-loop-holds : tie.Need-loop-holds Inv-loop μ-loop
-loop-holds c = (search needs, absent-none (c .args .keys .now) (c .args .key .0))
-
-returns : tie.Need-returns Inv-loop μ-loop
-returns c = (omega arith, c .before .before .before .loop .inv .1, λ h. c .if1 .taken)
-
-loop-again : tie.Need-loop-again Inv-loop μ-loop
-loop-again c = (omega arith, absent-more (c .before .before .before .before .args .keys .now) (c .before .before .before .loop .i) (c .before .before .before .before .args .key .0) (c .before .before .before .loop .inv .1) (c .if1 .left))
-
-returns-2 : tie.Need-returns-2 Inv-loop μ-loop
-returns-2 c = let e : c .before .loop .i ≡ c .before .before .args .memo = omega arith in (omega arith, rw e at (c .before .loop .inv .1), λ h. absurd (omega arith))
+returns-2 : tie.Need-returns-2
+returns-2 c = (omega (arith, c .before .before .if3 .taken), absent-before _ _ _ (c .before .before .before .before .before .before .before .pre .2) _ _ (c .before .before .if3 .taken) (c .if4 .taken), λ h. c .if4 .taken)
 
 pub slot-spec : {M : Type 1} → statement M
-slot-spec = tie.close (tie.spec Inv-loop μ-loop loop-holds (λ c. search needs) (λ c. search needs) returns (λ c. search needs) (λ c. search needs) loop-again returns-2)
+slot-spec = tie.close (tie.spec (λ c. search needs) returns (λ c. search needs) (λ c. search needs) (λ c. search needs) (λ c. search needs) returns-2 (λ c κs. search needs) (λ c. search needs))

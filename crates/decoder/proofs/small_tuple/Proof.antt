@@ -8,9 +8,9 @@ use Rattle.decoder.proofs.cut.Reads as cut-reads
 use Prim.Native.Nat.{_-_}
 use mathlib.Core.Path.{refl}
 use native.Mathlib.Omega.{arith}
-use Rattle.decoder.specs.Effects.{Decides}
+use Rattle.decoder.specs.Effects.{Decides, says-refused}
 use Rattle.decoder.specs.Items.{TakesMark, Adds, lists, dicts}
-use Rattle.decoder.specs.StackSteps.{says-refused, tuple-n-underflow, tuple-n-makes}
+use Rattle.decoder.specs.StackSteps.{tuple-n-underflow, tuple-n-makes}
 
 sub-n : tie.Need-sub-n
 sub-n c = search needs

@@ -38,7 +38,7 @@ slice-write-nodes : tie.Need-slice-write-nodes
 slice-write-nodes c = omega (arith, (make-rooms _ _ _ _ _ _ _ (c .before .before .before .before .before .before .before .before .before .before .before .pre)) .0, c .before .before .if2 .left)
 
 mul-nodes-2 : tie.Need-mul-nodes-2
-mul-nodes-2 c = search needs
+mul-nodes-2 c = omega (arith, (make-rooms _ _ _ _ _ _ _ (c .before .before .before .before .before .before .before .before .before .before .before .pre)) .2)
 
 slice-write-nodes-2 : tie.Need-slice-write-nodes-2
 slice-write-nodes-2 c = rw length-set (omega (arith, (make-rooms _ _ _ _ _ _ _ (c .before .before .before .before .before .before .before .before .before .before .before .pre)) .0, c .before .before .if2 .left))
@@ -77,4 +77,4 @@ returns-4 : tie.Need-returns-4
 returns-4 c = rw (c .pushed .ensures) (made-lent _ _ _ _ _ _ _ (c .before .before .before .before .before .before .before .before .before .before .before .before .before .before .before .before .before .before .before .before .before .before .before .pre) _ _ _ _ (c .before .before .before .before .before .before .before .before .before .before .before .before .before .before .before .before .if1 .left) (c .before .before .before .before .before .before .before .before .before .before .before .before .before .before .if2 .left) (c .before .before .before .before .before .before .before .before .before .before .before .before .if3 .left) (c .before .before .before .before .before .before .before .link-all .ensures .0) (c .before .before .before .before .before .before .before .link-all .ensures .1))
 
 pub make-spec : {M : Type 1} → statement M
-make-spec = tie.close (tie.spec sub-items sub-if1 returns returns-2 returns-3 mul-first add-second mul-nodes slice-write-nodes mul-nodes-2 slice-write-nodes-2 link-all-requires cast-stack mul-stack slice-write-stack add-pushed pushed-requires same-length same-length-2 same-length-3 same-length-4 returns-4)
+make-spec = tie.close (tie.spec sub-items sub-if1 returns returns-2 returns-3 mul-first add-second mul-nodes slice-write-nodes mul-nodes-2 (λ c. search needs) slice-write-nodes-2 link-all-requires cast-stack mul-stack slice-write-stack add-pushed pushed-requires same-length same-length-2 same-length-3 same-length-4 returns-4)

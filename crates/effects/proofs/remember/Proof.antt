@@ -7,10 +7,12 @@ use Rattle.effects.proofs.remember.Lts as lts
 use Rattle.decoder.proofs.slot.Reads as slot-reads
 use lib.ListN.{length-set}
 use native.Mathlib.Omega.{arith}
-use Rattle.effects.specs.Memo.{remember-room, replaced-lent, full-lent, more-lent}
+use Rattle.effects.specs.Memo.{remember-room, remember-numbered, replaced-lent, full-lent, more-lent}
 
 slot-requires : tie.Need-slot-requires
-slot-requires c κs = omega (arith, (remember-room _ _ _ _ _ (c .before .before .before .pre)) .0, (remember-room _ _ _ _ _ (c .before .before .before .pre)) .1)
+slot-requires c κs =
+    let p = c .before .before .before .pre in
+    (omega (arith, remember-room _ _ _ _ _ p .0, remember-room _ _ _ _ _ p .1), omega (arith, remember-room _ _ _ _ _ p .1), remember-numbered _ _ _ _ _ p)
 
 cast-held : tie.Need-cast-held
 cast-held c = omega (arith, (remember-room _ _ _ _ _ (c .before .before .before .before .before .before .before .pre)) .3)
@@ -61,7 +63,7 @@ same-length-5 : tie.Need-same-length-5
 same-length-5 c = search needs
 
 returns-3 : tie.Need-returns-3
-returns-3 c = more-lent _ _ _ _ _ _ (c .before .before .before .before .before .before .slot .ensures .0) (c .before .before .before .before .if1 .left) (c .before .before .before .before .before .before .slot .ensures .1) (c .before .before .if2 .left)
+returns-3 c = rw (c .most .ensures) (more-lent _ _ _ _ _ _ (c .before .before .before .before .before .before .before .before .slot .ensures .0) (c .before .before .before .before .before .before .if1 .left) (c .before .before .before .before .before .before .before .before .slot .ensures .1) (c .before .before .before .before .if2 .left))
 
 pub remember-spec : {M : Type 1} → statement M
-remember-spec = tie.close (tie.spec slot-requires cast-held mul-held slice-write-held same-length same-length-2 returns same-length-3 returns-2 mul-keys slice-write-keys cast-held-2 mul-held-2 slice-write-held-2 add-t14 same-length-4 same-length-5 returns-3)
+remember-spec = tie.close (tie.spec slot-requires cast-held mul-held slice-write-held same-length same-length-2 returns same-length-3 returns-2 mul-keys slice-write-keys cast-held-2 mul-held-2 slice-write-held-2 add-t14 (λ c. search needs) (λ c. search needs) (λ c κs. search needs) same-length-4 same-length-5 returns-3)

@@ -5,6 +5,7 @@ use Rattle.machine.proofs.apply.Tie as tie
 use Rattle.machine.proofs.apply.Reads as reads
 use Rattle.machine.proofs.apply.Lts as lts
 use mathlib.Core.Path.{refl}
+use Rattle.decoder.specs.Effects.{Fits, enacted}
 use Rattle.effects.specs.Push.{PushNode, PushId, PutMark}
 use Rattle.effects.specs.Containers.{Makes, Extends}
 use Rattle.effects.specs.Memo.{Remembers}
@@ -49,7 +50,7 @@ enum-known-e-7 : tie.Need-enum-known-e-7
 enum-known-e-7 c = search needs
 
 remember-requires : tie.Need-remember-requires
-remember-requires c κs = rememberable (roomsOf (c .before .before .before .before .before .before .before .before .before .before .before .before .before .before .args .pickle .now) (c .before .before .before .before .before .before .before .before .before .before .before .before .before .before .args .nodes .now) (c .before .before .before .before .before .before .before .before .before .before .before .before .before .before .args .owners .now) (c .before .before .before .before .before .before .before .before .before .before .before .before .before .before .args .children .now) (c .before .before .before .before .before .before .before .before .before .before .before .before .before .before .args .stack .now) (c .before .before .before .before .before .before .before .before .before .before .before .before .before .before .args .marks .now) (c .before .before .before .before .before .before .before .before .before .before .before .before .before .before .args .keys .now) (c .before .before .before .before .before .before .before .before .before .before .before .before .before .before .args .held .now) (c .before .before .before .before .before .before .before .before .before .before .before .before .before .before .args .unescaped .now)) _ _ _ _ (rw (c .before .before .before .e7 .given .1) at (c .before .before .before .before .before .before .before .before .before .before .before .before .before .before .pre))
+remember-requires c κs = rememberable (roomsOf (c .before .before .before .before .before .before .before .before .before .before .before .before .before .before .args .pickle .now) (c .before .before .before .before .before .before .before .before .before .before .before .before .before .before .args .nodes .now) (c .before .before .before .before .before .before .before .before .before .before .before .before .before .before .args .owners .now) (c .before .before .before .before .before .before .before .before .before .before .before .before .before .before .args .children .now) (c .before .before .before .before .before .before .before .before .before .before .before .before .before .before .args .stack .now) (c .before .before .before .before .before .before .before .before .before .before .before .before .before .before .args .marks .now) (c .before .before .before .before .before .before .before .before .before .before .before .before .before .before .args .keys .now) (c .before .before .before .before .before .before .before .before .before .before .before .before .before .before .args .held .now) (c .before .before .before .before .before .before .before .before .before .before .before .before .before .before .args .unescaped .now)) _ _ _ _ _ (rw (c .before .before .before .e7 .given .1) at (c .before .before .before .before .before .before .before .before .before .before .before .before .before .before .pre))
 
 enum-known-e-8 : tie.Need-enum-known-e-8
 enum-known-e-8 c = search needs
@@ -135,8 +136,8 @@ same-length-14 : tie.Need-same-length-14
 same-length-14 c = search needs
 
 returns-7 : tie.Need-returns-7
-unfolding Remembers
-returns-7 c = rw (c .before .before .before .before .before .before .before .before .e7 .given .1) (c .before .before .before .before .remember .ensures (roomsOf (c .before .before .before .before .before .before .before .before .before .before .before .before .before .before .before .before .before .before .before .args .pickle .now) (c .before .before .before .before .before .before .before .before .before .before .before .before .before .before .before .before .before .before .before .args .nodes .now) (c .before .before .before .before .before .before .before .before .before .before .before .before .before .before .before .before .before .before .before .args .owners .now) (c .before .before .before .before .before .before .before .before .before .before .before .before .before .before .before .before .before .before .before .args .children .now) (c .before .before .before .before .before .before .before .before .before .before .before .before .before .before .before .before .before .before .before .args .stack .now) (c .before .before .before .before .before .before .before .before .before .before .before .before .before .before .before .before .before .before .before .args .marks .now) (c .before .before .before .before .before .before .before .before .before .before .before .before .before .before .before .before .before .before .before .args .keys .now) (c .before .before .before .before .before .before .before .before .before .before .before .before .before .before .before .before .before .before .before .args .held .now) (c .before .before .before .before .before .before .before .before .before .before .before .before .before .before .before .before .before .before .before .args .unescaped .now)) _ refl refl (rw (c .before .before .before .before .before .before .before .before .e7 .given .1) at (c .before .before .before .before .before .before .before .before .before .before .before .before .before .before .before .before .before .before .before .pre)))
+unfolding Remembers Fits enacted
+returns-7 c = rw (c .before .before .before .before .before .before .before .before .e7 .given .1) (c .before .before .before .before .remember .ensures (roomsOf (c .before .before .before .before .before .before .before .before .before .before .before .before .before .before .before .before .before .before .before .args .pickle .now) (c .before .before .before .before .before .before .before .before .before .before .before .before .before .before .before .before .before .before .before .args .nodes .now) (c .before .before .before .before .before .before .before .before .before .before .before .before .before .before .before .before .before .before .before .args .owners .now) (c .before .before .before .before .before .before .before .before .before .before .before .before .before .before .before .before .before .before .before .args .children .now) (c .before .before .before .before .before .before .before .before .before .before .before .before .before .before .before .before .before .before .before .args .stack .now) (c .before .before .before .before .before .before .before .before .before .before .before .before .before .before .before .before .before .before .before .args .marks .now) (c .before .before .before .before .before .before .before .before .before .before .before .before .before .before .before .before .before .before .before .args .keys .now) (c .before .before .before .before .before .before .before .before .before .before .before .before .before .before .before .before .before .before .before .args .held .now) (c .before .before .before .before .before .before .before .before .before .before .before .before .before .before .before .before .before .before .before .args .unescaped .now)) (c .before .before .before .before .before .before .before .before .before .before .before .before .before .before .before .before .before .before .before .args .had) refl refl (rw (c .before .before .before .before .before .before .before .before .e7 .given .1) at (c .before .before .before .before .before .before .before .before .before .before .before .before .before .before .before .before .before .before .before .pre)))
 
 same-length-15 : tie.Need-same-length-15
 same-length-15 c = search needs
@@ -162,7 +163,7 @@ returns-10 : tie.Need-returns-10
 returns-10 c = rw (c .before .e10 .given .1) (stops (roomsOf (c .before .before .before .before .before .before .before .before .before .before .before .before .args .pickle .now) (c .before .before .before .before .before .before .before .before .before .before .before .before .args .nodes .now) (c .before .before .before .before .before .before .before .before .before .before .before .before .args .owners .now) (c .before .before .before .before .before .before .before .before .before .before .before .before .args .children .now) (c .before .before .before .before .before .before .before .before .before .before .before .before .args .stack .now) (c .before .before .before .before .before .before .before .before .before .before .before .before .args .marks .now) (c .before .before .before .before .before .before .before .before .before .before .before .before .args .keys .now) (c .before .before .before .before .before .before .before .before .before .before .before .before .args .held .now) (c .before .before .before .before .before .before .before .before .before .before .before .before .args .unescaped .now)) _ _ (rw (c .before .e10 .given .1) at (c .before .before .before .before .before .before .before .before .before .before .before .before .pre)))
 
 returns-11 : tie.Need-returns-11
-returns-11 c = rw (c .before .e11 .given .1) (refuses (roomsOf (c .before .before .before .before .before .before .before .before .before .before .before .before .args .pickle .now) (c .before .before .before .before .before .before .before .before .before .before .before .before .args .nodes .now) (c .before .before .before .before .before .before .before .before .before .before .before .before .args .owners .now) (c .before .before .before .before .before .before .before .before .before .before .before .before .args .children .now) (c .before .before .before .before .before .before .before .before .before .before .before .before .args .stack .now) (c .before .before .before .before .before .before .before .before .before .before .before .before .args .marks .now) (c .before .before .before .before .before .before .before .before .before .before .before .before .args .keys .now) (c .before .before .before .before .before .before .before .before .before .before .before .before .args .held .now) (c .before .before .before .before .before .before .before .before .before .before .before .before .args .unescaped .now)) _ _)
+returns-11 c = rw (c .before .e11 .given .1) (refuses (roomsOf (c .before .before .before .before .before .before .before .before .before .before .before .before .args .pickle .now) (c .before .before .before .before .before .before .before .before .before .before .before .before .args .nodes .now) (c .before .before .before .before .before .before .before .before .before .before .before .before .args .owners .now) (c .before .before .before .before .before .before .before .before .before .before .before .before .args .children .now) (c .before .before .before .before .before .before .before .before .before .before .before .before .args .stack .now) (c .before .before .before .before .before .before .before .before .before .before .before .before .args .marks .now) (c .before .before .before .before .before .before .before .before .before .before .before .before .args .keys .now) (c .before .before .before .before .before .before .before .before .before .before .before .before .args .held .now) (c .before .before .before .before .before .before .before .before .before .before .before .before .args .unescaped .now)) _ _ _ _ _)
 
 pub apply-spec : {M : Type 1} → statement M
 apply-spec = tie.close (tie.spec enum-known-e push-node-requires enum-known-e-2 push-id-requires enum-known-e-3 put-mark-requires enum-known-e-4 enum-known-e-5 make-requires enum-known-e-6 extend-requires enum-known-e-7 remember-requires enum-known-e-8 build-requires enum-known-e-9 unescape-requires enum-known-e-10 enum-known-e-11 same-length same-length-2 returns same-length-3 returns-2 same-length-4 returns-3 returns-4 same-length-5 same-length-6 same-length-7 same-length-8 returns-5 same-length-9 same-length-10 same-length-11 same-length-12 returns-6 same-length-13 same-length-14 returns-7 same-length-15 returns-8 same-length-16 same-length-17 same-length-18 returns-9 returns-10 returns-11)
