@@ -50,7 +50,7 @@ pub fn word_of(head: Head) -> u64
     head.kind
 }
 
-fn compare_numbers(x: u64, y: u64) -> Order
+pub fn compare_numbers(x: u64, y: u64) -> Order
     ensures { λ r. ⌜ told r ≡ compare x y ⌝ }
 {
     if x < y {
@@ -63,7 +63,7 @@ fn compare_numbers(x: u64, y: u64) -> Order
 }
 
 // Integers by value, from their 64 bits.
-fn compare_ints(x: u64, y: u64) -> Order
+pub fn compare_ints(x: u64, y: u64) -> Order
     ensures { λ r. ⌜ told r ≡ lex (byValue x) (byValue y) ⌝ }
 {
     if x < 0x8000_0000_0000_0000 {
@@ -79,7 +79,7 @@ fn compare_ints(x: u64, y: u64) -> Order
 }
 
 // Floats by totalOrder, from their 64 bits: below the sign bit the patterns are in order, the negative ones the other way round.
-fn compare_floats(x: u64, y: u64) -> Order
+pub fn compare_floats(x: u64, y: u64) -> Order
     ensures { λ r. ⌜ told r ≡ lex (totalOrder x) (totalOrder y) ⌝ }
 {
     if x < 0x8000_0000_0000_0000 {

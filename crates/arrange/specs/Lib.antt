@@ -1,0 +1,12 @@
+-- Sets and Dicts in order, on nodes: entries in a list, the place of a key, and what the settling of one node after the other leaves.
+pub mod Entries
+pub mod Search
+pub mod Moves
+pub mod Arranging
+pub mod Kinds
+pub mod Due
+pub mod Walked
+pub mod Standing
+pub mod Turn
+pub mod Settling
+pub mod Enough

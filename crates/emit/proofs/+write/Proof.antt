@@ -1,0 +1,156 @@
+-- `emit::write` meets its contract. Each call has a level less. The loop's invariant: whatever nodes and graph the rooms show, the children
+-- that are passed are written.
+use Prim.Native.Nat.{ℕ, _<_}
+use borrow.Fn.Kinds.{In}
+use borrow.Fn.PlainCycle.{Measures, is, falls, and}
+use Rattle.emit.proofs.write.Reads as write
+use Rattle.emit.proofs.write.Kinds as write-kinds
+use Rattle.emit.proofs.+write.Lts-write as write-lts
+use Rattle.emit.proofs.behind.Reads as behind-reads
+use Rattle.emit.proofs.finish.Reads as finish-reads
+use Rattle.emit.proofs.is_open.Reads as is-open-reads
+use Rattle.emit.proofs.put_text.Reads as put-text-reads
+use Rattle.emit.proofs.write_flat.Reads as write-flat-reads
+use Rattle.lists.proofs.item.Reads as item-reads
+use Rattle.lists.proofs.range_of.Reads as range-of-reads
+use Rattle.emit.proofs.+write.{statement}
+use Rattle.emit.proofs.+write.Tie.{close}
+use mathlib.Core.Path.{refl, sym, _∙_}
+use mathlib.Core.Logic.{⊎-elim}
+use Prim.Native.Nat.{_-_}
+use native.Mathlib.Omega.{arith}
+use lib.ListN.{length-set}
+use Rattle.emit.specs.Calls.{ready-most, ready-inside}
+use Rattle.emit.specs.Turns.{open-small, open-text, open-behind, open-levels, open-listed, list-end, list-room, Entered, enter, Turn, turn-start, turn-left, turn-over, turn-item, turn-finish, turn-ready, child-open, child-flat, next-walked, next-flat, turn-same, open-done}
+
+abbrev μ-write : Measures 8 write-kinds.ps ℕ
+μ-write κs a = a .1 .0
+
+abbrev write-at : ℕ → In 8 write-kinds.ps
+write-at t = and 8 write-kinds.ps (is 8 write-kinds.ps μ-write t) write.Pre
+
+abbrev write-below : ℕ → In 8 write-kinds.ps
+write-below t = and 8 write-kinds.ps (falls 8 write-kinds.ps _<_ μ-write t) write.Pre
+
+abbrev write-Inv-loop : write-lts.InvT-loop
+write-Inv-loop node levels to starts children log pickle decoded nodes marks₀ table₀ text₀ range from end at lengths next₀ j₀ marks table text next j = (E : Entered pickle decoded nodes starts children log levels (node .0) to marks₀ table₀ text₀) → Turn (E .walk .ready .t) (E .walk .ready .h) (E .walk .ready .v) (node .0) to from marks₀ table₀ text₀ next j marks table text
+
+abbrev write-μ-loop : write-lts.MeasureT-loop
+write-μ-loop node levels to starts children log pickle decoded nodes marks₀ table₀ text₀ range from end at lengths next₀ j₀ marks table text next j = end - j
+
+write-item-requires : (t : ℕ) → write-lts.Need-item-requires (range-of-reads.Asked, range-of-reads.Learnt, put-text-reads.Asked, put-text-reads.Learnt, behind-reads.Asked, behind-reads.Learnt, item-reads.Asked, item-reads.Learnt, is-open-reads.Asked, is-open-reads.Learnt, write-below t, write.Post, write-flat-reads.Asked, write-flat-reads.Learnt, finish-reads.Asked, finish-reads.Learnt) (write-at t) write.Post write-Inv-loop write-μ-loop
+write-item-requires t c κs = omega (arith, list-room (c .before .before .before .before .before .before .before .before .before .before .before .before .before .before .before .before .before .before .before .pre .1) (c .before .before .before .before .before .before .before .before .range-of .result) (c .before .before .before .before .before .before .before .before .range-of .ensures), (c .loop-test .taken))
+
+write-is-open-requires : (t : ℕ) → write-lts.Need-is-open-requires (range-of-reads.Asked, range-of-reads.Learnt, put-text-reads.Asked, put-text-reads.Learnt, behind-reads.Asked, behind-reads.Learnt, item-reads.Asked, item-reads.Learnt, is-open-reads.Asked, is-open-reads.Learnt, write-below t, write.Post, write-flat-reads.Asked, write-flat-reads.Learnt, finish-reads.Asked, finish-reads.Learnt) (write-at t) write.Post write-Inv-loop write-μ-loop
+write-is-open-requires t c κs =
+    let O = (c .before .before .before .before .before .before .before .before .before .before .before .before .before .before .before .before .before .before .before .before .before .pre .1) in
+    let E = enter O _ _ (c .before .before .before .before .before .before .before .put-text .ensures) in
+    let T = (c .before .before .before .loop .inv) E in
+    let r = (c .before .before .before .before .before .before .before .before .before .before .range-of .result) in
+    let g = (c .before .before .before .before .before .before .before .before .before .before .range-of .ensures) in
+    let k = turn-left E T r g refl (c .before .before .loop-test .taken) in
+    let e = turn-item E T r g refl k (c .before .item .result) (c .before .item .ensures) in
+    let R = turn-ready E T k (c .before .item .result) e in
+    (ready-inside R, ready-most R)
+
+write-write-requires : (t : ℕ) → write-lts.Need-write-requires (range-of-reads.Asked, range-of-reads.Learnt, put-text-reads.Asked, put-text-reads.Learnt, behind-reads.Asked, behind-reads.Learnt, item-reads.Asked, item-reads.Learnt, is-open-reads.Asked, is-open-reads.Learnt, write-below t, write.Post, write-flat-reads.Asked, write-flat-reads.Learnt, finish-reads.Asked, finish-reads.Learnt) (write-at t) write.Post write-Inv-loop write-μ-loop
+write-write-requires t c κs =
+    let O = (c .before .before .before .before .before .before .before .before .before .before .before .before .before .before .before .before .before .before .before .before .before .before .before .before .before .before .pre .1) in
+    let E = enter O _ _ (c .before .before .before .before .before .before .before .before .before .before .before .before .put-text .ensures) in
+    let T = (c .before .before .before .before .before .before .before .before .loop .inv) E in
+    let r = (c .before .before .before .before .before .before .before .before .before .before .before .before .before .before .before .range-of .result) in
+    let g = (c .before .before .before .before .before .before .before .before .before .before .before .before .before .before .before .range-of .ensures) in
+    let k = turn-left E T r g refl (c .before .before .before .before .before .before .before .loop-test .taken) in
+    let e = turn-item E T r g refl k (c .before .before .before .before .before .before .item .result) (c .before .before .before .before .before .before .item .ensures) in
+    let R = turn-ready E T k (c .before .before .before .before .before .before .item .result) e in
+    (omega (arith, open-levels O, (c .before .before .before .before .before .before .before .before .before .before .before .before .before .before .before .before .before .before .before .before .before .before .before .before .before .before .pre .0)), child-open E T k (c .before .before .before .before .before .before .item .result) e (sym (c .before .before .before .before .is-open .ensures) ∙ (c .before .before .before .if1 .taken)))
+
+write-write-flat-requires : (t : ℕ) → write-lts.Need-write-flat-requires (range-of-reads.Asked, range-of-reads.Learnt, put-text-reads.Asked, put-text-reads.Learnt, behind-reads.Asked, behind-reads.Learnt, item-reads.Asked, item-reads.Learnt, is-open-reads.Asked, is-open-reads.Learnt, write-below t, write.Post, write-flat-reads.Asked, write-flat-reads.Learnt, finish-reads.Asked, finish-reads.Learnt) (write-at t) write.Post write-Inv-loop write-μ-loop
+write-write-flat-requires t c κs =
+    let O = (c .before .before .before .before .before .before .before .before .before .before .before .before .before .before .before .before .before .before .before .before .before .before .before .before .before .before .pre .1) in
+    let E = enter O _ _ (c .before .before .before .before .before .before .before .before .before .before .before .before .put-text .ensures) in
+    let T = (c .before .before .before .before .before .before .before .before .loop .inv) E in
+    let r = (c .before .before .before .before .before .before .before .before .before .before .before .before .before .before .before .range-of .result) in
+    let g = (c .before .before .before .before .before .before .before .before .before .before .before .before .before .before .before .range-of .ensures) in
+    let k = turn-left E T r g refl (c .before .before .before .before .before .before .before .loop-test .taken) in
+    let e = turn-item E T r g refl k (c .before .before .before .before .before .before .item .result) (c .before .before .before .before .before .before .item .ensures) in
+    let R = turn-ready E T k (c .before .before .before .before .before .before .item .result) e in
+    child-flat E T k (c .before .before .before .before .before .before .item .result) e (sym (c .before .before .before .before .is-open .ensures) ∙ (c .before .before .before .if1 .left))
+
+write-loop-again : (t : ℕ) → write-lts.Need-loop-again (range-of-reads.Asked, range-of-reads.Learnt, put-text-reads.Asked, put-text-reads.Learnt, behind-reads.Asked, behind-reads.Learnt, item-reads.Asked, item-reads.Learnt, is-open-reads.Asked, is-open-reads.Learnt, write-below t, write.Post, write-flat-reads.Asked, write-flat-reads.Learnt, finish-reads.Asked, finish-reads.Learnt) (write-at t) write.Post write-Inv-loop write-μ-loop
+write-loop-again t c =
+    let l = (c .before .before .before .before .before .loop) in
+    let r = (c .before .before .before .before .before .before .before .before .before .before .before .before .range-of .result) in
+    let g = (c .before .before .before .before .before .before .before .before .before .before .before .before .range-of .ensures) in
+    let x = (c .before .before .before .item .result) in
+    λ E.
+    let T = l .inv E in
+    let k = turn-left E T r g refl (c .before .before .before .before .loop-test .taken) in
+    let e = turn-item E T r g refl k x (c .before .before .before .item .ensures) in
+    ⊎-elim
+    (λ y.
+    let o = sym (c .before .is-open .ensures) ∙ y .0 .taken in
+    turn-same _ _ _ _ _ _ _ _ _ _ _ _ _ _ _ _ _ _ (y .11) (y .12) (y .13) (y .14) (next-walked E T k x e o _ _ _ _ (y .4 .kept .1 .1 .1 .1 .1 .1 .1 .1 .1 .0) (y .4 .kept .1 .1 .1 .1 .1 .1 .1 .1 .1 .1 .0) (y .4 .kept .1 .1 .1 .1 .1 .1 .1 .1 .1 .1 .1 .0) (y .4 .ensures (child-open E T k x e o))))
+    (λ y.
+    let o = sym (c .before .is-open .ensures) ∙ y .0 .left in
+    turn-same _ _ _ _ _ _ _ _ _ _ _ _ _ _ _ _ _ _ (y .9) (y .10) (y .11) (y .12) (next-flat E T k x e o _ _ _ (y .4 .kept .1 .1 .1 .1 .1 .1 .0) (y .4 .kept .1 .1 .1 .1 .1 .1 .1 .0) (y .4 .ensures (child-flat E T k x e o))))
+    (c .if1 .came)
+
+write-sub-finish : (t : ℕ) → write-lts.Need-sub-finish (range-of-reads.Asked, range-of-reads.Learnt, put-text-reads.Asked, put-text-reads.Learnt, behind-reads.Asked, behind-reads.Learnt, item-reads.Asked, item-reads.Learnt, is-open-reads.Asked, is-open-reads.Learnt, write-below t, write.Post, write-flat-reads.Asked, write-flat-reads.Learnt, finish-reads.Asked, finish-reads.Learnt) (write-at t) write.Post write-Inv-loop write-μ-loop
+write-sub-finish t c = omega (arith, list-end (c .before .before .before .before .before .before .before .before .before .before .before .before .before .before .before .before .before .before .before .pre .1) (c .before .before .before .before .before .before .before .before .range-of .result) (c .before .before .before .before .before .before .before .before .range-of .ensures))
+
+write-finish-requires : (t : ℕ) → write-lts.Need-finish-requires (range-of-reads.Asked, range-of-reads.Learnt, put-text-reads.Asked, put-text-reads.Learnt, behind-reads.Asked, behind-reads.Learnt, item-reads.Asked, item-reads.Learnt, is-open-reads.Asked, is-open-reads.Learnt, write-below t, write.Post, write-flat-reads.Asked, write-flat-reads.Learnt, finish-reads.Asked, finish-reads.Learnt) (write-at t) write.Post write-Inv-loop write-μ-loop
+write-finish-requires t c κs =
+    let O = (c .before .before .before .before .before .before .before .before .before .before .before .before .before .before .before .before .before .before .before .before .pre .1) in
+    let E = enter O _ _ (c .before .before .before .before .before .before .put-text .ensures) in
+    let T = (c .before .before .loop .inv) E in
+    let r = (c .before .before .before .before .before .before .before .before .before .range-of .result) in
+    let g = (c .before .before .before .before .before .before .before .before .before .range-of .ensures) in
+    turn-finish E T r g refl _ refl
+
+write-mul-marks : (t : ℕ) → write-lts.Need-mul-marks (range-of-reads.Asked, range-of-reads.Learnt, put-text-reads.Asked, put-text-reads.Learnt, behind-reads.Asked, behind-reads.Learnt, item-reads.Asked, item-reads.Learnt, is-open-reads.Asked, is-open-reads.Learnt, write-below t, write.Post, write-flat-reads.Asked, write-flat-reads.Learnt, finish-reads.Asked, finish-reads.Learnt) (write-at t) write.Post write-Inv-loop write-μ-loop
+write-mul-marks t c =
+    let O = (c .before .before .before .before .before .before .before .before .before .before .before .before .before .before .before .before .before .before .before .before .before .before .before .pre .1) in
+    let E = enter O _ _ (c .before .before .before .before .before .before .before .before .before .put-text .ensures) in
+    let T = (c .before .before .before .before .before .loop .inv) E in
+    omega (arith, open-small O, T .marks-long, open-listed O .marked)
+
+write-slice-write-marks : (t : ℕ) → write-lts.Need-slice-write-marks (range-of-reads.Asked, range-of-reads.Learnt, put-text-reads.Asked, put-text-reads.Learnt, behind-reads.Asked, behind-reads.Learnt, item-reads.Asked, item-reads.Learnt, is-open-reads.Asked, is-open-reads.Learnt, write-below t, write.Post, write-flat-reads.Asked, write-flat-reads.Learnt, finish-reads.Asked, finish-reads.Learnt) (write-at t) write.Post write-Inv-loop write-μ-loop
+write-slice-write-marks t c =
+    let O = (c .before .before .before .before .before .before .before .before .before .before .before .before .before .before .before .before .before .before .before .before .before .before .before .pre .1) in
+    let E = enter O _ _ (c .before .before .before .before .before .before .before .before .before .put-text .ensures) in
+    let T = (c .before .before .before .before .before .loop .inv) E in
+    omega (arith, open-small O, T .marks-long, open-listed O .marked)
+
+write-same-length : (t : ℕ) → write-lts.Need-same-length (range-of-reads.Asked, range-of-reads.Learnt, put-text-reads.Asked, put-text-reads.Learnt, behind-reads.Asked, behind-reads.Learnt, item-reads.Asked, item-reads.Learnt, is-open-reads.Asked, is-open-reads.Learnt, write-below t, write.Post, write-flat-reads.Asked, write-flat-reads.Learnt, finish-reads.Asked, finish-reads.Learnt) (write-at t) write.Post write-Inv-loop write-μ-loop
+write-same-length t c =
+    let O = (c .before .before .before .before .before .before .before .before .before .before .before .before .before .before .before .before .before .before .before .before .before .before .before .pre .1) in
+    let E = enter O _ _ (c .before .before .before .before .before .before .before .before .before .put-text .ensures) in
+    let T = (c .before .before .before .before .before .loop .inv) E in
+    simp length-set (T .marks-long)
+
+write-same-length-2 : (t : ℕ) → write-lts.Need-same-length-2 (range-of-reads.Asked, range-of-reads.Learnt, put-text-reads.Asked, put-text-reads.Learnt, behind-reads.Asked, behind-reads.Learnt, item-reads.Asked, item-reads.Learnt, is-open-reads.Asked, is-open-reads.Learnt, write-below t, write.Post, write-flat-reads.Asked, write-flat-reads.Learnt, finish-reads.Asked, finish-reads.Learnt) (write-at t) write.Post write-Inv-loop write-μ-loop
+write-same-length-2 t c =
+    let O = (c .before .before .before .before .before .before .before .before .before .before .before .before .before .before .before .before .before .before .before .before .before .before .before .pre .1) in
+    let E = enter O _ _ (c .before .before .before .before .before .before .before .before .before .put-text .ensures) in
+    let T = (c .before .before .before .before .before .loop .inv) E in
+    (c .before .before .finish .kept .1 .1 .1 .1 .1 .1 .0) ∙ T .table-long
+
+write-same-length-3 : (t : ℕ) → write-lts.Need-same-length-3 (range-of-reads.Asked, range-of-reads.Learnt, put-text-reads.Asked, put-text-reads.Learnt, behind-reads.Asked, behind-reads.Learnt, item-reads.Asked, item-reads.Learnt, is-open-reads.Asked, is-open-reads.Learnt, write-below t, write.Post, write-flat-reads.Asked, write-flat-reads.Learnt, finish-reads.Asked, finish-reads.Learnt) (write-at t) write.Post write-Inv-loop write-μ-loop
+write-same-length-3 t c =
+    let O = (c .before .before .before .before .before .before .before .before .before .before .before .before .before .before .before .before .before .before .before .before .before .before .before .pre .1) in
+    let E = enter O _ _ (c .before .before .before .before .before .before .before .before .before .put-text .ensures) in
+    let T = (c .before .before .before .before .before .loop .inv) E in
+    T .text-long ∙ (c .before .before .before .before .before .before .before .before .before .put-text .kept .1 .1 .1 .1 .1 .0)
+
+write-returns : (t : ℕ) → write-lts.Need-returns (range-of-reads.Asked, range-of-reads.Learnt, put-text-reads.Asked, put-text-reads.Learnt, behind-reads.Asked, behind-reads.Learnt, item-reads.Asked, item-reads.Learnt, is-open-reads.Asked, is-open-reads.Learnt, write-below t, write.Post, write-flat-reads.Asked, write-flat-reads.Learnt, finish-reads.Asked, finish-reads.Learnt) (write-at t) write.Post write-Inv-loop write-μ-loop
+write-returns t c =
+    let r = (c .before .before .before .before .before .before .before .before .before .before .before .before .range-of .result) in
+    let g = (c .before .before .before .before .before .before .before .before .before .before .before .before .range-of .ensures) in
+    λ O.
+    let E = enter O _ _ (c .before .before .before .before .before .before .before .before .before .put-text .ensures) in
+    let T = (c .before .before .before .before .before .loop .inv) E in
+    open-done O _ _ (c .before .before .before .before .before .before .before .before .before .put-text .ensures) T (turn-over E T r g refl (c .before .before .before .before .loop-test .left)) _ _ _ (omega (arith, list-end O r g)) (c .before .before .finish .ensures)
+
+pub +write-spec : {M : Type 1} → statement M
++write-spec = close μ-write λ t. write-lts.spec (range-of-reads.Asked, range-of-reads.Learnt, put-text-reads.Asked, put-text-reads.Learnt, behind-reads.Asked, behind-reads.Learnt, item-reads.Asked, item-reads.Learnt, is-open-reads.Asked, is-open-reads.Learnt, write-below t, write.Post, write-flat-reads.Asked, write-flat-reads.Learnt, finish-reads.Asked, finish-reads.Learnt) (write-at t) write.Post write-Inv-loop write-μ-loop (λ c κs. open-listed (c .before .before .before .before .before .before .before .before .before .before .pre .1)) (λ c κs. open-text (c .before .before .before .before .before .before .before .before .before .before .before .before .before .pre .1)) (λ c κs. open-behind (c .before .before .before .before .before .before .before .before .before .before .before .before .before .before .before .before .pre .1) (c .before .before .put-text .result) (c .before .before .put-text .ensures .lengths)) (λ c. λ E. turn-start E (c .before .before .before .put-text .result) (c .behind .result) (c .before .before .before .put-text .ensures .lengths) (c .behind .ensures)) (write-item-requires t) (write-is-open-requires t) (λ c. open-levels (c .before .before .before .before .before .before .before .before .before .before .before .before .before .before .before .before .before .before .before .before .before .before .before .pre .1)) (write-write-requires t) (write-write-flat-requires t) (λ c. omega (arith, (c .before .before .before .before .loop-test .taken))) (λ c. omega (arith, (c .before .before .before .before .loop-test .taken))) (write-loop-again t) (write-sub-finish t) (write-finish-requires t) (write-mul-marks t) (write-slice-write-marks t) (write-same-length t) (write-same-length-2 t) (write-same-length-3 t) (write-returns t)

@@ -1,0 +1,163 @@
+-- What is written without a walk: a node's text, a leaf, a container once more.
+use Prim.Native.Nat.{ℕ, _+_, _-_, _*_, _^_, _/_, _%_, _<_, _≤_}
+use mathlib.Core.Bool.{Bool, true, false, cond}
+use mathlib.Core.List.{List, [], _++_}
+use mathlib.Core.Path.{_≡_, sym, _∙_, ap}
+use lib.ListN.{length, length-append, getD, take, drop}
+use lib.Seq.{sets}
+use lib.Dec.{eqb, ltb}
+use borrow.Author.Tests.{lt-ltb, le-ltb}
+use native.Mathlib.Omega.{arith}
+use native.Mathlib.Numerals.{add-one}
+use Rattle.value.specs.Value.{Label, kind, textOf, recordOf}
+use Rattle.value.specs.Shape.{newIn}
+use Rattle.decoder.specs.Rooms.{first, second}
+use Rattle.resolved.specs.Moved.{moves}
+use Rattle.resolved.specs.Shown.{labelOf, hasText, leading, trailing, leadText, trailText, Spelled}
+use Rattle.texts.specs.Readable.{Readable}
+use Rattle.emit.specs.Stores.{sets-append}
+use Rattle.emit.specs.Copies.{Copyable}
+use Rattle.emit.specs.Words.{place, recordIn, textIn, writtenW, kindOf, boxed, lengthsOf, recordFrom, textBy, lengthsBy, spoken, text-by, lengths-by, has-text, lengths-all, kind-is, record-is}
+
+-- ---- a node's text
+
+-- it can be put at a place of the text
+pub record TextReady (p d ws marks : List ℕ) (i : ℕ) (bytes : List ℕ) (at : ℕ) : Type 0 where
+  pub readable : Readable ws marks i
+  pub spelled : hasText (labelOf p ws i) ≡ true → Spelled p d ws marks i (labelOf p ws i)
+  pub room : at + length (textOf (labelOf p ws i)) ≤ length bytes
+  pub short : length (textOf (labelOf p ws i)) ≤ 65536
+
+-- and was, and w says its lengths
+pub record TextPut (p ws : List ℕ) (i : ℕ) (bytes : List ℕ) (at : ℕ) (bytes′ : List ℕ) (w : ℕ) : Type 0 where
+  pub text-is : bytes′ ≡ sets bytes at (textOf (labelOf p ws i))
+  pub lengths : w ≡ lengthsOf (labelOf p ws i)
+
+module _ (p d ws marks : List ℕ) (i : ℕ) (bytes : List ℕ) (at : ℕ) (g : TextReady p d ws marks i bytes at) (k : ℕ) (e : k ≡ kindOf (first ws i)) where
+  kind-same : kind (labelOf p ws i) ≡ k
+  kind-same = kind-is p ws i ∙ sym e
+
+  lead-is : spoken k ≡ true → leadText p d ws marks i ≡ leading (labelOf p ws i)
+  lead-is s = g .spelled (has-text (labelOf p ws i) ∙ (ap spoken kind-same ∙ s)) .lead
+
+  trail-is : spoken k ≡ true → trailText p d ws marks i ≡ trailing (labelOf p ws i)
+  trail-is s = g .spelled (has-text (labelOf p ws i) ∙ (ap spoken kind-same ∙ s)) .trail
+
+  text-is-by : textOf (labelOf p ws i) ≡ textBy k (leading (labelOf p ws i)) (trailing (labelOf p ws i))
+  text-is-by = rw (← kind-same) (text-by (labelOf p ws i))
+
+  lengths-is-by : lengthsOf (labelOf p ws i) ≡ lengthsBy k (length (leading (labelOf p ws i))) (length (trailing (labelOf p ws i)))
+  lengths-is-by = rw (← kind-same) (lengths-by (labelOf p ws i))
+
+  -- no text
+  none : textOf (labelOf p ws i) ≡ [] → lengthsOf (labelOf p ws i) ≡ 0 → TextPut p ws i bytes at bytes 0
+  none x y = record { text-is = rw x; lengths = sym y }
+
+  pub texts-small : k < 4 → TextPut p ws i bytes at bytes 0
+  unfolding textBy lengthsBy
+  texts-small h = let l = lt-ltb k 4 h in none (text-is-by ∙ rw l) (lengths-is-by ∙ rw l)
+
+  pub texts-box : 4 ≤ k → 6 ≤ k → k < 11 → TextPut p ws i bytes at bytes 0
+  unfolding textBy lengthsBy
+  texts-box h₄ h₆ h = let a = le-ltb k 4 h₄ in let b = le-ltb k 6 h₆ in let l = lt-ltb k 11 h in none (text-is-by ∙ rw (a, b, l)) (lengths-is-by ∙ rw (a, b, l))
+
+  -- Bytes or a String
+  module _ (h₄ : 4 ≤ k) (h₆ : k < 6) (lead : List ℕ) (q : lead ≡ leadText p d ws marks i) where
+    leads : lead ≡ leading (labelOf p ws i)
+    unfolding spoken
+    leads = q ∙ lead-is (rw (le-ltb k 4 h₄, lt-ltb k 6 h₆))
+
+    one-text : textOf (labelOf p ws i) ≡ lead
+    unfolding textBy
+    one-text = text-is-by ∙ rw (le-ltb k 4 h₄, lt-ltb k 6 h₆) (sym leads)
+
+    pub lead-room : at + length lead ≤ length bytes
+    lead-room = rw (← one-text) (g .room)
+
+    pub texts-lead : (bytes′ : List ℕ) → bytes′ ≡ sets bytes at lead → TextPut p ws i bytes at bytes′ (length lead)
+    unfolding lengthsBy
+    texts-lead bytes′ s = record { text-is = rw one-text s; lengths = ap length leads ∙ sym (lengths-is-by ∙ rw (le-ltb k 4 h₄, lt-ltb k 6 h₆)) }
+
+  -- a module and a name
+  module _ (h₄ : 4 ≤ k) (h₆ : 6 ≤ k) (h₁₁ : 11 ≤ k) (lead trail : List ℕ) (q : lead ≡ leadText p d ws marks i) (r : trail ≡ trailText p d ws marks i) where
+    spoken-names : spoken k ≡ true
+    unfolding spoken
+    spoken-names = rw (le-ltb k 4 h₄, le-ltb k 6 h₆, le-ltb k 11 h₁₁)
+
+    leads₂ : lead ≡ leading (labelOf p ws i)
+    leads₂ = q ∙ lead-is spoken-names
+
+    trails₂ : trail ≡ trailing (labelOf p ws i)
+    trails₂ = r ∙ trail-is spoken-names
+
+    two-texts : textOf (labelOf p ws i) ≡ lead ++ trail
+    unfolding textBy
+    two-texts = text-is-by ∙ rw (le-ltb k 4 h₄, le-ltb k 6 h₆, le-ltb k 11 h₁₁, leads₂, trails₂)
+
+    pub names-room : (at + (length lead + length trail) ≤ length bytes) × (length lead + length trail ≤ 65536)
+    names-room = let n = length-append lead trail in let e₁ = rw two-texts at (g .room) in let e₂ = rw two-texts at (g .short) in (omega arith, omega arith)
+
+    pub texts-names : (bytes₁ bytes′ : List ℕ) → bytes₁ ≡ sets bytes at lead → bytes′ ≡ sets bytes₁ (at + length lead) trail → TextPut p ws i bytes at bytes′ (length lead * 2 ^ 32 + length trail)
+    unfolding lengthsBy
+    texts-names bytes₁ bytes′ s u = record {
+      text-is = rw two-texts (u ∙ rw s (sets-append lead trail bytes at));
+      lengths = sym (lengths-is-by ∙ rw (le-ltb k 4 h₄, le-ltb k 6 h₆, le-ltb k 11 h₁₁, leads₂, trails₂));
+    }
+
+-- ---- a leaf
+
+pub record LeafReady (p d ws marks : List ℕ) (i to : ℕ) (table bytes : List ℕ) : Type 0 where
+  pub text-ready : TextReady p d ws marks i bytes (textIn to)
+  pub texts : textIn to + length (textOf (labelOf p ws i)) ≤ 65536
+  pub records : 4 * recordIn to + 4 ≤ length table
+
+pub record LeafPut (l : Label) (to : ℕ) (table bytes table′ bytes′ : List ℕ) (r : ℕ) : Type 0 where
+  pub table-is : table′ ≡ sets table (4 * recordIn to) (recordOf l (textIn to) 0 1)
+  pub text-is : bytes′ ≡ sets bytes (textIn to) (textOf l)
+  pub next : r ≡ place (recordIn to + 1) (textIn to + length (textOf l))
+
+module _ (p ws : List ℕ) (i : ℕ) where
+  -- the record of node i, by its words and its text's lengths
+  pub record-at : (w at n z : ℕ) → w ≡ lengthsOf (labelOf p ws i) → recordFrom (kindOf (getD ws (2 * i) 0)) (newIn (getD ws (2 * i) 0)) (getD ws (2 * i + 1) 0) w at n z ≡ recordOf (labelOf p ws i) at n z
+  unfolding first second
+  record-at w at n z e = rw (e, add-one (2 * i), ← (kind-is p ws i)) (record-is p ws i at n z)
+
+  pub leaf-done : (to w : ℕ) (table bytes table′ bytes′ words : List ℕ) (r : ℕ) → textIn to + length (textOf (labelOf p ws i)) ≤ 65536 → TextPut p ws i bytes (textIn to) bytes′ w
+      → words ≡ recordFrom (kindOf (getD ws (2 * i) 0)) (newIn (getD ws (2 * i) 0)) (getD ws (2 * i + 1) 0) w (textIn to) 0 1 → table′ ≡ sets table (4 * recordIn to) words
+      → r ≡ place (recordIn to + 1) (textIn to + (w / 2 ^ 32 + w % 2 ^ 32)) → LeafPut (labelOf p ws i) to table bytes table′ bytes′ r
+  leaf-done to w table bytes table′ bytes′ words r h l q s n =
+      let a = lengths-all (labelOf p ws i) (omega arith) in
+      record { table-is = s ∙ ap (sets table (4 * recordIn to)) (q ∙ record-at w (textIn to) 0 1 (l .lengths)); text-is = l .text-is; next = n ∙ rw (l .lengths, a) }
+
+-- ---- once more: m is the mark of what is written
+
+pub record CopyReady (m to : ℕ) (table bytes : List ℕ) : Type 0 where
+  pub copyable : Copyable table (m % 2 ^ 12) (m / 2 ^ 12 % 2 ^ 12) (recordIn to) (m / 2 ^ 24 % 2 ^ 17) (textIn to)
+  pub apart : m / 2 ^ 24 % 2 ^ 17 + m / 2 ^ 41 % 2 ^ 17 ≤ textIn to
+  pub room : textIn to + m / 2 ^ 41 % 2 ^ 17 ≤ length bytes
+  pub texts : textIn to + m / 2 ^ 41 % 2 ^ 17 ≤ 65536
+
+pub record CopyPut (m to : ℕ) (table bytes table′ bytes′ : List ℕ) (r : ℕ) : Type 0 where
+  pub table-is : table′ ≡ sets table (4 * recordIn to) (moves (m / 2 ^ 24 % 2 ^ 17) (textIn to) (take (4 * (m / 2 ^ 12 % 2 ^ 12)) (drop (4 * (m % 2 ^ 12)) table)))
+  pub text-is : bytes′ ≡ sets bytes (textIn to) (take (m / 2 ^ 41 % 2 ^ 17) (drop (m / 2 ^ 24 % 2 ^ 17) bytes))
+  pub next : r ≡ place (recordIn to + m / 2 ^ 12 % 2 ^ 12) (textIn to + m / 2 ^ 41 % 2 ^ 17)
+
+-- ---- a container whose contents end at the place `next`
+
+pub record FinishReady (ws : List ℕ) (i to next values : ℕ) (table : List ℕ) : Type 0 where
+  pub words : 2 * i + 1 < length ws
+  pub few : kindOf (getD ws (2 * i) 0) ≡ 12 → values ≤ 2
+  pub room : 4 * recordIn to + 4 ≤ length table
+  pub records : recordIn to ≤ recordIn next
+  pub texts : textIn to ≤ textIn next
+  pub most : textIn next ≤ 65536
+
+-- its record, w the lengths of its text, and its mark r
+pub record FinishPut (ws : List ℕ) (i to next w values : ℕ) (table table′ : List ℕ) (r : ℕ) : Type 0 where
+  pub table-is : table′ ≡ sets table (4 * recordIn to) (recordFrom (kindOf (getD ws (2 * i) 0)) (newIn (getD ws (2 * i) 0)) (getD ws (2 * i + 1) 0) w (textIn to) values (recordIn next - recordIn to))
+  pub mark : r ≡ writtenW (recordIn to) (recordIn next - recordIn to) (textIn to) (textIn next - textIn to)
+
+-- ---- whether a node is to be walked: a container that is not written yet
+
+unfoldable pub opened : List ℕ → List ℕ → ℕ → Bool
+opened ws marks i = cond (eqb i 4096) false (cond (boxed (kindOf (first ws i))) (ltb (getD marks i 0) (2 ^ 63)) false)

@@ -1,0 +1,456 @@
+// The last pass of the reading: a root's value straight into the lent table and text, records in preorder, each text behind those before
+// it. A container is written once; at any other place its records and its text are copied, text places moved.
+ghost use mathlib.Core.Path.{_≡_};
+ghost use mathlib.Core.Bool.{true, cond};
+ghost use mathlib.Core.List.{[], _∷_};
+ghost use Prim.Native.Nat.{_+_, _-_, _*_, _^_, _/_, _%_, _≤_, _<_};
+ghost use lib.ListN.{length, take, drop};
+ghost use lib.Seq.{sets};
+ghost use Rattle.value.specs.Shape.{newIn};
+ghost use Rattle.resolved.specs.Moved.{placed, moves};
+ghost use Rattle.emit.specs.Copies.{Copyable};
+ghost use Rattle.emit.specs.Words.{place, recordIn, textIn, writtenW, kindOf, boxed, recordFrom};
+ghost use Rattle.resolved.specs.Shown.{labelOf};
+ghost use Rattle.emit.specs.Leaves.{TextReady, TextPut, LeafReady, LeafPut, CopyReady, CopyPut, FinishReady, FinishPut, opened};
+ghost use Rattle.emit.specs.Calls.{Flat, FlatWrites, Open};
+ghost use Rattle.emit.specs.Turns.{Writes};
+ghost use Rattle.emit.specs.Roots.{Rooted, Emits};
+use decoder::NodeId;
+use value::Head;
+
+// A place to write at is one number: the next record, and 4,096 times where the next text begins.
+
+// The number of no node: a None.
+const NOTHING: usize = 4096;
+
+// A container's mark from here on says where it is written: its record, 2^12 times its records, 2^24 times the place of its text, 2^41 times
+// the text's length.
+const WRITTEN: u64 = 0x8000_0000_0000_0000;
+
+// The words of one record of the table.
+struct Record(u64, u64, u64, u64);
+
+fn put_record(table: &mut [u64], i: usize, words: Record)
+    requires { ⌜ 4 * i + 4 ≤ length (now table) ⌝ }
+    ensures { λ r. ⌜ now (table .exit) ≡ sets (now (table .entry)) (4 * i) (words .0 ∷ words .1 ∷ words .2 ∷ words .3 ∷ []) ⌝ }
+{
+    table[4 * i] = words.0;
+    table[4 * i + 1] = words.1;
+    table[4 * i + 2] = words.2;
+    table[4 * i + 3] = words.3;
+}
+
+fn put_bytes(bytes: &[u8], text: &mut [u8], at: usize)
+    requires { ⌜ at + length (now bytes) ≤ length (now text) ⌝ }
+    ensures { λ r. ⌜ now (text .exit) ≡ sets (now (text .entry)) at (now (bytes .entry)) ⌝ }
+{
+    let mut i = 0;
+    while i < bytes.len() {
+        text[at + i] = bytes[i];
+        i += 1;
+    }
+}
+
+// The `n` bytes that stand from `from` on, once more from `at` on.
+fn copy_bytes(text: &mut [u8], from: usize, n: usize, at: usize)
+    requires { ⌜ (from + n ≤ at) × (at + n ≤ length (now text)) ⌝ }
+    ensures { λ r. ⌜ now (text .exit) ≡ sets (now (text .entry)) at (take n (drop from (now (text .entry)))) ⌝ }
+{
+    let mut k = 0;
+    while k < n {
+        text[at + k] = text[from + k];
+        k += 1;
+    }
+}
+
+// Has a record with this first word a text place?
+fn is_placed(first: u64) -> bool
+    ensures { λ r. ⌜ r ≡ placed first ⌝ }
+{
+    let head = value::head_of(first);
+    let kind = head.kind;
+    if kind == 4 {
+        return true;
+    }
+    if kind == 5 {
+        return true;
+    }
+    10 < kind
+}
+
+// The second word of a record whose text began at `from` and begins at `to`, if it has any text.
+fn moved_word(first: u64, second: u64, from: usize, to: usize) -> u64
+    requires { ⌜ (placed first ≡ true → (from ≤ second) × (second - from + to < 2 ^ 64)) ⌝ }
+    ensures { λ r. ⌜ r ≡ cond (placed first) (second - from + to) second ⌝ }
+{
+    if is_placed(first) {
+        return second - from as u64 + to as u64;
+    }
+    second
+}
+
+// The `size` records that stand from `from` on, once more from `at` on, their texts from `target` on.
+fn copy_records(
+    table: &mut [u64],
+    from: usize,
+    size: usize,
+    at: usize,
+    origin: usize,
+    target: usize,
+)
+    requires { ⌜ Copyable (now table) from size at origin target ⌝ }
+    ensures { λ r. ⌜ now (table .exit) ≡ sets (now (table .entry)) (4 * at)
+        (moves origin target (take (4 * size) (drop (4 * from) (now (table .entry))))) ⌝ }
+{
+    let mut k = 0;
+    while k < size {
+        let i = 4 * (from + k);
+        let first = table[i];
+        let place = table[i + 1];
+        let second = moved_word(first, place, origin, target);
+        let third = table[i + 2];
+        let fourth = table[i + 3];
+        put_record(table, at + k, Record(first, second, third, fourth));
+        k += 1;
+    }
+}
+
+// The kind of a record, by its node's first word: 13 are Bytes too, 14 is a String.
+fn kind_of(first: u64) -> u64
+    ensures { λ r. ⌜ r ≡ kindOf first ⌝ }
+{
+    let kind = first % 16;
+    if kind < 13 {
+        return kind;
+    }
+    if kind == 13 {
+        return 4;
+    }
+    if kind == 14 {
+        return 5;
+    }
+    0
+}
+
+// Is it the kind of a container?
+fn is_box(kind: u64) -> bool
+    ensures { λ r. ⌜ r ≡ boxed kind ⌝ }
+{
+    if kind < 6 {
+        return false;
+    }
+    if kind < 11 {
+        return true;
+    }
+    kind == 12
+}
+
+// The record of a node with these words: its text's lengths and place, the values directly in it, its records in all.
+fn record_of(first: u64, second: u64, lengths: u64, at: u64, values: u64, size: u64) -> Record
+    requires { ⌜ (kindOf first ≡ 12 → values ≤ 2) ⌝ }
+    ensures { λ r. ⌜ r .0 ∷ r .1 ∷ r .2 ∷ r .3 ∷ [] ≡ recordFrom (kindOf first) (newIn first) second lengths at values size ⌝ }
+{
+    let kind = kind_of(first);
+    if kind == 12 {
+        let head = value::head_of(first);
+        let word = value::word_of(Head {
+            kind,
+            new: head.new,
+            state: values == 2,
+        });
+        return Record(word, at, lengths, size);
+    }
+    let word = value::word_of(Head {
+        kind,
+        new: false,
+        state: false,
+    });
+    if kind == 0 {
+        return Record(word, 0, 0, 0);
+    }
+    if kind == 1 {
+        return Record(word, (second == 1) as u64, 0, 0);
+    }
+    if kind < 4 {
+        return Record(word, second, 0, 0);
+    }
+    if kind < 6 {
+        return Record(word, at, lengths, 0);
+    }
+    if kind < 10 {
+        return Record(word, values, size, 0);
+    }
+    if kind == 10 {
+        return Record(word, values / 2, size, 0);
+    }
+    Record(word, at, lengths, 0)
+}
+
+// The text of a node; its lengths in one word, a name's below its module's.
+fn put_text<'a>(
+    node: NodeId,
+    pickle: &'a [u8],
+    decoded: &'a [u8],
+    nodes: &[u64],
+    marks: &[u64],
+    text: &mut [u8],
+    at: usize,
+) -> u64
+    requires { ⌜ TextReady (now pickle) (now decoded) (now nodes) (now marks) (node .0) (now text) at ⌝ }
+    ensures { λ r. ⌜ TextPut (now (pickle .entry)) (now (nodes .entry)) (node .0) (now (text .entry)) at (now (text .exit)) r ⌝ }
+{
+    let i = node.0;
+    let kind = kind_of(nodes[2 * i]);
+    if kind < 4 {
+        return 0;
+    }
+    if kind < 6 {
+        let bytes = texts::lead_part(node, pickle, decoded, nodes, marks);
+        put_bytes(bytes, text, at);
+        return bytes.len() as u64;
+    }
+    if kind < 11 {
+        return 0;
+    }
+    let module = texts::lead_part(node, pickle, decoded, nodes, marks);
+    let name = texts::trail_part(node, pickle, decoded, nodes, marks);
+    put_bytes(module, text, at);
+    put_bytes(name, text, at + module.len());
+    module.len() as u64 * 0x1_0000_0000 + name.len() as u64
+}
+
+// The place behind one record with text of these lengths.
+fn behind(to: u64, lengths: u64) -> u64
+    requires { ⌜ textIn to + (lengths / 2 ^ 32 + lengths % 2 ^ 32) ≤ 65536 ⌝ }
+    ensures { λ r. ⌜ r ≡ place (recordIn to + 1) (textIn to + (lengths / 2 ^ 32 + lengths % 2 ^ 32)) ⌝ }
+{
+    to + 1 + 0x1000 * (lengths / 0x1_0000_0000 + lengths % 0x1_0000_0000)
+}
+
+// A leaf.
+fn write_leaf<'a>(
+    node: NodeId,
+    to: u64,
+    pickle: &'a [u8],
+    decoded: &'a [u8],
+    nodes: &[u64],
+    marks: &[u64],
+    table: &mut [u64],
+    text: &mut [u8],
+) -> u64
+    requires { ⌜ LeafReady (now pickle) (now decoded) (now nodes) (now marks) (node .0) to (now table) (now text) ⌝ }
+    ensures { λ r. ⌜ LeafPut
+        (labelOf (now (pickle .entry)) (now (nodes .entry)) (node .0)) to (now (table .entry))
+        (now (text .entry)) (now (table .exit)) (now (text .exit)) r ⌝ }
+{
+    let i = node.0;
+    let at = to / 0x1000;
+    let lengths = put_text(node, pickle, decoded, nodes, marks, text, at as usize);
+    let words = record_of(nodes[2 * i], nodes[2 * i + 1], lengths, at, 0, 1);
+    put_record(table, (to % 0x1000) as usize, words);
+    behind(to, lengths)
+}
+
+// A container that is written already, by its mark, once more.
+fn write_again(mark: u64, to: u64, table: &mut [u64], text: &mut [u8]) -> u64
+    requires { ⌜ CopyReady mark to (now table) (now text) ⌝ }
+    ensures { λ r. ⌜ CopyPut mark to (now (table .entry)) (now (text .entry)) (now (table .exit)) (now (text .exit)) r ⌝ }
+{
+    let size = mark / 0x1000 % 0x1000;
+    let origin = (mark / 0x100_0000 % 0x2_0000) as usize;
+    let long = mark / 0x200_0000_0000 % 0x2_0000;
+    let target = (to / 0x1000) as usize;
+    copy_records(
+        table,
+        (mark % 0x1000) as usize,
+        size as usize,
+        (to % 0x1000) as usize,
+        origin,
+        target,
+    );
+    copy_bytes(text, origin, long as usize, target);
+    to + size + 0x1000 * long
+}
+
+// Is a node a container that is not written yet?
+fn is_open(node: NodeId, nodes: &[u64], marks: &[u64]) -> bool
+    requires { ⌜ (node .0 < 4096 → (2 * node .0 < length (now nodes)) × (node .0 < length (now marks))) ⌝ }
+    requires { ⌜ node .0 ≤ 4096 ⌝ }
+    ensures { λ r. ⌜ r ≡ opened (now (nodes .entry)) (now (marks .entry)) (node .0) ⌝ }
+{
+    let i = node.0;
+    if i == NOTHING {
+        return false;
+    }
+    if is_box(kind_of(nodes[2 * i])) {
+        return marks[i] < WRITTEN;
+    }
+    false
+}
+
+// A node that needs no walk: none, a leaf, or a container that is written already.
+fn write_flat<'a>(
+    node: NodeId,
+    to: u64,
+    pickle: &'a [u8],
+    decoded: &'a [u8],
+    nodes: &[u64],
+    marks: &[u64],
+    table: &mut [u64],
+    text: &mut [u8],
+) -> u64
+    requires { ⌜ Flat (now pickle) (now decoded) (now nodes) (node .0) to (now marks) (now table) (now text) ⌝ }
+    ensures { λ r. ⌜ FlatWrites
+        (now (pickle .entry)) (now (decoded .entry)) (now (nodes .entry)) (node .0) to (now (marks .entry))
+        (now (table .entry)) (now (text .entry)) (now (table .exit)) (now (text .exit)) r ⌝ }
+{
+    let i = node.0;
+    if i == NOTHING {
+        let words = record_of(0, 0, 0, 0, 0, 1);
+        put_record(table, (to % 0x1000) as usize, words);
+        return to + 1;
+    }
+    if is_box(kind_of(nodes[2 * i])) {
+        return write_again(marks[i], to, table, text);
+    }
+    write_leaf(node, to, pickle, decoded, nodes, marks, table, text)
+}
+
+// The mark of a container that is written from `to` on and ends at `next`.
+fn written_mark(to: u64, next: u64) -> u64
+    requires { ⌜ (recordIn to ≤ recordIn next) × (textIn to ≤ textIn next) × (textIn next ≤ 65536) ⌝ }
+    ensures { λ r. ⌜ r ≡ writtenW (recordIn to) (recordIn next - recordIn to) (textIn to) (textIn next - textIn to) ⌝ }
+{
+    let size = next % 0x1000 - to % 0x1000;
+    let long = next / 0x1000 - to / 0x1000;
+    WRITTEN + to % 0x1000 + 0x1000 * size + 0x100_0000 * (to / 0x1000) + 0x200_0000_0000 * long
+}
+
+// The record of a container whose contents end at `next`, with its text's lengths and the values directly in it; its mark.
+fn finish(
+    node: NodeId,
+    to: u64,
+    next: u64,
+    lengths: u64,
+    values: usize,
+    nodes: &[u64],
+    table: &mut [u64],
+) -> u64
+    requires { ⌜ FinishReady (now nodes) (node .0) to next values (now table) ⌝ }
+    ensures { λ r. ⌜ FinishPut
+        (now (nodes .entry)) (node .0) to next lengths values (now (table .entry)) (now (table .exit)) r ⌝ }
+{
+    let i = node.0;
+    let size = next % 0x1000 - to % 0x1000;
+    let words = record_of(
+        nodes[2 * i],
+        nodes[2 * i + 1],
+        lengths,
+        to / 0x1000,
+        values as u64,
+        size,
+    );
+    put_record(table, (to % 0x1000) as usize, words);
+    written_mark(to, next)
+}
+
+// A container that is not written yet, with so many levels left: its text, what is in it, then its record and its mark.
+fn write<'a>(
+    node: NodeId,
+    levels: u64,
+    to: u64,
+    starts: &[u16],
+    children: &[u16],
+    log: &[u16],
+    pickle: &'a [u8],
+    decoded: &'a [u8],
+    nodes: &[u64],
+    marks: &mut [u64],
+    table: &mut [u64],
+    text: &mut [u8],
+) -> u64
+    requires { ⌜ Open
+        (now pickle) (now decoded) (now nodes) (now starts) (now children) (now log) levels (node .0) to
+        (now marks) (now table) (now text) ⌝ }
+    ensures { λ r. ⌜ Writes
+        (now (pickle .entry)) (now (decoded .entry)) (now (nodes .entry)) (now (starts .entry))
+        (now (children .entry)) (now (log .entry)) levels (node .0) to (now (marks .entry))
+        (now (table .entry)) (now (text .entry)) (now (marks .exit)) (now (table .exit)) (now (text .exit))
+        r ⌝ }
+{
+    let range = lists::range_of(node, nodes, starts, marks);
+    let from = range.at;
+    let end = range.end;
+    let at = (to / 0x1000) as usize;
+    let lengths = put_text(node, pickle, decoded, nodes, marks, text, at);
+    let mut next = behind(to, lengths);
+    let mut j = from;
+    while j < end {
+        let child = NodeId(lists::item(range.log, j, children, log));
+        if is_open(child, nodes, marks) {
+            next = write(
+                child,
+                levels - 1,
+                next,
+                starts,
+                children,
+                log,
+                pickle,
+                decoded,
+                nodes,
+                marks,
+                table,
+                text,
+            );
+        } else {
+            next = write_flat(child, next, pickle, decoded, nodes, marks, table, text);
+        }
+        j += 1;
+    }
+    let mark = finish(node, to, next, lengths, end - from, nodes, table);
+    let i = node.0;
+    marks[i] = mark;
+    next
+}
+
+// The root's value into the table and the text, from the front. The answer: the number of records + 4,096 * the length of the text.
+pub fn write_root<'a>(
+    root: NodeId,
+    starts: &[u16],
+    children: &[u16],
+    log: &[u16],
+    pickle: &'a [u8],
+    decoded: &'a [u8],
+    nodes: &[u64],
+    marks: &mut [u64],
+    table: &mut [u64],
+    text: &mut [u8],
+) -> u64
+    requires { ⌜ Rooted
+        (now pickle) (now decoded) (now nodes) (now starts) (now children) (now log) (root .0) (now marks)
+        (now table) (now text) ⌝ }
+    ensures { λ r. ⌜ Emits
+        (now (pickle .entry)) (now (decoded .entry)) (now (nodes .entry))
+        (now (starts .entry)) (now (children .entry)) (now (log .entry))
+        (root .0)
+        (now (marks .entry)) (now (table .entry)) (now (text .entry))
+        (now (marks .exit)) (now (table .exit)) (now (text .exit)) r ⌝ }
+{
+    if is_open(root, nodes, marks) {
+        return write(
+            root,
+            64,
+            0,
+            starts,
+            children,
+            log,
+            pickle,
+            decoded,
+            nodes,
+            marks,
+            table,
+            text,
+        );
+    }
+    write_flat(root, 0, pickle, decoded, nodes, marks, table, text)
+}

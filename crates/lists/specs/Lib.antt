@@ -1,0 +1,2 @@
+-- The lists of nodes, where they stand.
+pub mod Listed

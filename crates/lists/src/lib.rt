@@ -1,0 +1,60 @@
+// The lists of nodes after STOP: where a node's list stands, among the children or in the log, and its numbers one by one.
+ghost use mathlib.Core.Path.{_≡_};
+ghost use mathlib.Core.Bool.{cond};
+ghost use Prim.Native.Nat.{_<_};
+ghost use lib.ListN.{length, getD};
+ghost use Rattle.resolved.specs.Shown.{isSorted};
+ghost use Rattle.lists.specs.Listed.{Listed, Ranges};
+use decoder::NodeId;
+
+// The numbers from `at` to `end`, in the log or among the children.
+pub struct Range {
+    pub log: bool,
+    pub at: usize,
+    pub end: usize,
+}
+
+// Whether lists of a kind are put in order.
+fn is_sorted(kind: u64) -> bool
+    ensures { λ r. ⌜ r ≡ isSorted kind ⌝ }
+{
+    if kind < 8 {
+        return false;
+    }
+    kind < 11
+}
+
+// Where a container's list stands: a Set's or Dict's where its mark says, once it is in order.
+pub fn range_of(node: NodeId, nodes: &[u64], starts: &[u16], marks: &[u64]) -> Range
+    requires { ⌜ Listed (now nodes) (now starts) (now marks) (node .0) ⌝ }
+    ensures { λ r. ⌜ Ranges (now (nodes .entry)) (now (starts .entry)) (now (marks .entry)) (node .0) r ⌝ }
+{
+    let i = node.0;
+    let kind = nodes[2 * i] % 16;
+    if is_sorted(kind) {
+        let mark = marks[i];
+        let at = (mark % 0x1_0000) as usize;
+        return Range {
+            log: kind < 10,
+            at,
+            end: at + (mark / 0x1_0000 % 0x1_0000) as usize,
+        };
+    }
+    Range {
+        log: false,
+        at: starts[i] as usize,
+        end: starts[i + 1] as usize,
+    }
+}
+
+// The number at a place of the log or of the children.
+pub fn item(in_log: bool, at: usize, children: &[u16], log: &[u16]) -> usize
+    requires { ⌜ at < length (cond «in_log» (now log) (now children)) ⌝ }
+    ensures { λ r. ⌜ r ≡ getD (cond «in_log» (now (log .entry)) (now (children .entry))) at 0 ⌝ }
+{
+    if in_log {
+        log[at] as usize
+    } else {
+        children[at] as usize
+    }
+}

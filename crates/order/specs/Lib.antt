@@ -1,0 +1,4 @@
+-- The order of nodes.
+pub mod Label
+pub mod Glance
+pub mod Ranks

@@ -1,0 +1,39 @@
+-- `resolve::blocked` meets its contract.
+use borrow.Author.Needs.{needs}
+use Rattle.resolve.proofs.blocked.Statement.{statement}
+use Rattle.resolve.proofs.blocked.Tie as tie
+use mathlib.Core.Path.{sym}
+use native.Mathlib.Omega.{arith}
+use Rattle.measure.specs.Steps.{held-other, held-none, held-first}
+
+mul-first : tie.Need-mul-first
+mul-first c = search needs
+
+shared-slice-read-first : tie.Need-shared-slice-read-first
+shared-slice-read-first c = search needs
+
+cast-first : tie.Need-cast-first
+cast-first c = omega (arith, c .shared-slice-known .given (c .before .before .before .args .at))
+
+mul-result : tie.Need-mul-result
+mul-result c = omega (arith, c .shared-slice-known .given (c .before .before .before .args .at))
+
+shared-slice-read-result : tie.Need-shared-slice-read-result
+shared-slice-read-result c =
+    let s = c .before .before .before .before in
+    s .pre .1 (omega arith)
+
+returns : tie.Need-returns
+returns c = sym (held-other _ _ _ (c .if1 .taken))
+
+returns-2 : tie.Need-returns-2
+returns-2 c =
+    let s = c .before .before .before .before in
+    let a = s .args in
+    sym (held-first (a .kind) (a .at) (a .end) (a .children .now) (a .marks .now) (c .before .before .before .if1 .left) (omega arith) (s .pre .0))
+
+returns-3 : tie.Need-returns-3
+returns-3 c = sym (held-none _ _ _ _ _ (c .if2 .left))
+
+pub blocked-spec : {M : Type 1} → statement M
+blocked-spec = tie.close (tie.spec mul-first shared-slice-read-first cast-first mul-result shared-slice-read-result returns returns-2 returns-3)

@@ -1,0 +1,301 @@
+-- The pass over the root's tree, from rooms in which nothing is noted: what its answer says of the tree that `Builder` makes, and what the rooms
+-- hold for the passes behind it.
+use Prim.Native.Nat.{ℕ, suc, _+_, _*_, _<_, _≤_}
+use mathlib.Core.Bool.{Bool, true, false, _&&_, _||_}
+use mathlib.Core.List.{List}
+use mathlib.Core.Path.{_≡_, refl, sym, _∙_, ap}
+use lib.ListN.{length, getD}
+use lib.Dec.{leb, ltb}
+use borrow.Author.Tests.{leb-true, ltb-true}
+use native.Mathlib.Decide.{decLt}
+use native.Mathlib.Omega.{arith}
+use Rattle.value.specs.Value.{Value, one, size, depth, text}
+use Rattle.decoder.specs.State.{Node}
+use Rattle.builder.specs.Build.{Marks, unbuilt, at, build, tree}
+use Rattle.builder.specs.Graph.{Graph, Stands}
+use Rattle.builder.specs.Unfold.{In, left-all}
+use Rattle.builder.specs.Fuel.{build-fuel}
+use Rattle.builder.specs.Shallow.{deep, levels}
+use Rattle.builder.specs.Measures.{value, measure, measure-deep, measure-values, measure-texts}
+use Rattle.measure.specs.Length.{Readable}
+use Rattle.measure.specs.Word.{packW}
+use Rattle.measure.specs.Total.{Blank, Measured}
+use Rattle.resolved.specs.Resolved.{StandsFor}
+use Rattle.resolved.specs.Walk.{State, start, walk-build}
+use Rattle.resolved.specs.Tree.{walked, tree-stands, levels-enough, root-slot}
+use Rattle.resolved.specs.Inside.{walk-within}
+use Rattle.resolved.specs.Dues.{dues}
+use Rattle.resolved.specs.Ranges.{Lies}
+use Rattle.resolved.specs.Resolving.{walk-resolves}
+use Rattle.resolved.specs.Listed.{Listing, lists-none}
+use Rattle.resolved.specs.Sums.{upTo}
+use Rattle.resolved.specs.Noted.{isContainer, isTextLeaf, ahead, leafOf, LeafNoted, unseen, early, reached, Reads, is-fresh, is-taken, is-gone, is-kept, reads}
+use Rattle.resolved.specs.Reached.{textIf, container-done, leaf-done, done-leaf, done-container, texts-held}
+use Rattle.resolved.specs.Fits.{fits-start}
+use Rattle.resolve.specs.Facts.{wordOf, Facts, Shallow, Holds}
+use Rattle.resolve.specs.Known.{word-big, word-low, leaf-deep, Knows, k-open, k-empty, k-word, Learns}
+use Rattle.resolve.specs.Ends.{Opens, Ends, ends-deep, ends-empty, ends-word, Walks}
+use Rattle.resolve.specs.Standing.{facts}
+use Rattle.resolve.specs.declared.Answer.{Answer}
+use Rattle.resolve.specs.declared.Answer.the-variants as answer
+use Rattle.resolve.specs.declared.Seen.{Seen}
+use Rattle.resolve.specs.declared.Seen.the-variants as seen
+
+-- a node table at STOP is what the rooms say, no node is marked, and no due is noted in the room lent for them
+pub record Begins (p ws starts children marks room : List ℕ) (root : ℕ) : Type 0 where
+  pub unescaped : List ℕ
+  pub nodes : List Node
+  pub stands : Stands p unescaped ws nodes
+  pub graph : Graph nodes starts children
+  pub beyond : length nodes ≤ 4096
+  pub many : length marks ≡ length nodes
+  pub blank : Blank (length nodes) marks
+  pub roomy : length nodes < length room
+  pub no-dues : getD room 0 0 ≡ 0
+  pub below : root < length nodes
+
+-- what the answer says of the tree and of the rooms after; `lent` is the room of dues before
+pub data Rooted (t : List Node) (beyond : length t ≤ 4096) (starts lent marks children room : List ℕ) (root : ℕ) : Answer → Type 0 where
+  r-deep : 64 < depth (one (tree t root)) → Listing lent room → Rooted t beyond starts lent marks children room root answer.TooDeep
+  r-word : (w : ℕ)
+      → Measured (tree t root) w
+      → StandsFor t (walked t 4096 64 root .after .kids) root (tree t root)
+      → Holds t beyond starts lent marks children room (walked t 4096 64 root .after)
+      → Rooted t beyond starts lent marks children room root (answer.Word w)
+
+unfoldable pub Roots : List ℕ → List ℕ → List ℕ → List ℕ → List ℕ → List ℕ → List ℕ → List ℕ → List ℕ → ℕ → Answer → Type 0
+Roots p ws starts children marks room children′ marks′ room′ root r =
+    (b : Begins p ws starts children marks room root) → Rooted (b .nodes) (b .beyond) starts room marks′ children′ room′ root r
+
+-- ---- depths and words
+
+value-deep : (v : Value) → value v .deep ≡ depth (one v)
+unfolding measure
+value-deep v = sym (omega arith) ∙ measure-deep (one v)
+
+value-word : (v : Value) → wordOf v ≡ packW (depth (one v)) (size (one v)) (length (text (one v)))
+unfolding measure
+value-word v =
+    let a : value v .deep ≡ depth (one v) = value-deep v in
+    let b : value v .values ≡ size (one v) = sym (omega arith) ∙ measure-values (one v) in
+    let c : value v .texts ≡ length (text (one v)) = sym (omega arith) ∙ measure-texts (one v) in
+    rw (a, b, c)
+
+-- made with 64 levels and no deeper, it is the tree
+built-whole : (t : List Node) (root : ℕ) → depth (one (build t 64 root unbuilt .0)) ≤ 64 → build t 64 root unbuilt .0 ≡ tree t root
+unfolding tree deep
+built-whole t root h =
+    let n = length t in
+    let e : build t (suc n) root unbuilt ≡ build t (suc n + 64) root unbuilt = build-fuel t (suc n) (suc n + 64) root unbuilt (rw left-all (omega arith)) (rw left-all (omega arith)) in
+    let f : build t 64 root unbuilt ≡ build t (suc n + 64) root unbuilt = levels t 64 (suc n) root unbuilt h in
+    ap (λ (x : Value × Marks). x .0) (f ∙ sym e)
+
+-- made within 64 levels, it is the tree that the walk makes
+walked-tree : (t : List Node) (beyond : length t ≤ 4096) (root : ℕ) → depth (one (tree t root)) ≤ 64 → walked t 4096 64 root .value ≡ tree t root
+walked-tree t beyond root h = walk-build t 4096 64 root (start t) .value ∙ levels-enough t 4096 beyond 64 root h
+
+-- ---- for the passes behind
+
+-- the word of a finished node is there, unless it is a leaf without text; it is not one that was read ahead
+pub root-words : {t : List Node} {beyond : length t ≤ 4096} {starts lent marks children room : List ℕ} {s : State}
+    → Holds t beyond starts lent marks children room s
+    → (j : ℕ) → j < length t → In j (s .done) → (isContainer (at t j .label) || isTextLeaf (at t j .label)) ≡ true
+    → (128 ≤ getD marks j 0) × (getD marks j 0 < ahead)
+root-words {t} {marks = marks} {s = s} h j l m c = go (isContainer (at t j .label)) refl c
+  where
+    worded : (v : Value) → getD marks j 0 ≡ wordOf v → value v .deep ≤ 64 → (128 ≤ getD marks j 0) × (getD marks j 0 < ahead)
+    worded v e d = (omega (arith, word-big v), omega (arith, word-low v d))
+
+    go : (b : Bool) → isContainer (at t j .label) ≡ b → (b || isTextLeaf (at t j .label)) ≡ true → (128 ≤ getD marks j 0) × (getD marks j 0 < ahead)
+    go true e d =
+        let o = h .fits .resolves .done-stands j m in
+        worded (o .value) (done-container t wordOf 4096 marks s (h .fits .resolves) (h .fits .noted) j l e m) (h .small j (o .value) (o .keeps))
+    go false e d = worded (leafOf t j) (done-leaf t wordOf 4096 marks s (h .fits .resolves) (h .fits .noted) j l e d m) (leaf-deep t j)
+
+-- and whose word is there, is finished
+pub words-done : {t : List Node} {beyond : length t ≤ 4096} {starts lent marks children room : List ℕ} {s : State}
+    → Holds t beyond starts lent marks children room s
+    → (j : ℕ) → j < length t → 128 ≤ getD marks j 0 → (isContainer (at t j .label) ≡ false → getD marks j 0 < ahead) → In j (s .done)
+words-done {t} {marks = marks} {s = s} h j l w a = go (isContainer (at t j .label)) refl
+  where
+    go : (b : Bool) → isContainer (at t j .label) ≡ b → In j (s .done)
+    go true e = container-done t wordOf 4096 marks s (h .fits .resolves) (h .fits .noted) j l e (omega arith)
+    go false e = leaf-done t wordOf 4096 marks s (h .fits .resolves) (h .fits .noted) j l e (omega arith) (a e)
+
+-- no mark reaches 2^42: what the passes behind put there is above all words
+pub marks-low : {t : List Node} {beyond : length t ≤ 4096} {starts lent marks children room : List ℕ} {s : State} → Holds t beyond starts lent marks children room s
+    → (j : ℕ) → j < length t → getD marks j 0 < 2 * ahead
+marks-low {t} {marks = marks} {s = s} h j l = go (isContainer (at t j .label)) refl
+  where
+    box : Reads t wordOf s j (getD marks j 0) → getD marks j 0 < 2 * ahead
+    box (is-fresh e y) = omega arith
+    box (is-taken e y) = omega arith
+    box (is-gone v e g y) = omega arith
+    box (is-kept v e g y) = omega (arith, word-low v (h .small j v e))
+
+    leafy : LeafNoted t wordOf (s .done) j (getD marks j 0) → getD marks j 0 < 2 * ahead
+    leafy (unseen e f) = omega arith
+    leafy (early e f) = omega (arith, word-low (leafOf t j) (leaf-deep t j))
+    leafy (reached e f) = omega (arith, word-low (leafOf t j) (leaf-deep t j))
+
+    go : (b : Bool) → isContainer (at t j .label) ≡ b → getD marks j 0 < 2 * ahead
+    go true e = box (reads t wordOf marks s j (h .fits .noted) l e)
+    go false e = leafy (h .fits .noted .leaf j l e)
+
+-- the word of node j is there, and of a leaf not read ahead
+abbrev pub worded : List Node → List ℕ → ℕ → Bool
+worded t marks j = leb 128 (getD marks j 0) && (isContainer (at t j .label) || ltb (getD marks j 0) ahead)
+
+-- the texts of nodes whose words are there are together no longer than the tree's; and so for any others that are finished
+pub root-texts : (t : List Node) (beyond : length t ≤ 4096) (root : ℕ) → depth (one (tree t root)) ≤ 64
+    → (due : ℕ → Bool) → ((j : ℕ) → j < length t → due j ≡ true → In j (walked t 4096 64 root .after .done))
+    → upTo (textIf t due) (length t) ≤ length (text (one (tree t root)))
+root-texts t beyond root h due d =
+    let e = walked-tree t beyond root h in
+    rw (← e) (texts-held t 4096 beyond 64 root due d)
+
+pub worded-texts : {t : List Node} {beyond : length t ≤ 4096} {starts lent marks children room : List ℕ} (root : ℕ) → depth (one (tree t root)) ≤ 64
+    → Holds t beyond starts lent marks children room (walked t 4096 64 root .after)
+    → upTo (textIf t (worded t marks)) (length t) ≤ length (text (one (tree t root)))
+worded-texts {t} {beyond = beyond} {marks = marks} root d h = root-texts t beyond root d (worded t marks) go
+  where
+    both : (b c : Bool) → (b && c) ≡ true → (b ≡ true) × (c ≡ true)
+    both true c e = (refl, e)
+    both false c e = absurd (let z : _≡_ {A = ℕ} 0 1 = cc in omega arith)
+
+    low : (b : Bool) (w : ℕ) → (b || ltb w ahead) ≡ true → b ≡ false → w < ahead
+    low true w e f = absurd (let z : _≡_ {A = ℕ} 0 1 = cc in omega arith)
+    low false w e f = ltb-true w ahead e
+
+    go : (j : ℕ) → j < length t → worded t marks j ≡ true → In j (walked t 4096 64 root .after .done)
+    go j l e =
+        let a = both (leb 128 (getD marks j 0)) (isContainer (at t j .label) || ltb (getD marks j 0) ahead) e in
+        words-done h j l (leb-true 128 (getD marks j 0) (a .0)) (low (isContainer (at t j .label)) (getD marks j 0) (a .1))
+
+-- ---- the answers
+
+module _ {p ws starts children marks room : List ℕ} {root : ℕ} (b : Begins p ws starts children marks room root) where
+  facts-there : Facts p ws starts (b .nodes)
+  facts-there = facts p (b .unescaped) ws (b .nodes) starts children (b .stands) (b .graph) (b .beyond) (omega (arith, b .below))
+
+  -- the same, with the bound that is given
+  abbrev facts-at : Facts p ws starts (b .nodes)
+  facts-at =
+      let f = facts-there in
+      record {
+        beyond = b .beyond;
+        words-long = f .words-long;
+        starts-long = f .starts-long;
+        readable = f .readable;
+        lens-are = f .lens-are;
+        objects = f .objects;
+        containers = f .containers;
+        due-are = f .due-are;
+        textless = f .textless;
+        classes = f .classes;
+        leafless = f .leafless;
+        inside = f .inside;
+      }
+
+  pub root-reads : Readable p ws root
+  root-reads = facts-there .readable root (b .below)
+
+  small-start : Shallow (start (b .nodes))
+  small-start j v e = absurd (let z : _≡_ {A = ℕ} 0 1 = cc in omega arith)
+
+  holds-start : Holds (b .nodes) (b .beyond) starts room marks children room (start (b .nodes))
+  unfolding dues
+  holds-start =
+      record {
+        fits = fits-start (b .nodes) 4096 (b .beyond) wordOf starts marks children (b .graph) (b .many) (b .blank);
+        small = small-start;
+        within = λ j m. elim m [ ];
+        listed = lists-none room (omega (arith, b .roomy)) (b .no-dues);
+      }
+
+  -- the root is never None
+  root-own : walked (b .nodes) 4096 64 root .slot ≡ root
+  root-own = root-slot (b .nodes) 4096 (b .beyond) 63 root
+
+  rooted : (w : ℕ) (marks′ children′ room′ : List ℕ) → w ≡ wordOf (walked (b .nodes) 4096 64 root .value)
+      → value (walked (b .nodes) 4096 64 root .value) .deep ≤ 64
+      → Holds (b .nodes) (b .beyond) starts room marks′ children′ room′ (walked (b .nodes) 4096 64 root .after)
+      → Rooted (b .nodes) (b .beyond) starts room marks′ children′ room′ root (answer.Word w)
+  rooted w marks′ children′ room′ e d h =
+      let x = value-deep (walked (b .nodes) 4096 64 root .value) in
+      let y : depth (one (walked (b .nodes) 4096 64 root .value)) ≤ 64 = omega arith in
+      let v = walk-build (b .nodes) 4096 64 root (start (b .nodes)) .value in
+      let u : build (b .nodes) 64 root unbuilt .0 ≡ tree (b .nodes) root = built-whole (b .nodes) root (rw v at y) in
+      let i : walked (b .nodes) 4096 64 root .value ≡ tree (b .nodes) root = v ∙ u in
+      let s : depth (one (tree (b .nodes) root)) ≤ 64 = rw i at y in
+      r-word w (record { shallow = s; is = e ∙ (ap wordOf i ∙ value-word (tree (b .nodes) root)) }) (tree-stands (b .nodes) 4096 (b .beyond) 63 root s) h
+
+  rooted-deep : (marks′ children′ room′ : List ℕ) → 64 < value (walked (b .nodes) 4096 64 root .value) .deep → Listing room room′
+      → Rooted (b .nodes) (b .beyond) starts room marks′ children′ room′ root answer.TooDeep
+  rooted-deep marks′ children′ room′ h x = r-deep (go (decLt 64 (depth (one (tree (b .nodes) root))))) x
+    where
+      go : Dec (64 < depth (one (tree (b .nodes) root))) → 64 < depth (one (tree (b .nodes) root))
+      go (yes x) = x
+      go (no x) =
+          let i = walked-tree (b .nodes) (b .beyond) root (omega arith) in
+          let y = value-deep (walked (b .nodes) 4096 64 root .value) in
+          let z : depth (one (walked (b .nodes) 4096 64 root .value)) ≡ depth (one (tree (b .nodes) root)) = ap (λ (v : Value). depth (one v)) i in
+          absurd (omega arith)
+
+  module _ (marks′ : List ℕ) where
+    learns : (r : Seen) → Learns p ws marks marks′ root r → Knows (b .nodes) marks marks′ (start (b .nodes)) root r
+    unfolding Learns
+    learns r a = a starts (b .nodes) (start (b .nodes)) facts-at (holds-start .fits .resolves) (holds-start .fits .noted) small-start (b .below)
+
+    same-holds : (m : List ℕ) → m ≡ marks → Holds (b .nodes) (b .beyond) starts room m children room (start (b .nodes))
+    same-holds m e = rw e holds-start
+
+    -- a container: it is walked
+    opened : Knows (b .nodes) marks marks′ (start (b .nodes)) root seen.Open → Opens p ws starts marks′ children room root
+    opened (k-open c f e) =
+        record { nodes = b .nodes; facts = facts-at; state = start (b .nodes); lent = room; roomy = b .roomy; holds = same-holds marks′ e; below = b .below; container = c; fresh-is = f }
+
+    pub root-open : Learns p ws marks marks′ root seen.Open → Opens p ws starts marks′ children room root
+    root-open a = opened (learns seen.Open a)
+
+    -- a leaf
+    pub root-word : (w : ℕ) → Learns p ws marks marks′ root (seen.Word w)
+        → Rooted (b .nodes) (b .beyond) starts room marks′ children room root (answer.Word w)
+    root-word w a = go (learns (seen.Word w) a)
+      where
+        go : Knows (b .nodes) marks marks′ (start (b .nodes)) root (seen.Word w)
+            → Rooted (b .nodes) (b .beyond) starts room marks′ children room root (answer.Word w)
+        go (k-word w q) =
+            let x = q 63 in
+            let e = x .kids in
+            let d = x .dues-stay in
+            let y : Lies starts (length (b .nodes)) children (walked (b .nodes) 4096 64 root .after .kids) = rw e (holds-start .fits .lies) in
+            rooted w marks′ children room (x .is) (x .deep)
+            (record {
+              fits = record { resolves = walk-resolves (b .nodes) 4096 (b .beyond) 64 root (start (b .nodes)) (holds-start .fits .resolves) .resolves; noted = x .noted-still; lies = y };
+              small = x .small;
+              within = walk-within (b .nodes) (facts-at .inside) 4096 64 root (start (b .nodes)) (b .below) (holds-start .within);
+              listed = rw d (holds-start .listed);
+            })
+
+    pub root-empty : Learns p ws marks marks′ root seen.Empty → ⊥
+    root-empty a = go (learns seen.Empty a)
+      where
+        go : Knows (b .nodes) marks marks′ (start (b .nodes)) root seen.Empty → ⊥
+        go (k-empty q) = let x = q 63 .slot-is in omega (arith, root-own, b .below, b .beyond)
+
+    pub root-walk : (a : Learns p ws marks marks′ root seen.Open) (marks″ children″ room″ : List ℕ) (r : Answer)
+        → Walks p ws starts 64 root marks′ children room marks″ children″ room″ r
+        → Rooted (b .nodes) (b .beyond) starts room marks″ children″ room″ root r
+    unfolding Walks opened
+    root-walk a marks″ children″ room″ r q = pick (learns seen.Open a)
+      where
+        go : (r : Answer) → Ends (b .nodes) (b .beyond) starts room 64 root (walked (b .nodes) 4096 64 root) marks″ children″ room″ r
+            → Rooted (b .nodes) (b .beyond) starts room marks″ children″ room″ root r
+        go _ (ends-deep d x) = rooted-deep marks″ children″ room″ d x
+        go _ (ends-empty e v h) = absurd (omega (arith, root-own, e, b .below, b .beyond))
+        go _ (ends-word w e q d h) = rooted w marks″ children″ room″ q d h
+
+        pick : Knows (b .nodes) marks marks′ (start (b .nodes)) root seen.Open
+            → Rooted (b .nodes) (b .beyond) starts room marks″ children″ room″ root r
+        pick (k-open c f e) = go r (q (opened (k-open c f e)))

@@ -1,0 +1,90 @@
+-- The node table at STOP says what the walk's code wants to know.
+use Prim.Native.Nat.{ℕ, suc, zero, _<_, _≤_}
+use mathlib.Core.Bool.{true, false}
+use mathlib.Core.List.{List, []}
+use mathlib.Core.Path.{_≡_, refl, sym, _∙_}
+use lib.ListN.{length, getD}
+use borrow.Author.Tests.{le-ltb, ne-eqb}
+use native.Mathlib.Omega.{arith}
+use Rattle.value.specs.Value.{NoneL}
+use Rattle.value.specs.Shape.{kindIn}
+use Rattle.decoder.specs.State.{Node, plain}
+use Rattle.decoder.specs.Rooms.{first, second, choices, nodeIs, kidsOf, classIn, Class, Classed}
+use Rattle.decoder.specs.RoomReads.{object-kind}
+use Rattle.builder.specs.Build.{at}
+use Rattle.builder.specs.Graph.{Graph, Stands}
+use Rattle.measure.specs.Length.{node-is, text-len}
+use Rattle.measure.specs.Walk.{table}
+use Rattle.measure.specs.Steps.{readable}
+use Rattle.measure.specs.Limits.{ready}
+use Rattle.resolved.specs.Noted.{isContainer, isTextLeaf}
+use Rattle.resolved.specs.Dues.{isDue}
+use Rattle.resolved.specs.Ranges.{graph-inside}
+use Rattle.resolve.specs.Facts.{containerKind, dueKind, kindAt, Facts}
+
+-- a node of kind k
+record Suits (k : ℕ) (n : Node) : Type 0 where
+  containers : isContainer (n .label) ≡ containerKind k
+  due-are : isDue (n .label) ≡ dueKind k
+  textless : k < 4 → isTextLeaf (n .label) ≡ false
+  leafless : isContainer (n .label) ≡ false → n .kids ≡ []
+
+leaf : {k : ℕ} {n : Node} → containerKind k ≡ false → isContainer (n .label) ≡ false → dueKind k ≡ false → isDue (n .label) ≡ false → n .kids ≡ []
+    → (k < 4 → isTextLeaf (n .label) ≡ false) → Suits k n
+leaf a b c d e f = record { containers = b ∙ sym a; due-are = d ∙ sym c; textless = f; leafless = λ x. e }
+
+container : {k : ℕ} {n : Node} → containerKind k ≡ true → isContainer (n .label) ≡ true → isDue (n .label) ≡ dueKind k → 4 ≤ k → Suits k n
+container a b c d = record { containers = b ∙ sym a; due-are = c; textless = λ h. absurd (omega arith); leafless = λ x. absurd (let z : _≡_ {A = ℕ} 0 1 = cc in omega arith) }
+
+far : (k : ℕ) → 15 ≤ k → containerKind k ≡ false
+unfolding containerKind
+far k h = let a : 6 ≤ k = omega arith in let b : 11 ≤ k = omega arith in rw (le-ltb k 6 a, le-ltb k 11 b, ne-eqb k 12 (λ q. omega arith))
+
+far-due : (k : ℕ) → 15 ≤ k → dueKind k ≡ false
+unfolding dueKind
+far-due k h = let a : 8 ≤ k = omega arith in let b : 11 ≤ k = omega arith in rw (le-ltb k 8 a, le-ltb k 11 b)
+
+module _ (p u ws ks : List ℕ) (a b : ℕ) where
+  suits : (k : ℕ) → Suits k (getD (choices p u ws ks a b) k (plain NoneL))
+  unfolding containerKind dueKind
+  suits zero = leaf refl refl refl refl refl (λ h. refl)
+  suits (suc zero) = leaf refl refl refl refl refl (λ h. refl)
+  suits (suc (suc zero)) = leaf refl refl refl refl refl (λ h. refl)
+  suits (suc (suc (suc zero))) = leaf refl refl refl refl refl (λ h. refl)
+  suits (suc (suc (suc (suc zero)))) = leaf refl refl refl refl refl (λ h. absurd (omega arith))
+  suits (suc (suc (suc (suc (suc zero))))) = leaf refl refl refl refl refl (λ h. absurd (omega arith))
+  suits (suc (suc (suc (suc (suc (suc zero)))))) = container refl refl refl (omega arith)
+  suits (suc (suc (suc (suc (suc (suc (suc zero))))))) = container refl refl refl (omega arith)
+  suits (suc (suc (suc (suc (suc (suc (suc (suc zero)))))))) = container refl refl refl (omega arith)
+  suits (suc (suc (suc (suc (suc (suc (suc (suc (suc zero))))))))) = container refl refl refl (omega arith)
+  suits (suc (suc (suc (suc (suc (suc (suc (suc (suc (suc zero)))))))))) = container refl refl refl (omega arith)
+  suits (suc (suc (suc (suc (suc (suc (suc (suc (suc (suc (suc zero))))))))))) = leaf refl refl refl refl refl (λ h. absurd (omega arith))
+  suits (suc (suc (suc (suc (suc (suc (suc (suc (suc (suc (suc (suc zero)))))))))))) = container refl refl refl (omega arith)
+  suits (suc (suc (suc (suc (suc (suc (suc (suc (suc (suc (suc (suc (suc zero))))))))))))) = leaf refl refl refl refl refl (λ h. absurd (omega arith))
+  suits (suc (suc (suc (suc (suc (suc (suc (suc (suc (suc (suc (suc (suc (suc zero)))))))))))))) = leaf refl refl refl refl refl (λ h. absurd (omega arith))
+  suits (suc (suc (suc (suc (suc (suc (suc (suc (suc (suc (suc (suc (suc (suc (suc k))))))))))))))) = leaf (far (suc (suc (suc (suc (suc (suc (suc (suc (suc (suc (suc (suc (suc (suc (suc k))))))))))))))) (omega arith)) refl (far-due (suc (suc (suc (suc (suc (suc (suc (suc (suc (suc (suc (suc (suc (suc (suc k))))))))))))))) (omega arith)) refl refl (λ h. refl)
+
+pub facts : (p u ws : List ℕ) (t : List Node) (starts children : List ℕ) → Stands p u ws t → Graph t starts children → length t ≤ 4096 → 0 < length t
+    → Facts p ws starts t
+unfolding nodeIs kindIn first classIn Classed Class
+facts p u ws t starts children s g b z =
+    let r = ready p u ws t starts children (length t) s g refl z in
+    record {
+      beyond = b;
+      words-long = r .words-long;
+      starts-long = r .starts-long;
+      readable = λ i l. readable (table starts children p ws) (length t) i r l;
+      lens-are = λ i l. text-len p u ws t i s l;
+      objects = λ i l. rw (node-is p u ws t i s l, ← s .words) (object-kind (s .rooms .pickle) (s .rooms .unescaped) (s .rooms .nodes) (kidsOf (s .rooms) (s .counts) i) (first (s .rooms .nodes) i) (second (s .rooms .nodes) i));
+      containers = λ i l. suit i l .containers;
+      due-are = λ i l. suit i l .due-are;
+      textless = λ i l. suit i l .textless;
+      classes = λ i l e. r .classed i l e;
+      leafless = λ i l. suit i l .leafless;
+      inside = λ i j m. graph-inside t starts children g i j m;
+    }
+  where
+    suit : (i : ℕ) → i < length t → Suits (kindAt ws i) (at t i)
+    suit i l =
+        rw (node-is p u ws t i s l, ← s .words)
+        (suits (s .rooms .pickle) (s .rooms .unescaped) (s .rooms .nodes) (kidsOf (s .rooms) (s .counts) i) (first (s .rooms .nodes) i) (second (s .rooms .nodes) i) (kindIn (first (s .rooms .nodes) i)))

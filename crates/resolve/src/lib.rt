@@ -1,0 +1,257 @@
+// The root's tree measured, and its graph resolved, in one walk over the nodes: depth, values and text of each container as one word in its
+// mark, each child that is None at its place overwritten by the number of no node, and the Sets and Dicts noted in the order in which they
+// are finished. Nothing is decoded, ordered or written here, so that what comes after is bounded by what is found out here.
+use decoder::NodeId;
+use measure::text_len;
+ghost use mathlib.Core.Path.{_≡_};
+ghost use Prim.Native.Nat.{_+_, _*_, _<_, _≤_, min, max};
+ghost use lib.ListN.{length, getD};
+ghost use lib.Seq.{slice};
+ghost use Rattle.measure.specs.Length.{textLen, Readable};
+ghost use Rattle.measure.specs.Word.{packW};
+ghost use Rattle.measure.specs.Walk.{held};
+ghost use Rattle.resolve.specs.Facts.{containerKind};
+ghost use Rattle.resolve.specs.Noting.{Notes};
+ghost use Rattle.resolve.specs.Class.{Owned, Owns};
+ghost use Rattle.resolve.specs.Known.{Learns};
+ghost use Rattle.resolve.specs.Ends.{Opens, Walks};
+ghost use Rattle.resolve.specs.Rooted.{Begins, Roots};
+
+// A mark: 0 for a fresh node, 1 for one taken out, 3 for an Object that is None for good, else a word: depth + 128 * values + 2^19 * text,
+// values capped at 2,049 and text at 65,537. A leaf's word is stored when the walk comes to it.
+
+// A Global measured for an Object of its class, where the walk has not come to the Global itself.
+const AHEAD: u64 = 0x200_0000_0000;
+
+// The number of no node.
+const NOWHERE: u16 = 4096;
+
+pub enum Answer {
+    TooDeep,
+    Empty,
+    Word(u64),
+}
+
+// What a node comes to without a walk: it is to be walked, it is None at its place, or its word.
+pub enum Seen {
+    Open,
+    Empty,
+    Word(u64),
+}
+
+fn least(x: u64, y: u64) -> u64
+    ensures { λ r. ⌜ r ≡ min x y ⌝ }
+{
+    if x < y { x } else { y }
+}
+
+fn most(x: u64, y: u64) -> u64
+    ensures { λ r. ⌜ r ≡ max x y ⌝ }
+{
+    if x < y { y } else { x }
+}
+
+// Has a node of this kind children?
+fn is_container(kind: u64) -> bool
+    ensures { λ r. ⌜ r ≡ containerKind kind ⌝ }
+{
+    if kind < 6 {
+        return false;
+    }
+    if kind < 11 {
+        return true;
+    }
+    kind == 12
+}
+
+// The word of a leaf.
+fn leaf_word(node: NodeId, pickle: &[u8], nodes: &[u64]) -> u64
+    requires { ⌜ Readable (now pickle) (now nodes) (node .0) ⌝ }
+    ensures { λ r. ⌜ r ≡ packW 1 1 (textLen (now (pickle .entry)) (now (nodes .entry)) (node .0)) ⌝ }
+{
+    129 + 524288 * least(text_len(pickle, nodes, node) as u64, 65537)
+}
+
+// A node as far as no walk is needed for it.
+fn known(node: NodeId, pickle: &[u8], nodes: &[u64], marks: &mut [u64]) -> Seen
+    requires { ⌜ Readable (now pickle) (now nodes) (node .0) ⌝ }
+    requires { ⌜ node .0 < length (now marks) ⌝ }
+    ensures { λ r.
+        ⌜ Learns (now (pickle .entry)) (now (nodes .entry)) (now (marks .entry)) (now (marks .exit)) (node .0) r ⌝ }
+{
+    let n = node.0;
+    let kind = nodes[2 * n] % 16;
+    if kind < 4 {
+        return Seen::Word(129);
+    }
+    let m = marks[n];
+    if m != 0 {
+        if m < 4 {
+            return Seen::Empty;
+        }
+        if m < AHEAD {
+            return Seen::Word(m);
+        }
+        let w = m - AHEAD;
+        marks[n] = w;
+        return Seen::Word(w);
+    }
+    if is_container(kind) {
+        return Seen::Open;
+    }
+    let w = leaf_word(node, pickle, nodes);
+    marks[n] = w;
+    Seen::Word(w)
+}
+
+// How long a container's own text is: an Object's is its class's, which is measured once.
+fn own_text(kind: u64, node: NodeId, pickle: &[u8], nodes: &[u64], marks: &mut [u64]) -> u64
+    requires { ⌜ Owned (now pickle) (now nodes) (now marks) (node .0) kind ⌝ }
+    ensures { λ r.
+        ⌜ Owns (now (pickle .entry)) (now (nodes .entry)) (now (marks .entry)) (now (marks .exit)) (node .0) r ⌝ }
+{
+    if kind != 12 {
+        return 0;
+    }
+    let n = node.0;
+    let class = (nodes[2 * n] / 64) as usize;
+    let m = marks[class];
+    if m != 0 {
+        return m / 524288 % 131072;
+    }
+    let w = leaf_word(NodeId(class), pickle, nodes);
+    marks[class] = w + AHEAD;
+    w / 524288 % 131072
+}
+
+// Is it an Object whose arguments, its first child, are taken out?
+fn blocked(kind: u64, at: usize, end: usize, children: &[u16], marks: &[u64]) -> bool
+    requires { ⌜ end ≤ length (now children) ⌝ }
+    requires { ⌜ (at < end → getD (now children) at 0 < length (now marks)) ⌝ }
+    ensures { λ r. ⌜ r ≡ held kind (slice at end (now (children .entry))) (now (marks .entry)) ⌝ }
+{
+    if kind != 12 {
+        false
+    } else if at < end {
+        let first = children[at] as usize;
+        marks[first] == 1
+    } else {
+        false
+    }
+}
+
+// Notes a finished node where it is a Set or a Dict: the number of those noted stands in front of them.
+fn note(kind: u64, node: NodeId, dues: &mut [u16])
+    requires { ⌜ (node .0 < 65536) × (getD (now dues) 0 0 < 65535) × (getD (now dues) 0 0 + 1 < length (now dues)) ⌝ }
+    ensures { λ r. ⌜ Notes kind (node .0) (now (dues .entry)) (now (dues .exit)) ⌝ }
+{
+    if kind < 8 {
+        return;
+    }
+    if 10 < kind {
+        return;
+    }
+    let count = dues[0] as usize + 1;
+    dues[count] = node.0 as u16;
+    dues[0] = count as u16;
+}
+
+// The word of a fresh container's tree, with so many levels left, at least one.
+fn measure(
+    node: NodeId,
+    levels: u64,
+    starts: &[u16],
+    children: &mut [u16],
+    pickle: &[u8],
+    nodes: &[u64],
+    marks: &mut [u64],
+    dues: &mut [u16],
+) -> Answer
+    requires { ⌜ (1 ≤ levels) × (levels ≤ 64) ⌝ }
+    requires { ⌜ Opens (now pickle) (now nodes) (now starts) (now marks) (now children) (now dues) (node .0) ⌝ }
+    ensures { λ r.
+        ⌜ Walks (now (pickle .entry)) (now (nodes .entry)) (now (starts .entry)) levels (node .0)
+        (now (marks .entry)) (now (children .entry)) (now (dues .entry))
+        (now (marks .exit)) (now (children .exit)) (now (dues .exit)) r ⌝ }
+{
+    let n = node.0;
+    let kind = nodes[2 * n] % 16;
+    let at = starts[n] as usize;
+    let end = starts[n + 1] as usize;
+    if blocked(kind, at, end, children, marks) {
+        marks[n] = 3;
+        return Answer::Empty;
+    }
+    let mut texts = own_text(kind, node, pickle, nodes, marks);
+    marks[n] = 1;
+    let mut deepest: u64 = 0;
+    let mut values: u64 = 1;
+    let mut i = at;
+    while i < end {
+        if levels == 1 {
+            return Answer::TooDeep;
+        }
+        let child = NodeId(children[i] as usize);
+        let mut w: u64 = 129;
+        match known(child, pickle, nodes, marks) {
+            Seen::Word(k) => {
+                if levels <= k % 128 {
+                    return Answer::TooDeep;
+                }
+                w = k;
+            }
+            Seen::Empty => {
+                children[i] = NOWHERE;
+            }
+            Seen::Open => match measure(
+                child,
+                levels - 1,
+                starts,
+                children,
+                pickle,
+                nodes,
+                marks,
+                dues,
+            ) {
+                Answer::TooDeep => return Answer::TooDeep,
+                Answer::Empty => {
+                    children[i] = NOWHERE;
+                }
+                Answer::Word(k) => {
+                    w = k;
+                }
+            },
+        }
+        deepest = most(deepest, w % 128);
+        values += w / 128 % 4096;
+        texts += w / 524288 % 131072;
+        i += 1;
+    }
+    note(kind, node, dues);
+    let w = deepest + 1 + 128 * least(values, 2049) + 524288 * least(texts, 65537);
+    marks[n] = w;
+    Answer::Word(w)
+}
+
+// The root's tree: too deep where it has more than 64 levels, else its word, and a graph in which the root stands for it.
+pub fn measure_root(
+    node: NodeId,
+    starts: &[u16],
+    children: &mut [u16],
+    pickle: &[u8],
+    nodes: &[u64],
+    marks: &mut [u64],
+    dues: &mut [u16],
+) -> Answer
+    requires { ⌜ Begins (now pickle) (now nodes) (now starts) (now children) (now marks) (now dues) (node .0) ⌝ }
+    ensures { λ r.
+        ⌜ Roots (now (pickle .entry)) (now (nodes .entry)) (now (starts .entry))
+        (now (children .entry)) (now (marks .entry)) (now (dues .entry))
+        (now (children .exit)) (now (marks .exit)) (now (dues .exit)) (node .0) r ⌝ }
+{
+    match known(node, pickle, nodes, marks) {
+        Seen::Word(w) => Answer::Word(w),
+        Seen::Empty => Answer::Empty,
+        Seen::Open => measure(node, 64, starts, children, pickle, nodes, marks, dues),
+    }
+}

@@ -1,0 +1,87 @@
+-- The rooms of the code hold a state of the walk: its marks as words, its lists side by side. A law for each store that the code makes.
+use Prim.Native.Nat.{ℕ, _+_, _<_, _≤_}
+use mathlib.Core.Bool.{true, false}
+use mathlib.Core.List.{List, _∷_, _++_}
+use mathlib.Core.Path.{_≡_, refl, sym, _∙_, ap}
+use lib.ListN.{length, length-append, getD, set}
+use native.Mathlib.Decide.{ℕ-discrete}
+use native.Mathlib.Omega.{arith}
+use Rattle.value.specs.Value.{Forest, Value}
+use Rattle.decoder.specs.State.{Node}
+use Rattle.decoder.specs.Opcodes.{isObject}
+use Rattle.builder.specs.Build.{fresh, taken, kept, none, at}
+use Rattle.builder.specs.Graph.{Graph}
+use Rattle.builder.specs.Unfold.{In, freshness}
+use Rattle.resolved.specs.Resolved.{Stand}
+use Rattle.resolved.specs.Ordered.{Final}
+use Rattle.resolved.specs.Walk.{State, put, gone, overwrite, markR, finishR, start}
+use Rattle.resolved.specs.Resolves.{Resolves, put-same, put-other, own-stays, overwrite-resolves, mark-resolves, finish-resolves}
+use Rattle.resolved.specs.Resolving.{take-resolves}
+use Rattle.resolved.specs.Tree.{start-resolves}
+use Rattle.resolved.specs.Ranges.{Lies, graph-lies, lies-put}
+use Rattle.resolved.specs.Noted.{isContainer, Noted, unseen, noted-mark, noted-done}
+
+module _ (t : List Node) (nowhere : ℕ) (beyond : length t ≤ nowhere) (word : Value → ℕ) (starts : List ℕ) where
+  pub record Fits (words children : List ℕ) (s : State) : Type 0 where
+    pub resolves : Resolves t nowhere s
+    pub noted : Noted t word words s
+    pub lies : Lies starts (length t) children (s .kids)
+
+  -- before the walk
+  pub fits-start : (words children : List ℕ) → Graph t starts children → length words ≡ length t → ((j : ℕ) → j < length t → getD words j 0 ≡ 0)
+      → Fits words children (start t)
+  fits-start words children g n z =
+      record {
+        resolves = start-resolves t nowhere beyond;
+        noted = record { long = n; container = λ j l c. z j l; leaf = λ j l c. unseen (z j l) (λ h m. elim m [ ]); calm = λ j c e. (let q : _≡_ {A = ℕ} 0 1 = cc in omega arith) };
+        lies = graph-lies t starts children g;
+      }
+
+  module _ (words children : List ℕ) (s : State) (f : Fits words children s) where
+    -- marks[i] = 1
+    pub fits-take : (i : ℕ) → i < length t → isContainer (at t i .label) ≡ true → s .marks i ≡ fresh → Fits (set words i 1) children (markR i taken s)
+    fits-take i l c e = record { resolves = take-resolves t nowhere beyond s i (f .resolves) e; noted = noted-mark t word words s i 1 taken (f .noted) l c refl; lies = f .lies }
+
+    -- marks[i] = 3
+    pub fits-block : (i : ℕ) → i < length t → isContainer (at t i .label) ≡ true → s .marks i ≡ fresh → isObject (at t i .label) ≡ true
+        → Fits (set words i 3) children (markR i (kept none) s)
+    unfolding freshness
+    fits-block i l c e o =
+        record { resolves = mark-resolves t nowhere beyond s i (kept none) (f .resolves) e refl blocks; noted = noted-mark t word words s i 3 (kept none) (f .noted) l c (let o′ = o in rw o′); lies = f .lies }
+      where
+        blocks : (v : Value) → kept none ≡ kept v → (gone t i v ≡ true) × (v ≡ none)
+        blocks v q = let z : none ≡ v = cc in let o′ = o in (rw (← z, o′), sym z)
+
+    -- children[starts[n] + the number of those before] = x
+    pub fits-put : (n : ℕ) → n < length t → s .marks n ≡ taken → (is js : List ℕ) (c x : ℕ) → s .kids n ≡ is ++ (c ∷ js)
+        → Fits words (set children (getD starts n 0 + length is) x) (overwrite n (is ++ (x ∷ js)) s)
+    fits-put n l e is js c x h =
+        record {
+          resolves = overwrite-resolves t nowhere beyond s n (is ++ (x ∷ js)) (f .resolves) e (rw h (simp length-append));
+          noted = record { long = f .noted .long; container = f .noted .container; leaf = f .noted .leaf; calm = f .noted .calm };
+          lies = lies-put starts (length t) children (s .kids) (f .lies) n l is js c x h;
+        }
+
+    -- a child that stays is not stored
+    pub fits-same : (n : ℕ) → s .marks n ≡ taken → (l : List ℕ) → s .kids n ≡ l → Fits words children (overwrite n l s)
+    fits-same n e l h =
+        record {
+          resolves = overwrite-resolves t nowhere beyond s n l (f .resolves) e (ap length (sym h));
+          noted = record { long = f .noted .long; container = f .noted .container; leaf = f .noted .leaf; calm = f .noted .calm };
+          lies = record { bounds = f .lies .bounds; lists = λ j m. f .lies .lists j m ∙ go j (ℕ-discrete j n) };
+        }
+      where
+        go : (j : ℕ) → Dec (j ≡ n) → s .kids j ≡ put n l (s .kids) j
+        go j (yes p) = ap (s .kids) p ∙ (h ∙ (sym (put-same n l (s .kids)) ∙ ap (put n l (s .kids)) (sym p)))
+        go j (no p) = sym (put-other n l (s .kids) j p)
+
+    -- marks[i] = the word of what it keeps
+    pub fits-finish : (i : ℕ) → i < length t → isContainer (at t i .label) ≡ true → s .marks i ≡ taken → (c : Forest)
+        → Stand t (s .kids) (s .kids i) c → ((j : ℕ) → In j (s .kids i) → Final nowhere (s .done) j)
+        → let v : Value = record { label = at t i .label; contents = c } in Fits (set words i (word v)) children (finishR t i (c, s) .after)
+    unfolding finishR
+    fits-finish i l b e c w z =
+        let v : Value = record { label = at t i .label; contents = c } in
+        let o : gone t i v ≡ false = own-stays (at t i .label) in
+        let n : Noted t word (set words i (word v)) (markR i (kept v) s) = noted-mark t word words s i (word v) (kept v) (f .noted) l b (rw o) in
+        record { resolves = finish-resolves t nowhere beyond s i c (f .resolves) e w z; noted = noted-done t word (set words i (word v)) (markR i (kept v) s) i n b; lies = f .lies }

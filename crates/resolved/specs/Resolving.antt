@@ -1,0 +1,154 @@
+-- Every call of the walk, with however many levels, keeps to `Resolves`, and the number that it gives its owner stands for its value.
+use Prim.Native.Nat.{ℕ, suc, zero, _≤_}
+use mathlib.Core.Bool.{Bool, true, false, cond, _&&_}
+use mathlib.Core.List.{List, [], _∷_, _++_, append-assoc}
+use mathlib.Core.Path.{_≡_, refl, sym, _∙_, ap}
+use mathlib.Core.Logic.{_≢_, inl, inr}
+use lib.ListN.{length, length-append}
+use native.Mathlib.Omega.{arith}
+use Rattle.value.specs.Value.{Forest, Value}
+use Rattle.decoder.specs.State.{Node}
+use Rattle.decoder.specs.Opcodes.{isObject}
+use Rattle.builder.specs.Build.{Mark, Marks, fresh, taken, kept, mark, none, at, firstTaken, blocked}
+use Rattle.builder.specs.Unfold.{In, here, there, Marked, same, other, marked, freshness}
+use Rattle.resolved.specs.Resolved.{Stand, sNil, sNode, StandsFor, frame, stand-before}
+use Rattle.resolved.specs.Ordered.{Final}
+use Rattle.resolved.specs.Walk.{State, Made, gone, overwrite, markR, eachR, finishR, walk}
+use Rattle.resolved.specs.Resolves.{Resolves, Later, Any, Called, old-taken, not-old, put-same, mark-own, nowhere-none, resolves-empty, later-frame, open-not-done, overwrite-later, overwrite-resolves, mark-later, mark-resolves, finish-resolves}
+
+module _ (t : List Node) (nowhere : ℕ) (beyond : length t ≤ nowhere) where
+  -- ---- over a list of children
+
+  pub later-all : {s s′ : State} (Q : ℕ → Type 0) → Later Any s s′ → Later Q s s′
+  later-all Q l = record { marks-stay = l .marks-stay; kids-stay = λ j q z. l .kids-stay j tt z; more = l .more }
+
+  pub later-then : {Q : ℕ → Type 0} {s s′ s″ : State} → Later Q s s′ → Later Q s′ s″ → Later Q s s″
+  later-then {Q} {s} {s′} {s″} a b =
+      record { marks-stay = λ j z. b .marks-stay j (old j z) ∙ a .marks-stay j z; kids-stay = λ j q z. b .kids-stay j q (old j z) ∙ a .kids-stay j q z; more = λ j m. b .more j (a .more j m) }
+    where
+      old : (j : ℕ) → freshness (s .marks j) ≡ 0 → freshness (s′ .marks j) ≡ 0
+      old j z = rw (a .marks-stay j z) z
+
+  -- when the children of node n behind `is` are done: the numbers now in their places, and what these stand for
+  pub record Resolved (n : ℕ) (is : List ℕ) (s : State) (p : Forest × State) : Type 0 where
+    pub news : List ℕ
+    pub resolves : Resolves t nowhere (p .1)
+    pub later : Later (λ j. j ≢ n) s (p .1)
+    pub held : p .1 .kids n ≡ is ++ news
+    pub stands : Stand t (p .1 .kids) news (p .0)
+    pub final : (j : ℕ) → In j news → Final nowhere (p .1 .done) j
+
+  pub each-resolves : (g : ℕ → State → Made) → ((i : ℕ) (s : State) → Resolves t nowhere s → Called t nowhere s (g i s))
+      → (n : ℕ) (is js : List ℕ) (s : State) → Resolves t nowhere s → s .marks n ≡ taken → s .kids n ≡ is ++ js → Resolved n is s (eachR g n is js s)
+  unfolding eachR
+  each-resolves g h n is [] s r e k = record { news = []; resolves = r; later = record { marks-stay = λ j z. refl; kids-stay = λ j q z. refl; more = λ j m. m }; held = k; stands = sNil; final = λ j m. elim m [ ] }
+  each-resolves g h n is (i ∷ js) s r e k =
+      let p = g i s in
+      let a : Called t nowhere s p = h i s r in
+      let e₁ : p .after .marks n ≡ taken = a .later .marks-stay n (old-taken _ e) ∙ e in
+      let l = is ++ (p .slot ∷ js) in
+      let s₂ = overwrite n l (p .after) in
+      let r₂ : Resolves t nowhere s₂ = overwrite-resolves t nowhere beyond (p .after) n l (a .resolves) e₁ (same-length a) in
+      let k₂ : s₂ .kids n ≡ (is ++ (p .slot ∷ [])) ++ js = put-same n l (p .after .kids) ∙ simp append-assoc in
+      let b : Resolved n (is ++ (p .slot ∷ [])) s₂ (eachR g n (is ++ (p .slot ∷ [])) js s₂) = each-resolves g h n (is ++ (p .slot ∷ [])) js s₂ r₂ e₁ k₂ in
+      let s₃ = eachR g n (is ++ (p .slot ∷ [])) js s₂ .1 in
+      let l₃ : Later (λ j. j ≢ n) (p .after) s₃ = later-then (overwrite-later t nowhere beyond (p .after) n l) (b .later) in
+      let w : StandsFor t (s₃ .kids) (p .slot) (p .value) = frame (later-frame t nowhere beyond (a .resolves) l₃ (resolves-empty t nowhere beyond (b .resolves)) (open-not-done t nowhere beyond (a .resolves) n e₁)) (only a) (a .stands) in
+      record {
+        news = p .slot ∷ b .news;
+        resolves = b .resolves;
+        later = later-then (later-all (λ j. j ≢ n) (a .later)) l₃;
+        held = b .held ∙ append-assoc is (p .slot ∷ []) (b .news);
+        stands = stand-before w (b .stands);
+        final = fin a l₃ b;
+      }
+    where
+      -- one number takes the place of one
+      same-length : {m : Made} → Called t nowhere s m → length (is ++ (m .slot ∷ js)) ≡ length (m .after .kids n)
+      same-length {m} a = let b : m .after .kids n ≡ is ++ (i ∷ js) = a .later .kids-stay n tt (old-taken _ e) ∙ k in rw b (simp length-append)
+
+      only : {m : Made} → Called t nowhere s m → (j : ℕ) → In j (m .slot ∷ []) → Final nowhere (m .after .done) j
+      only a j here = a .final
+
+      fin : {m : Made} {is′ : List ℕ} {s₂ : State} {q : Forest × State} → Called t nowhere s m → Later (λ j. j ≢ n) (m .after) (q .1)
+          → (b : Resolved n is′ s₂ q) → (j : ℕ) → In j (m .slot ∷ b .news) → Final nowhere (q .1 .done) j
+      fin {m = m} {q = q} a l b j here = up (a .final)
+        where
+          up : Final nowhere (m .after .done) j → Final nowhere (q .1 .done) j
+          up (inl z) = inl z
+          up (inr z) = inr (l .more j z)
+      fin a l b j (there y) = b .final j y
+
+  -- the node is finished
+  pub finish-called : (s : State) (i : ℕ) (p : Forest × State) → Resolves t nowhere s → s .marks i ≡ fresh → Resolved i [] (markR i taken s) p
+      → Called t nowhere s (finishR t i p)
+  unfolding finishR
+  finish-called s i p r e a =
+      let o : mark i taken (s .marks) i ≡ taken = mark-own i taken (s .marks) in
+      let e₁ : p .1 .marks i ≡ taken = a .later .marks-stay i (old-taken _ o) ∙ o in
+      let h : p .1 .kids i ≡ a .news = a .held in
+      let w : Stand t (p .1 .kids) (p .1 .kids i) (p .0) = rw h (a .stands) in
+      record {
+        resolves = finish-resolves t nowhere beyond (p .1) i (p .0) (a .resolves) e₁ w (λ j m. a .final j (rw h at m));
+        later = record { marks-stay = go; kids-stay = λ j q z. a .later .kids-stay j (λ x. fresh-not j z x) (still j z); more = λ j m. there (a .later .more j m) };
+        stands = sNode w sNil;
+        final = inr here;
+      }
+    where
+      fresh-not : (j : ℕ) → freshness (s .marks j) ≡ 0 → j ≢ i
+      fresh-not j z x = not-old (s .marks j) (ap (s .marks) x ∙ e) z
+
+      unmoved : (m : Mark) (d : Marks) (j : ℕ) → j ≢ i → mark i m d j ≡ d j
+      unmoved m d j n = pick (marked i m d j)
+        where
+          pick : Marked i m d j → mark i m d j ≡ d j
+          pick (same x q) = absurd (n x)
+          pick (other x q) = q
+
+      still : (j : ℕ) → freshness (s .marks j) ≡ 0 → freshness (mark i taken (s .marks) j) ≡ 0
+      still j z = let q = unmoved taken (s .marks) j (fresh-not j z) in rw q z
+
+      go : (j : ℕ) → freshness (s .marks j) ≡ 0 → finishR t i p .after .marks j ≡ s .marks j
+      go j z = unmoved _ (p .1 .marks) j (fresh-not j z) ∙ (a .later .marks-stay j (still j z) ∙ unmoved taken (s .marks) j (fresh-not j z))
+
+  pub take-resolves : (s : State) (i : ℕ) → Resolves t nowhere s → s .marks i ≡ fresh → Resolves t nowhere (markR i taken s)
+  unfolding freshness
+  take-resolves s i r e = mark-resolves t nowhere beyond s i taken r e refl (λ v q. absurd (let z : _≡_ {A = ℕ} 0 1 = cc in omega arith))
+
+  -- ---- a call
+
+  pub walk-resolves : (k i : ℕ) (s : State) → Resolves t nowhere s → Called t nowhere s (walk t nowhere k i s)
+  unfolding walk blocked freshness
+  walk-resolves zero i s r = record { resolves = r; later = record { marks-stay = λ j z. refl; kids-stay = λ j q z. refl; more = λ j m. m }; stands = nowhere-none t nowhere beyond (s .kids) (resolves-empty t nowhere beyond r); final = inl refl }
+  walk-resolves (suc k) i s r = go (s .marks i) refl (blocked t (s .marks) i) refl (walk-resolves k)
+    where
+      stay : Later Any s s
+      stay = record { marks-stay = λ j z. refl; kids-stay = λ j q z. refl; more = λ j m. m }
+
+      has : (v : Value) → s .marks i ≡ kept v → (b : Bool) → gone t i v ≡ b
+          → Called t nowhere s (record { slot = cond b nowhere i; value = v; after = s })
+      has v e true f = record { resolves = r; later = stay; stands = let n : v ≡ none = r .kept-none i v e f in rw n (nowhere-none t nowhere beyond (s .kids) (resolves-empty t nowhere beyond r)); final = inl refl }
+      has v e false f =
+          let m : In i (s .done) = r .kept-done i v e f in
+          let o = r .done-stands i m in
+          let q : kept (o .value) ≡ kept v = sym (o .keeps) ∙ e in
+          let q′ : o .value ≡ v = cc in
+          record { resolves = r; later = stay; stands = rw q′ at (o .stands); final = inr m }
+
+      object : blocked t (s .marks) i ≡ true → isObject (at t i .label) ≡ true
+      object f = left (isObject (at t i .label)) (firstTaken (s .marks) (at t i .kids)) f
+        where
+          left : (b c : Bool) → (b && c) ≡ true → b ≡ true
+          left true c h = refl
+          left false c h = h
+
+      go : (m : Mark) → s .marks i ≡ m → (b : Bool) → blocked t (s .marks) i ≡ b
+          → ((j : ℕ) (c : State) → Resolves t nowhere c → Called t nowhere c (walk t nowhere k j c)) → Called t nowhere s (walk t nowhere (suc k) i s)
+      go (kept v) e b f ih = rw (e, walk) (has v e (gone t i v) refl)
+      go taken e b f ih = rw (e, walk) (record { resolves = r; later = stay; stands = nowhere-none t nowhere beyond (s .kids) (resolves-empty t nowhere beyond r); final = inl refl })
+      go fresh e true f ih =
+          rw (e, f, walk) (record { resolves = mark-resolves t nowhere beyond s i (kept none) r e refl blocks; later = mark-later t nowhere beyond s i (kept none) e; stands = nowhere-none t nowhere beyond (s .kids) (resolves-empty t nowhere beyond r); final = inl refl })
+        where
+          blocks : (v : Value) → kept none ≡ kept v → (gone t i v ≡ true) × (v ≡ none)
+          blocks v q = let z : none ≡ v = cc in let o = object f in (rw (← z, o), sym z)
+      go fresh e false f ih = rw (e, f, walk) (finish-called s i _ r e (each-resolves (walk t nowhere k) ih i [] (at t i .kids) (markR i taken s) (take-resolves s i r e) (mark-own i taken (s .marks)) (r .fresh-is i e)))

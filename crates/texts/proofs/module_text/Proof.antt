@@ -1,0 +1,12 @@
+-- `texts::module_text` meets its contract. Assumes nothing.
+use borrow.Author.Needs.{needs}
+use Rattle.texts.proofs.module_text.Statement.{statement}
+use Rattle.texts.proofs.module_text.Tie as tie
+use Rattle.decoder.specs.Rooms.{within}
+
+returns : tie.Need-returns
+unfolding within
+returns c = c .cut .ensures
+
+pub module-text-spec : {M : Type 1} → statement M
+module-text-spec = tie.close (tie.spec (λ c κs. search needs) returns)

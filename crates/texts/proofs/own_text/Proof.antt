@@ -1,0 +1,12 @@
+-- `texts::own_text` meets its contract. Assumes nothing.
+use borrow.Author.Needs.{needs}
+use Rattle.texts.proofs.own_text.Statement.{statement}
+use Rattle.texts.proofs.own_text.Tie as tie
+use Rattle.decoder.specs.Rooms.{within}
+
+returns : tie.Need-returns
+unfolding within
+returns c = c .cut .ensures
+
+pub own-text-spec : {M : Type 1} → statement M
+own-text-spec = tie.close (tie.spec (λ c κs. search needs) returns)

@@ -1,0 +1,92 @@
+-- A text that stands at a place, and the places of a node's text by its mark and its words.
+use Prim.Native.Nat.{ℕ, suc, zero, _+_, _-_, _^_, _/_, _%_, _<_, _≤_, min}
+use mathlib.Core.Bool.{true, false}
+use mathlib.Core.List.{List, [], _∷_}
+use mathlib.Core.Path.{_≡_, sym, _∙_, ap}
+use mathlib.Core.Logic.{_≢_}
+use native.Mathlib.Omega.{arith}
+use native.Mathlib.Decide.{decLe}
+use lib.ListN.{length, length-drop, getD, take, drop}
+use lib.Seq.{take-all, drop-nil}
+use borrow.Author.Tests.{le-leb, lt-leb, eq-eqb, ne-eqb}
+use Rattle.text.specs.Text.{pick}
+use Rattle.value.specs.Shape.{kindIn}
+use Rattle.decoder.specs.Rooms.{first, second, within, classIn}
+use Rattle.resolved.specs.Shown.{isDecoded, placeIn, leadIn, trailIn, rawLead, rawTrail, leadText, trailText}
+use Rattle.texts.specs.declared.Place.{Place}
+
+-- of the decoded text d or the pickle p
+unfoldable pub placed : Place → List ℕ → List ℕ → List ℕ
+placed c p d = take (c .len) (drop (c .at) (pick (c .decoded) d p))
+
+-- ---- as far as there is any
+
+take-min : (n : ℕ) (l : List ℕ) → take (min n (length l)) l ≡ take n l
+take-min n l = go (decLe n (length l))
+  where
+    go : Dec (n ≤ length l) → take (min n (length l)) l ≡ take n l
+    go (yes h) = let e : min n (length l) ≡ n = omega arith in rw e
+    go (no h) = let e : min n (length l) ≡ length l = omega arith in rw e (take-all (length l) l (omega arith) ∙ sym (take-all n l (omega arith)))
+
+drop-min : (n : ℕ) (l : List ℕ) → drop (min n (length l)) l ≡ drop n l
+drop-min n [] = drop-nil (min n 0) ∙ sym (drop-nil n)
+drop-min zero (x ∷ l) = let e : min 0 (suc (length l)) ≡ 0 = omega arith in rw e
+drop-min (suc n) (x ∷ l) = let e : min (suc n) (suc (length l)) ≡ suc (min n (length l)) = omega arith in rw e (drop-min n l)
+
+pub part-cut : (l : List ℕ) (at len : ℕ) → take (min len (length l - min at (length l))) (drop (min at (length l)) l) ≡ take len (drop at l)
+part-cut l at len =
+    let e : length l - min at (length l) ≡ length (drop (min at (length l)) l) = sym (length-drop (min at (length l)) l) in
+    rw e (take-min len (drop (min at (length l)) l) ∙ ap (take len) (drop-min at l))
+
+-- the same of a part by its end, `held` bytes being there
+pub part-end : (l : List ℕ) (at len held from more : ℕ) → held ≡ length l → from ≡ min at held → more ≡ min len (held - from) → take (from + more - from) (drop from l) ≡ take len (drop at l)
+part-end l at len held from more h f m =
+    let e : from + more - from ≡ more = omega arith in
+    rw (e, m, f, h) (part-cut l at len)
+
+module _ (p d ws marks : List ℕ) (i : ℕ) where
+  -- ---- decoded
+
+  module _ (h : 2 ^ 62 ≤ getD marks i 0) where
+    pub lead-decoded : placed (record { decoded = true; at = getD marks i 0 % 2 ^ 17; len = getD marks i 0 / 2 ^ 17 % 2 ^ 17 }) p d ≡ leadText p d ws marks i
+    unfolding placed leadText isDecoded placeIn leadIn pick
+    lead-decoded = rw (le-leb (2 ^ 62) (getD marks i 0) h)
+
+    pub trail-decoded : placed (record { decoded = true; at = getD marks i 0 % 2 ^ 17 + getD marks i 0 / 2 ^ 17 % 2 ^ 17; len = getD marks i 0 / 2 ^ 34 % 2 ^ 17 }) p d ≡ trailText p d ws marks i
+    unfolding placed trailText isDecoded placeIn leadIn trailIn pick
+    trail-decoded = rw (le-leb (2 ^ 62) (getD marks i 0) h)
+
+  -- ---- as it stands in the pickle
+
+  module _ (h : getD marks i 0 < 2 ^ 62) where
+    raw-lead : leadText p d ws marks i ≡ rawLead p ws i
+    unfolding leadText isDecoded
+    raw-lead = rw (lt-leb (2 ^ 62) (getD marks i 0) h)
+
+    raw-trail : trailText p d ws marks i ≡ rawTrail p ws i
+    unfolding trailText isDecoded
+    raw-trail = rw (lt-leb (2 ^ 62) (getD marks i 0) h)
+
+    pub lead-global : kindIn (first ws i) ≡ 11 → within 24 (first ws i / 16) p ≡ leadText p d ws marks i
+    unfolding rawLead
+    lead-global k = rw (raw-lead, k)
+
+    pub lead-object : kindIn (first ws i) ≡ 12 → within 24 (first ws (classIn (first ws i)) / 16) p ≡ leadText p d ws marks i
+    unfolding rawLead
+    lead-object k = rw (raw-lead, k)
+
+    pub lead-leaf : kindIn (first ws i) ≢ 11 → kindIn (first ws i) ≢ 12 → within 32 (second ws i) p ≡ leadText p d ws marks i
+    unfolding rawLead
+    lead-leaf k l = rw (raw-lead, ne-eqb _ _ k, ne-eqb _ _ l)
+
+    pub trail-global : kindIn (first ws i) ≡ 11 → within 32 (second ws i) p ≡ trailText p d ws marks i
+    unfolding rawTrail
+    trail-global k = rw (raw-trail, k)
+
+    pub trail-object : kindIn (first ws i) ≡ 12 → within 32 (second ws (classIn (first ws i))) p ≡ trailText p d ws marks i
+    unfolding rawTrail
+    trail-object k = rw (raw-trail, k)
+
+    pub trail-leaf : kindIn (first ws i) ≢ 11 → kindIn (first ws i) ≢ 12 → placed (record { decoded = false; at = 0; len = 0 }) p d ≡ trailText p d ws marks i
+    unfolding placed rawTrail
+    trail-leaf k l = rw (raw-trail, ne-eqb _ _ k, ne-eqb _ _ l)

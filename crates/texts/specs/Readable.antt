@@ -1,0 +1,31 @@
+-- What a call that reads node i's text asks of the rooms: that its words, its mark and its class's words are there.
+use Prim.Native.Nat.{ℕ, suc, _+_, _*_, _<_, _≤_}
+use mathlib.Core.List.{List}
+use mathlib.Core.Path.{_≡_}
+use lib.ListN.{length, getD}
+use native.Mathlib.Omega.{arith}
+use Rattle.value.specs.Value.{Label}
+use Rattle.value.specs.Shape.{kindIn}
+use Rattle.decoder.specs.State.{Node}
+use Rattle.decoder.specs.Rooms.{first, classIn}
+use Rattle.resolved.specs.Resolved.{Kids}
+use Rattle.resolved.specs.Shown.{Shown, Spelled, leadText, trailText}
+
+pub record Readable (ws marks : List ℕ) (i : ℕ) : Type 0 where
+  pub words : 2 * i + 1 < length ws
+  pub marked : i < length marks
+  pub class : kindIn (first ws i) ≡ 12 → 2 * classIn (first ws i) + 1 < length ws
+
+-- rooms that show the nodes have it
+pub shown-readable : (t : List Node) (h : Kids) (P : ℕ → Type 0) (p d ws starts children log marks : List ℕ) (i : ℕ) → Shown t h P p d ws starts children log marks → i < length t → Readable ws marks i
+shown-readable t h P p d ws starts children log marks i s l =
+    record {
+      words = omega (arith, s .words-long);
+      marked = omega (arith, s .marks-long);
+      class = λ k. (let c = s .classes i l k .0 in omega (arith, s .words-long));
+    }
+
+-- a node's text goes by its own mark alone
+pub spelled-mark : (p d ws marks marks′ : List ℕ) (i : ℕ) (l : Label) → getD marks′ i 0 ≡ getD marks i 0 → Spelled p d ws marks i l → Spelled p d ws marks′ i l
+unfolding leadText trailText
+spelled-mark p d ws marks marks′ i l e s = record { lead = rw e (s .lead); trail = rw e (s .trail); inside = rw e (s .inside) }

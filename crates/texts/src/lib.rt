@@ -1,0 +1,432 @@
+// The texts of nodes after STOP: where a node's text stands, in the pickle or in the decoded text; and the pass that decodes what
+// cannot be read straight off the pickle.
+ghost use mathlib.Core.Path.{_≡_};
+ghost use mathlib.Core.List.{List, []};
+ghost use Prim.Native.Nat.{ℕ, min, _+_, _/_, _≤_};
+ghost use lib.ListN.{length, take, drop};
+ghost use Rattle.utf8.specs.Utf8.{repair};
+ghost use Rattle.text.specs.Pieces.{bytesOf};
+ghost use Rattle.text.specs.Text.{pick, unescapeString, unescapeUnicode};
+ghost use Rattle.decoder.specs.Rooms.{within};
+ghost use Rattle.resolved.specs.Shown.{leadText, trailText};
+ghost use Rattle.texts.specs.Readable.{Readable};
+ghost use Rattle.texts.specs.Place.{placed};
+ghost use Rattle.texts.specs.Mark.{markOf};
+ghost use Rattle.texts.specs.Spell.{Puts, Fits, Spells, Stands, SpellsNode, Unspelled};
+ghost use Rattle.texts.specs.Due.{textKind, dueWord, Turn, Turns, Decodable, Decodes};
+use decoder::NodeId;
+use text::Decoded;
+use text::Quoted;
+
+// The mark of a node whose text was decoded: this, its place, 2^17 times the length of what leads, 2^34 times that of what trails.
+pub const DECODED: u64 = 0x4000_0000_0000_0000;
+
+// A text by its place and its length, as far as there is any, in the decoded text or in the pickle.
+struct Place {
+    decoded: bool,
+    at: u64,
+    len: u64,
+}
+
+fn least(x: usize, y: usize) -> usize
+    ensures { λ r. ⌜ r ≡ min x y ⌝ }
+{
+    if x < y {
+        return x;
+    }
+    y
+}
+
+// How long the text is that holds a node's.
+fn held_len(pickle: &[u8], decoded: &[u8], is_decoded: bool) -> usize
+    ensures { λ r. ⌜ r ≡ length (pick «is_decoded» (now (decoded .entry)) (now (pickle .entry))) ⌝ }
+{
+    if is_decoded {
+        decoded.len()
+    } else {
+        pickle.len()
+    }
+}
+
+// The text at a place.
+fn text_at<'a>(pickle: &'a [u8], decoded: &'a [u8], place: Place) -> &'a [u8]
+    ensures { λ r. ⌜ now r ≡ placed place (now (pickle .entry)) (now (decoded .entry)) ⌝ }
+{
+    let held = held_len(pickle, decoded, place.decoded);
+    let from = least(place.at as usize, held);
+    text::part(
+        pickle,
+        decoded,
+        place.decoded,
+        from,
+        from + least(place.len as usize, held - from),
+    )
+}
+
+// The module of a Global with this first word.
+fn module_place(first: u64) -> Place
+    ensures { λ r. ⌜ ((p d : List ℕ) → placed r p d ≡ within 24 (first / 16) p) ⌝ }
+{
+    let word = first / 16;
+    Place {
+        decoded: false,
+        at: word % 0x100_0000,
+        len: word / 0x100_0000,
+    }
+}
+
+// The name of a Global with this second word, and any other text.
+fn text_place(second: u64) -> Place
+    ensures { λ r. ⌜ ((p d : List ℕ) → placed r p d ≡ within 32 second p) ⌝ }
+{
+    Place {
+        decoded: false,
+        at: second % 0x1_0000_0000,
+        len: second / 0x1_0000_0000,
+    }
+}
+
+fn lead_place(node: NodeId, nodes: &[u64], marks: &[u64]) -> Place
+    requires { ⌜ Readable (now nodes) (now marks) (node .0) ⌝ }
+    ensures { λ r. ⌜ ((p d : List ℕ) → placed r p d ≡ leadText p d (now (nodes .entry)) (now (marks .entry)) (node .0)) ⌝ }
+{
+    let i = node.0;
+    let mark = marks[i];
+    if DECODED <= mark {
+        return Place {
+            decoded: true,
+            at: mark % 0x2_0000,
+            len: mark / 0x2_0000 % 0x2_0000,
+        };
+    }
+    let first = nodes[2 * i];
+    let kind = first % 16;
+    if kind == 11 {
+        return module_place(first);
+    }
+    if kind == 12 {
+        let class = (first / 64) as usize;
+        return module_place(nodes[2 * class]);
+    }
+    text_place(nodes[2 * i + 1])
+}
+
+fn trail_place(node: NodeId, nodes: &[u64], marks: &[u64]) -> Place
+    requires { ⌜ Readable (now nodes) (now marks) (node .0) ⌝ }
+    ensures { λ r. ⌜ ((p d : List ℕ) → placed r p d ≡ trailText p d (now (nodes .entry)) (now (marks .entry)) (node .0)) ⌝ }
+{
+    let i = node.0;
+    let mark = marks[i];
+    if DECODED <= mark {
+        return Place {
+            decoded: true,
+            at: mark % 0x2_0000 + mark / 0x2_0000 % 0x2_0000,
+            len: mark / 0x4_0000_0000 % 0x2_0000,
+        };
+    }
+    let first = nodes[2 * i];
+    let kind = first % 16;
+    if kind == 11 {
+        return text_place(nodes[2 * i + 1]);
+    }
+    if kind == 12 {
+        let class = (first / 64) as usize;
+        return text_place(nodes[2 * class + 1]);
+    }
+    Place {
+        decoded: false,
+        at: 0,
+        len: 0,
+    }
+}
+
+// Bytes or a String, or the module of a Global or of an Object's class.
+pub fn lead_part<'a>(
+    node: NodeId,
+    pickle: &'a [u8],
+    decoded: &'a [u8],
+    nodes: &[u64],
+    marks: &[u64],
+) -> &'a [u8]
+    requires { ⌜ Readable (now nodes) (now marks) (node .0) ⌝ }
+    ensures { λ r. ⌜ now r ≡ leadText (now (pickle .entry)) (now (decoded .entry)) (now (nodes .entry)) (now (marks .entry)) (node .0) ⌝ }
+{
+    text_at(pickle, decoded, lead_place(node, nodes, marks))
+}
+
+// The name of a Global or of an Object's class.
+pub fn trail_part<'a>(
+    node: NodeId,
+    pickle: &'a [u8],
+    decoded: &'a [u8],
+    nodes: &[u64],
+    marks: &[u64],
+) -> &'a [u8]
+    requires { ⌜ Readable (now nodes) (now marks) (node .0) ⌝ }
+    ensures { λ r. ⌜ now r ≡ trailText (now (pickle .entry)) (now (decoded .entry)) (now (nodes .entry)) (now (marks .entry)) (node .0) ⌝ }
+{
+    text_at(pickle, decoded, trail_place(node, nodes, marks))
+}
+
+// ---- the pass
+
+// A node's mark, and how much of the decoded text is used once its text is there.
+struct Spelling {
+    mark: u64,
+    used: usize,
+}
+
+// The mark of a text that was decoded.
+fn decoded_mark(at: usize, lead: usize, trail: usize) -> u64
+    requires { ⌜ (at ≤ 65536) × (lead ≤ 65536) × (trail ≤ 65536) ⌝ }
+    ensures { λ r. ⌜ r ≡ markOf at lead trail ⌝ }
+{
+    DECODED + at as u64 + 0x2_0000 * lead as u64 + 0x4_0000_0000 * trail as u64
+}
+
+// `len` bytes from `at` on, as far as there are any.
+fn cut(bytes: &[u8], at: u64, len: u64) -> &[u8]
+    ensures { λ r. ⌜ now r ≡ take len (drop at (now (bytes .entry))) ⌝ }
+{
+    let from = least(at as usize, bytes.len());
+    value::part(bytes, from, least(len as usize, bytes.len() - from))
+}
+
+// The module of a Global with this first word, as it stands in the pickle.
+fn module_text(pickle: &[u8], first: u64) -> &[u8]
+    ensures { λ r. ⌜ now r ≡ within 24 (first / 16) (now (pickle .entry)) ⌝ }
+{
+    let word = first / 16;
+    cut(pickle, word % 0x100_0000, word / 0x100_0000)
+}
+
+// The text of a node with this second word, as it stands in the pickle.
+fn own_text(pickle: &[u8], second: u64) -> &[u8]
+    ensures { λ r. ⌜ now r ≡ within 32 second (now (pickle .entry)) ⌝ }
+{
+    cut(pickle, second % 0x1_0000_0000, second / 0x1_0000_0000)
+}
+
+// A text, repaired, at `at` of the decoded text; its length.
+fn put_repaired(bytes: &[u8], decoded: &mut [u8], at: usize) -> usize
+    requires { ⌜ at + length (repair (now bytes)) ≤ length (now decoded) ⌝ }
+    ensures { λ r. ⌜ Puts (repair (now (bytes .entry))) (now (decoded .entry)) at (now (decoded .exit)) r ⌝ }
+{
+    utf8::from_utf8_lossy(bytes, &mut decoded[at..])
+}
+
+// A line of STRING, unescaped. One that cannot be has no text.
+fn put_string(line: &[u8], decoded: &mut [u8], at: usize) -> usize
+    requires { ⌜ at + length (bytesOf (unescapeString (now line))) ≤ length (now decoded) ⌝ }
+    ensures { λ r. ⌜ Puts (bytesOf (unescapeString (now (line .entry)))) (now (decoded .entry)) at (now (decoded .exit)) r ⌝ }
+{
+    match text::string_len(line) {
+        Quoted::Refused(_) => 0,
+        Quoted::Plain => text::unescape_string(line, &mut decoded[at..]),
+        Quoted::Escaped(_) => text::unescape_string(line, &mut decoded[at..]),
+    }
+}
+
+// A line of UNICODE, decoded. One that cannot be has no text.
+fn put_unicode(line: &[u8], decoded: &mut [u8], at: usize) -> usize
+    requires { ⌜ at + length (bytesOf (unescapeUnicode (now line))) ≤ length (now decoded) ⌝ }
+    ensures { λ r. ⌜ Puts (bytesOf (unescapeUnicode (now (line .entry)))) (now (decoded .entry)) at (now (decoded .exit)) r ⌝ }
+{
+    match text::unicode_len(line) {
+        Decoded::Refused(_) => 0,
+        Decoded::Len(_) => text::unescape_unicode(line, &mut decoded[at..]),
+    }
+}
+
+// A String: it stays in the pickle if it is well formed there.
+fn spell_text(bytes: &[u8], mark: u64, decoded: &mut [u8], used: usize) -> Spelling
+    requires { ⌜ Fits (repair (now bytes)) [] used (now decoded) ⌝ }
+    ensures { λ r. ⌜
+        Spells (now (bytes .entry)) [] (repair (now (bytes .entry))) [] mark used (now (decoded .entry)) r
+        (now (decoded .exit))
+        ⌝ }
+{
+    if utf8::valid(bytes) {
+        return Spelling { mark, used };
+    }
+    let n = put_repaired(bytes, decoded, used);
+    Spelling {
+        mark: decoded_mark(used, n, 0),
+        used: used + n,
+    }
+}
+
+// A module and a name: they stay in the pickle if both are well formed there.
+fn spell_names(lead: &[u8], trail: &[u8], mark: u64, decoded: &mut [u8], used: usize) -> Spelling
+    requires { ⌜ Fits (repair (now lead)) (repair (now trail)) used (now decoded) ⌝ }
+    ensures { λ r. ⌜
+        Spells (now (lead .entry)) (now (trail .entry)) (repair (now (lead .entry))) (repair (now (trail .entry))) mark used
+        (now (decoded .entry)) r (now (decoded .exit))
+        ⌝ }
+{
+    if utf8::valid(lead) {
+        if utf8::valid(trail) {
+            return Spelling { mark, used };
+        }
+    }
+    let m = put_repaired(lead, decoded, used);
+    let n = put_repaired(trail, decoded, used + m);
+    Spelling {
+        mark: decoded_mark(used, m, n),
+        used: used + m + n,
+    }
+}
+
+// A line of STRING is always decoded, and so is one of UNICODE.
+fn spell_string(line: &[u8], decoded: &mut [u8], used: usize) -> Spelling
+    requires { ⌜ Fits (bytesOf (unescapeString (now line))) [] used (now decoded) ⌝ }
+    ensures { λ r. ⌜ Stands (bytesOf (unescapeString (now (line .entry)))) [] used (now (decoded .entry)) r (now (decoded .exit)) ⌝ }
+{
+    let n = put_string(line, decoded, used);
+    Spelling {
+        mark: decoded_mark(used, n, 0),
+        used: used + n,
+    }
+}
+
+fn spell_unicode(line: &[u8], decoded: &mut [u8], used: usize) -> Spelling
+    requires { ⌜ Fits (bytesOf (unescapeUnicode (now line))) [] used (now decoded) ⌝ }
+    ensures { λ r. ⌜ Stands (bytesOf (unescapeUnicode (now (line .entry)))) [] used (now (decoded .entry)) r (now (decoded .exit)) ⌝ }
+{
+    let n = put_unicode(line, decoded, used);
+    Spelling {
+        mark: decoded_mark(used, n, 0),
+        used: used + n,
+    }
+}
+
+// The text of a node that has one, behind those that are decoded already unless it can be read straight off the pickle.
+fn spell_node(
+    node: NodeId,
+    mark: u64,
+    pickle: &[u8],
+    nodes: &[u64],
+    decoded: &mut [u8],
+    used: usize,
+) -> Spelling
+    requires { ⌜ Unspelled (now pickle) (now nodes) (node .0) used (now decoded) ⌝ }
+    ensures { λ r. ⌜
+        SpellsNode (now (pickle .entry)) (now (nodes .entry)) (node .0) mark used (now (decoded .entry)) r
+        (now (decoded .exit))
+        ⌝ }
+{
+    let i = node.0;
+    let first = nodes[2 * i];
+    let second = nodes[2 * i + 1];
+    let kind = first % 16;
+    if kind == 5 {
+        return spell_text(own_text(pickle, second), mark, decoded, used);
+    }
+    if kind == 11 {
+        return spell_names(
+            module_text(pickle, first),
+            own_text(pickle, second),
+            mark,
+            decoded,
+            used,
+        );
+    }
+    if kind == 12 {
+        let class = (first / 64) as usize;
+        return spell_names(
+            module_text(pickle, nodes[2 * class]),
+            own_text(pickle, nodes[2 * class + 1]),
+            mark,
+            decoded,
+            used,
+        );
+    }
+    if kind == 13 {
+        return spell_string(own_text(pickle, second), decoded, used);
+    }
+    if kind == 14 {
+        return spell_unicode(own_text(pickle, second), decoded, used);
+    }
+    Spelling { mark, used }
+}
+
+// Whether nodes of a kind have text.
+fn has_text(kind: u64) -> bool
+    ensures { λ r. ⌜ r ≡ textKind kind ⌝ }
+{
+    if kind < 4 {
+        return false;
+    }
+    if kind < 6 {
+        return true;
+    }
+    if kind < 11 {
+        return false;
+    }
+    kind < 15
+}
+
+// Whether a node's text is wanted: the walk reached it, as its mark says.
+fn is_due(first: u64, mark: u64) -> bool
+    ensures { λ r. ⌜ r ≡ dueWord first mark ⌝ }
+{
+    let kind = first % 16;
+    if mark < 128 {
+        return false;
+    }
+    if kind == 12 {
+        return mark < 0x400_0000_0000;
+    }
+    if 0x200_0000_0000 <= mark {
+        return false;
+    }
+    has_text(kind)
+}
+
+// One node; how much of the decoded text is used then.
+fn decode_one(
+    node: NodeId,
+    nodes: &[u64],
+    pickle: &[u8],
+    decoded: &mut [u8],
+    marks: &mut [u64],
+    used: usize,
+) -> usize
+    requires { ⌜ Turn (now pickle) (now nodes) (node .0) (now decoded) (now marks) used ⌝ }
+    ensures { λ r. ⌜
+        Turns (now (pickle .entry)) (now (nodes .entry)) (node .0) (now (decoded .entry)) (now (marks .entry)) used
+        (now (decoded .exit)) (now (marks .exit)) r
+        ⌝ }
+{
+    let i = node.0;
+    let mark = marks[i];
+    if is_due(nodes[2 * i], mark) {
+        let spelling = spell_node(node, mark, pickle, nodes, decoded, used);
+        marks[i] = spelling.mark;
+        return spelling.used;
+    }
+    used
+}
+
+// The texts of all nodes that the walk reached; how much of the decoded text they use.
+pub fn decode_all(
+    nodes: &[u64],
+    count: usize,
+    pickle: &[u8],
+    decoded: &mut [u8],
+    marks: &mut [u64],
+) -> usize
+    requires { ⌜ Decodable (now pickle) (now nodes) count (now decoded) (now marks) ⌝ }
+    ensures { λ r. ⌜
+        Decodes (now (pickle .entry)) (now (nodes .entry)) (now (decoded .entry)) (now (marks .entry)) count
+        (now (decoded .exit)) (now (marks .exit)) r
+        ⌝ }
+{
+    let mut used = 0;
+    let mut i = 0;
+    while i < count {
+        used = decode_one(NodeId(i), nodes, pickle, decoded, marks, used);
+        i += 1;
+    }
+    used
+}
