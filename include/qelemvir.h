@@ -182,7 +182,9 @@ size_t qelemvir_text_len(const uint64_t *words, size_t words_len, size_t count);
 struct qelemvir_answer qelemvir_to_bytes(const uint64_t *words, size_t words_len, size_t count, const uint8_t *text, size_t text_len,
                                          uint8_t *output, size_t output_len);
 
-/* Write a line for each record: depth from 0, kind, content, with tabs between. Refusals and output as for to_bytes. */
+/* Write a line for each record: depth from 0, kind, content, with tabs between. Of texts and names a backslash is written as two, any
+   other byte from 20 to 7E hex as itself, the rest as \x and two lower-case hex digits: two values with the same listing are the same
+   value. Refusals and output as for to_bytes. */
 struct qelemvir_answer qelemvir_list(const uint64_t *words, size_t words_len, size_t count, const uint8_t *text, size_t text_len,
                                      uint8_t *output, size_t output_len);
 

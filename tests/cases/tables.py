@@ -56,7 +56,8 @@ def put(value, words, text):
 
 
 def shown(data):
-    return "".join(chr(b) if 0x20 <= b <= 0x7E else "\\x%02x" % b for b in data)
+    """A listed text: a backslash as two, any other byte from 20 to 7E hex as itself, the rest as `\\x` and two digits."""
+    return "".join("\\\\" if b == 0x5C else chr(b) if 0x20 <= b <= 0x7E else "\\x%02x" % b for b in data)
 
 
 def listing(words, text):
@@ -108,6 +109,9 @@ def samples():
     named = [(kind, (m, n) + more) for kind, more in ((GLOBAL, ()), (OBJECT, (1, [tuple_of()])))
              for m, n in ((b"a", b"b"), (b"ab", b""), (b"b", b"a"), (b"a", b"c"))]
     texts = [(BYTES, b"b"), (BYTES, b"ab"), (STRING, b"b"), (STRING, b"ab")]
+    # What a listing must tell apart: a backslash and what follows it, and the byte that they would name.
+    slashes = [(BYTES, b"\\x09"), (BYTES, b"\t"), (STRING, b"\\\\"), (GLOBAL, (b"\\x09", b"\\")), (GLOBAL, (b"\t", b"\\")),
+               (OBJECT, (b"\\", b"\\x5c", 0, [tuple_of()]))]
     dicts = [(DICT, [one, two, two, one]), (DICT, [one, one, two, two]), (DICT, [one, two]), (DICT, [two, one])]
     sets = none
     for _ in range(32):
@@ -119,7 +123,7 @@ def samples():
             (FROZENSET, []), (DICT, []), (LIST, [one, two]), tuple_of(one), (SET, [one, two]), (FROZENSET, [one]),
             (DICT, [one, none, two, none]), (GLOBAL, (b"m", b"n")), (GLOBAL, (b"", b"")), deep, sets,
             (DICT, [tuple_of(one), (SET, [two])]), (LIST, [none] * 2047), (BYTES, b"x" * 65536)
-            ] + objects + named + texts + dicts
+            ] + objects + named + texts + slashes + dicts
 
 
 def broken():

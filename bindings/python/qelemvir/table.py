@@ -66,7 +66,8 @@ class Table:
         return self._written(library.to_bytes, library.LONGEST_PICKLE)
 
     def list(self):
-        """The listing, a line a record."""
+        """The listing, a line a record: of texts and names a backslash as two, a byte outside 20 to 7E hex as `\\x` and two
+        digits. Two tables with the same listing are the same value."""
         return self._written(library.list_table, library.LONGEST_LISTING).decode("ascii")
 
     def records(self):

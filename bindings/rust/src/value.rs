@@ -58,7 +58,8 @@ impl Value {
         Ok(output[..length].to_vec())
     }
 
-    /// The listing, a line a record, all of it ASCII. No value is refused today.
+    /// The listing, a line a record, all of it ASCII: of texts and names a backslash as two, a byte outside 20 to 7E hex as `\x`
+    /// and two digits. Two values with the same listing are the same value. No value is refused today.
     pub fn list(&self) -> Result<String, Error> {
         let mut output = vec![0; LONGEST_LISTING];
         let length = calls::list(&self.words, &self.text, &mut output)?;

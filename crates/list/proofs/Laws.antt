@@ -7,7 +7,7 @@ use native.Mathlib.Numerals.{add-one}
 use native.Mathlib.Omega.{arith}
 use lib.ListN.{length, set, getD, take, drop}
 use lib.Seq.{sets, drop-cons}
-use borrow.Author.Tests.{lt-ltb, le-ltb}
+use borrow.Author.Tests.{lt-ltb, le-ltb, ne-eqb}
 use Rattle.list.specs.Listing.{plain, listedByte, listedText}
 use Rattle.list.specs.Decimal.{figure, figures, decimalText, signedText, noZeros, figures-length, length-one, length-more, below-more, places}
 use Rattle.list.specs.Put.{Put, sets-last}
@@ -52,13 +52,17 @@ figures-done o₀ o at base (suc left) rest count n h e = absurd (omega arith)
 
 -- ---- what the branches write
 
-pub listed-plain : (b : ℕ) → plain b ≡ true → listedByte b ≡ b ∷ []
+pub listed-slash : (b : ℕ) → b ≡ 0x5C → listedByte b ≡ (b ∷ []) ++ (b ∷ [])
 unfolding listedByte
-listed-plain b h = rw h
+listed-slash b e = rw e
 
-pub listed-escape : (b : ℕ) → plain b ≡ false → listedByte b ≡ (0x5C ∷ []) ++ ((0x78 ∷ []) ++ figures 16 2 b)
+pub listed-plain : (b : ℕ) → (b ≡ 0x5C → ⊥) → plain b ≡ true → listedByte b ≡ b ∷ []
 unfolding listedByte
-listed-escape b h = rw h
+listed-plain b n h = rw (ne-eqb b 0x5C n, h)
+
+pub listed-escape : (b : ℕ) → (b ≡ 0x5C → ⊥) → plain b ≡ false → listedByte b ≡ (0x5C ∷ []) ++ ((0x78 ∷ []) ++ figures 16 2 b)
+unfolding listedByte
+listed-escape b n h = rw (ne-eqb b 0x5C n, h)
 
 pub signed-low : (b : ℕ) → b < 2 ^ 63 → signedText b ≡ decimalText b
 unfolding signedText

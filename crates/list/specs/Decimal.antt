@@ -236,7 +236,7 @@ natural-got (b ∷ s) h e = rw e
 pub natural-back : (n : ℕ) → n < 10 ^ 20 → natural (decimalText n) ≡ got n
 natural-back n h = natural-got (decimalText n) (decimal-some n) (decimal-digits n h) ∙ ap got (decimal-back n h)
 
-digit-first : (b : ℕ) (s : List ℕ) → digits (b ∷ s) ≡ true → 0x30 ≤ b
+pub digit-first : (b : ℕ) (s : List ℕ) → digits (b ∷ s) ≡ true → 0x30 ≤ b
 unfolding digits
 digit-first b s e = go (leb 0x30 b) refl e
   where

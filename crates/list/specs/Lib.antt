@@ -3,5 +3,7 @@ pub mod Decimal
 pub mod Parse
 pub mod Listing
 pub mod Examples
+pub mod Back
 pub mod Put
 pub mod Walk
+pub mod One

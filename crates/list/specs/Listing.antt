@@ -1,9 +1,9 @@
--- Document 01, 'The listing program': what the list call writes, one line a record.
+-- Document 01, 'The listing program', with document 02's Ask 2: what the list call writes, one line a record.
 use Prim.Native.Nat.{ℕ, suc, _+_, _*_, _≤_}
 use mathlib.Core.Bool.{Bool, cond, _&&_}
 use mathlib.Core.List.{List, [], _∷_, _++_}
 use native.Mathlib.Omega.{arith}
-use lib.Dec.{leb, lit≤}
+use lib.Dec.{eqb, leb, lit≤}
 use lib.ListN.{length, length-append, getD, drop}
 use Rattle.value.specs.Value.{Label, Forest, bit, half, kind, textOf, text, count, size, NoneL, BoolL, I64L, F64L, BytesL, StringL, ListL, TupleL, SetL, FrozenSetL, DictL, GlobalL, ObjectL, nil, node}
 use Rattle.value.specs.Shape.{moduleOf, nameOf}
@@ -13,9 +13,9 @@ use Rattle.list.specs.Decimal.{figures, decimalText, signedText, figures
 unfoldable pub plain : ℕ → Bool
 plain b = leb 0x20 b && leb b 0x7E
 
--- a byte of a text: itself, or `\x` and two lower-case hex digits
+-- a byte of a text: a backslash as two; any other as itself, or as `\x` and two lower-case hex digits
 unfoldable pub listedByte : ℕ → List ℕ
-listedByte b = cond (plain b) (b ∷ []) (0x5C ∷ 0x78 ∷ figures 16 2 b)
+listedByte b = cond (eqb b 0x5C) (0x5C ∷ 0x5C ∷ []) (cond (plain b) (b ∷ []) (0x5C ∷ 0x78 ∷ figures 16 2 b))
 
 -- a text, byte by byte
 unfoldable pub listedText : List ℕ → List ℕ
@@ -87,13 +87,15 @@ unfoldable pub listing : ℕ → Forest → List ℕ
 listing d nil = []
 listing d (node l c r) = line d l (count c) ++ (listing (suc d) c ++ listing d r)
 
--- ---- how long a listing is at most
+-- ---- how long a listing is at most: of a text's byte it has four at most, those of `\x` and two digits
 
 listed-byte-short : (b : ℕ) → length (listedByte b) ≤ 4
 unfolding listedByte
 listed-byte-short b =
     let e = figures-length 16 2 b in
-    either-way (λ (u : List ℕ). length u ≤ 4) (plain b) (b ∷ []) (0x5C ∷ 0x78 ∷ figures 16 2 b) (omega arith) (omega arith)
+    let x : List ℕ = 0x5C ∷ 0x78 ∷ figures 16 2 b in
+    let few : length (cond (plain b) (b ∷ []) x) ≤ 4 = either-way (λ (u : List ℕ). length u ≤ 4) (plain b) (b ∷ []) x (omega arith) (omega arith) in
+    either-way (λ (u : List ℕ). length u ≤ 4) (eqb b 0x5C) (0x5C ∷ 0x5C ∷ []) (cond (plain b) (b ∷ []) x) (omega arith) few
 
 listed-short : (s : List ℕ) → length (listedText s) ≤ 4 * length s
 unfolding listedText

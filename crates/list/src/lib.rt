@@ -1,5 +1,6 @@
-// The list call: one line a record of a table (document 01, 'The listing program'). Every `put_` function writes one field from
-// `at` on, as far as the output goes, and answers the next place; so the length is measured by writing to no output.
+// The list call: one line a record of a table (document 01, 'The listing program'; document 02, Ask 2). Every `put_` function
+// writes one field from `at` on, as far as the output goes, and answers the next place; so the length is measured by writing to no
+// output.
 ghost use mathlib.Core.Path.{_≡_};
 ghost use mathlib.Core.List.{[], _∷_};
 ghost use Prim.Native.Nat.{_+_, _/_, _%_, _≤_, _<_};
@@ -101,6 +102,10 @@ fn put_listed(byte: u8, output: &mut [u8], at: usize) -> usize
     requires { ⌜ Room at (listedByte byte) ⌝ }
     ensures { λ r. ⌜ Put (now (output .entry)) at (listedByte byte) (now (output .exit)) r ⌝ }
 {
+    if byte == b'\\' {
+        let second = put_byte(byte, output, at);
+        return put_byte(byte, output, second);
+    }
     if stands(byte) {
         return put_byte(byte, output, at);
     }

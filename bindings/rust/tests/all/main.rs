@@ -107,7 +107,14 @@ fn listings(values: &[Value]) {
 
 fn listed(record: Record) -> String {
     let plain = |bytes: &[u8]| -> String {
-        bytes.iter().map(|&b| if (0x20..=0x7E).contains(&b) { char::from(b).to_string() } else { format!("\\x{b:02x}") }).collect()
+        bytes
+            .iter()
+            .map(|&b| match b {
+                b'\\' => "\\\\".to_string(),
+                0x20..=0x7E => char::from(b).to_string(),
+                _ => format!("\\x{b:02x}"),
+            })
+            .collect()
     };
     match record {
         Record::None => "none\t-".into(),
