@@ -66,7 +66,8 @@ enum qelemvir_refusal {
     QELEMVIR_TEXT_FULL = 19,           /* more than QELEMVIR_MOST_TEXT bytes of text, counted over the same values */
     QELEMVIR_FLOAT_OUTSIDE = 20,       /* inf, nan, or a FLOAT, not zero, with digits above 2^53 or a power of ten outside -22 to 22 */
     QELEMVIR_BAD_TABLE = 21,           /* a table is not well formed; detail: 1, or 2 for the second table of compare */
-    QELEMVIR_OUTPUT_FULL = 22          /* what is to be written is longer than the lent output */
+    QELEMVIR_OUTPUT_FULL = 22,         /* what is to be written is longer than the lent output */
+    QELEMVIR_UNWRITABLE_NAME = 25      /* to_bytes of a Global, or an Object's class, whose module or name has a newline or ends with CR */
 };
 
 /* The details of QELEMVIR_INVALID. */
@@ -177,14 +178,16 @@ struct qelemvir_answer qelemvir_from_bytes(QELEMVIR_LENT);
 /* The length of a well-formed table's text, which a reading does not return and the calls below ask for. */
 size_t qelemvir_text_len(const uint64_t *words, size_t words_len, size_t count);
 
-/* Write a value as a pickle of protocol 2: BAD_TABLE, then OUTPUT_FULL exactly where the pickle is longer than the output, else
-   `length` bytes at its start, what stands behind being kept. `text_len` must be the length of the table's text, here and below. */
+/* Write a value as a pickle of protocol 2: BAD_TABLE, then UNWRITABLE_NAME exactly where a name in it could not be read back, then
+   OUTPUT_FULL exactly where the pickle is longer than the output, else `length` bytes at its start, what stands behind being kept.
+   `text_len` must be the length of the table's text, here and below. */
 struct qelemvir_answer qelemvir_to_bytes(const uint64_t *words, size_t words_len, size_t count, const uint8_t *text, size_t text_len,
                                          uint8_t *output, size_t output_len);
 
 /* Write a line for each record: depth from 0, kind, content, with tabs between. Of texts and names a backslash is written as two, any
    other byte from 20 to 7E hex as itself, the rest as \x and two lower-case hex digits: two values with the same listing are the same
-   value. Refusals and output as for to_bytes. */
+   value. Refusals and output as for to_bytes, but for UNWRITABLE_NAME:
+   every name is listed. */
 struct qelemvir_answer qelemvir_list(const uint64_t *words, size_t words_len, size_t count, const uint8_t *text, size_t text_len,
                                      uint8_t *output, size_t output_len);
 

@@ -40,18 +40,6 @@ class Value:
         """The answer of a reading that takes this value from so many bytes."""
         return "value %d %d %s" % (length, len(self.words) // 4, self.asked)
 
-    def names(self):
-        for at in range(0, len(self.words), 4):
-            head, place, lengths = self.words[at:at + 3]
-            if head % 16 in (tables.GLOBAL, tables.OBJECT):
-                end = place + (lengths >> 32)
-                yield self.text[place:end]
-                yield self.text[end:end + (lengths & 0xFFFFFFFF)]
-
-    def loses_cr(self):
-        """A name that ends with CR is written as a line that ends CR LF, which is read without it (open point 5.7)."""
-        return any(name.endswith(b"\r") for name in self.names())
-
 
 class Asked:
     """Cases one after another, their requests, and what came of them. A case's tag is its place."""
@@ -84,9 +72,14 @@ class Asked:
     def ask_reading(self, call, pickle, answer, *slice):
         self.requests.append(wire.reading(call, self.tag, self.seed(), pickle, answer, *slice))
 
-    def ask_outputs(self, image, listing):
-        self.requests.append(wire.output(wire.WRITE, self.tag, self.seed(), image))
-        self.requests.append(wire.output(wire.LIST, self.tag, self.seed(), listing))
+    def ask_outputs(self, words, text, image):
+        """Write and list of the current value, which the Rust writes as this image."""
+        if tables.unwritable(words, text):
+            self.requests.append(wire.unwritable(self.tag, self.seed()))
+            self.count("values with a name that cannot be read back, 25 to to_bytes")
+        else:
+            self.requests.append(wire.output(wire.WRITE, self.tag, self.seed(), image))
+        self.requests.append(wire.output(wire.LIST, self.tag, self.seed(), tables.listing(words, text)))
 
     def ask_order(self, sign, first, second):
         self.requests.append(wire.comparison(self.tag, self.seed(), sign, first, second))
@@ -137,11 +130,12 @@ class Pickles(Asked):
         if self.draw.chance(SHORT):
             self.ask_short(pickle)
         if value:
-            self.ask_outputs(image, tables.listing(value.words, value.text))
+            self.ask_outputs(value.words, value.text, image)
             self.ask_order(0, wire.CURRENT, wire.CURRENT)
             self.ask_order(forth, wire.CURRENT, wire.PREVIOUS)
             self.ask_order(back, wire.PREVIOUS, wire.CURRENT)
-            self.ask_back(value, image, *again)
+            if not tables.unwritable(value.words, value.text):
+                self.ask_back(value, image, *again)
             if self.draw.chance(BROKEN):
                 self.give_value(value)
                 self.give(tables.broken_at(value.words, self.draw), value.text)
@@ -168,8 +162,6 @@ class Pickles(Asked):
             self.count("values read back the same")
         elif len(image) > LONGEST:
             self.count("values whose pickle is longer than may be read back")
-        elif value.loses_cr():
-            self.count("values read back without the CR that ends a name")
         else:
             return self.differs(self.tag, "written as %s, which the Rust reads back as %s" % (image.hex()[:300], prefix[:300]))
         if prefix.startswith("value ") and prefix != value.line(len(image)):
@@ -197,7 +189,8 @@ class Slices(Asked):
 
 
 class Tables(Asked):
-    """Tables that a reading seldom or never gives: written, listed, and each compared with each; and such as are not well formed."""
+    """Tables that a reading seldom or never gives: written, listed, and each compared with each; such as have newlines and CRs in their
+    names, written and listed; and such as are not well formed."""
 
     def __init__(self, seed):
         super().__init__(seed, 1)
@@ -211,7 +204,12 @@ class Tables(Asked):
                 self.give(*other)
                 self.ask_order(next(signs), wire.PREVIOUS, wire.CURRENT)
             self.give(words, text)
-            self.ask_outputs(image, tables.listing(words, text))
+            self.ask_outputs(words, text, image)
+        lines = [tables.table(value) for value in tables.named_in_lines()]
+        for (words, text), image in zip(lines, written(map(tables.asked, lines))):
+            self.begin("table", image, "value %d %d %s" % (len(image), len(words) // 4, tables.asked((words, text))))
+            self.give(words, text)
+            self.ask_outputs(words, text, image)
         for what, words, count, text in tables.broken():
             self.begin("table", what.encode(), "refused 21 1")
             self.give(*samples[self.draw.below(len(samples))])
@@ -221,4 +219,4 @@ class Tables(Asked):
 
 def sample_images():
     """What the Rust writes of those tables."""
-    return written([tables.asked(tables.table(value)) for value in tables.samples()])
+    return written([tables.asked(tables.table(value)) for value in tables.samples() + tables.named_in_lines()])

@@ -35,6 +35,11 @@ def output(call, tag, seed, due):
     return request(call, tag, seed, data=due)
 
 
+def unwritable(tag, seed):
+    """to_bytes of the current value, which has a name that cannot be read back."""
+    return request(WRITE, tag, seed, (25, 0, 0))
+
+
 def comparison(tag, seed, sign, first, second):
     return request(COMPARE, tag, seed, (0, 0, sign), first, second)
 

@@ -1,5 +1,6 @@
 """Value tables: from the oracle's answers, made by hand from Python values, and broken one rule at a time. A table is a pair of
 a list of 64-bit words and a text; its listing is written here from the rule, record by record."""
+import itertools
 
 NONE, BOOL, INT, FLOAT, BYTES, STRING, LIST, TUPLE, SET, FROZENSET, DICT, GLOBAL, OBJECT = range(13)
 KINDS = ["none", "bool", "int", "float", "bytes", "string", "list", "tuple", "set", "frozenset", "dict", "global", "object"]
@@ -92,6 +93,21 @@ def listing(words, text):
     return "".join(lines).encode()
 
 
+def names(words, text):
+    """The modules and names of Globals and of Objects' classes."""
+    for at in range(0, len(words), 4):
+        head, place, lengths = words[at:at + 3]
+        if head % 16 in (GLOBAL, OBJECT):
+            end = place + (lengths >> 32)
+            yield text[place:end]
+            yield text[end:end + (lengths & 0xFFFFFFFF)]
+
+
+def unwritable(words, text):
+    """Document 02, Ask 5: writing refuses a module or a name that contains a newline or ends with CR."""
+    return any(b"\n" in name or name.endswith(b"\r") for name in names(words, text))
+
+
 def tuple_of(*items):
     return (TUPLE, list(items))
 
@@ -124,6 +140,27 @@ def samples():
             (DICT, [one, none, two, none]), (GLOBAL, (b"m", b"n")), (GLOBAL, (b"", b"")), deep, sets,
             (DICT, [tuple_of(one), (SET, [two])]), (LIST, [none] * 2047), (BYTES, b"x" * 65536)
             ] + objects + named + texts + slashes + dicts
+
+
+def named_in_lines():
+    """Values whose modules and names have newlines and CRs at every place: alone, first, inside, last, doubled, and none."""
+    short = [bytes(s) for n in range(3) for s in itertools.product(b"x\n\r", repeat=n)]
+    longer = [bytes(s) for s in itertools.product(b"x\n\r", repeat=3)]
+    none, one = (NONE, None), (INT, 1)
+    globals_ = [(GLOBAL, pair) for name in short + longer for pair in ((name, b"n"), (b"m", name))]
+    objects = [(OBJECT, pair + (new, [tuple_of()])) for name in short for pair in ((name, b"n"), (b"m", name)) for new in (0, 1)]
+    inside = []
+    for name in (b"x\ny", b"x\r", b"x\ry"):
+        bad = (GLOBAL, (b"m", name))
+        made = (OBJECT, (name, b"n", 0, [tuple_of(bad), (DICT, [one, bad])]))
+        deep = bad
+        for _ in range(62):
+            deep = (LIST, [deep])
+        inside += [bad, made, (LIST, [none, bad, one]), (DICT, [bad, one]), (DICT, [one, bad]), (SET, [one, bad]), (FROZENSET, [one, bad]),
+                   (OBJECT, (b"m", b"C", 1, [tuple_of(bad)])), (OBJECT, (b"m", b"C", 0, [tuple_of(), bad])),
+                   (LIST, [(BYTES, name), (STRING, name), (GLOBAL, (b"m", b"n"))]), (LIST, [(GLOBAL, (b"m", b"n")), (BYTES, name)]),
+                   tuple_of((BYTES, b"\r"), deep)]
+    return globals_ + objects + inside
 
 
 def broken():
@@ -194,6 +231,8 @@ def broken():
     w, t = table((OBJECT, (b"m", b"C", 0, [(TUPLE, [])])))
     yield "a state that is not there", [w[0] + 32] + w[1:], len(w) // 4, t
     yield "text above 65,536", *flat(table((BYTES, b"x" * 65537)))
+    w, t = table((GLOBAL, (b"m\n", b"n\r")))
+    yield "names that cannot be written, and text longer than they", w, 1, t + b"x"
 
 
 def broken_at(words, d):

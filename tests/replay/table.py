@@ -6,6 +6,7 @@ import sys
 
 ROOT = os.path.join(os.path.dirname(os.path.abspath(__file__)), "..", "..")
 sys.path.insert(0, os.path.join(ROOT, "tests", "cases"))
+import tables  # noqa: E402
 from ask import ORACLE  # noqa: E402
 
 COMPARE, LIST, WRITE = 1, 2, 3
@@ -32,6 +33,11 @@ def listed(listing, output):
     if output < len(listing):
         return b"22\t0\t0\t0\t0\n"
     return b"0\t0\t%d\t0\t0\n" % len(listing) + listing
+
+
+def pickled(table, image, output):
+    """What the write call is due to answer, by the Rust's pickle of the table."""
+    return b"25\t0\t0\t0\t0\n" if tables.unwritable(*table) else listed(image, output)
 
 
 def written(asked):

@@ -1,10 +1,12 @@
 """Why the library refuses."""
 
-NAMES = [
+# By number; those that are left out are of later requests.
+NAMES = dict(enumerate((
     "ShortRoom", "TooLong", "EndOfInput", "UnsupportedOpcode", "UnsupportedProtocol", "StackUnderflow", "MissingMemo",
     "InvalidLiteral", "IntegerTooLarge", "Invalid", "TrailingData", "StackFull", "MarksFull", "MemoFull", "NodesFull",
     "LinksFull", "TooDeep", "TooManyValues", "TextFull", "FloatOutside", "BadTable", "OutputFull",
-]
+), 1))
+NAMES[25] = "UnwritableName"
 
 # By number and detail; None for those whose detail may be any.
 WORDS = {
@@ -37,6 +39,7 @@ WORDS = {
     (21, 1): "the table is not well formed",
     (21, 2): "the second table is not well formed",
     (22, 0): "the lent output is too short",
+    (25, 0): "a module or a name has a newline or ends with CR, and could not be read back",
 }
 
 
@@ -51,7 +54,7 @@ class Refused(Exception):
 
     @property
     def name(self):
-        return NAMES[self.number - 1] if 1 <= self.number <= len(NAMES) else "Other"
+        return NAMES.get(self.number, "Other")
 
     def __str__(self):
         words = WORDS.get((self.number, self.detail)) or WORDS.get((self.number, None)) or "refused"

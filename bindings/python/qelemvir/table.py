@@ -62,7 +62,7 @@ class Table:
         return ctypes.string_at(output, answer.length)
 
     def to_bytes(self):
-        """The value as a pickle of protocol 2."""
+        """The value as a pickle of protocol 2. Refused with UnwritableName where a module or a name in it would not come back."""
         return self._written(library.to_bytes, library.LONGEST_PICKLE)
 
     def list(self):

@@ -67,8 +67,8 @@ def stored_refusals():
             yield pickle, int(due.split(" ")[1]), int(due.split(" ")[2])
 
 
-def cases_of(enum):
-    """The names of an enum's cases in the source of crate refusal."""
+def numbered_refusals():
+    """Number to name, from the arms of `number` in the source of crate refusal."""
     with open(os.path.join(ROOT, "crates", "refusal", "src", "lib.rt"), encoding="utf-8") as file:
-        body = re.search(r"pub enum %s \{(.*?)\n\}" % enum, file.read(), re.DOTALL).group(1)
-    return re.findall(r"^    (\w+)", body, re.MULTILINE)
+        body = re.search(r"pub fn number\(.*?\n\}", file.read(), re.DOTALL).group(0)
+    return {int(number): name for name, number in re.findall(r"Refusal::(\w+)(?:\(_\))? => (\d+),", body)}

@@ -6,7 +6,7 @@ import sys
 import threading
 import unittest
 
-from support import cases_of, qelemvir, stored_refusals, stored_values
+from support import numbered_refusals, qelemvir, stored_refusals, stored_values
 
 SHARED = b"\x80\x02]q\0h\0K\x05a\x86."
 
@@ -89,17 +89,17 @@ class Refusals(unittest.TestCase):
 
     def test_each_has_its_own(self):
         details = {10: range(1, 8), 21: (1, 2)}
-        known = [qelemvir.Refused(number, detail) for number in range(1, 23) for detail in details.get(number, (0,))]
+        known = [qelemvir.Refused(number, detail) for number in numbered_refusals() for detail in details.get(number, (0,))]
         self.assertEqual(len({str(why).split(" (")[0] for why in known}), len(known))
-        self.assertEqual(len({why.name for why in known}), 22)
+        self.assertEqual(len({why.name for why in known}), len(numbered_refusals()))
 
     def test_names(self):
-        """Those of crate refusal, numbered in its order."""
-        self.assertEqual([qelemvir.Refused(n, 0).name for n in range(1, 23)], cases_of("Refusal"))
+        """Those of crate refusal, with its numbers."""
+        self.assertEqual({n: qelemvir.Refused(n, 0).name for n in numbered_refusals()}, numbered_refusals())
 
     def test_later_numbers(self):
-        why = qelemvir.Refused(25, 3)
-        self.assertEqual((why.name, str(why)), ("Other", "refused (Other: number 25, detail 3)"))
+        why = qelemvir.Refused(39, 3)
+        self.assertEqual((why.name, str(why)), ("Other", "refused (Other: number 39, detail 3)"))
         self.assertEqual(str(qelemvir.Refused(10, 8)), "refused (Invalid: number 10, detail 8)")
 
     def test_can_be_sent_on(self):

@@ -49,6 +49,8 @@ pub enum Error {
     FloatOutside,
     BadTable(Which),
     OutputFull,
+    /// A module or a name has a newline or ends with CR, and is not written.
+    UnwritableName,
     /// A refusal of a later edition of the library, which this crate does not know.
     Other { number: u64, detail: u64 },
 }
@@ -86,6 +88,7 @@ impl Error {
             (21, 1) => Error::BadTable(Which::First),
             (21, 2) => Error::BadTable(Which::Second),
             (22, 0) => Error::OutputFull,
+            (25, 0) => Error::UnwritableName,
             _ => Error::Other { number, detail },
         }
     }
@@ -114,6 +117,7 @@ impl Error {
             Error::FloatOutside => 20,
             Error::BadTable(_) => 21,
             Error::OutputFull => 22,
+            Error::UnwritableName => 25,
             Error::Other { number, .. } => number,
         }
     }
@@ -163,6 +167,7 @@ impl fmt::Display for Error {
             Error::BadTable(Which::First) => "the table is not well formed",
             Error::BadTable(Which::Second) => "the second table is not well formed",
             Error::OutputFull => "the lent output is too short",
+            Error::UnwritableName => "a module or a name has a newline or ends with CR, and could not be read back",
         };
         f.write_str(words)
     }

@@ -51,7 +51,7 @@ impl Value {
         Records::new(&self.words, &self.text)
     }
 
-    /// The value as a pickle of protocol 2. No value is refused today; a later edition may refuse names that would not come back.
+    /// The value as a pickle of protocol 2. [`Error::UnwritableName`] where a module or a name in it would not come back.
     pub fn to_bytes(&self) -> Result<Vec<u8>, Error> {
         let mut output = vec![0; LONGEST_PICKLE];
         let length = calls::to_bytes(&self.words, &self.text, &mut output)?;

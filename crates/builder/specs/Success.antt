@@ -5,7 +5,7 @@ use mathlib.Core.List.{List}
 use mathlib.Core.Path.{_≡_, refl}
 use native.Mathlib.Omega.{arith}
 use Rattle.refusal.specs.declared.Refusal.{Refusal}
-use Rattle.refusal.specs.declared.Refusal.the-variants.{ShortRoom, TooLong, EndOfInput, UnsupportedOpcode, UnsupportedProtocol, StackUnderflow, MissingMemo, InvalidLiteral, IntegerTooLarge, Invalid, TrailingData, StackFull, MarksFull, MemoFull, NodesFull, LinksFull, TooDeep, TooManyValues, TextFull, FloatOutside, BadTable, OutputFull}
+use Rattle.refusal.specs.declared.Refusal.the-variants.{ShortRoom, TooLong, EndOfInput, UnsupportedOpcode, UnsupportedProtocol, StackUnderflow, MissingMemo, InvalidLiteral, IntegerTooLarge, Invalid, TrailingData, StackFull, MarksFull, MemoFull, NodesFull, LinksFull, TooDeep, TooManyValues, TextFull, FloatOutside, BadTable, OutputFull, UnwritableName}
 use Rattle.refusal.specs.Numbers.{numberOf}
 use Rattle.input.specs.Bytes.{Bytes}
 use Rattle.value.specs.Value.{one}
@@ -44,6 +44,7 @@ refusal-number TextFull e = omega arith
 refusal-number FloatOutside e = omega arith
 refusal-number (BadTable which) e = omega arith
 refusal-number OutputFull e = omega arith
+refusal-number UnwritableName e = omega arith
 
 both-out : {A : Type 0} (P Q : A → Type 0) (r : Res A) → Out P r → Out Q r → Out (λ (a : A). P a × Q a) r
 unfolding Out

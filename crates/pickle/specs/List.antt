@@ -30,7 +30,7 @@ unfoldable pub listed : Value → List ℕ
 listed v = listing 0 (one v)
 
 abbrev pub ListCall : List ℕ → ℕ → List ℕ → List ℕ → List ℕ → Answer → Type 0
-ListCall w n t o o′ r = Call listed w n t o o′ r
+ListCall w n t o o′ r = Call (λ v. answered (listed v)) w n t o o′ r
 
 -- the answer and the output are determined
 pub list-one : (w : List ℕ) (n : ℕ) (t o p q : List ℕ) (r s : Answer) → ListCall w n t o p r → ListCall w n t o q s → (r ≡ s) × (p ≡ q)
@@ -92,4 +92,4 @@ called-written b o = go (leb (length b) (length o))
 
 pub list-good : (w : List ℕ) (n : ℕ) (t o o′ : List ℕ) (r : Answer) → WellFormed w n t → (l : Listed) → Lists w n t o o′ l → told r o′ ≡ called (outcome l o′) → ListCall w n t o o′ r
 unfolding listed
-list-good w n t o o′ r f l h e = call-good listed w n t o o′ r f (λ g. e ∙ ap called (h g) ∙ called-written (listing 0 (one (g .value))) o)
+list-good w n t o o′ r f l h e = call-good (λ v. answered (listed v)) w n t o o′ r f (λ g. e ∙ ap called (h g) ∙ called-written (listing 0 (one (g .value))) o)

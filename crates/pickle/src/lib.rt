@@ -165,7 +165,7 @@ pub extern "C" fn qelemvir_list(
     }
 }
 
-// A value as a pickle: BadTable, then OutputFull, else the bytes written.
+// A value as a pickle: BadTable, then UnwritableName, then OutputFull, else the bytes written.
 #[no_mangle]
 pub extern "C" fn qelemvir_to_bytes(
     words: &[u64],

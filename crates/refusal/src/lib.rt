@@ -43,6 +43,7 @@ pub enum Refusal {
     FloatOutside,
     BadTable(Which),
     OutputFull,
+    UnwritableName,
 }
 
 // Number 0 is success. `length`: bytes read or written; `count`: a reading's records.
@@ -80,6 +81,7 @@ pub fn number(why: Refusal) -> u64
         Refusal::FloatOutside => 20,
         Refusal::BadTable(_) => 21,
         Refusal::OutputFull => 22,
+        Refusal::UnwritableName => 25,
     }
 }
 
@@ -132,6 +134,7 @@ pub fn detail(why: Refusal) -> u64
         Refusal::FloatOutside => 0,
         Refusal::BadTable(which) => which_detail(which),
         Refusal::OutputFull => 0,
+        Refusal::UnwritableName => 0,
     }
 }
 

@@ -1,22 +1,30 @@
 -- One law for each turn and each end of the code's loops, and for each way that a function writes. Assumes nothing.
 use Prim.Native.Nat.{ℕ, suc, zero, _+_, _-_, _^_, _/_, _%_, _≤_, _<_}
-use mathlib.Core.Bool.{Bool, true, false}
+use mathlib.Core.Bool.{Bool, true, false, not, cond, _&&_, _||_}
 use mathlib.Core.List.{List, [], _∷_, _++_}
-use mathlib.Core.Path.{_≡_, refl, sym}
+use mathlib.Core.Path.{_≡_, refl, sym, _∙_, ap}
 use native.Mathlib.Numerals.{add-one}
 use native.Mathlib.Omega.{arith}
 use mathlib.Core.Logic.{_≢_}
+use lib.Dec.{eqb}
 use borrow.Author.Tests.{le-leb, lt-leb, ne-eqb}
 use lib.ListN.{length, set, getD, take, drop, drop-of-length-le}
 use lib.Seq.{sets, drop-cons, drop-drop}
 use Rattle.list.specs.Put.{Put, Room, Left, left-more, left-room, left-none, room-first, sets-last}
 use Rattle.op.specs.Table.{numberOf, numberIn, isNamed, place}
+use Rattle.refusal.specs.Read.{Read, got, refused}
+use Rattle.input.specs.declared.LineEnd.{LineEnd}
+use Rattle.input.specs.declared.LineEnd.the-variants.{At, End}
+use Rattle.input.specs.Bytes.{lastByte}
+use Rattle.input.specs.Line.{lineEnd, firstFrom, newlineOf}
 use Rattle.value.specs.Value.{bit}
 use Rattle.value.specs.Shape.{moduleOf, nameOf}
+use Rattle.value.specs.Stands.{labelAt}
 use Rattle.list.specs.Decimal.{signedText}
 use Rattle.list.specs.Listing.{newline}
 use Rattle.ser.specs.Image.{low, high, inI32, int, float, bytes, string, global, builtin, setOpening, bool, joined, listBatch, dictBatch, batch, batchesUpTo, batches, appends, tupleOpcode, tupleMark, tuple, objectOpcode, built, object, framed}
 use Rattle.ser.specs.Short.{high-length}
+use Rattle.ser.specs.Writable.{hasNewline, endsCr, writable, writableLabel, writableFrom, from-more}
 use Rattle.ser.specs.Parts.{Same, Cuts, behind, ahead}
 
 -- ---- write_all: the bytes from i on are left
@@ -162,6 +170,63 @@ set-parts k = refl
 
 pub names-global : (t : List ℕ) (p c : ℕ) (m k : List ℕ) → m ≡ take (c / 2 ^ 32) (drop p t) → k ≡ take (c % 2 ^ 32) (drop (p + c / 2 ^ 32) t) → global m k ≡ global (moduleOf c (drop p t)) (nameOf c (drop p t))
 names-global t p c m k e f = rw (e, f, drop-drop (c / 2 ^ 32) p t)
+
+-- ---- names that can be read back: the search for a newline, and the last byte
+
+-- whether a search found a place
+abbrev found : Read ℕ → Bool
+found (got i) = true
+found (refused why at) = false
+
+newline-found : (s : List ℕ) (k : ℕ) → hasNewline s ≡ found (firstFrom s k)
+unfolding hasNewline firstFrom
+newline-found [] k = refl
+newline-found (b ∷ s) k = go (eqb b 10) (newline-found s (suc k))
+  where
+    go : (c : Bool) → hasNewline s ≡ found (firstFrom s (suc k)) → (c || hasNewline s) ≡ found (cond c (got k) (firstFrom s (suc k)))
+    go true e = refl
+    go false e = e
+
+module _ (s : List ℕ) (r : LineEnd) (e : lineEnd r ≡ newlineOf s 0) where
+  newline-told : hasNewline s ≡ found (lineEnd r)
+  unfolding newlineOf
+  newline-told = newline-found s 0 ∙ ap found (sym e)
+
+  pub name-broken : {i : ℕ} → r ≡ At i → false ≡ writable s
+  unfolding writable lineEnd
+  name-broken q = let h : hasNewline s ≡ true = newline-told ∙ rw q in sym (rw h)
+
+  pub name-whole : {c : Bool} → r ≡ End → c ≡ endsCr s → not c ≡ writable s
+  unfolding writable lineEnd
+  name-whole q h = let n : hasNewline s ≡ false = newline-told ∙ rw q in rw (n, h)
+
+pub empty-no-cr : (s : List ℕ) → length s ≡ 0 → false ≡ endsCr s
+unfolding endsCr lastByte
+empty-no-cr [] h = refl
+empty-no-cr (b ∷ s) h = absurd (omega arith)
+
+module _ (t : List ℕ) (p c : ℕ) {m : List ℕ} (e : m ≡ take (c / 2 ^ 32) (drop p t)) where
+  pub module-not : writable m ≡ false → false ≡ (writable (moduleOf c (drop p t)) && writable (nameOf c (drop p t)))
+  module-not h = sym (rw (← e, h))
+
+  pub module-and : {k : List ℕ} → writable m ≡ true → k ≡ take (c % 2 ^ 32) (drop (p + c / 2 ^ 32) t) → writable k ≡ (writable (moduleOf c (drop p t)) && writable (nameOf c (drop p t)))
+  module-and h f = sym (rw (← e, h, f, drop-drop (c / 2 ^ 32) p t))
+
+-- the records from i on are left to look at
+
+pub names-all : (w t : List ℕ) (n : ℕ) → writableFrom w t 0 (n - 0) ≡ writableFrom w t 0 n
+names-all w t n = ap (writableFrom w t 0) (omega arith)
+
+module _ (w t : List ℕ) (i n : ℕ) where
+  pub names-turn : i < n → writableLabel (labelAt w t i) ≡ true → writableFrom w t (i + 1) (n - (i + 1)) ≡ writableFrom w t i (n - i)
+  names-turn h l = let e : n - i - 1 ≡ n - (i + 1) = omega arith in sym (from-more w t i (n - i) (omega arith) ∙ rw (l, e))
+
+  pub names-stop : i < n → writableLabel (labelAt w t i) ≡ false → false ≡ writableFrom w t i (n - i)
+  names-stop h l = sym (from-more w t i (n - i) (omega arith) ∙ rw l)
+
+  pub names-end : n ≤ i → true ≡ writableFrom w t i (n - i)
+  unfolding writableFrom
+  names-end h = let e : n - i ≡ 0 = omega arith in rw e
 
 -- ---- what the functions of the cycle make of the values
 

@@ -1,6 +1,6 @@
 -- What is written of a record, by its kind: what stands before its contents, and what is made of those. Assumes nothing.
 use Prim.Native.Nat.{ℕ, suc, zero, _+_, _*_, _≤_, _<_}
-use mathlib.Core.Bool.{true}
+use mathlib.Core.Bool.{true, _&&_}
 use mathlib.Core.List.{List, [], _∷_, _++_}
 use mathlib.Core.Path.{_≡_, refl, sym}
 use native.Mathlib.Nat.{add-zero}
@@ -12,9 +12,11 @@ use Rattle.value.specs.declared.Head.{Head}
 use Rattle.value.specs.Value.{Label, bit, NoneL}
 use Rattle.value.specs.Shape.{kindIn, newIn, stateIn, headOf, labelsOf, labelOf, arityOf, moduleOf, nameOf}
 use Rattle.value.specs.Stands.{wordAt, labelAt, arityAt, Reads}
+use Rattle.table.specs.Record.{Below, below}
 use Rattle.list.specs.Decimal.{either}
 use Rattle.ser.specs.Image.{int, float, bytes, string, global, set, frozenset, setOpening, bool, opening, appends, tuple, object, batches, contents}
 use Rattle.ser.specs.Parts.{Same, ahead}
+use Rattle.ser.specs.Writable.{writable, writableLabel}
 use Rattle.ser.proofs.Laws.{numbers}
 
 module _ (w t : List ℕ) (i : ℕ) (r : Reads w t i) (h : Head) (q : h ≡ headOf (getD w (4 * i) 0)) where
@@ -37,6 +39,21 @@ module _ (w t : List ℕ) (i : ℕ) (r : Reads w t i) (h : Head) (q : h ≡ head
   opens-names g =
       either (h .kind) 12 (λ l. let e : h .kind ≡ 11 = omega arith in sym (rw (kind₀, e)))
       (λ l. let e : h .kind ≡ 12 = omega (arith, known) in sym (rw (kind₀, e)))
+
+  -- whether they can be read back; no other label has any
+  pub names-writable : 10 < h .kind → (writable (moduleOf (wordAt w i 2) (drop (wordAt w i 1) t)) && writable (nameOf (wordAt w i 2) (drop (wordAt w i 1) t))) ≡ writableLabel label
+  unfolding writableLabel labelAt labelOf
+  names-writable g =
+      either (h .kind) 12 (λ l. let e : h .kind ≡ 11 = omega arith in sym (rw (kind₀, e)))
+      (λ l. let e : h .kind ≡ 12 = omega (arith, known) in sym (rw (kind₀, e)))
+
+  pub no-names : h .kind ≤ 10 → true ≡ writableLabel label
+  unfolding writableLabel labelAt labelOf Below
+  no-names g =
+      let a = wordAt w i 0 in
+      let b = wordAt w i 1 in
+      let c = wordAt w i 2 in
+      rw kind₀ (below 11 (λ k. true ≡ writableLabel (getD (labelsOf a b c (drop b t)) k NoneL)) (refl, (refl, (refl, (refl, (refl, (refl, (refl, (refl, (refl, (refl, (refl, tt))))))))))) (h .kind) (omega arith))
 
   pub opens-list : h .kind ≡ 6 → 0x5D ∷ [] ≡ opening label
   unfolding opening labelAt labelOf numbers

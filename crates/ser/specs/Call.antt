@@ -1,30 +1,37 @@
--- The write call: a table's value as a pickle. 21, then 22 exactly where the pickle is longer than the lent output.
+-- The write call: a table's value as a pickle. 21, then 25 exactly where the value has a name that cannot be read back, then 22
+-- exactly where the pickle is longer than the lent output.
 use Prim.Native.Nat.{ℕ, _+_, _≤_, _<_}
+use mathlib.Core.Bool.{true, false, cond}
 use mathlib.Core.List.{List, _++_}
 use mathlib.Core.Path.{_≡_, sym, _∙_}
 use native.Mathlib.Omega.{arith}
 use lib.ListN.{length, drop}
 use lib.Seq.{sets-eq}
 use Rattle.refusal.specs.declared.Answer.{Answer}
-use Rattle.refusal.specs.declared.Refusal.the-variants.{OutputFull}
+use Rattle.refusal.specs.declared.Refusal.the-variants.{OutputFull, UnwritableName}
 use Rattle.refusal.specs.Numbers.{refusedAnswer}
-use Rattle.value.specs.Value.{one}
+use Rattle.value.specs.Value.{Value, one, size}
 use Rattle.value.specs.WellFormed.{WellFormed}
-use Rattle.table.specs.Call.{told, done, answered, answered-full, answered-all, Call, call-one, call-good}
+use Rattle.table.specs.Call.{Told, told, done, answered, answered-full, answered-all, Call, call-one, call-good}
 use Rattle.list.specs.Put.{Put}
 use Rattle.list.specs.Walk.{whole-stands, whole-one}
 use Rattle.ser.specs.Image.{framed, pickled}
 use Rattle.ser.specs.Walk.{Ready, Puts}
 use Rattle.ser.specs.Short.{written-short}
+use Rattle.ser.specs.Writable.{writableIn, writableFrom, from-values, Readable, values-read}
+
+-- of a well-formed table's value, and the output that is lent
+unfoldable pub written : Value → List ℕ → Told
+written v o = cond (writableIn (one v)) (answered (pickled v) o) (told (refusedAnswer UnwritableName) o)
 
 abbrev pub WriteCall : List ℕ → ℕ → List ℕ → List ℕ → List ℕ → Answer → Type 0
-WriteCall w n t o o′ r = Call pickled w n t o o′ r
+WriteCall w n t o o′ r = Call written w n t o o′ r
 
 -- any two results that the call may have are one
 pub write-one : (w : List ℕ) (n : ℕ) (t o p q : List ℕ) (r s : Answer) → WriteCall w n t o p r → WriteCall w n t o q s → (r ≡ s) × (p ≡ q)
 write-one w n t o p q r s x y = call-one x y
 
--- ---- the call measures, then writes
+-- ---- the call looks at the names, measures, then writes
 
 module _ (w : List ℕ) (n : ℕ) (t : List ℕ) where
   pub ready-all : WellFormed w n t → Ready framed w t 0 1 0
@@ -35,14 +42,27 @@ module _ (w : List ℕ) (n : ℕ) (t : List ℕ) where
   unfolding pickled
   put-pickled o o′ m x f = x (one (f .value)) (whole-stands w n t f) (whole-one w n t f)
 
-  module _ (none none′ : List ℕ) (m : ℕ) (measured : Puts framed w t 0 1 none 0 none′ m) (f : WellFormed w n t) (o : List ℕ) where
+  -- every record can be looked at, and they say whether all names can be read back
+  pub read-all : WellFormed w n t → Readable w t 0 n
+  read-all f = rw (f .counted) at (values-read w t (one (f .value)) 0 (whole-stands w n t f))
+
+  names-all : (f : WellFormed w n t) → writableIn (one (f .value)) ≡ writableFrom w t 0 n
+  names-all f = sym (from-values w t (one (f .value)) 0 (whole-stands w n t f)) ∙ rw (f .counted)
+
+  pub write-unwritable : (o : List ℕ) (r : Answer) → WellFormed w n t → writableFrom w t 0 n ≡ false → r ≡ refusedAnswer UnwritableName → WriteCall w n t o o r
+  unfolding written
+  write-unwritable o r f h e = call-good written w n t o o r f (λ g. rw (names-all g, h, e))
+
+  module _ (none none′ : List ℕ) (m : ℕ) (measured : Puts framed w t 0 1 none 0 none′ m) (f : WellFormed w n t) (names : writableFrom w t 0 n ≡ true) (o : List ℕ) where
     pub write-full : (r : Answer) → length o < m → r ≡ refusedAnswer OutputFull → WriteCall w n t o o r
+    unfolding written
     write-full r h e =
-        call-good pickled w n t o o r f
-        (λ g. rw e (sym (answered-full (pickled (g .value)) o (omega (arith, put-pickled none none′ m measured g .ends)))))
+        call-good written w n t o o r f
+        (λ g. rw (names-all g, names, e) (sym (answered-full (pickled (g .value)) o (omega (arith, put-pickled none none′ m measured g .ends)))))
 
     pub write-all : (o′ : List ℕ) (p : ℕ) → m ≤ length o → Puts framed w t 0 1 o 0 o′ p → WriteCall w n t o o′ (done p)
-    write-all o′ p h x = call-good pickled w n t o o′ (done p) f good
+    unfolding written
+    write-all o′ p h x = call-good written w n t o o′ (done p) f (λ g. rw (names-all g, names) (good g))
       where
         good : (g : WellFormed w n t) → told (done p) o′ ≡ answered (pickled (g .value)) o
         good g =

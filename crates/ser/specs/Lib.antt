@@ -5,4 +5,5 @@ pub mod Walk
 pub mod Parts
 pub mod Short
 pub mod Back
+pub mod Writable
 pub mod Call

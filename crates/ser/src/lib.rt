@@ -1,10 +1,12 @@
 // Writing (ser.rs): a value's bytes, at protocol 2 as Python 2 writes it, without the memo. As in crate `list`, a function writes from
 // `at` on, as far as the output goes, and answers the next place; so the length is measured by writing to no output. `to_writer`
 // is left out.
+use input::LineEnd;
 use refusal::Answer;
 use refusal::Refusal;
 use refusal::Which;
 ghost use mathlib.Core.Path.{_≡_};
+ghost use mathlib.Core.Bool.{_&&_};
 ghost use Prim.Native.Nat.{_≤_, suc, min};
 ghost use lib.ListN.{length, drop};
 ghost use Rattle.value.specs.Value.{bit};
@@ -14,6 +16,7 @@ ghost use Rattle.op.specs.Table.{numberOf};
 ghost use Rattle.value.specs.Shape.{namesEnd, moduleOf, nameOf};
 ghost use Rattle.ser.specs.Image.{low, high, inI32, int, float, bytes, string, global, setOpening, bool, opening, joined, batch, batchSize, batches, appends, tupleMark, tupleOpcode, tuple, objectOpcode, object, framed};
 ghost use Rattle.ser.specs.Walk.{Ready, Puts, Wrote};
+ghost use Rattle.ser.specs.Writable.{endsCr, writable, writableLabel, writableFrom, Readable};
 ghost use Rattle.ser.specs.Call.{WriteCall};
 
 fn write_all(bytes: &[u8], output: &mut [u8], at: usize) -> usize
@@ -498,11 +501,76 @@ fn encode_pickle(words: &[u64], text: &[u8], output: &mut [u8]) -> usize
     list::put_byte(op::STOP, output, end.at)
 }
 
-// BadTable, then OutputFull, else the bytes written; measured first, so that an output that is too short stays as it is.
+fn ends_with_cr(name: &[u8]) -> bool
+    ensures { λ r. ⌜ r ≡ endsCr (now (name .entry)) ⌝ }
+{
+    let len = name.len();
+    if len == 0 {
+        return false;
+    }
+    name[len - 1] == b'\r'
+}
+
+// Whether a module or a name is the line that a reader finds where it was written.
+fn name_is_writable(name: &[u8]) -> bool
+    ensures { λ r. ⌜ r ≡ writable (now (name .entry)) ⌝ }
+{
+    match input::newline(name, 0) {
+        LineEnd::At(_) => false,
+        LineEnd::End => !ends_with_cr(name),
+    }
+}
+
+// The same of a module and a name, which stand as for `encode_names`.
+fn names_are_writable(text: &[u8], from: u64, lengths: u64) -> bool
+    requires { ⌜ namesEnd from lengths ≤ length (now text) ⌝ }
+    ensures { λ r. ⌜ r ≡ (writable (moduleOf lengths (drop from (now (text .entry)))) && writable (nameOf lengths (drop from (now (text .entry))))) ⌝ }
+{
+    let start = from as usize;
+    let first = (lengths / 0x1_0000_0000) as usize;
+    let second = (lengths % 0x1_0000_0000) as usize;
+    if !name_is_writable(value::part(text, start, first)) {
+        return false;
+    }
+    name_is_writable(value::part(text, start + first, second))
+}
+
+// The same of record i; only a Global and an Object have names.
+fn record_is_writable(words: &[u64], text: &[u8], i: usize) -> bool
+    requires { ⌜ Reads (now words) (now text) i ⌝ }
+    ensures { λ r. ⌜ r ≡ writableLabel (labelAt (now (words .entry)) (now (text .entry)) i) ⌝ }
+{
+    let kind = value::head_of(words[4 * i]).kind;
+    if kind > 10 {
+        return names_are_writable(text, words[4 * i + 1], words[4 * i + 2]);
+    }
+    true
+}
+
+// The same of all records.
+fn is_writable(words: &[u64], count: usize, text: &[u8]) -> bool
+    requires { ⌜ Readable (now words) (now text) 0 count ⌝ }
+    ensures { λ r. ⌜ r ≡ writableFrom (now (words .entry)) (now (text .entry)) 0 count ⌝ }
+{
+    let mut i = 0;
+    while i < count {
+        if !record_is_writable(words, text, i) {
+            return false;
+        }
+        i += 1;
+    }
+    true
+}
+
+// BadTable, then UnwritableName, then OutputFull, else the bytes written; measured first, so that an output that is too short
+// stays as it is.
 pub fn to_bytes(words: &[u64], count: usize, text: &[u8], output: &mut [u8]) -> Answer
     ensures { λ r. ⌜ WriteCall (now (words .entry)) count (now (text .entry)) (now (output .entry)) (now (output .exit)) r ⌝ }
 {
     if table::well_formed(words, count, text) {
+        if !is_writable(words, count, text) {
+            return refusal::refused(Refusal::UnwritableName);
+        }
         let mut none: [u8; 0] = [];
         let measured = encode_pickle(words, text, &mut none);
         if output.len() < measured {

@@ -1,5 +1,5 @@
--- A call that writes something of a table's value to a lent output, its image: 21, then 22 exactly where the image is longer than
--- the output; else the image at its front, and the image's length.
+-- A call that writes something of a table's value to a lent output: 21, else what is due for the value and the output. Where
+-- bytes are due, 22 exactly where they are longer than the output; else they stand at its front, and their length is answered.
 use Prim.Native.Nat.{ℕ, _≤_, _<_}
 use mathlib.Core.Bool.{cond}
 use mathlib.Core.List.{List, _++_}
@@ -28,13 +28,13 @@ done n = record { number = 0; detail = 0; length = n; count = 0 }
 unfoldable pub answered : List ℕ → List ℕ → Told
 answered b o = cond (leb (length b) (length o)) (told (done (length b)) (b ++ drop (length b) o)) (told (refusedAnswer OutputFull) o)
 
-pub record Call (image : Value → List ℕ) (w : List ℕ) (n : ℕ) (t o o′ : List ℕ) (r : Answer) : Type 0 where
+pub record Call (due : Value → List ℕ → Told) (w : List ℕ) (n : ℕ) (t o o′ : List ℕ) (r : Answer) : Type 0 where
   pub bad : (WellFormed w n t → ⊥) → told r o′ ≡ told (refusedAnswer (BadTable First)) o
-  pub good : (f : WellFormed w n t) → told r o′ ≡ answered (image (f .value)) o
+  pub good : (f : WellFormed w n t) → told r o′ ≡ due (f .value) o
 
 -- the answer and the output are determined
-pub call-one : {image : Value → List ℕ} {w : List ℕ} {n : ℕ} {t o p q : List ℕ} {r s : Answer} → Call image w n t o p r → Call image w n t o q s → (r ≡ s) × (p ≡ q)
-call-one {image} {w} {n} {t} {o} {p} {q} {r} {s} x y = go (decided w n t)
+pub call-one : {due : Value → List ℕ → Told} {w : List ℕ} {n : ℕ} {t o p q : List ℕ} {r s : Answer} → Call due w n t o p r → Call due w n t o q s → (r ≡ s) × (p ≡ q)
+call-one {due} {w} {n} {t} {o} {p} {q} {r} {s} x y = go (decided w n t)
   where
     both : told r p ≡ told s q → (r ≡ s) × (p ≡ q)
     both e = (cc, cc)
@@ -43,13 +43,13 @@ call-one {image} {w} {n} {t} {o} {p} {q} {r} {s} x y = go (decided w n t)
     go (inl f) = both (x .good f ∙ sym (y .good f))
     go (inr h) = both (x .bad h ∙ sym (y .bad h))
 
--- ---- the three answers
+-- ---- the answers
 
-module _ (image : Value → List ℕ) (w : List ℕ) (n : ℕ) (t o o′ : List ℕ) (r : Answer) where
-  pub call-bad : (WellFormed w n t → ⊥) → r ≡ refusedAnswer (BadTable First) → o′ ≡ o → Call image w n t o o′ r
+module _ (due : Value → List ℕ → Told) (w : List ℕ) (n : ℕ) (t o o′ : List ℕ) (r : Answer) where
+  pub call-bad : (WellFormed w n t → ⊥) → r ≡ refusedAnswer (BadTable First) → o′ ≡ o → Call due w n t o o′ r
   call-bad h e k = record { bad = λ q. (cc); good = λ f. absurd (h f) }
 
-  pub call-good : WellFormed w n t → ((f : WellFormed w n t) → told r o′ ≡ answered (image (f .value)) o) → Call image w n t o o′ r
+  pub call-good : WellFormed w n t → ((f : WellFormed w n t) → told r o′ ≡ due (f .value) o) → Call due w n t o o′ r
   call-good f h = record { bad = λ q. absurd (q f); good = h }
 
 -- the output is too short, or it is not
