@@ -10,7 +10,8 @@ use lib.Seq.{getD-take, getD-drop}
 use native.Mathlib.Decide.{ℕ-discrete}
 use native.Mathlib.Omega.{arith}
 use Rattle.refusal.specs.declared.Refusal.the-variants.{EndOfInput, UnsupportedOpcode}
-use Rattle.op.specs.Table.{numberOf, numberIn, isNamed, place, opcodeOf, knownName, rowOf, rowIn}
+use Rattle.op.specs.Table.{numberOf, numberIn, isNamed, place, opcodeOf}
+use Rattle.op.specs.Named.{named}
 use Rattle.op.specs.declared.Opcode.{Opcode}
 use Rattle.op.specs.declared.Opcode.the-variants.{MARK, STOP, POP, «POP_MARK», DUP, FLOAT, INT, BININT, BININT1, LONG, BININT2, NONE, REDUCE, STRING, BINSTRING, «SHORT_BINSTRING», UNICODE, BINUNICODE, APPEND, BUILD, GLOBAL, DICT, «EMPTY_DICT», APPENDS, GET, BINGET, «LONG_BINGET», LIST, «EMPTY_LIST», PUT, BINPUT, «LONG_BINPUT», SETITEM, TUPLE, «EMPTY_TUPLE», SETITEMS, BINFLOAT, PROTO, NEWOBJ, TUPLE1, TUPLE2, TUPLE3, NEWTRUE, NEWFALSE, LONG1, LONG4}
 use Rattle.decoder.specs.declared.Counts.{Counts}
@@ -40,56 +41,6 @@ pub record Agrees (p n d s m k h : List ℕ) (r : Rooms) : Type 0 where
   pub marks : r .marks ≡ m
   pub keys : r .keys ≡ k
   pub held : r .held ≡ h
-
--- a name's own number decides to it
-pub named : (o : Opcode) → opcodeOf (numberOf o) ≡ some o
-unfolding opcodeOf knownName rowOf rowIn numberOf numberIn isNamed place
-named MARK = refl
-named STOP = refl
-named POP = refl
-named «POP_MARK» = refl
-named DUP = refl
-named FLOAT = refl
-named INT = refl
-named BININT = refl
-named BININT1 = refl
-named LONG = refl
-named BININT2 = refl
-named NONE = refl
-named REDUCE = refl
-named STRING = refl
-named BINSTRING = refl
-named «SHORT_BINSTRING» = refl
-named UNICODE = refl
-named BINUNICODE = refl
-named APPEND = refl
-named BUILD = refl
-named GLOBAL = refl
-named DICT = refl
-named «EMPTY_DICT» = refl
-named APPENDS = refl
-named GET = refl
-named BINGET = refl
-named «LONG_BINGET» = refl
-named LIST = refl
-named «EMPTY_LIST» = refl
-named PUT = refl
-named BINPUT = refl
-named «LONG_BINPUT» = refl
-named SETITEM = refl
-named TUPLE = refl
-named «EMPTY_TUPLE» = refl
-named SETITEMS = refl
-named BINFLOAT = refl
-named PROTO = refl
-named NEWOBJ = refl
-named TUPLE1 = refl
-named TUPLE2 = refl
-named TUPLE3 = refl
-named NEWTRUE = refl
-named NEWFALSE = refl
-named LONG1 = refl
-named LONG4 = refl
 
 -- a number that is no name's decides to none
 unknown : (b : ℕ) → ((o : Opcode) → b ≢ numberOf o) → opcodeOf b ≡ none

@@ -1,2 +1,3 @@
 -- The table of opcodes.
 pub mod Table
+pub mod Named
