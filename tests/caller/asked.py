@@ -11,6 +11,7 @@ from tally import Tally
 
 STREAM = 99                     # of the draws here, beside those of the kinds of cases
 SHORT, BROKEN = 1 / 8, 1 / 8    # how often a slice is too short, a table broken
+TWICE, TAIL = 1 / 4, 300        # how often a pickle stands behind itself; else at most so many random bytes do
 LONGEST = 65536
 
 
@@ -169,6 +170,19 @@ class Pickles(Asked):
             self.give_value(value)
         self.ask_due(wire.PREFIX, image, prefix, value)
         self.ask_due(wire.WHOLE, image, whole, value)
+        self.ask_followed(image)
+
+    def ask_followed(self, image):
+        """Ask 6: with other bytes behind it the pickle of the current value is read back as that value, and they are left; unless all
+        is too long."""
+        followed = image + (image if self.draw.chance(TWICE) else self.draw.bytes(1 + self.draw.below(TAIL)))
+        if len(followed) > LONGEST:
+            self.ask_reading(wire.PREFIX, followed, (2, 0, 0))
+            self.count("values whose pickle is too long with bytes behind it")
+        else:
+            self.ask_reading(wire.PREFIX, followed, (0, 0, len(image)))
+            self.ask_reading(wire.WHOLE, followed, (11, 0, 0))
+            self.count("values read back with bytes behind")
 
 
 class Slices(Asked):
