@@ -9,7 +9,7 @@ use native.Mathlib.Omega.{arith}
 use borrow.Author.Tests.{eqb-true}
 use Rattle.op.specs.Table.{numberOf}
 use Rattle.op.specs.declared.Opcode.the-variants.{MARK, APPEND, APPENDS, SETITEM, SETITEMS}
-use Rattle.value.specs.Value.{Label, Forest, count, NoneL, BoolL, I64L, F64L, BytesL, StringL, ListL, TupleL, SetL, FrozenSetL, DictL, GlobalL, ObjectL, nil, node}
+use Rattle.value.specs.Value.{Label, Forest, count, ListL, DictL, nil, node}
 use Rattle.value.specs.Stands.{_⊕_}
 use Rattle.decoder.specs.State.{State}
 use Rattle.ser.specs.Image.{opening, contents, images, joined, listBatch, dictBatch, batch, batchSize, batchesUpTo, batches, appends}
@@ -21,9 +21,11 @@ use Rattle.outback.specs.Adding.{markedOf, mark-then, appends-on, setite
 
 -- ---- one value, and all of them
 
+-- a run over a value's image, from any state, has that value more on the stack, or meets an added refusal
 unfoldable pub Returns : Label → Forest → Type 0
 Returns l c = (s : State) (rest : List ℕ) → s .input ≡ (opening l ++ contents l (images c)) ++ rest → Outcome s (OneMore s rest l (inNode l (unsettled c)))
 
+-- each of the values, by itself
 unfoldable pub AllReturn : Forest → Type 0
 AllReturn nil = Unit {0}
 AllReturn (node l c r) = Returns l c × AllReturn r

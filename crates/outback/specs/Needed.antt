@@ -5,7 +5,7 @@ use mathlib.Core.Bool.{Bool, true, false, _&&_}
 use mathlib.Core.List.{List, [], _∷_, _++_}
 use mathlib.Core.Path.{_≡_, refl}
 use native.Mathlib.Omega.{arith}
-use lib.ListN.{length, getD, replicate, length-append, length-replicate}
+use lib.ListN.{getD, replicate, length-append, length-replicate}
 use lib.Dec.{T, ltb, ltb→lt}
 use Rattle.refusal.specs.declared.Refusal.the-variants.{TooLong, EndOfInput}
 use Rattle.op.specs.Table as Table
@@ -14,7 +14,7 @@ use Rattle.input.specs.Bytes.{lastByte, lowFirst}
 use Rattle.input.specs.Line as Line
 use Rattle.input.specs.Long.{bits64, denotes}
 use Rattle.number.specs.Space as Space
-use Rattle.value.specs.Value.{Value, Label, Forest, one, text, count, size, depth, table, NoneL, I64L, StringL, TupleL, SetL, DictL, GlobalL, ObjectL, nil, node}
+use Rattle.value.specs.Value.{Value, one, text, count, size, depth, table, NoneL, I64L, StringL, TupleL, SetL, DictL, GlobalL, ObjectL, nil, node}
 use Rattle.value.specs.Order as Order
 use Rattle.value.specs.Shape.{shaped, and-l, and-r}
 use Rattle.value.specs.WellFormed.{ascending, keys, settled}

@@ -4,7 +4,6 @@ use Prim.Native.Nat.{ℕ, _+_, _≤_, _<_}
 use mathlib.Core.List.{List, [], _∷_, _++_, append-assoc, append-nil}
 use mathlib.Core.Path.{_≡_, refl, sym, _∙_, ap}
 use mathlib.Core.Logic.{_≢_}
-use mathlib.Core.Option.{none}
 use lib.ListN.{length, set, length-append, length-set, List·getD-append}
 use lib.Seq.{getD-append-seam, getD-set-same, getD-set-other}
 use lib.Dec.{T}
@@ -18,6 +17,7 @@ use Rattle.builder.specs.Build.{at}
 use Rattle.outback.specs.Added.{addedRefusal}
 use Rattle.outback.specs.WriteOut.{WritesIn, none, more, writes-moved, writes-append}
 
+-- the run from s on is an added refusal, or it is that from t on, and R holds of t
 pub data Outcome (s : State) (R : State → Type 0) : Type 0 where
   stops : (why : Refusal) → T (addedRefusal why) → finish s ≡ no why → Outcome s R
   comes : (t : State) → finish s ≡ finish t → R t → Outcome s R

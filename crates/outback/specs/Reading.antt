@@ -69,31 +69,32 @@ measure-added f why = go (leb (depth f) depthLimit) (leb (size f) valuesLimit) (
     go true true true e = absurd (let z : _≡_ {A = ℕ} 0 1 = cc in omega arith)
 
 module _ (v : Value) (good : AllReturnable (one v)) (rest : List ℕ) where
-  p : List ℕ
-  p = pickled v ++ rest
+  -- what is read, and what is left of it behind PROTO 2
+  followed : List ℕ
+  followed = pickled v ++ rest
 
-  inner : List ℕ
-  inner = joined (images (one v)) ++ (numberOf STOP ∷ rest)
+  afterProto : List ℕ
+  afterProto = joined (images (one v)) ++ (numberOf STOP ∷ rest)
 
-  runs-back : Outcome (start p) (ManyMore (withInput (start p) inner) (numberOf STOP ∷ rest) (unsettled (one v)))
-  unfolding pickled framed start p inner joined
+  runs-back : Outcome (start followed) (ManyMore (withInput (start followed) afterProto) (numberOf STOP ∷ rest) (unsettled (one v)))
+  unfolding pickled framed start followed afterProto joined
   runs-back =
-      onward (proto-on (start p) inner (ap (λ (x : List ℕ). numberOf PROTO ∷ 2 ∷ x) (append-assoc (joined (images (one v))) (numberOf STOP ∷ []) rest)))
-      (λ t e. rw e (many-back (one v) (all-return (one v) good) (withInput (start p) inner) (numberOf STOP ∷ rest) refl))
+      onward (proto-on (start followed) afterProto (ap (λ (x : List ℕ). numberOf PROTO ∷ 2 ∷ x) (append-assoc (joined (images (one v))) (numberOf STOP ∷ []) rest)))
+      (λ t e. rw e (many-back (one v) (all-return (one v) good) (withInput (start followed) afterProto) (numberOf STOP ∷ rest) refl))
 
-  stopped-at : (t : State) → ManyMore (withInput (start p) inner) (numberOf STOP ∷ rest) (unsettled (one v)) t → Stopped v rest (withInput t rest)
+  stopped-at : (t : State) → ManyMore (withInput (start followed) afterProto) (numberOf STOP ∷ rest) (unsettled (one v)) t → Stopped v rest (withInput t rest)
   unfolding unsettled start
   stopped-at t y = go (y .ids) (y .stack) (y .values)
     where
       go : (is : List ℕ) → t .stack ≡ is → WritesIn (t .nodes) (Between 0 (length (t .nodes))) is (unsettled (one v)) → Stopped v rest (withInput t rest)
       go is e (more {i} a q c none) = record { left = refl; root = i; stack = e; out = writes-moved (λ j x. tt) (λ j x. refl) (more {i = i} a q c none) }
 
-  run-back : RunBack v rest (run p)
+  run-back : RunBack v rest (run followed)
   run-back = go runs-back
     where
-      go : Outcome (start p) (ManyMore (withInput (start p) inner) (numberOf STOP ∷ rest) (unsettled (one v))) → RunBack v rest (run p)
-      go (stops why a e) = refused why a (run-finish p ∙ e)
-      go (comes t e y) = stopped (withInput t rest) (run-finish p ∙ e ∙ stop-on t rest (y .input)) (stopped-at t y)
+      go : Outcome (start followed) (ManyMore (withInput (start followed) afterProto) (numberOf STOP ∷ rest) (unsettled (one v))) → RunBack v rest (run followed)
+      go (stops why a e) = refused why a (run-finish followed ∙ e)
+      go (comes t e y) = stopped (withInput t rest) (run-finish followed ∙ e ∙ stop-on t rest (y .input)) (stopped-at t y)
 
   -- ---- after STOP
 
@@ -105,25 +106,25 @@ module _ (v : Value) (good : AllReturnable (one v)) (rest : List ℕ) where
       go (no why) f = refused why (measure-added (unsettled (one v)) why f) (q ∙ rw (f, told))
       go (ok u) f = back (q ∙ rw (f, told, settle-unsettled (one v) good h, e))
 
-  stopped-back : T (settled (one v)) → length p ≤ pickleLimit → (t : State) → run p ≡ ok t → Stopped v rest t → ReadBack v (prefix p)
-  unfolding p
+  stopped-back : T (settled (one v)) → length followed ≤ pickleLimit → (t : State) → run followed ≡ ok t → Stopped v rest t → ReadBack v (prefix followed)
+  unfolding followed
   stopped-back h l t e x =
       let w = writes-out (x .out) in
       let a : last (t .stack) ≡ x .root = rw (x .stack) in
       let z : 0 < length (t .stack) = rw (x .stack) (omega arith) in
-      let n : consumed p t ≡ length (pickled v) = rw (x .left) (omega (arith, length-append (pickled v) rest)) in
-      told-back (consumed p t) n h (prefix p) (sharing-never-shows p t l e z (unsettled (one v)) (rw a (written-nothing-itself w)) (rw a w))
+      let n : consumed followed t ≡ length (pickled v) = rw (x .left) (omega (arith, length-append (pickled v) rest)) in
+      told-back (consumed followed t) n h (prefix followed) (sharing-never-shows followed t l e z (unsettled (one v)) (rw a (written-nothing-itself w)) (rw a w))
 
   answered : T (settled (one v)) → ReadBack v (prefix (pickled v ++ rest))
-  unfolding p
-  answered h = go (lt-or-le pickleLimit (length p))
+  unfolding followed
+  answered h = go (lt-or-le pickleLimit (length followed))
     where
-      ran : length p ≤ pickleLimit → RunBack v rest (run p) → ReadBack v (prefix p)
-      ran l (refused why a e) = refused why a (prefix-refused p why (stopped-refused p why l e))
+      ran : length followed ≤ pickleLimit → RunBack v rest (run followed) → ReadBack v (prefix followed)
+      ran l (refused why a e) = refused why a (prefix-refused followed why (stopped-refused followed why l e))
       ran l (stopped t e x) = stopped-back h l t e x
 
-      go : (pickleLimit < length p) ⊎ (length p ≤ pickleLimit) → ReadBack v (prefix p)
-      go (inl l) = refused TooLong tt (prefix-refused p TooLong (stopped-long p l))
+      go : (pickleLimit < length followed) ⊎ (length followed ≤ pickleLimit) → ReadBack v (prefix followed)
+      go (inl l) = refused TooLong tt (prefix-refused followed TooLong (stopped-long followed l))
       go (inr l) = ran l run-back
 
 -- a reading meets no added refusal

@@ -1,18 +1,18 @@
 -- The value of a well-formed table of u64 words is returnable, if its names can be written (Ask 5) and its Objects keep to the premise
 -- on them. What the crate says of a record's words is said here.
 use Prim.Native.Nat.{ℕ, suc, zero, _+_, _*_, _^_, _≤_, _<_}
-use mathlib.Core.Bool.{Bool, true, false, not, _&&_, _||_}
+use mathlib.Core.Bool.{Bool, true, false, _&&_}
 use mathlib.Core.List.{List, [], _∷_, _++_}
 use mathlib.Core.Path.{_≡_, refl, ap}
 use lib.ListN.{length, getD, take, length-append}
-use lib.Dec.{T, eqb, leb, ltb, eqb→eq, ltb→lt}
+use lib.Dec.{T, eqb, ltb, eqb→eq, ltb→lt}
 use native.Mathlib.Omega.{arith}
 use Rattle.utf8.specs.Utf8.{valid}
 use Rattle.value.specs.Value.{Label, Forest, one, half, textOf, text, count, size, recordOf, table, NoneL, BoolL, I64L, F64L, BytesL, StringL, ListL, TupleL, SetL, FrozenSetL, DictL, GlobalL, ObjectL, nil, node}
 use Rattle.value.specs.Shape.{fitting, shaped, and-l, and-r}
 use Rattle.value.specs.WellFormed.{WellFormed, isTuple, firstIsTuple, proper, settled}
 use Rattle.ser.specs.Writable.{writable, writableLabel, writableIn}
-use Rattle.outback.specs.SetCalls.{setClass, twoArguments, twoArgumentsIn}
+use Rattle.outback.specs.SetCalls.{twoArguments, twoArgumentsIn}
 use Rattle.outback.specs.Returnable.{Named, Arguments, arguments, Returnable, AllReturnable}
 
 -- ---- words

@@ -2,7 +2,6 @@
 -- exactly what was written is consumed, unless an added refusal is met. So among pickles read without one none is the beginning of another,
 -- and different values have different pickles.
 use Prim.Native.Nat.{ℕ, _*_}
-use mathlib.Core.Bool.{not}
 use mathlib.Core.List.{List, [], _∷_, _++_, append-nil}
 use mathlib.Core.Path.{_≡_, refl, sym, _∙_, ap}
 use lib.ListN.{length, take, length-append}
