@@ -1,4 +1,4 @@
--- The refusals that the rules add to the Rust's: 1, 2 and 12 to 20. A reading that meets one promises nothing about what it was reading.
+-- The refusals of a reading that the rules add to the Rust's: 1, 2 and 12 to 20. Where one is met nothing is promised of what was being read.
 use Prim.Native.Nat.{ℕ}
 use mathlib.Core.Bool.{Bool, _&&_, _||_}
 use lib.Dec.{eqb, leb}
