@@ -1,7 +1,8 @@
 -- Document 02, Ask 13, on the compare call: over well-formed tables its sign is turned round with its arguments, what is before what is
--- before another is before it, and the sign is 0 exactly for identical tables with identical texts. No kind has a proof here: the
--- laws are those of the order of values (OrderLaws and Total of crate value). There `lex` has them for what a label is ordered by, a
--- number or bytes, `forests` for what is ordered part by part, `then` joins the two, and a kind is an instance by its `key`, `name` and `new`.
+-- before another is before it, and the sign is 0 exactly for identical tables with identical texts. The laws are those of the order of
+-- values (OrderLaws and Total of crate value). There `lex` has them for what a label is ordered by, a number or bytes, `forests` for what
+-- is ordered part by part, and `then` joins the two. A kind is an instance by its `key`, `name` and `new`; only that these determine a
+-- label goes by kinds (`make-is`).
 use Prim.Native.Nat.{ℕ, suc, zero, _*_, Ordering, Ordering·lt, Ordering·eq, Ordering·gt}
 use mathlib.Core.List.{List}
 use mathlib.Core.Path.{_≡_, refl, sym, _∙_, ap, ap₂}
