@@ -4,6 +4,7 @@ Only the pickles stand here; what they give is the oracle's to say.
 """
 
 from opcodes import u32
+from surprises import PICKLES
 
 POINTS = [
     ("1.1", b"N." + b"x" * 65534),
@@ -114,6 +115,9 @@ POINTS = [
     ("6.5", b"F0.30000000000000004\n."),
     ("7.8", b"S'\\x\n."),
 ]
+
+# Where Python's own reader differs: those of docs/DIFFERENCES.md that no point has.
+POINTS += [("6", data) for data in PICKLES if data not in [known for _, known in POINTS]]
 
 # Document 01, "Bytes to keep on the bench", and the listing program's example.
 BENCH = [
