@@ -1,8 +1,10 @@
 """Holding answers against one another, and counting what was compared.
 
 An answer is a line: `value LENGTH COUNT WORDS TEXT`, `refused NUMBER DETAIL`, or `died`. Drivers of a reader
-that must answer exactly as expected use Tally with exact=True.
+that must answer exactly as expected use Tally with exact=True. A difference is told as soon as it is known.
 """
+
+import fcntl
 
 NAMES = {
     0: "value", 1: "ShortRoom", 2: "TooLong", 3: "EndOfInput", 4: "UnsupportedOpcode",
@@ -12,7 +14,14 @@ NAMES = {
     17: "TooDeep", 18: "TooManyValues", 19: "TextFull", 20: "FloatOutside", 21: "BadTable",
 }
 ADDED = {2} | set(range(12, 21))    # refusals that the Rust doesn't have
-MOST = 20                           # differences shown
+MOST = 20                           # differences kept for a record
+
+
+def tell(line):
+    """A line on standard output, at once and in one piece whichever process tells it: a run that is stopped keeps what it saw."""
+    with open(__file__) as one_at_a_time:
+        fcntl.flock(one_at_a_time, fcntl.LOCK_EX)
+        print(line, flush=True)
 
 
 def number(answer):
@@ -36,12 +45,12 @@ def agrees(expect, answer, exact=False):
 
 
 class Tally:
-    """Counts by kind and expected number, and the differences."""
+    """Counts by kind and expected number, and the differences, each told when it is added."""
 
     def __init__(self, exact=False):
         self.exact = exact
         self.cases = 0
-        self.differences = []       # (kind, pickle, expected, answer), the first MOST of them
+        self.differences = []       # a line each, the first MOST of them
         self.different = 0
         self.counts = {}            # (kind, number) to cases
 
@@ -51,8 +60,10 @@ class Tally:
         self.counts[key] = self.counts.get(key, 0) + 1
         if not agrees(expect, answer, self.exact):
             self.different += 1
+            line = "%s\t%s\texpected %s\tgot %s" % (kind, data.hex() or "-", short(expect), short(answer))
+            tell("difference\t" + line)
             if len(self.differences) < MOST:
-                self.differences.append((kind, data, expect, answer))
+                self.differences.append(line)
 
     def merge(self, other):
         """Add what another has counted."""
@@ -72,10 +83,6 @@ class Tally:
                 label = "no answer" if n is None else "%2d %s" % (n, NAMES[n])
                 lines.append("%-22s" % label + "".join("%9d" % count for count in row + [sum(row)]))
         return lines
-
-    def difference_lines(self):
-        return ["%s\t%s\texpected %s\tgot %s" % (kind, data.hex() or "-", short(expect), short(answer))
-                for kind, data, expect, answer in self.differences]
 
 
 def short(text):
