@@ -1,0 +1,109 @@
+-- Lists and dicts only grow, and at their end: what one contains after some steps is, in the same order, the beginning of what it contains
+-- after any more steps, and at STOP.
+use Prim.Native.Nat.{ℕ, suc, zero, _+_, _<_, _≤_}
+use mathlib.Core.Bool.{Bool, _||_}
+use mathlib.Core.List.{List}
+use mathlib.Core.Logic.{_⊎_, inl, inr}
+use mathlib.Core.Path.{_≡_, refl, sym, _∙_, ap}
+use lib.ListN.{length, getD, take, length-take}
+use lib.Seq.{take-append-le, take-length, getD-take}
+use lib.Dec.{T}
+use native.Mathlib.Omega.{arith}
+use Rattle.input.specs.Bytes.{lt-or-le}
+use Rattle.value.specs.Value.{Label, NoneL, BoolL, I64L, F64L, BytesL, StringL, ListL, TupleL, SetL, FrozenSetL, DictL, GlobalL, ObjectL}
+use Rattle.decoder.specs.State.{Node, State, ok, nodeAt}
+use Rattle.decoder.specs.Opcodes.{isList, isDict, isObject}
+use Rattle.decoder.specs.Run.{Next, goes, stops, step, run}
+use Rattle.decoder.specs.Out.{Out, out, of-out, bind}
+use Rattle.decoder.specs.Effect.{labelled, Effect}
+use Rattle.decoder.specs.Keeps.{after, step-keeps}
+use Rattle.decoder.specs.Tuples.{Changed, stays, longer, stated, effect-changes}
+use Rattle.machine.specs.Ran.{onward, afterSteps}
+use Rattle.run_laws.specs.Steps.{atEnd, in-steps, from-then-on}
+
+-- a list or a dict; a dict contains its keys and values by turns
+abbrev pub listOrDict : Label → Bool
+listOrDict l = isList l || isDict l
+
+-- the node i has the label l, and begins with the contents ks
+pub record Begins (i : ℕ) (l : Label) (ks : List ℕ) (s : State) : Type 0 where
+  pub label : nodeAt s i .label ≡ l
+  pub kids : take (length ks) (nodeAt s i .kids) ≡ ks
+
+-- as it begins with its own
+pub begins-itself : (s : State) (i : ℕ) → Begins i (nodeAt s i .label) (nodeAt s i .kids) s
+begins-itself s i = record { label = refl; kids = take-length (nodeAt s i .kids) }
+
+-- so that what stands at a place stays there
+pub begins-at : (i : ℕ) (l : Label) (ks : List ℕ) (s : State) → Begins i l ks s → (j : ℕ) → j < length ks → (j < length (nodeAt s i .kids)) × (getD (nodeAt s i .kids) j 0 ≡ getD ks j 0)
+begins-at i l ks s b j h =
+    let m = nodeAt s i .kids in
+    let z = rw length-take at (ap length (b .kids)) in
+    (omega arith, sym (getD-take (length ks) m j 0 h) ∙ ap (λ (x : List ℕ). getD x j 0) (b .kids))
+
+-- ---- one step
+
+-- BUILD, which replaces a state, is for Objects alone
+no-object : (l : Label) → T (listOrDict l) → T (isObject l) → ⊥
+no-object NoneL g h = h
+no-object (BoolL b) g h = h
+no-object (I64L n) g h = h
+no-object (F64L n) g h = h
+no-object (BytesL t) g h = h
+no-object (StringL t) g h = h
+no-object ListL g h = h
+no-object TupleL g h = h
+no-object SetL g h = h
+no-object FrozenSetL g h = h
+no-object DictL g h = h
+no-object (GlobalL m n) g h = h
+no-object (ObjectL m n b) g h = g
+
+changed-begins : (n m : Node) (ks : List ℕ) → T (listOrDict (n .label)) → take (length ks) (n .kids) ≡ ks → Changed n m → (m .label ≡ n .label) × (take (length ks) (m .kids) ≡ ks)
+changed-begins n m ks g e stays = (refl, e)
+changed-begins n m ks g e (longer is h) =
+    let z = rw length-take at (ap length e) in
+    (refl, take-append-le (length ks) (n .kids) is (omega arith) ∙ e)
+changed-begins n m ks g e (stated i h) = absurd (no-object (n .label) g h)
+
+module _ (i : ℕ) (l : Label) (ks : List ℕ) (g : T (listOrDict l)) where
+  effect-begins : (s t : State) → Begins i l ks s → Effect s t → Begins i l ks t
+  effect-begins s t b e =
+      let h : T (listOrDict (nodeAt s i .label)) = rw (b .label) g in
+      let c = changed-begins (nodeAt s i) (nodeAt t i) ks h (b .kids) (effect-changes s t e .each i (labelled (λ (x : Label). T (listOrDict x)) (s .nodes) i (λ u. u) h)) in
+      record { label = c .0 ∙ b .label; kids = c .1 }
+
+  pub step-begins : (s : State) → Begins i l ks s → Out (λ (n : Next). Begins i l ks (after n)) (step s)
+  step-begins = step-keeps (Begins i l ks) (λ s j b. record { label = b .label; kids = b .kids }) effect-begins
+
+  onward-begins : (x : Next) → Begins i l ks (after x) → Out (λ (n : Next). Begins i l ks (after n)) (onward x)
+  unfolding onward after Out
+  onward-begins (goes s) b = step-begins s b
+  onward-begins (stops s) b = b
+
+  -- ---- any number of steps
+
+  begun : (p : List ℕ) (k : ℕ) (x : Next) → afterSteps k p ≡ ok x → Begins i l ks (after x) → (m : ℕ) → k ≡ m → Out (λ (n : Next). Begins i l ks (after n)) (afterSteps m p)
+  begun p k x e b m q = rw (← q, e) (out (λ (n : Next). Begins i l ks (after n)) x b)
+
+  begins-later : (p : List ℕ) (k : ℕ) (x : Next) → afterSteps k p ≡ ok x → Begins i l ks (after x) → (m : ℕ) → k ≤ m → Out (λ (n : Next). Begins i l ks (after n)) (afterSteps m p)
+  unfolding afterSteps
+  begins-later p k x e b zero h = let q : k ≡ 0 = omega arith in begun p k x e b 0 q
+  begins-later p k x e b (suc m) h = go (lt-or-le m k) (begins-later p k x e b m)
+    where
+      go : (m < k) ⊎ (k ≤ m) → (k ≤ m → Out (λ (n : Next). Begins i l ks (after n)) (afterSteps m p)) → Out (λ (n : Next). Begins i l ks (after n)) (afterSteps (suc m) p)
+      go (inl u) more = begun p k x e b (suc m) (omega arith)
+      go (inr u) more = bind _ _ (afterSteps m p) onward (more (omega arith)) onward-begins
+
+-- x after k steps, y after as many or more: a list or dict of x has its label in y, and begins there with all that it contains in x
+pub contents-stay : (p : List ℕ) (k m : ℕ) (x y : Next) → k ≤ m → afterSteps k p ≡ ok x → afterSteps m p ≡ ok y → (i : ℕ) → T (listOrDict (nodeAt (after x) i .label)) → Begins i (nodeAt (after x) i .label) (nodeAt (after x) i .kids) (after y)
+contents-stay p k m x y h e f i g = of-out _ (afterSteps m p) y (begins-later i (nodeAt (after x) i .label) (nodeAt (after x) i .kids) g p k x e (begins-itself (after x) i) m h) f
+
+-- the same of the machine at STOP
+pub contents-at-stop : (p : List ℕ) (k : ℕ) (x : Next) (z : State) → afterSteps k p ≡ ok x → run p ≡ ok z → (i : ℕ) → T (listOrDict (nodeAt (after x) i .label)) → Begins i (nodeAt (after x) i .label) (nodeAt (after x) i .kids) z
+unfolding after atEnd
+contents-at-stop p k x z e stop i g =
+    let t = in-steps p in
+    let m = k + t .steps in
+    let f : afterSteps m p ≡ ok (stops z) = from-then-on p (t .steps) m (t .takes) (omega arith) ∙ ap atEnd stop in
+    contents-stay p k m x (stops z) (omega arith) e f i g
