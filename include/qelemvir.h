@@ -116,55 +116,45 @@ enum qelemvir_kind {
 #define QELEMVIR_MOST_VALUES 2048
 #define QELEMVIR_MOST_TEXT 65536
 
-/* What a reading is lent, in elements: 18 working rooms and two outputs. Longer slices do, and keep what is behind. */
+/* What a reading is lent, in elements: working rooms and two outputs, table and text. Longer slices do, and keep what is behind. */
+/* from rooms.txt, by tests/rooms: lengths */
 #define QELEMVIR_NODES 8192
-#define QELEMVIR_OWNERS 16384
-#define QELEMVIR_CHILDREN 16384
+#define QELEMVIR_OWNERS 8192
+#define QELEMVIR_CHILDREN 8192
 #define QELEMVIR_STACK 2048
 #define QELEMVIR_MARKS 256
-#define QELEMVIR_KEYS 1024
+#define QELEMVIR_KEYS 2048
 #define QELEMVIR_HELD 1024
 #define QELEMVIR_UNESCAPED 65536
 #define QELEMVIR_STARTS 4098
 #define QELEMVIR_SORTED 16384
 #define QELEMVIR_MEASURES 4096
-#define QELEMVIR_FLAT 2048
-#define QELEMVIR_RAW 8192
-#define QELEMVIR_TEXTS 65536
-#define QELEMVIR_WORDS 8192
-#define QELEMVIR_SPARE 8192
-#define QELEMVIR_ORDER 2048
-#define QELEMVIR_OTHER 2048
 #define QELEMVIR_TABLE 8192
 #define QELEMVIR_TEXT 65536
+/* end of lengths */
 
 /* Outputs of these lengths, in bytes, never give QELEMVIR_OUTPUT_FULL. */
 #define QELEMVIR_OUTPUT_MAX 122883  /* of to_bytes */
 #define QELEMVIR_LISTING_MAX 370688 /* of list */
 
 /* The parameters of a reading. */
-#define QELEMVIR_LENT                                       \
-    const uint8_t *pickle, size_t pickle_len,               \
-    uint64_t *nodes, size_t nodes_len,                      \
-    uint16_t *owners, size_t owners_len,                    \
-    uint16_t *children, size_t children_len,                \
-    uint16_t *stack, size_t stack_len,                      \
-    uint16_t *marks, size_t marks_len,                      \
-    uint32_t *keys, size_t keys_len,                        \
-    uint16_t *held, size_t held_len,                        \
-    uint8_t *unescaped, size_t unescaped_len,               \
-    uint16_t *starts, size_t starts_len,                    \
-    uint16_t *sorted, size_t sorted_len,                    \
-    uint64_t *measures, size_t measures_len,                \
-    uint64_t *flat, size_t flat_len,                        \
-    uint64_t *raw, size_t raw_len,                          \
-    uint8_t *texts, size_t texts_len,                       \
-    uint64_t *words, size_t words_len,                      \
-    uint64_t *spare, size_t spare_len,                      \
-    uint64_t *order, size_t order_len,                      \
-    uint64_t *other, size_t other_len,                      \
-    uint64_t *table, size_t table_len,                      \
+/* from rooms.txt, by tests/rooms: parameters */
+#define QELEMVIR_LENT                         \
+    const uint8_t *pickle, size_t pickle_len, \
+    uint64_t *nodes, size_t nodes_len,        \
+    uint16_t *owners, size_t owners_len,      \
+    uint16_t *children, size_t children_len,  \
+    uint16_t *stack, size_t stack_len,        \
+    uint16_t *marks, size_t marks_len,        \
+    uint32_t *keys, size_t keys_len,          \
+    uint16_t *held, size_t held_len,          \
+    uint8_t *unescaped, size_t unescaped_len, \
+    uint16_t *starts, size_t starts_len,      \
+    uint16_t *sorted, size_t sorted_len,      \
+    uint64_t *measures, size_t measures_len,  \
+    uint64_t *table, size_t table_len,        \
     uint8_t *text, size_t text_len
+/* end of parameters */
 
 /* Read the pickle at the start of the slice. On success `length` is the bytes read and `count` the records in `table`; of `table` and
    `text` only what is filled has changed, and the table is well formed. The rooms may hold anything before. After every answer but
@@ -198,7 +188,8 @@ struct qelemvir_compared qelemvir_compare(const uint64_t *first, size_t first_le
                                           const uint64_t *second, size_t second_len, size_t second_count,
                                           const uint8_t *second_text, size_t second_text_len);
 
-/* The working rooms at their stated lengths, some 590 KB: make one, use it for any number of readings, one at a time. */
+/* The working rooms at their stated lengths: make one, use it for any number of readings, one at a time. */
+/* from rooms.txt, by tests/rooms: struct */
 struct qelemvir_rooms {
     uint64_t nodes[QELEMVIR_NODES];
     uint16_t owners[QELEMVIR_OWNERS];
@@ -211,24 +202,27 @@ struct qelemvir_rooms {
     uint16_t starts[QELEMVIR_STARTS];
     uint16_t sorted[QELEMVIR_SORTED];
     uint64_t measures[QELEMVIR_MEASURES];
-    uint64_t flat[QELEMVIR_FLAT];
-    uint64_t raw[QELEMVIR_RAW];
-    uint8_t texts[QELEMVIR_TEXTS];
-    uint64_t words[QELEMVIR_WORDS];
-    uint64_t spare[QELEMVIR_SPARE];
-    uint64_t order[QELEMVIR_ORDER];
-    uint64_t other[QELEMVIR_OTHER];
-};
+}; /* 252 KB */
+/* end of struct */
 
 /* The arguments of a reading in such rooms; `table` and `text` have QELEMVIR_TABLE words and QELEMVIR_TEXT bytes. */
-#define QELEMVIR_LEND(rooms, pickle, pickle_len, table, text)                                                    \
-    pickle, pickle_len, (rooms)->nodes, QELEMVIR_NODES, (rooms)->owners, QELEMVIR_OWNERS,                        \
-    (rooms)->children, QELEMVIR_CHILDREN, (rooms)->stack, QELEMVIR_STACK, (rooms)->marks, QELEMVIR_MARKS,        \
-    (rooms)->keys, QELEMVIR_KEYS, (rooms)->held, QELEMVIR_HELD, (rooms)->unescaped, QELEMVIR_UNESCAPED,          \
-    (rooms)->starts, QELEMVIR_STARTS, (rooms)->sorted, QELEMVIR_SORTED, (rooms)->measures, QELEMVIR_MEASURES,    \
-    (rooms)->flat, QELEMVIR_FLAT, (rooms)->raw, QELEMVIR_RAW, (rooms)->texts, QELEMVIR_TEXTS,                    \
-    (rooms)->words, QELEMVIR_WORDS, (rooms)->spare, QELEMVIR_SPARE, (rooms)->order, QELEMVIR_ORDER,              \
-    (rooms)->other, QELEMVIR_OTHER, table, QELEMVIR_TABLE, text, QELEMVIR_TEXT
+/* from rooms.txt, by tests/rooms: arguments */
+#define QELEMVIR_LEND(rooms, pickle, pickle_len, table, text) \
+    pickle, pickle_len,                                       \
+    (rooms)->nodes, QELEMVIR_NODES,                           \
+    (rooms)->owners, QELEMVIR_OWNERS,                         \
+    (rooms)->children, QELEMVIR_CHILDREN,                     \
+    (rooms)->stack, QELEMVIR_STACK,                           \
+    (rooms)->marks, QELEMVIR_MARKS,                           \
+    (rooms)->keys, QELEMVIR_KEYS,                             \
+    (rooms)->held, QELEMVIR_HELD,                             \
+    (rooms)->unescaped, QELEMVIR_UNESCAPED,                   \
+    (rooms)->starts, QELEMVIR_STARTS,                         \
+    (rooms)->sorted, QELEMVIR_SORTED,                         \
+    (rooms)->measures, QELEMVIR_MEASURES,                     \
+    table, QELEMVIR_TABLE,                                    \
+    text, QELEMVIR_TEXT
+/* end of arguments */
 
 /* from_bytes_prefix in such rooms. */
 static inline struct qelemvir_answer qelemvir_read_prefix(struct qelemvir_rooms *rooms, const uint8_t *pickle, size_t pickle_len,

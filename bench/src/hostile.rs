@@ -4,7 +4,7 @@ use crate::inputs;
 use crate::reading::Input;
 
 /// The most bytes that a pickle may have.
-const MOST: usize = 65_536;
+pub const MOST: usize = 65_536;
 
 /// `set` under memo number 0, and its arguments, a tuple of an empty one, under 1.
 const SET: &[u8] = b"c__builtin__\nset\nq\x00)\x85q\x01";
@@ -29,6 +29,7 @@ pub fn pickles() -> Vec<Input> {
         Input { cpython: false, ..long(19, "long: bad UTF-8", binunicode(&[0xFF; 65_530])) },
         long(0, "long: DUP, POP", filled(b"N".to_vec(), b"20")),
         long(0, "long: full memo, GET, POP", filled(full_memo(), b"h\x000")),
+        long(0, "long: full memo, GET of the oldest", filled(full_memo_oldest(), b"h\x000")),
         long(0, "long: full memo, PUT", filled(full_memo(), b"q\x00")),
         long(0, "long: full log, REDUCE", filled([SET, &full_log()[..], &sets(), &sets()].concat(), b"20")),
         long(0, "long: both, REDUCE, PUT", filled([&full_memo()[..], SET, &full_log(), &sets(), &sets()].concat(), b"q\x01")),
@@ -86,10 +87,18 @@ fn filled(beginning: Vec<u8>, opcodes: &[u8]) -> Vec<u8> {
     [&beginning[..], &opcodes.repeat(times), b"."].concat()
 }
 
-/// 1,024 memo numbers, of which the look-up finds 0 and 1 last; None is left.
+/// 1,024 memo numbers, of which a search from the oldest on finds 1 and 0 last, and no guess finds them; None is left.
 fn full_memo() -> Vec<u8> {
-    let others: Vec<u8> = (1000..2022u32).flat_map(|key| [b"r", &key.to_le_bytes()[..]].concat()).collect();
-    [b"N", &others[..], b"q\x01q\x00"].concat()
+    [b"N", &other_numbers()[..], b"q\x01q\x00"].concat()
+}
+
+/// The same for a search from the newest on.
+fn full_memo_oldest() -> Vec<u8> {
+    [b"Nq\x01q\x00", &other_numbers()[..]].concat()
+}
+
+fn other_numbers() -> Vec<u8> {
+    (1000..2022u32).flat_map(|key| [b"r", &key.to_le_bytes()[..]].concat()).collect()
 }
 
 /// With one link before them, all the links that there may be; nothing is left.

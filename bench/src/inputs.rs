@@ -7,10 +7,10 @@ use crate::pickle::Value;
 pub const LONG: usize = 40_000;
 
 /// SplitMix64.
-struct Draw(u64);
+pub struct Draw(pub u64);
 
 impl Draw {
-    fn below(&mut self, n: usize) -> usize {
+    pub fn below(&mut self, n: usize) -> usize {
         self.0 = self.0.wrapping_add(0x9E37_79B9_7F4A_7C15);
         let mut z = self.0;
         z = (z ^ (z >> 30)).wrapping_mul(0xBF58_476D_1CE4_E5B9);
@@ -18,7 +18,7 @@ impl Draw {
         ((z ^ (z >> 31)) % n as u64) as usize
     }
 
-    fn among<T: Copy>(&mut self, items: &[T]) -> T {
+    pub fn among<T: Copy>(&mut self, items: &[T]) -> T {
         items[self.below(items.len())]
     }
 
@@ -188,49 +188,6 @@ impl Counted {
         }
     }
 
-    fn text(&mut self, text: &[u8], key: u32) {
-        self.op(b'U', &[&[text.len() as u8], text].concat());
-        self.put(key);
-    }
-}
-
-/// A sheet as Python 2 writes it with protocol 2: a dict of a tablet's number and a list of 285 records, each a dict of two ints and a
-/// text of 88 characters under keys that they share through the memo: 2,000 values.
-pub fn sheet() -> Counted {
-    let mut draw = Draw(9);
-    let mut sheet = Counted { pickle: Vec::new(), opcodes: 0 };
-    sheet.op(0x80, &[2]);
-    sheet.op(b'}', &[]);
-    sheet.put(1);
-    sheet.op(b'(', &[]);
-    sheet.text(b"tablet", 2);
-    sheet.op(b'K', &[17]);
-    sheet.text(b"records", 3);
-    sheet.op(b']', &[]);
-    sheet.put(4);
-    sheet.op(b'(', &[]);
-    for record in 0..285u32 {
-        sheet.op(b'}', &[]);
-        sheet.put(8 + 2 * record);
-        sheet.op(b'(', &[]);
-        for (i, key) in [&b"id"[..], b"answer", b"comment"].into_iter().enumerate() {
-            let number = 5 + i as u32;
-            if record == 0 { sheet.text(key, number) } else { sheet.get(number) }
-            match i {
-                0 => sheet.op(b'J', &(draw.below(1 << 30) as u32).to_le_bytes()),
-                1 => sheet.op(b'M', &(draw.below(1 << 16) as u16).to_le_bytes()),
-                _ => {
-                    let text: Vec<u8> = (0..88).map(|_| draw.plain()).collect();
-                    sheet.text(&text, 9 + 2 * record);
-                }
-            }
-        }
-        sheet.op(b'u', &[]);
-    }
-    sheet.op(b'e', &[]);
-    sheet.op(b'u', &[]);
-    sheet.op(b'.', &[]);
-    sheet
 }
 
 /// One patient's sheet of 30 items, some 300 bytes.
@@ -243,22 +200,34 @@ pub fn small_sheet() -> Counted {
 /// A tablet's 15 sheets of 18 items, which share the set of reversed items: 800 values, some 4 KB.
 pub fn middle_sheet() -> Counted {
     let mut forms = Forms::new(11);
-    forms.container(b'}');
-    forms.op(b'(', &[]);
-    forms.key(b"tablet");
-    forms.op(b'K', &[17]);
-    forms.key(b"records");
-    forms.container(b']');
-    forms.op(b'(', &[]);
-    for _ in 0..15 {
-        forms.form(18, 6, 150);
-    }
-    forms.op(b'e', &[]);
-    forms.op(b'u', &[]);
+    forms.tablet(15, |forms| forms.form(18, 6, 150));
     forms.end()
 }
 
-/// Writes sheets as Python 2 does with protocol 2: what is new is remembered under the next number, the rest comes from the memo.
+/// A tablet's 285 records, each a dict of two ints and a text of 88 characters, under keys that they share: 2,000 values, some 33 KB.
+pub fn sheet() -> Counted {
+    let mut forms = Forms::new(9);
+    forms.tablet(285, Forms::record);
+    forms.end()
+}
+
+/// A tablet's 511 notes, each a tuple of a text, the same text again and the one before: 1,023 PUTs, of numbers upwards from 0, and
+/// 1,022 GETs of recent ones. 2,045 values, some 20 KB.
+pub fn recent_sheet() -> Counted {
+    let mut forms = Forms::new(13);
+    forms.notes(true);
+    forms.end()
+}
+
+/// The same without the PUTs that no GET names: pickletools.optimize of Python 2 takes them out and numbers nothing anew.
+pub fn optimized_sheet() -> Counted {
+    let mut forms = Forms::new(13);
+    forms.notes(false);
+    forms.end()
+}
+
+/// Writes sheets as Python 2's pickle does with protocol 2: what is new is remembered under the next number, from 0 on, and what was
+/// written before comes from the memo.
 struct Forms {
     sheet: Counted,
     draw: Draw,
@@ -285,26 +254,91 @@ impl Forms {
         self.sheet.op(code, rest);
     }
 
-    fn next(&mut self) -> u32 {
+    /// Remembers the value that was written last; its number.
+    fn remember(&mut self) -> u32 {
+        self.remember_if(true)
+    }
+
+    /// The same, or the number is left out.
+    fn remember_if(&mut self, wanted: bool) -> u32 {
+        let number = self.remembered;
         self.remembered += 1;
-        self.remembered
+        if wanted {
+            self.sheet.put(number);
+        }
+        number
     }
 
     /// An opcode that makes something that is remembered; its number.
     fn container(&mut self, code: u8) -> u32 {
-        let number = self.next();
         self.op(code, &[]);
-        self.sheet.put(number);
-        number
+        self.remember()
+    }
+
+    /// A new text of at most 255 bytes; its number.
+    fn text(&mut self, text: &[u8]) -> u32 {
+        self.op(b'U', &[&[text.len() as u8], text].concat());
+        self.remember()
+    }
+
+    fn plain_text(&mut self, length: usize) -> u32 {
+        let text: Vec<u8> = (0..length).map(|_| self.draw.plain()).collect();
+        self.text(&text)
     }
 
     fn key(&mut self, name: &'static [u8]) {
         if let Some(&(_, number)) = self.keys.iter().find(|(key, _)| *key == name) {
             return self.sheet.get(number);
         }
-        let number = self.next();
+        let number = self.text(name);
         self.keys.push((name, number));
-        self.sheet.text(name, number);
+    }
+
+    /// A dict of a tablet's number and a list of so many records.
+    fn tablet(&mut self, records: usize, record: impl Fn(&mut Forms)) {
+        self.container(b'}');
+        self.op(b'(', &[]);
+        self.key(b"tablet");
+        self.op(b'K', &[17]);
+        self.key(b"records");
+        self.container(b']');
+        self.op(b'(', &[]);
+        for _ in 0..records {
+            record(self);
+        }
+        self.op(b'e', &[]);
+        self.op(b'u', &[]);
+    }
+
+    fn record(&mut self) {
+        self.container(b'}');
+        self.op(b'(', &[]);
+        self.key(b"id");
+        let id = (1 << 16) + self.draw.below(1 << 29) as u32;
+        self.op(b'J', &id.to_le_bytes());
+        self.key(b"answer");
+        let answer = (1 << 8) + self.draw.below(1 << 15) as u16;
+        self.op(b'M', &answer.to_le_bytes());
+        self.key(b"comment");
+        self.plain_text(88);
+        self.op(b'u', &[]);
+    }
+
+    /// A list of 511 tuples; with what no GET names remembered or not.
+    fn notes(&mut self, unused: bool) {
+        self.op(b']', &[]);
+        self.remember_if(unused);
+        self.op(b'(', &[]);
+        let mut before = None;
+        for _ in 0..511 {
+            let text = self.plain_text(20);
+            self.sheet.get(text);
+            self.sheet.get(before.unwrap_or(text));
+            before = Some(text);
+            self.op(0x87, &[]);
+            self.remember_if(unused);
+        }
+        self.op(b'e', &[]);
     }
 
     /// A sheet: its answers by item, the set of the first `reversed` items, the greatest answer, whether it is flipped, a comment.
@@ -327,9 +361,7 @@ impl Forms {
         self.key(b"flipped");
         self.op(0x88, &[]);
         self.key(b"comment");
-        let text: Vec<u8> = (0..comment).map(|_| self.draw.plain()).collect();
-        let number = self.next();
-        self.sheet.text(&text, number);
+        self.plain_text(comment);
         self.op(b'u', &[]);
     }
 
@@ -337,9 +369,8 @@ impl Forms {
         if let Some(number) = self.reverse {
             return self.sheet.get(number);
         }
-        let class = self.next();
         self.op(b'c', b"__builtin__\nset\n");
-        self.sheet.put(class);
+        self.remember();
         self.container(b']');
         self.op(b'(', &[]);
         for item in 1..=reversed {

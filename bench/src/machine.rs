@@ -7,7 +7,7 @@ use crate::pickle::from_bytes_prefix;
 use crate::{inputs, ours};
 
 pub const ABOUT: &str = "the opcodes of a pickle up to STOP.
-Ours (probe_machine) runs the machine alone, in rooms of 230 KB that it makes zero on each call: it leaves a node table, of
+Ours (probe_machine) runs the machine alone, in rooms that it makes zero on each call: it leaves a node table, of
 which no value is built. The Rust (from_bytes_prefix) does its whole reading: it runs the opcodes, builds the value and frees it.";
 
 pub fn cases() -> Vec<Case> {

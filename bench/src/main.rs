@@ -1,4 +1,4 @@
-//! The driver: measures the benchmarks named as arguments, or all, and prints a table for each.
+//! The driver: measures the benchmarks named as arguments, or all, and prints a table for each; or it searches for slow pickles.
 //! Status 1: two answers differ; 2: no benchmark has that name.
 
 // Rust's own start reads the memory map of its process, of which the kit's emulator dies: the C library calls `main` here.
@@ -12,12 +12,14 @@ mod ours;
 /// The unchanged Rust, of which a benchmark calls what it needs.
 #[allow(dead_code, unused_imports, unused_macros)]
 mod pickle;
-/// The rooms as the Rust binding has them, which knows an answer under the name `calls::Answer`.
+/// The Rust binding's own: the calls, what they refuse with, what a reading is lent.
+#[allow(dead_code)]
+mod calls;
+#[allow(dead_code)]
+mod error;
 #[allow(dead_code)]
 mod rooms;
-mod calls {
-    pub use crate::ours::Answer;
-}
+mod search;
 /// The tests' own, of which the driver only makes tables.
 #[allow(dead_code)]
 mod table;
@@ -42,6 +44,9 @@ benchmarks! {
 #[no_mangle]
 extern "C" fn main() -> i32 {
     let wanted: Vec<String> = std::env::args().skip(1).collect();
+    if wanted.first().is_some_and(|name| name == "search") {
+        return search::run(&wanted[1..]);
+    }
     if let Some(name) = wanted.iter().find(|name| !BENCHMARKS.iter().any(|(known, ..)| name == known)) {
         eprintln!("bench: no benchmark {name}");
         return 2;

@@ -11,7 +11,7 @@ use crate::rooms::Rooms;
 use crate::{hostile, inputs, ours, table};
 
 pub const ABOUT: &str = "the value at the start of a pickle, of sheets and of hostile pickles.
-Ours (qelemvir_from_bytes_prefix) fills a table and text, in rooms that are made once; it makes them zero on each call, 590 KB,
+Ours (qelemvir_from_bytes_prefix) fills a table and text, in rooms that are made once; it makes them zero on each call,
 which is nearly all of the None row. The Rust (from_bytes_prefix) and CPython (pickle.loads, str as bytes) make a value and
 free it.";
 
@@ -28,18 +28,28 @@ pub struct Input {
 pub fn cases() -> Vec<Case> {
     let python = Python::start();
     let rooms = Rc::new(RefCell::new(Rooms::new()));
+    for Input { name, pickle, .. } in sheets() {
+        println!("{name}: {} bytes.", pickle.len());
+    }
+    println!();
+    pickles().into_iter().map(|input| case(input, &rooms, python.as_ref())).collect()
+}
+
+/// All that are read.
+pub fn pickles() -> Vec<Input> {
+    sheets().into_iter().chain(hostile::pickles()).collect()
+}
+
+fn sheets() -> Vec<Input> {
     let sheet = |name, pickle| Input { name, pickle, number: 0, rust: true, cpython: true };
-    let sheets = vec![
+    vec![
         sheet("None", b"N.".to_vec()),
         sheet("a small sheet", inputs::small_sheet().pickle),
         sheet("a sheet of 800 values", inputs::middle_sheet().pickle),
         sheet("a sheet of 2,000 values", inputs::sheet().pickle),
-    ];
-    for Input { name, pickle, .. } in &sheets {
-        println!("{name}: {} bytes.", pickle.len());
-    }
-    println!();
-    sheets.into_iter().chain(hostile::pickles()).map(|input| case(input, &rooms, python.as_ref())).collect()
+        sheet("a sheet of recent GETs", inputs::recent_sheet().pickle),
+        sheet("the same, optimized", inputs::optimized_sheet().pickle),
+    ]
 }
 
 fn case(input: Input, rooms: &Rc<RefCell<Rooms>>, python: Option<&Rc<RefCell<Python>>>) -> Case {

@@ -35,7 +35,7 @@ fn compare(name: &'static str, first: Value, second: Value) -> Case {
         agree,
         ours: side(move || {
             let [first, second] = &tables;
-            black_box(ours::compare(black_box(first), black_box(second)));
+            let _ = black_box(ours::compare(black_box(first), black_box(second)));
         }),
         rust: Some(side(move || {
             black_box(black_box(&first).cmp(black_box(&second)));
@@ -45,12 +45,9 @@ fn compare(name: &'static str, first: Value, second: Value) -> Case {
 }
 
 fn same([first, second]: &[Table; 2], rust: Ordering) -> Result<(), String> {
-    let ours = ours::compare(first, second);
-    if ours.number != 0 {
-        return Err(format!("ours refuses with {}, detail {}", ours.number, ours.detail));
-    }
-    if ours.sign != rust as i64 {
-        return Err(format!("ours gives {}; the Rust {}", ours.sign, rust as i64));
+    let sign = ours::compare(first, second).map_err(|why| format!("ours refuses: {why}"))?;
+    if sign != rust as i64 {
+        return Err(format!("ours gives {sign}; the Rust {}", rust as i64));
     }
     Ok(())
 }
@@ -64,7 +61,7 @@ fn list(name: &'static str, value: Value) -> Case {
         bytes: Some(table.text.len()),
         agree,
         ours: side(move || {
-            black_box(ours::list(black_box(&table), black_box(&mut output)));
+            let _ = black_box(ours::list(black_box(&table), black_box(&mut output)));
         }),
         rust: None,
         cpython: None,
@@ -72,12 +69,9 @@ fn list(name: &'static str, value: Value) -> Case {
 }
 
 fn listed(table: &Table, output: &mut [u8], wanted: &str) -> Result<(), String> {
-    let ours = ours::list(table, output);
-    if ours.number != 0 {
-        return Err(format!("ours refuses with {}, detail {}", ours.number, ours.detail));
-    }
-    if &output[..ours.length as usize] != wanted.as_bytes() {
-        return Err(format!("ours lists {} bytes, not the {} that it should", ours.length, wanted.len()));
+    let length = ours::list(table, output).map_err(|why| format!("ours refuses: {why}"))?;
+    if &output[..length] != wanted.as_bytes() {
+        return Err(format!("ours lists {length} bytes, not the {} that it should", wanted.len()));
     }
     Ok(())
 }

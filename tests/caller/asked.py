@@ -186,7 +186,7 @@ class Pickles(Asked):
 
 
 class Slices(Asked):
-    """Each of the 20 slices one element short, as stated, one longer, and empty, for a pickle that is read, one that is refused, and
+    """Each slice of a reading one element short, as stated, one longer, and empty, for a pickle that is read, one that is refused, and
     one that is too long."""
 
     def __init__(self, seed):

@@ -103,22 +103,35 @@ static int is_zero(const uint8_t *at, size_t bytes)
     return at[0] == 0 && memcmp(at, at + 1, bytes - 1) == 0;
 }
 
-/* The slices of a reading: 18 rooms and two outputs. */
-#define MEMBER(room) ((struct qelemvir_rooms *)0)->room
-#define ROOM(room) \
-    {#room, sizeof MEMBER(room)[0], sizeof MEMBER(room) / sizeof MEMBER(room)[0], offsetof(struct qelemvir_rooms, room), {0}, 0}
-#define ROOMS 18
-#define SLICES 20
+/* The slices of a reading, by number, element, name and stated length. */
+/* from rooms.txt, by tests/rooms: slices */
+#define ROOMS 11
+#define SLICES 13
+#define EACH_ROOM(of)                             \
+    of(0, uint64_t, nodes, QELEMVIR_NODES)        \
+    of(1, uint16_t, owners, QELEMVIR_OWNERS)      \
+    of(2, uint16_t, children, QELEMVIR_CHILDREN)  \
+    of(3, uint16_t, stack, QELEMVIR_STACK)        \
+    of(4, uint16_t, marks, QELEMVIR_MARKS)        \
+    of(5, uint32_t, keys, QELEMVIR_KEYS)          \
+    of(6, uint16_t, held, QELEMVIR_HELD)          \
+    of(7, uint8_t, unescaped, QELEMVIR_UNESCAPED) \
+    of(8, uint16_t, starts, QELEMVIR_STARTS)      \
+    of(9, uint16_t, sorted, QELEMVIR_SORTED)      \
+    of(10, uint64_t, measures, QELEMVIR_MEASURES)
+#define EACH_OUTPUT(of)                     \
+    of(11, uint64_t, table, QELEMVIR_TABLE) \
+    of(12, uint8_t, text, QELEMVIR_TEXT)
+/* end of slices */
+
+#define ROOM(i, type, name, stated) {#name, sizeof(type), stated, offsetof(struct qelemvir_rooms, name), {0}, 0},
+#define OUTPUT(i, type, name, stated) {#name, sizeof(type), stated, 0, {0}, 0},
 static struct {
     const char *name;
     size_t element, stated, offset; /* the offset: of a room in the header's struct */
     struct memory memory;
     size_t length;
-} slices[SLICES] = {
-    ROOM(nodes), ROOM(owners), ROOM(children), ROOM(stack), ROOM(marks), ROOM(keys), ROOM(held), ROOM(unescaped), ROOM(starts),
-    ROOM(sorted), ROOM(measures), ROOM(flat), ROOM(raw), ROOM(texts), ROOM(words), ROOM(spare), ROOM(order), ROOM(other),
-    {"table", sizeof(uint64_t), QELEMVIR_TABLE, 0, {0}, 0}, {"text", sizeof(uint8_t), QELEMVIR_TEXT, 0, {0}, 0},
-};
+} slices[SLICES] = {EACH_ROOM(ROOM) EACH_OUTPUT(OUTPUT)};
 static struct memory *const table = &slices[ROOMS].memory, *const text = &slices[ROOMS + 1].memory;
 
 /* The value last given and the two before it, with noise behind the words. */
@@ -190,12 +203,8 @@ static void lend(const struct request *r)
 
 static struct qelemvir_answer reading(uint64_t call, const uint8_t *pickle, size_t pickle_len)
 {
-#define SLICE(i, type) (type *)slices[i].memory.at, slices[i].length
-#define ALL                                                                                                                       \
-    pickle, pickle_len, SLICE(0, uint64_t), SLICE(1, uint16_t), SLICE(2, uint16_t), SLICE(3, uint16_t), SLICE(4, uint16_t),       \
-        SLICE(5, uint32_t), SLICE(6, uint16_t), SLICE(7, uint8_t), SLICE(8, uint16_t), SLICE(9, uint16_t), SLICE(10, uint64_t),   \
-        SLICE(11, uint64_t), SLICE(12, uint64_t), SLICE(13, uint8_t), SLICE(14, uint64_t), SLICE(15, uint64_t),                   \
-        SLICE(16, uint64_t), SLICE(17, uint64_t), SLICE(18, uint64_t), SLICE(19, uint8_t)
+#define LENT(i, type, name, stated) , (type *)slices[i].memory.at, slices[i].length
+#define ALL pickle, pickle_len EACH_ROOM(LENT) EACH_OUTPUT(LENT)
     return call == PREFIX ? qelemvir_from_bytes_prefix(ALL) : qelemvir_from_bytes(ALL);
 }
 

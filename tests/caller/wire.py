@@ -2,13 +2,16 @@
 import os
 import struct
 import subprocess
+import sys
 
 HERE = os.path.dirname(os.path.abspath(__file__))
+sys.path.insert(0, os.path.join(HERE, ".."))
+import stated  # noqa: E402
+
 VALUE, PREFIX, WHOLE, WRITE, LIST, COMPARE, LAWS = range(7)
 CALLS = ["value", "from_bytes_prefix", "from_bytes", "to_bytes", "list", "compare", "compare's laws"]
-# The stated lengths of a reading's slices: 18 rooms, table and text.
-STATED = [8192, 16384, 16384, 2048, 256, 1024, 1024, 65536, 4098, 16384, 4096, 2048, 8192, 65536, 8192, 8192, 2048, 2048] + [8192, 65536]
-TABLE = 8192
+STATED = [slice.length for slice in stated.SLICES]
+TABLE = stated.TABLE.length
 CURRENT, PREVIOUS = 0, 1    # the value last given, and the one before it
 HEAD = struct.Struct("<10Q")
 

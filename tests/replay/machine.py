@@ -13,6 +13,7 @@ PLACE, STACK, MARKS, MEMO, NODES, LINKS = range(6)      # of a step
 MOST = [(LINKS, 8192, 16), (NODES, 4096, 15), (STACK, 2048, 12), (MARKS, 256, 13), (MEMO, 1024, 14)]    # in document 01's order
 STEP = re.compile(r" (\d+):(\d+),(\d+),(\d+),(\d+),(\d+)(?::(\S+))?")
 AFTER = {"17", "18", "19"}      # what is settled after the machine
+SINGLE = dict(zip(b"abfnrtv", b"\a\b\f\n\r\t\v"))
 HOLD = {6: "list", 7: "tuple", 10: "dict"}
 
 
@@ -82,6 +83,27 @@ def hexed(data):
     return data.hex() or "-"
 
 
+def string(line):
+    """What stands between the quotes, unescaped."""
+    text, found, i = line[1:-1], bytearray(), 0
+    while i < len(text):
+        if text[i:i + 1] != b"\\":
+            found.append(text[i])
+            i += 1
+            continue
+        octal = re.match(rb"[0-7]{1,3}", text[i + 1:])
+        if octal:
+            found.append(int(octal[0], 8) % 256)
+            i += 1 + len(octal[0])
+        elif text[i + 1:i + 2] == b"x":
+            found.append(int(text[i + 2:i + 4], 16))
+            i += 4
+        else:
+            found.append(SINGLE.get(text[i + 1], text[i + 1]))
+            i += 2
+    return bytes(found)
+
+
 def unicode(line):
     """As raw-unicode-escape writes it; what is no character is U+FFFD."""
     text, i = "", 0
@@ -115,7 +137,7 @@ def wrong_links(kind, word, places):
     return word % (1 << 32) != len(places) or (places != together if kind == 7 else bool(places) and places[0] < first)
 
 
-def rendered(pickle, words, owners, children, unescaped):
+def rendered(pickle, words, owners, children):
     """The node table in the form of `trace`."""
     held, links = {}, {}
     for place, (owner, child) in enumerate(zip(owners, children)):
@@ -141,7 +163,8 @@ def rendered(pickle, words, owners, children, unescaped):
         if kind in (2, 3):
             return "%s/%016x/-" % (("int", "float")[kind - 2], b)
         if kind in (4, 13):
-            return "bytes/%s/-" % hexed(within(32, b, pickle if kind == 4 else unescaped))
+            part = within(32, b, pickle)
+            return "bytes/%s/-" % hexed(part if kind == 4 else string(part))
         if kind in (5, 14):
             part = within(32, b, pickle)
             return "string/%s/-" % hexed(repaired(part) if kind == 5 else unicode(part))
@@ -167,12 +190,12 @@ def read(pickle, line):
     counts = [[(a * 65536 + b) * 65536 + c for a, b, c in zip(top, high, low)], stack, marks, memo, nodes, links]
     if fields[0] == "refused":
         return " ".join(fields), None, counts
-    _, at, stack, nodes, owners, children, unescaped = fields
+    _, at, stack, nodes, owners, children = fields
     stack = cut(stack[1:], 4)
     # STOP takes the value from the stack after the machine
     if not stack:
         return "refused 6 0", None, counts
-    table = rendered(pickle, cut(nodes[1:], 16), cut(owners[1:], 4), cut(children[1:], 4), bytes.fromhex(unescaped[1:]))
+    table = rendered(pickle, cut(nodes[1:], 16), cut(owners[1:], 4), cut(children[1:], 4))
     return "stopped %s %d" % (at, stack[-1]), table, counts
 
 

@@ -1,5 +1,5 @@
-"""The proved code as functions of Python, through ctypes. Nothing checks these declarations against the library's source: a change
-there must be made here too."""
+"""The proved code as functions of Python, through ctypes. The repository's `tests/rooms` checks the slices of the two readings against the
+library's source. Nothing checks the declarations of the other calls: a change there must be made here too."""
 
 import ctypes
 import os
@@ -8,30 +8,23 @@ from ctypes import POINTER, c_char_p, c_int64, c_size_t, c_uint8, c_uint16, c_ui
 
 from .refused import Refused
 
-# The rooms that a reading works in, in the order of its arguments: name, element, length (docs/ROOMS.md).
+# The rooms that a reading works in, in the order of its arguments: name, element, length. Then the lengths of the two slices that it fills.
+# from rooms.txt, by tests/rooms: list
 ROOMS = [
     ("nodes", c_uint64, 8192),
-    ("owners", c_uint16, 16384),
-    ("children", c_uint16, 16384),
+    ("owners", c_uint16, 8192),
+    ("children", c_uint16, 8192),
     ("stack", c_uint16, 2048),
     ("marks", c_uint16, 256),
-    ("keys", c_uint32, 1024),
+    ("keys", c_uint32, 2048),
     ("held", c_uint16, 1024),
     ("unescaped", c_uint8, 65536),
     ("starts", c_uint16, 4098),
     ("sorted", c_uint16, 16384),
     ("measures", c_uint64, 4096),
-    ("flat", c_uint64, 2048),
-    ("raw", c_uint64, 8192),
-    ("texts", c_uint8, 65536),
-    ("words", c_uint64, 8192),
-    ("spare", c_uint64, 8192),
-    ("order", c_uint64, 2048),
-    ("other", c_uint64, 2048),
 ]
-
-# What it fills.
 TABLE, TEXT = 8192, 65536
+# end of list
 
 # No value is written as a longer pickle, and none has a longer listing.
 LONGEST_PICKLE, LONGEST_LISTING = 122883, 370688
@@ -80,7 +73,7 @@ text_len = declared("qelemvir_text_len", c_size_t, WORDS, COUNT)
 
 
 class Rooms(threading.local):
-    """The rooms of a thread, some 600 KB. They are used only while a call runs, and no other Python code of the thread can run
+    """The rooms of a thread. They are used only while a call runs, and no other Python code of the thread can run
     then; so a reading that begins in the middle of another, in a signal's handler say, finds them free."""
 
     def __init__(self):

@@ -4,8 +4,9 @@
 //! A [`Reader`] owns the rooms that a reading works in. It gives a [`Value`], which hands out its [`Record`]s, or an [`Error`],
 //! which says why the pickle is refused. `examples/show.rs` prints a sheet.
 //!
-//! All of `unsafe` stands in the modules `calls` and `rooms`, where slices are lent to the library. Nothing checks their
-//! declarations against the library's source: a change there must be made here too.
+//! All of `unsafe` stands in the modules `calls` and `rooms`, where slices are lent to the library. The repository's `tests/rooms` checks the
+//! declarations of the two readings against the library's source. Nothing checks those of the other calls: a change there must be made
+//! here too.
 
 mod calls;
 mod error;

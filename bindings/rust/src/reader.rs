@@ -5,7 +5,7 @@ use crate::error::Error;
 use crate::rooms::{qelemvir_from_bytes, qelemvir_from_bytes_prefix, Reading, Rooms};
 use crate::value::Value;
 
-/// Owns the rooms that a reading works in, some 700 KB, so that many pickles can be read in them one after the other.
+/// Owns the rooms that a reading works in, so that many pickles can be read in them one after the other.
 pub struct Reader {
     rooms: Rooms,
 }

@@ -1,4 +1,4 @@
-//! The rooms that a reading works in and the two slices that it fills, by the lengths that docs/ROOMS.md states.
+//! The rooms that a reading works in and the two slices that it fills, as the repository's rooms.txt states them.
 
 use crate::calls::Answer;
 
@@ -41,24 +41,19 @@ macro_rules! rooms {
 }
 
 rooms! {
+    // from rooms.txt, by tests/rooms: list
     nodes: u64, NODES = 8192;
-    owners: u16, OWNERS = 16384;
-    children: u16, CHILDREN = 16384;
+    owners: u16, OWNERS = 8192;
+    children: u16, CHILDREN = 8192;
     stack: u16, STACK = 2048;
     marks: u16, MARKS = 256;
-    keys: u32, KEYS = 1024;
+    keys: u32, KEYS = 2048;
     held: u16, HELD = 1024;
     unescaped: u8, UNESCAPED = 65536;
     starts: u16, STARTS = 4098;
     sorted: u16, SORTED = 16384;
     measures: u64, MEASURES = 4096;
-    flat: u64, FLAT = 2048;
-    raw: u64, RAW = 8192;
-    texts: u8, TEXTS = 65536;
-    words: u64, WORDS = 8192;
-    spare: u64, SPARE = 8192;
-    order: u64, ORDER = 2048;
-    other: u64, OTHER = 2048;
     table: u64, TABLE = 8192;
     text: u8, TEXT = 65536;
+    // end of list
 }

@@ -1,54 +1,52 @@
 -- Building at STOP in zero rooms: what it asks for, and what it comes to.
-use Prim.Native.Nat.{ℕ, _*_, _<_, _≤_}
-use mathlib.Core.Bool.{Bool, true, false, not}
+use Prim.Native.Nat.{ℕ, _+_, _-_, _*_, _<_, _≤_}
+use mathlib.Core.Bool.{Bool, not}
 use mathlib.Core.List.{List, _++_}
-use mathlib.Core.Path.{_≡_, refl, sym, _∙_, ap, subst}
-use lib.ListN.{length, length-replicate, drop, replicate}
+use mathlib.Core.Path.{_≡_, refl, sym, _∙_, ap}
+use lib.ListN.{length, getD, take, drop}
+use lib.Seq.{getD-take, length-front}
 use native.Mathlib.Omega.{arith}
-use Rattle.refusal.specs.declared.Refusal.{Refusal}
 use Rattle.refusal.specs.declared.Refusal.the-variants.{TrailingData}
-use Rattle.input.specs.Bytes.{Bytes}
 use Rattle.value.specs.Value.{Forest, one, size, text, table}
 use Rattle.rooms.specs.Cleared.{cleared}
 use Rattle.decoder.specs.State.{Res, ok, no, _>>=_, need}
 use Rattle.decoder.specs.declared.Counts.{Counts}
-use Rattle.decoder.specs.Run.{run}
 use Rattle.decoder.specs.Rooms.{Rooms, stateOf}
+use Rattle.decoder.specs.RoomReads.{nodes-length}
 use Rattle.builder.specs.Build.{tree}
-use Rattle.builder.specs.Measure.{measured, measured-within}
+use Rattle.builder.specs.Graph.{Stands}
+use Rattle.builder.specs.Measure.{measured}
 use Rattle.builder.specs.Settle.{settle}
-use Rattle.plan.specs.Plan.{Meant, Stopped, Spare, Plans, Laid, laid-blank}
-use Rattle.plan.specs.declared.Planned.{Planned}
-use Rattle.plan.specs.declared.Planned.the-variants as planned
-use Rattle.settle.specs.Writing.{Made}
-use Rattle.finish.specs.Finish.{Planned as Listed, Zero, Lent, Finishes}
-use Rattle.finish.specs.Stopped.{run-planned}
-use Rattle.machine.specs.Clear.{all-zero, zeros}
+use Rattle.children.specs.Children.{Ended, Stopped, SideBySide}
+use Rattle.resolve.specs.Rooted.{Begins}
+use Rattle.machine.specs.Clear.{UsedTo, zeroed, owners-used, children-used}
+use Rattle.produce.specs.Rooms.{Zeros, zeros-long, zeros-all, front-cleared}
+use Rattle.produce.specs.Measured.{Lent}
+use Rattle.build.specs.Parts.{whole, part-length, part-behind, zeros-at, part-back}
 use Rattle.build.specs.declared.Built.{Built}
 use Rattle.build.specs.declared.Built.the-variants as built
 
--- r and c are the machine's at its STOP on p
-pub record At (p u ws owners log : List ℕ) (count links : ℕ) (r : Rooms) (c : Counts) : Type 0 where
-  pub meant : Meant p ws owners log count links r c
-  pub unescaped : r .unescaped ≡ u
-  pub stopped : ok (stateOf r c) ≡ run p
-  pub bytes : Bytes p
+-- r and c are the machine's at its STOP, with this pickle, these words, this log and these counts
+pub record At (p ws owners log : List ℕ) (count links : ℕ) (r : Rooms) (c : Counts) : Type 0 where
+  pub ended : Ended ws owners log count links r c
+  pub pickle : r .pickle ≡ p
 
 -- some are, and the root is a node
-pub record Ready (p u ws owners log : List ℕ) (count links root : ℕ) : Type 0 where
+pub record Ready (p ws owners log : List ℕ) (count links root : ℕ) : Type 0 where
   pub rooms : Rooms
   pub counts : Counts
-  pub at : At p u ws owners log count links rooms counts
+  pub at : At p ws owners log count links rooms counts
   pub known : root < count
 
--- the builder's rooms, zero, and room for the outputs
-pub record Working (starts sorted measures flat raw texts words spare order other table text : List ℕ) : Type 0 where
-  pub starts-zero : starts ≡ replicate 4098 0
-  pub sorted-zero : sorted ≡ replicate 16384 0
-  pub measures-zero : measures ≡ replicate 4096 0
-  pub flat-zero : flat ≡ replicate 2048 0
-  pub zero : Zero raw texts words spare order other
-  pub lent : Lent table text
+-- the rooms behind STOP, zero up to their stated lengths, and room for the outputs
+pub record Working (list decoded starts sorted measures table text : List ℕ) : Type 0 where
+  pub list-zero : Zeros 2048 list
+  pub decoded-zero : Zeros 65536 decoded
+  pub starts-zero : Zeros 4098 starts
+  pub sorted-zero : Zeros 16384 sorted
+  pub measures-zero : Zeros 4096 measures
+  pub table-room : 8192 ≤ length table
+  pub text-room : 65536 ≤ length text
 
 -- what is due of a tree: 17, 18, 19, then 11 where bytes are left that may not be
 unfoldable pub dueOf : Bool → Forest → Res (Unit {0})
@@ -60,95 +58,111 @@ Comes left f (built.Refused why) o q o′ q′ = (dueOf left f ≡ no why) × (o
 Comes left f (built.Made n) o q o′ q′ = (dueOf left f ≡ ok tt) × (n ≡ size (settle f)) × (o′ ≡ table (settle f) 0 ++ drop (4 * size (settle f)) o) × (q′ ≡ text (settle f) ++ drop (length (text (settle f))) q)
 
 -- of whatever rooms it could have been lent
-unfoldable pub Builds : List ℕ → List ℕ → List ℕ → List ℕ → List ℕ → ℕ → ℕ → ℕ → Bool → Built → List ℕ → List ℕ → List ℕ → List ℕ → Type 0
-Builds p u ws owners log count links root left b o q o′ q′ = (r : Rooms) (c : Counts) → At p u ws owners log count links r c → Comes left (one (tree (stateOf r c .nodes) root)) b o q o′ q′
+unfoldable pub Builds : List ℕ → List ℕ → List ℕ → List ℕ → ℕ → ℕ → ℕ → Bool → Built → List ℕ → List ℕ → List ℕ → List ℕ → Type 0
+Builds p ws owners log count links root left b o q o′ q′ = (r : Rooms) (c : Counts) → At p ws owners log count links r c → Comes left (one (tree (stateOf r c .nodes) root)) b o q o′ q′
 
--- ---- what plan and finish are asked
+-- of whatever nodes the rooms say, once the children of each stand side by side
+unfoldable pub Makes : List ℕ → List ℕ → List ℕ → List ℕ → List ℕ → List ℕ → ℕ → Bool → Built → List ℕ → List ℕ → List ℕ → List ℕ → Type 0
+Makes p ws starts children marks dues root left b o q o′ q′ = (k : Begins p ws starts children marks dues root) → Comes left (one (tree (k .nodes) root)) b o q o′ q′
 
-module _ {p u ws owners log : List ℕ} {count links root : ℕ} (k : Ready p u ws owners log count links root) where
-  pub planned-of : Stopped p ws owners log count links root
-  planned-of = record { rooms = k .rooms; counts = k .counts; meant = k .at .meant; known = k .known }
+-- ---- at STOP
 
-module _ {starts sorted measures flat raw texts words spare order other o q : List ℕ} (k : Working starts sorted measures flat raw texts words spare order other o q) where
-  pub spare-of : Spare starts sorted measures flat
-  spare-of = record {
-    starts-long = rw (k .starts-zero, length-replicate) (omega arith);
-    sorted-long = rw (k .sorted-zero, length-replicate) (omega arith);
-    marks-long = rw (k .measures-zero, length-replicate) (omega arith);
-    flat-long = rw (k .flat-zero, length-replicate) (omega arith);
-    starts-zero = rw (k .starts-zero) (zeros 4098);
-    sorted-zero = rw (k .sorted-zero) (zeros 16384);
-    marks-zero = rw (k .measures-zero) (zeros 4096);
-  }
+module _ {p ws owners log : List ℕ} {count links : ℕ} {r : Rooms} {c : Counts} (a : At p ws owners log count links r c) where
+  nodes-few : count ≤ 4096
+  nodes-few = omega (arith, a .ended .sound .firm .nodes, a .ended .count-is)
 
-  pub flat-long : length flat ≡ 2048
-  flat-long = ap length (k .flat-zero) ∙ length-replicate {A = ℕ} 2048 0
+  nodes-many : length (stateOf r c .nodes) ≡ count
+  nodes-many = nodes-length r c ∙ a .ended .count-is
 
-  -- the same with rooms as they were, and outputs as long as they were
-  pub working-again : {starts′ sorted′ measures′ flat′ raw′ texts′ words′ spare′ order′ other′ o′ q′ : List ℕ} → starts′ ≡ starts → sorted′ ≡ sorted → measures′ ≡ measures → flat′ ≡ replicate 2048 0 → Zero raw′ texts′ words′ spare′ order′ other′ → length o′ ≡ length o → length q′ ≡ length q
-      → Working starts′ sorted′ measures′ flat′ raw′ texts′ words′ spare′ order′ other′ o′ q′
-  working-again a b m f z u v = record { starts-zero = a ∙ k .starts-zero; sorted-zero = b ∙ k .sorted-zero; measures-zero = m ∙ k .measures-zero; flat-zero = f; zero = z; lent = record { table-room = rw u (k .lent .table-room); text-room = rw v (k .lent .text-room) } }
+  stands : Stands p ws (stateOf r c .nodes)
+  stands = record { rooms = r; counts = c; sound = a .ended .sound; pickle = a .pickle; words = a .ended .words; nodes = refl }
 
--- ---- by what plan answers
+  log-long : (8192 ≤ length owners) × (8192 ≤ length log)
+  log-long =
+      let l = a .ended .sound .firm .lengths in
+      (omega (arith, l .owners, ap length (a .ended .owners-are)), omega (arith, l .children, ap length (a .ended .log-is)))
 
--- plan's promise, of whatever rooms
-abbrev pub Planning : List ℕ → List ℕ → List ℕ → List ℕ → ℕ → ℕ → ℕ → Planned → List ℕ → List ℕ → Type 0
-Planning p ws owners log count links root a flat flat′ = (r : Rooms) (c : Counts) → Meant p ws owners log count links r c → Plans (stateOf r c .nodes) root a flat flat′
+-- of the log, its links are used
+pub log-used : {ws owners log : List ℕ} {count links : ℕ} → Stopped ws owners log count links → UsedTo links owners × UsedTo links log
+log-used t =
+    let e = t .ended in
+    (rw (e .links-are, e .owners-are) at (owners-used (t .rooms) (t .counts) (e .sound .firm)), rw (e .links-are, e .log-is) at (children-used (t .rooms) (t .counts) (e .sound .firm)))
 
-module _ {p u ws owners log : List ℕ} {count links root : ℕ} (k : Ready p u ws owners log count links root) (flat flat′ : List ℕ) {a : Planned} (P : Planning p ws owners log count links root a flat flat′) where
-  -- a refusal
-  module _ (why : Refusal) (e : a ≡ planned.Refused why) where
-    refuses : (r : Rooms) (c : Counts) → Meant p ws owners log count links r c → (measured (one (tree (stateOf r c .nodes) root)) ≡ no why) × (flat′ ≡ flat)
-    unfolding Plans
-    refuses r c m = rw e at (P r c m)
+-- ---- from each step of `build` to the next
 
-    pub flat-same : flat′ ≡ flat
-    flat-same = refuses (k .rooms) (k .counts) (k .at .meant) .1
+module _ {p ws owners log : List ℕ} {count links root : ℕ} (k : Ready p ws owners log count links root) {list decoded starts sorted measures o q : List ℕ} (w : Working list decoded starts sorted measures o q) where
+  pub stopped : Stopped ws owners log count links
+  stopped = record { rooms = k .rooms; counts = k .counts; ended = k .at .ended }
 
-    pub build-refused : (left : Bool) (o q : List ℕ) → Builds p u ws owners log count links root left (built.Refused why) o q o q
-    unfolding Builds Comes dueOf _>>=_
-    build-refused left o q r c z = (rw (refuses r c (z .meant) .0), refl, refl)
+  pub count-few : count ≤ 4096
+  count-few = nodes-few (k .at)
 
-  -- n records
-  module _ (n : ℕ) (e : a ≡ planned.Flat n) where
-    lays : (r : Rooms) (c : Counts) → Meant p ws owners log count links r c → (measured (one (tree (stateOf r c .nodes) root)) ≡ ok tt) × Laid (stateOf r c .nodes) (tree (stateOf r c .nodes) root) n flat flat′
-    unfolding Plans
-    lays r c m = rw e at (P r c m)
+  pub children-fit : (count < length starts) × (16384 ≤ length sorted)
+  children-fit = (omega (arith, nodes-few (k .at), zeros-long (w .starts-zero)), zeros-long (w .sorted-zero))
 
-    pub records-few : n ≤ 2048
-    records-few =
-        let x = lays (k .rooms) (k .counts) (k .at .meant) in
-        let z = measured-within (one (tree (stateOf (k .rooms) (k .counts) .nodes) root)) (x .0) .1 in
-        omega (arith, z, x .1 .records)
+  pub first-zero : getD starts 0 0 ≡ 0
+  first-zero = zeros-at (w .starts-zero) 0 (omega arith)
 
-    -- cleared, the records' room is zero again
-    pub flat-cleared : flat ≡ replicate 2048 0 → length flat′ ≡ length flat → cleared n flat′ ≡ replicate 2048 0
-    flat-cleared z l =
-        let x = lays (k .rooms) (k .counts) (k .at .meant) .1 in
-        all-zero flat′ n 2048 (l ∙ ap length z ∙ length-replicate {A = ℕ} 2048 0) records-few (laid-blank _ _ n flat flat′ x (rw z (zeros 2048)))
+  -- the children are laid out, and the log is cleared
+  module _ {starts′ sorted′ owners′ log′ : List ℕ} {used : ℕ} (S : SideBySide ws owners log count links starts sorted starts′ sorted′ used) (sl : length sorted′ ≡ length sorted) (e : (owners′ ≡ zeroed owners) × (log′ ≡ zeroed log)) where
+    owners-zeros : Zeros 8192 owners′
+    unfolding zeroed
+    owners-zeros = zeros-all (log-long (k .at) .0) (e .0)
 
-    -- what finish is asked
-    module _ (r : Rooms) (c : Counts) (z : At p u ws owners log count links r c) where
-      unfoldable standing : Listed p (r .unescaped) (r .nodes) flat′ n
-      standing = let x = lays r c (z .meant) in run-planned p r c (z .bytes) (z .meant .ended .sound) (z .meant .pickle) (z .stopped) root (x .0) (x .1 .flat) (x .1 .within) (x .1 .records)
+    log-zeros : Zeros 8192 log′
+    unfolding zeroed
+    log-zeros = zeros-all (log-long (k .at) .1) (e .1)
 
-      listed-by : Listed p u ws flat′ n
-      listed-by = rw (z .unescaped, z .meant .ended .words) at standing
+    pub rooms-lent : Lent decoded log′ list o q
+    rooms-lent =
+        record { decoded-zero = w .decoded-zero; log-zero = log-zeros; list-zero = w .list-zero; table-long = w .table-room; text-long = w .text-room }
 
-      finished : (o q o′ q′ : List ℕ) (records bytes : ℕ) → Finishes p u ws flat′ n o q o′ q′ records bytes → Made (settle (one (tree (stateOf r c .nodes) root))) o q o′ q′ records bytes
-      unfolding standing run-planned
-      finished o q o′ q′ records bytes f =
-          subst (λ (x : List ℕ). Finishes p x (r .nodes) flat′ n o q o′ q′ records bytes) (sym (z .unescaped)) (subst (λ (y : List ℕ). Finishes p u y flat′ n o q o′ q′ records bytes) (sym (z .meant .ended .words)) f) standing
+    pub parts-fit : (used ≤ length sorted′) × (count ≤ length measures) × (count + 1 ≤ length owners′)
+    parts-fit = (
+      omega (arith, S .few, zeros-long (w .sorted-zero)),
+      omega (arith, nodes-few (k .at), zeros-long (w .measures-zero)),
+      omega (arith, nodes-few (k .at), zeros-long owners-zeros),
+    )
 
-    pub listed : Listed p u ws flat′ n
-    listed = listed-by (k .rooms) (k .counts) (k .at)
+    -- the parts lent to `make`: the owners' room is for the dues
+    abbrev begins : (r : Rooms) (c : Counts) → At p ws owners log count links r c
+        → Begins p ws starts′ (take (used - 0) sorted′) (take (count - 0) measures) (take (count + 1 - 0) owners′) root
+    begins r c a =
+        record {
+          nodes = stateOf r c .nodes;
+          stands = stands a;
+          graph = rw (whole used) (S .graph r c (a .ended));
+          beyond = omega (arith, nodes-many a, nodes-few a);
+          many = part-length count measures (parts-fit .1) ∙ sym (nodes-many a);
+          blank = λ i l. rw (whole count) (getD-take count measures i 0 (omega (arith, nodes-many a)) ∙ zeros-at (w .measures-zero) i (omega (arith, nodes-many a, nodes-few a)));
+          roomy = omega (arith, nodes-many a, part-length (count + 1) owners′ (parts-fit .2));
+          no-dues = rw (whole (count + 1)) (getD-take (count + 1) owners′ 0 0 (omega arith) ∙ zeros-at owners-zeros 0 (omega arith));
+          below = omega (arith, k .known, nodes-many a);
+        }
 
-    pub build-left : (o q : List ℕ) → Builds p u ws owners log count links root true (built.Refused TrailingData) o q o q
-    unfolding Builds Comes dueOf _>>=_ need
-    build-left o q r c z = (rw (lays r c (z .meant) .0), refl, refl)
+    pub make-begins : Begins p ws starts′ (take (used - 0) sorted′) (take (count - 0) measures) (take (count + 1 - 0) owners′) root
+    make-begins = begins (k .rooms) (k .counts) (k .at)
 
-    pub build-made : (o q o′ q′ : List ℕ) (records bytes : ℕ) → Finishes p u ws flat′ n o q o′ q′ records bytes → Builds p u ws owners log count links root false (built.Made records) o q o′ q′
-    unfolding Builds Comes dueOf _>>=_ need
-    build-made o q o′ q′ records bytes f r c z =
-        let x = finished r c z o q o′ q′ records bytes f in
-        (rw (lays r c (z .meant) .0), x .counted, x .table-is, x .text-is)
+    pub build-comes : (left : Bool) (b : Built) (o′ q′ : List ℕ) → Makes p ws starts′ (take (used - 0) sorted′) (take (count - 0) measures) (take (count + 1 - 0) owners′) root left b o q o′ q′
+        → Builds p ws owners log count links root left b o q o′ q′
+    unfolding Makes Builds
+    build-comes left b o′ q′ m r c a = m (begins r c a)
+
+    -- whatever the parts have come to: they are cleared, and the rooms are as they were
+    pub clear-fits : (d m n : List ℕ) → length d ≡ length (take (used - 0) sorted′) → length m ≡ length (take (count - 0) measures) → length n ≡ length (take (count + 1 - 0) owners′) → length starts′ ≡ length starts
+        → ((count + 1 ≤ length (n ++ drop (count + 1 - 0) owners′)) × (count + 1 ≤ length starts′))
+        × ((used ≤ length (d ++ drop (used - 0) sorted′)) × (count ≤ length (m ++ drop (count - 0) measures)) × (count ≤ 4096))
+    clear-fits d m n dl ml nl tl = (
+      (omega (arith, parts-fit .2, length-front owners′ n (count + 1 - 0) nl), omega (arith, children-fit .0, tl)),
+      (omega (arith, parts-fit .0, length-front sorted′ d (used - 0) dl), omega (arith, parts-fit .1, length-front measures m (count - 0) ml), count-few),
+    )
+
+    pub rooms-back : (d m n : List ℕ) → length d ≡ length (take (used - 0) sorted′) → length m ≡ length (take (count - 0) measures) → length n ≡ length (take (count + 1 - 0) owners′)
+        → (cleared (count + 1) (n ++ drop (count + 1 - 0) owners′) ≡ zeroed owners) × (cleared (count + 1) starts′ ≡ starts)
+        × (cleared used (d ++ drop (used - 0) sorted′) ≡ sorted) × (cleared count (m ++ drop (count - 0) measures) ≡ measures)
+    rooms-back d m n dl ml nl = (
+      part-back owners-zeros (count + 1) (omega (arith, nodes-few (k .at))) n nl ∙ e .0,
+      front-cleared 4098 (count + 1) starts starts′ (w .starts-zero) (omega (arith, nodes-few (k .at))) (S .starts-behind),
+      front-cleared 16384 used sorted (d ++ drop (used - 0) sorted′) (w .sorted-zero) (S .few) (part-behind used sorted′ d (parts-fit .0) dl ∙ S .sorted-behind),
+      part-back (w .measures-zero) count (nodes-few (k .at)) m ml,
+    )

@@ -12,9 +12,8 @@ use Rattle.refusal.specs.declared.Refusal.{Refusal}
 use Rattle.refusal.specs.declared.Refusal.the-variants.{StackUnderflow, TrailingData}
 use Rattle.refusal.specs.declared.Answer.{Answer}
 use Rattle.refusal.specs.Numbers.{numberOf, refusedAnswer}
-use Rattle.input.specs.Bytes.{Bytes}
 use Rattle.value.specs.Value.{Forest, one, size, text, table, table-length}
-use Rattle.decoder.specs.State.{State, Res, ok, no, _>>=_, need, last}
+use Rattle.decoder.specs.State.{Res, ok, no, _>>=_, need, last}
 use Rattle.decoder.specs.declared.Counts.{Counts}
 use Rattle.decoder.specs.Run.{run}
 use Rattle.decoder.specs.Rooms.{Rooms, stateOf}
@@ -22,6 +21,7 @@ use Rattle.decoder.specs.Effects.{Firm}
 use Rattle.decoder.specs.Out.{every-at}
 use Rattle.decoder.specs.RoomReads.{input-of, stack-of, stack-length, nodes-length}
 use Rattle.machine.specs.Lent.{roomsOf}
+use Rattle.machine.specs.Clear.{UsedTo, owners-used, children-used}
 use Rattle.machine.specs.Ran.{Ran, ended, countsOf}
 use Rattle.machine.specs.declared.Outcome.{Outcome}
 use Rattle.machine.specs.declared.Outcome.the-variants as outcome
@@ -44,12 +44,11 @@ pub record Gives (x : Reading) (a : Answer) (o q o′ q′ : List ℕ) : Type 0 
   pub text-is : q′ ≡ x .bytes ++ drop (length (x .bytes)) q
 
 -- the rooms that a run left, of which these are lent
-pub record RanIn (o : Outcome) (p nodes owners children stack unescaped : List ℕ) : Type 0 where
+pub record RanIn (o : Outcome) (p nodes owners children stack : List ℕ) : Type 0 where
   pub marks : List ℕ
   pub keys : List ℕ
   pub held : List ℕ
-  pub ran : Ran o p (roomsOf p nodes owners children stack marks keys held unescaped)
-  pub bytes : Bytes p
+  pub ran : Ran o p (roomsOf p nodes owners children stack marks keys held)
 
 -- ---- both readings from the prefix reading's answer
 
@@ -125,17 +124,22 @@ module _ (o q : List ℕ) where
 
 -- ---- by how the run ended
 
-module _ {p nodes owners children stack unescaped : List ℕ} where
-  abbrev pub rooms : {o : Outcome} → RanIn o p nodes owners children stack unescaped → Rooms
-  rooms h = roomsOf p nodes owners children stack (h .marks) (h .keys) (h .held) unescaped
+module _ {p nodes owners children stack : List ℕ} where
+  abbrev pub rooms : {o : Outcome} → RanIn o p nodes owners children stack → Rooms
+  rooms h = roomsOf p nodes owners children stack (h .marks) (h .keys) (h .held)
 
   module _ (all : Bool) (o q : List ℕ) where
     -- the machine refuses
-    pub gives-run : (c : Counts) (why : Refusal) → RanIn (outcome.Refused c why) p nodes owners children stack unescaped → Gives (due all p) (refusedAnswer why) o q o q
+    pub gives-run : (c : Counts) (why : Refusal) → RanIn (outcome.Refused c why) p nodes owners children stack → Gives (due all p) (refusedAnswer why) o q o q
     unfolding ended countsOf
     gives-run c why h = gives-refused o q (due all p) why (due-refused p all why (prefix-refused p why (stopped-refused p why (h .ran .sound .firm .lengths .pickle) (sym (h .ran .means)))))
 
-  module _ (c : Counts) (h : RanIn (outcome.Stopped c) p nodes owners children stack unescaped) where
+  -- of its log, the links are used
+  pub refused-used : (c : Counts) (why : Refusal) → RanIn (outcome.Refused c why) p nodes owners children stack → UsedTo (c .links) owners × UsedTo (c .links) children
+  unfolding countsOf
+  refused-used c why h = (owners-used (rooms h) c (h .ran .sound .firm), children-used (rooms h) c (h .ran .sound .firm))
+
+  module _ (c : Counts) (h : RanIn (outcome.Stopped c) p nodes owners children stack) where
     short : length p ≤ pickleLimit
     unfolding countsOf
     short = h .ran .sound .firm .lengths .pickle
@@ -151,6 +155,9 @@ module _ {p nodes owners children stack unescaped : List ℕ} where
     deep : length (stateOf (rooms h) c .stack) ≡ c .stack
     deep = stack-length (rooms h) c (omega (arith, firm .stack, firm .deepest, firm .lengths .stack))
 
+    pub stopped-used : UsedTo (c .links) owners × UsedTo (c .links) children
+    stopped-used = (owners-used (rooms h) c firm, children-used (rooms h) c firm)
+
     -- no value is left
     pub gives-empty : (all : Bool) (o q : List ℕ) → c .stack ≡ 0 → Gives (due all p) (refusedAnswer StackUnderflow) o q o q
     gives-empty all o q e = gives-refused o q (due all p) StackUnderflow (due-refused p all StackUnderflow (prefix-refused p StackUnderflow (stopped-empty p (stateOf (rooms h) c) short stops (omega (arith, deep, e)))))
@@ -163,16 +170,11 @@ module _ {p nodes owners children stack unescaped : List ℕ} where
       top-is : last (stateOf (rooms h) c .stack) ≡ root
       top-is = rw (stack-of (rooms h) c, length-take-le (c .stack) stack (omega (arith, firm .stack, firm .deepest, firm .lengths .stack))) (getD-take (c .stack) stack (c .stack - 1) 0 (omega arith))
 
-      stopped-at : At p unescaped nodes owners children (c .nodes) (c .links) (rooms h) c
+      stopped-at : At p nodes owners children (c .nodes) (c .links) (rooms h) c
       unfolding countsOf
-      stopped-at = record {
-        meant = record { ended = record { sound = h .ran .sound; words = refl; owners-are = refl; log-is = refl; count-is = refl; links-are = refl }; pickle = refl };
-        unescaped = refl;
-        stopped = sym stops;
-        bytes = h .bytes;
-      }
+      stopped-at = record { ended = record { sound = h .ran .sound; words = refl; owners-are = refl; log-is = refl; count-is = refl; links-are = refl }; pickle = refl }
 
-      pub ready : Ready p unescaped nodes owners children (c .nodes) (c .links) root
+      pub ready : Ready p nodes owners children (c .nodes) (c .links) root
       unfolding countsOf
       ready = record { rooms = rooms h; counts = c; at = stopped-at; known = known }
         where
@@ -190,7 +192,7 @@ module _ {p nodes owners children stack unescaped : List ℕ} where
           prefix-told p (stateOf (rooms h) c) (last (stateOf (rooms h) c .stack)) (stopped-with p (stateOf (rooms h) c) short stops (omega (arith, deep)))
           ∙ ap₂ (λ (n i : ℕ). told n (one (tree (stateOf (rooms h) c .nodes) i))) consumed-at top-is
 
-      module _ (all : Bool) (o q o′ q′ : List ℕ) (b : Built) (B : Builds p unescaped nodes owners children (c .nodes) (c .links) root (all && ltb (c .at) (length p)) b o q o′ q′) where
+      module _ (all : Bool) (o q o′ q′ : List ℕ) (b : Built) (B : Builds p nodes owners children (c .nodes) (c .links) root (all && ltb (c .at) (length p)) b o q o′ q′) where
         pub gives-built-refused : (why : Refusal) → b ≡ built.Refused why → Gives (due all p) (refusedAnswer why) o q o′ q′
         unfolding Builds Comes
         gives-built-refused why e =

@@ -1,3 +1,6 @@
 -- What building at STOP asks and comes to, and what a run's answer gives of crate builder's readings.
+pub mod Parts
 pub mod Building
+pub mod Limits
+pub mod Making
 pub mod Given

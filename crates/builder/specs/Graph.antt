@@ -17,12 +17,11 @@ pub record Graph (t : List Node) (starts children : List ℕ) : Type 0 where
   pub inside : (k : ℕ) → k < length children → getD children k 0 < length t
   pub room : length t < length starts
 
--- the nodes t are those that the pickle p, the unescaped text u and the words ws say
-pub record Stands (p u ws : List ℕ) (t : List Node) : Type 0 where
+-- the nodes t are those that the pickle p and the words ws say
+pub record Stands (p ws : List ℕ) (t : List Node) : Type 0 where
   pub rooms : Rooms
   pub counts : Counts
   pub sound : Sound rooms counts
   pub pickle : rooms .pickle ≡ p
-  pub unescaped : rooms .unescaped ≡ u
   pub words : rooms .nodes ≡ ws
   pub nodes : t ≡ stateOf rooms counts .nodes

@@ -1,7 +1,6 @@
 -- What Builder makes of the nodes at STOP, and the two readings of a pickle; with the laws that each is built on.
 pub mod Build
 pub mod Graph
-pub mod Flat
 pub mod Unfold
 pub mod Fuel
 pub mod Shallow

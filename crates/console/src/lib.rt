@@ -6,23 +6,16 @@ pub fn read(table: &mut [u64], text: &mut [u8]) -> Answer {
     let mut input = [0u8; 65537];
     let n = io::read_full(0, &mut input);
     let mut nodes = [0u64; 8192];
-    let mut owners = [0u16; 16384];
-    let mut children = [0u16; 16384];
+    let mut owners = [0u16; 8192];
+    let mut children = [0u16; 8192];
     let mut stack = [0u16; 2048];
     let mut marks = [0u16; 256];
-    let mut keys = [0u32; 1024];
+    let mut keys = [0u32; 2048];
     let mut held = [0u16; 1024];
     let mut unescaped = [0u8; 65536];
     let mut starts = [0u16; 4098];
     let mut sorted = [0u16; 16384];
     let mut measures = [0u64; 4096];
-    let mut flat = [0u64; 2048];
-    let mut raw = [0u64; 8192];
-    let mut texts = [0u8; 65536];
-    let mut words = [0u64; 8192];
-    let mut spare = [0u64; 8192];
-    let mut order = [0u64; 2048];
-    let mut other = [0u64; 2048];
     pickle::qelemvir_from_bytes(
         &input[0..n],
         &mut nodes,
@@ -36,13 +29,6 @@ pub fn read(table: &mut [u64], text: &mut [u8]) -> Answer {
         &mut starts,
         &mut sorted,
         &mut measures,
-        &mut flat,
-        &mut raw,
-        &mut texts,
-        &mut words,
-        &mut spare,
-        &mut order,
-        &mut other,
         table,
         text,
     )

@@ -7,6 +7,7 @@ use mathlib.Core.Path.{_≡_, refl, _∙_, ap}
 use lib.ListN.{getD}
 use native.Mathlib.Omega.{arith}
 use Rattle.refusal.specs.declared.Answer.{Answer}
+use Rattle.rooms.specs.Stated.{Slices}
 use Rattle.op.specs.Table.{rowIn, rowOf, knownName, opcodeOf}
 use Rattle.input.specs.Bytes.{lowFirst}
 use Rattle.value.specs.Value.{Label, Forest, I64L, ListL, TupleL, nil, node}
@@ -18,7 +19,6 @@ use Rattle.builder.specs.Build.{at}
 use Rattle.builder.specs.Unfold.{WritesOut, nothing, afresh, In, here, there, Contains, direct, through, Reachable, NothingContainsItself}
 use Rattle.builder.specs.Reading.{Reading, told, consumed, prefix}
 use Rattle.builder.specs.Bench.{Line, Holds, bench, bench-holds}
-use Rattle.read.specs.Slices.{Slices}
 use Rattle.de.specs.Call.{reading, ReadCall}
 use Rattle.de.specs.Theorems.{Place, shown-here, shown-inside, shown-after, call-never-shows-sharing}
 

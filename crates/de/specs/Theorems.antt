@@ -14,6 +14,7 @@ use Rattle.refusal.specs.declared.Refusal.{Refusal}
 use Rattle.refusal.specs.declared.Refusal.the-variants.{ShortRoom, TooLong, StackUnderflow, TrailingData}
 use Rattle.refusal.specs.declared.Answer.{Answer}
 use Rattle.refusal.specs.Numbers.{refusedAnswer}
+use Rattle.rooms.specs.Stated.{Slices, roomLengths, stated, tableOf, textOf, begun, short, blank, filled, filled-none, table-filled, text-filled}
 use Rattle.input.specs.Bytes.{Bytes}
 use Rattle.value.specs.Value.{Forest, node, one}
 use Rattle.value.specs.WellFormed.{WellFormed}
@@ -26,8 +27,7 @@ use Rattle.builder.specs.Settle.{settle}
 use Rattle.builder.specs.Unfold.{WritesOut, afresh, In, here, there, Contains, direct, through, Reachable, NothingContainsItself, write-out-unique, write-out}
 use Rattle.builder.specs.Reading.{Reading, refuses, reads, told, consumed, consumed-rest, prefix, whole, leaves, whole-trailing, whole-prefix, pickleLimit, stopped-long, stopped-refused, stopped-empty, stopped-with, prefix-refused, prefix-told, told-fits, sharing-never-shows}
 use Rattle.builder.specs.Success.{Formed, refusal-number, prefix-well-formed, whole-well-formed}
-use Rattle.read.specs.Slices.{Slices, filled}
-use Rattle.de.specs.Call.{Left, short, blank, reading, ReadCall}
+use Rattle.de.specs.Call.{Left, reading, ReadCall}
 
 -- ---- 1. sharing never shows
 
@@ -103,62 +103,62 @@ longer w r n t h = record { value = h .value; shape = h .shape; settle = h .sett
 
 module _ (x : Reading) (l l′ : Slices) (a : Answer) (c : ReadCall x l l′ a) where
   -- the reading's own answer, and the slices as it leaves them
-  module _ (long : short l ≡ false) where
-    says : _≡_ {A = Left} (record { answer = a; slices = l′ }) (record { answer = x .answer; slices = filled x (blank l) })
+  module _ (long : short stated l ≡ false) where
+    says : _≡_ {A = Left} (record { answer = a; slices = l′ }) (record { answer = x .answer; slices = filled (x .words) (x .bytes) (blank roomLengths l) })
     unfolding reading
     says = c ∙ rw long
 
     pub call-answer : a ≡ x .answer
     call-answer = ap (λ (y : Left). y .answer) says
 
-    pub call-slices : l′ ≡ filled x (blank l)
+    pub call-slices : l′ ≡ filled (x .words) (x .bytes) (blank roomLengths l)
     call-slices = ap (λ (y : Left). y .slices) says
 
+    -- the outputs begin with what it fills
+    pub call-table : tableOf l′ ≡ begun (x .words) (tableOf l)
+    call-table = ap tableOf call-slices ∙ table-filled (x .words) (x .bytes) l long
+
+    pub call-text : textOf l′ ≡ begun (x .bytes) (textOf l)
+    call-text = ap textOf call-slices ∙ text-filled (x .words) (x .bytes) l long
+
     -- a refusal leaves every room zero and the outputs as they came
-    pub call-refused : (why : Refusal) → x ≡ refuses why → (a ≡ refusedAnswer why) × (l′ ≡ blank l)
-    unfolding filled
-    call-refused why e = (call-answer ∙ ap (λ (y : Reading). y .answer) e, call-slices ∙ ap (λ (y : Reading). filled y (blank l)) e)
+    pub call-refused : (why : Refusal) → x ≡ refuses why → (a ≡ refusedAnswer why) × (l′ ≡ blank roomLengths l)
+    call-refused why e = (call-answer ∙ ap (λ (y : Reading). y .answer) e, call-slices ∙ ap (λ (y : Reading). filled (y .words) (y .bytes) (blank roomLengths l)) e ∙ filled-none (blank roomLengths l))
 
   -- success means that no slice was short
-  pub call-long-enough : a .number ≡ 0 → short l ≡ false
+  pub call-long-enough : a .number ≡ 0 → short stated l ≡ false
   unfolding reading
-  call-long-enough z = go (short l) refl
+  call-long-enough z = go (short stated l) refl
     where
-      go : (b : Bool) → short l ≡ b → b ≡ false
+      go : (b : Bool) → short stated l ≡ b → b ≡ false
       go false e = refl
       go true e =
           let q : _≡_ {A = Left} (record { answer = a; slices = l′ }) (record { answer = refusedAnswer ShortRoom; slices = l }) = c ∙ rw e in
           absurd (refusal-number ShortRoom (sym (ap (λ (y : Left). y .answer .number) q) ∙ z))
 
   -- on success the table and the text that its records say are well formed: what compare, list and write ask
-  pub call-well-formed : Formed x → a .number ≡ 0 → WellFormed (l′ .table) (a .count) (take (textLength (l′ .table) (a .count)) (l′ .text))
-  unfolding Formed filled blank
+  pub call-well-formed : Formed x → a .number ≡ 0 → WellFormed (tableOf l′) (a .count) (take (textLength (tableOf l′) (a .count)) (textOf l′))
+  unfolding Formed
   call-well-formed f e = go (f (ap (λ (y : Answer). y .number) (sym answer) ∙ e))
     where
-      long : short l ≡ false
+      long : short stated l ≡ false
       long = call-long-enough e
 
       answer : a ≡ x .answer
       answer = call-answer long
 
-      table : l′ .table ≡ x .words ++ drop (length (x .words)) (l .table)
-      table = ap (λ (y : Slices). y .table) (call-slices long)
-
-      text : l′ .text ≡ x .bytes ++ drop (length (x .bytes)) (l .text)
-      text = ap (λ (y : Slices). y .text) (call-slices long)
-
-      go : WellFormed (x .words) (x .answer .count) (x .bytes) → WellFormed (l′ .table) (a .count) (take (textLength (l′ .table) (a .count)) (l′ .text))
+      go : WellFormed (x .words) (x .answer .count) (x .bytes) → WellFormed (tableOf l′) (a .count) (take (textLength (tableOf l′) (a .count)) (textOf l′))
       go w =
-          let t : WellFormed (x .words ++ drop (length (x .words)) (l .table)) (x .answer .count) (x .bytes) = longer (x .words) (drop (length (x .words)) (l .table)) (x .answer .count) (x .bytes) w in
-          let n = text-length (x .words ++ drop (length (x .words)) (l .table)) (x .answer .count) (x .bytes) t in
-          rw (answer, table, text, n, take-append-seam (x .bytes) (drop (length (x .bytes)) (l .text))) t
+          let t : WellFormed (begun (x .words) (tableOf l)) (x .answer .count) (x .bytes) = longer (x .words) (drop (length (x .words)) (tableOf l)) (x .answer .count) (x .bytes) w in
+          let n = text-length (begun (x .words) (tableOf l)) (x .answer .count) (x .bytes) t in
+          rw (answer, call-table long, call-text long, n, take-append-seam (x .bytes) (drop (length (x .bytes)) (textOf l))) t
 
 -- both readings, of bytes
 module _ (p : List ℕ) (b : Bytes p) (l l′ : Slices) (a : Answer) (e : a .number ≡ 0) where
-  pub prefix-call-formed : ReadCall (prefix p) l l′ a → WellFormed (l′ .table) (a .count) (take (textLength (l′ .table) (a .count)) (l′ .text))
+  pub prefix-call-formed : ReadCall (prefix p) l l′ a → WellFormed (tableOf l′) (a .count) (take (textLength (tableOf l′) (a .count)) (textOf l′))
   prefix-call-formed c = call-well-formed (prefix p) l l′ a c (prefix-well-formed p b) e
 
-  pub whole-call-formed : ReadCall (whole p) l l′ a → WellFormed (l′ .table) (a .count) (take (textLength (l′ .table) (a .count)) (l′ .text))
+  pub whole-call-formed : ReadCall (whole p) l l′ a → WellFormed (tableOf l′) (a .count) (take (textLength (tableOf l′) (a .count)) (textOf l′))
   whole-call-formed c = call-well-formed (whole p) l l′ a c (whole-well-formed p b) e
 
 -- ---- how a reading ends

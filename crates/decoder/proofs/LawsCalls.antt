@@ -26,7 +26,7 @@ use Rattle.decoder.specs.Run.{going}
 use Rattle.decoder.specs.Rooms.{Rooms, Counts, first, second, within, moduleOf, nameOf, nodeIs, kidsOf, stateOf, Holds, aList, aTuple, aDict, Counted, Together, Placed}
 use Rattle.decoder.specs.RoomLists.{holds-below}
 use Rattle.decoder.specs.RoomReads.{objectWord, object-made, object-node}
-use Rattle.decoder.specs.RoomKeeps.{class-none, class-made, used-none}
+use Rattle.decoder.specs.RoomKeeps.{class-none, class-made}
 use Rattle.decoder.specs.Effects.{Firm, Sound, Lent, Says, Fits, enacted, refusing, says-refused}
 use Rattle.decoder.specs.Reads.{cutTo, firm-cut}
 use Rattle.decoder.specs.StackSteps.{on-stack, stack-room}
@@ -184,18 +184,18 @@ module _ (r : Rooms) (c : Counts) (s : Sound r c) (x y : ℕ) (call : Calls c r 
       let h = call-rooms .3 in
       rw (e, f, g)
       (record {
-        enacts = rw (call .step makes, m, object-node (r .pickle) (r .unescaped) (r .nodes) [] new x y (omega arith));
-        fits = (firm-rest, class-made (r .nodes) (c .nodes) new x (call .class-node) (call .class-kind), used-none (c .unescaped) (objectWord new x) y (λ z. omega arith), λ z. absurd (let v = holds-below (objectWord new x) z in omega arith));
+        enacts = rw (call .step makes, m, object-node (r .pickle) (r .nodes) [] new x y (omega arith));
+        fits = (firm-rest, class-made (r .nodes) (c .nodes) new x (call .class-node) (call .class-kind), λ z. absurd (let v = holds-below (objectWord new x) z in omega arith));
       })
 
   says-set : (l : Label) (c₁ : Counts) (k b : ℕ) → reduced name y (kidsOf r c y) ≡ setOf l y (kidsOf r c y) → c₁ ≡ cutTo c (c .at) (c .stack - 2) (c .marks) → b ≡ getD (kidsOf r c y) 0 y
-      → nodeIs (r .pickle) (r .unescaped) (r .nodes) [] k b ≡ record { label = l; kids = b ∷ [] } → 7 < kindIn k → kindIn k < 10 → Says (Push c₁ k b) r c (going (called reduced (stateOf r c)))
+      → nodeIs (r .pickle) (r .nodes) [] k b ≡ record { label = l; kids = b ∷ [] } → 7 < kindIn k → kindIn k < 10 → Says (Push c₁ k b) r c (going (called reduced (stateOf r c)))
   unfolding enacted Fits
   says-set l c₁ k b m e f n low high =
       rw e
       (record {
         enacts = rw (call .step reduced, m, n, f);
-        fits = (firm-rest, class-none (r .nodes) (c .nodes) k (λ z. omega arith), used-none (c .unescaped) k b (λ z. omega arith), holds k b low high);
+        fits = (firm-rest, class-none (r .nodes) (c .nodes) k (λ z. omega arith), holds k b low high);
       })
     where
       holds : (k b : ℕ) → 7 < kindIn k → kindIn k < 10 → Holds k → b ≡ 0

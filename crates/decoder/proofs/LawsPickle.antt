@@ -28,23 +28,22 @@ use Rattle.float.specs.declared.F64Literal.{F64Literal}
 use Rattle.float.specs.declared.F64Literal.the-variants as floats
 use Rattle.input.specs.Line.{newlineOf, lineOf, line-length}
 use Rattle.text.specs.Escapes.{stringHead}
-use Rattle.text.specs.Pieces.{texts, reads, bytesOf, lengthOf}
+use Rattle.text.specs.Pieces.{texts, bytesOf, lengthOf}
 use Rattle.text.specs.Text.{hasQuotes, inner, byte as byteText, unescapeString, unescapeUnicode, measured, quotedSays, decodedSays}
-use Rattle.text.specs.Laws.{string-length}
 use Rattle.text.specs.Answers.{got-bytes, decoded-len, decoded-bad, quoted-plain, quoted-escaped, quoted-bad}
 use Rattle.text.specs.declared.Decoded.{Decoded}
 use Rattle.text.specs.declared.Decoded.the-variants as decoded
 use Rattle.text.specs.declared.Quoted.{Quoted}
 use Rattle.text.specs.declared.Quoted.the-variants as quoted
 use Rattle.value.specs.Value.{Label, BoolL, I64L, F64L, BytesL, StringL, GlobalL}
-use Rattle.decoder.specs.declared.Effect.the-variants.{Push, Go, Unescape}
+use Rattle.decoder.specs.declared.Effect.the-variants.{Push, Go}
 use Rattle.decoder.specs.State.{ok, no, _>>=_, need, byte, bytes, push}
-use Rattle.decoder.specs.Opcodes.{intLabel, signedLength, proto, string, binstring, global}
+use Rattle.decoder.specs.Opcodes.{intLabel, signedLength, proto, binstring, global}
 use Rattle.decoder.specs.Run.{going}
 use Rattle.decoder.specs.Rooms.{Rooms, Counts, stateOf, atTo}
-use Rattle.decoder.specs.Effects.{Sound, Says, Fits, Decides, enacted, refusing}
+use Rattle.decoder.specs.Effects.{Sound, Decides, refusing}
 use Rattle.decoder.specs.Reads.{cutTo, bytes-short, bytes-got, line-none, line-got}
-use Rattle.decoder.specs.ReadsPickle.{Makes, firm-read, refused-going, says-go, pushed-step, short, enough, ended, lined, leaf-got, first-byte, line-part, line-inside, makes-as, makes-bytes, makes-unicode, makes-global}
+use Rattle.decoder.specs.ReadsPickle.{Makes, refused-going, says-go, pushed-step, short, enough, ended, lined, first-byte, line-part, line-inside, makes-as, makes-bytes, makes-escaped, makes-unicode, makes-global}
 
 -- ---- PROTO
 
@@ -158,9 +157,15 @@ module _ (l : List ℕ) (x : Decoded) (e : decodedSays x ≡ lengthOf (unescapeU
   unfolding turned
   unicode-bad j d = ap (turned StringL) (decoded-bad (unescapeUnicode l) j (rw d at e))
 
-pub makes-line : (p : List ℕ) (at i : ℕ) (l : List ℕ) (w : ℕ) → l ≡ lineOf p at i → w ≡ length l * 2 ^ 32 + at → at < 2 ^ 32 → Makes p 14 w (StringL (bytesOf (unescapeUnicode l)))
-makes-line p at i l w d e h =
-    makes-as p 14 w (length l * 2 ^ 32 + at) _ e (subst (λ (t : List ℕ). Makes p 14 (length l * 2 ^ 32 + at) (StringL (bytesOf (unescapeUnicode t)))) (line-own p at i l d) (makes-unicode p at (length l) h))
+-- a node that keeps its line
+module _ (p : List ℕ) (at i : ℕ) (l : List ℕ) (w : ℕ) (d : l ≡ lineOf p at i) (e : w ≡ length l * 2 ^ 32 + at) (h : at < 2 ^ 32) where
+  pub makes-line : Makes p 14 w (StringL (bytesOf (unescapeUnicode l)))
+  makes-line =
+      makes-as p 14 w (length l * 2 ^ 32 + at) _ e (subst (λ (t : List ℕ). Makes p 14 (length l * 2 ^ 32 + at) (StringL (bytesOf (unescapeUnicode t)))) (line-own p at i l d) (makes-unicode p at (length l) h))
+
+  pub makes-string-line : Makes p 13 w (BytesL (bytesOf (unescapeString l)))
+  makes-string-line =
+      makes-as p 13 w (length l * 2 ^ 32 + at) _ e (subst (λ (t : List ℕ). Makes p 13 (length l * 2 ^ 32 + at) (BytesL (bytesOf (unescapeString t)))) (line-own p at i l d) (makes-escaped p at (length l) h))
 
 -- ---- STRING
 
@@ -177,8 +182,9 @@ module _ (l : List ℕ) (x : Quoted) (e : quotedSays l x ≡ measured l) where
   pub string-plain : x ≡ quoted.Plain → unescapeString l ≡ got (inner l)
   string-plain d = quoted-plain l (rw d at e)
 
-  pub string-escaped : (n : ℕ) → x ≡ quoted.Escaped n → reads (unescapeString l) ≡ true
-  string-escaped n d = quoted-escaped l n (rw d at e) .0
+  pub string-escaped : (n : ℕ) → x ≡ quoted.Escaped n → turned BytesL (unescapeString l) ≡ got (BytesL (bytesOf (unescapeString l)))
+  unfolding turned
+  string-escaped n d = ap (turned BytesL) (got-bytes (unescapeString l) (quoted-escaped l n (rw d at e) .0))
 
   pub string-bad : (j : ℕ) → x ≡ quoted.Refused j → turned BytesL (unescapeString l) ≡ refused InvalidLiteral j
   unfolding turned
@@ -203,34 +209,6 @@ makes-inner p at i l w d k e h =
     let x : suc (length l - 1) - 2 ≡ length l - 2 = omega arith in
     let q : inner l ≡ take (length l - 2) (drop (at + 1) p) = inner-own l (drop at p) (length l - 1) (sym (line-own p at i l d) ∙ ap (λ (n : ℕ). take n (drop at p)) (sym y)) (sym y) ∙ ap₂ take x (drop-drop 1 at p) in
     makes-as p 4 w ((length l - 2) * 2 ^ 32 + (at + 1)) _ e (subst (λ (t : List ℕ). Makes p 4 ((length l - 2) * 2 ^ 32 + (at + 1)) (BytesL t)) (sym q) (makes-bytes p (at + 1) (length l - 2) h))
-
--- an escape is to be written
-module _ (r : Rooms) (c : Counts) (s : Sound r c) (i : ℕ) (e : newlineOf (r .pickle) (c .at) ≡ got i) (l : List ℕ) (d : l ≡ lineOf (r .pickle) (c .at) i) (k : reads (unescapeString l) ≡ true) where
-  string-step : string (stateOf r c) ≡ push (BytesL (bytesOf (unescapeString l))) (stateOf r (atTo c (i + 1)))
-  unfolding string _>>=_ turned
-  string-step =
-      rw (lined c (r .pickle) i e r s refl, ← d)
-      (leaf-got BytesL (unescapeString l) (BytesL (bytesOf (unescapeString l))) (stateOf r (atTo c (i + 1))) (ap (turned BytesL) (got-bytes (unescapeString l) k)))
-
-  says-unescape : Says (Unescape (cutTo c (i + 1) (c .stack) (c .marks)) (c .at) (length l)) r c (going (string (stateOf r c)))
-  unfolding enacted Fits
-  says-unescape =
-      let w = line-own (r .pickle) (c .at) i l d in
-      let h = line-inside (r .pickle) (c .at) i e in
-      let h₀ = h .0 in
-      let h₁ = h .1 in
-      let m = line-ends-by (r .pickle) (c .at) i l d in
-      let u = s .firm .unescaped in
-      let v = string-length l in
-      record {
-        enacts = rw w (ap going (sym string-step));
-        fits = (firm-read r c s (i + 1) (omega arith) (omega arith), omega arith, rw w k, rw w (omega arith));
-      }
-
-pub string-unescape : (c : Counts) (p : List ℕ) (i : ℕ) → newlineOf p (c .at) ≡ got i → (l : List ℕ) → l ≡ lineOf p (c .at) i → reads (unescapeString l) ≡ true → (c₁ : Counts) → c₁ ≡ cutTo c (i + 1) (c .stack) (c .marks)
-    → Decides c (λ r. r .pickle ≡ p) (λ s. going (string s)) (Unescape c₁ (c .at) (length l))
-unfolding Decides
-string-unescape c p i e l d k c₁ g r s q = rw g (says-unescape r c s i (rw q e) l (rw q d) k)
 
 -- ---- BINSTRING
 

@@ -1,6 +1,6 @@
 -- What the effect of an opcode means: the rest of its step, with the limits, over the rooms and the counts after what it read and took;
 -- and what holds of rooms and counts at every step.
-use Prim.Native.Nat.{ℕ, _+_, _*_, _<_, _≤_}
+use Prim.Native.Nat.{ℕ, _*_, _<_, _≤_}
 use mathlib.Core.Bool.{true, cond}
 use mathlib.Core.List.{List, [], _∷_}
 use mathlib.Core.Path.{_≡_, refl, sym}
@@ -9,17 +9,14 @@ use lib.ListN.{length, getD, take, drop, set}
 use lib.Dec.{leb, ltb}
 use Rattle.refusal.specs.declared.Refusal.{Refusal}
 use Rattle.refusal.specs.declared.Refusal.the-variants.{MemoFull}
-use Rattle.text.specs.Pieces.{bytesOf, reads}
-use Rattle.text.specs.Text.{unescapeString}
-use Rattle.value.specs.Value.{BytesL}
 use Rattle.value.specs.Shape.{kindIn}
 use Rattle.decoder.specs.declared.Effect.{Effect}
-use Rattle.decoder.specs.declared.Effect.the-variants.{Push, Share, Mark, Go, Make, Extend, Remember, Build, Unescape, Stop, Refused}
-use Rattle.decoder.specs.State.{State, Res, ok, no, _>>=_, need, memoLimit, nodesLimit, linksLimit, stackLimit, marksLimit, withNodes, withMemo, top, pushId, pushNode, push, link, nodeAt, extend, has, insert, put}
+use Rattle.decoder.specs.declared.Effect.the-variants.{Push, Share, Mark, Go, Make, Extend, Remember, Build, Stop, Refused}
+use Rattle.decoder.specs.State.{State, Res, ok, no, _>>=_, need, memoLimit, nodesLimit, linksLimit, stackLimit, marksLimit, withNodes, withMemo, top, pushId, pushNode, link, nodeAt, extend, has, insert, put}
 use Rattle.decoder.specs.Opcodes.{mark, made}
 use Rattle.decoder.specs.Run.{Next, goes, stops, going}
 use Rattle.decoder.specs.Range.{InRange}
-use Rattle.decoder.specs.Rooms.{Rooms, Counts, first, nodeIs, stateOf, Holds, Class, Used, Numbered, Kept}
+use Rattle.decoder.specs.Rooms.{Rooms, Counts, first, nodeIs, stateOf, Holds, Class, Numbered, Kept}
 
 -- ---- the parts of a step that follow what it read and took
 
@@ -49,11 +46,11 @@ above n h stack = drop n (take h stack)
 
 -- the container that a kind names
 unfoldable pub container : ℕ → Rooms → List ℕ → State → Res State
-container k r is s = made (nodeIs (r .pickle) (r .unescaped) (r .nodes) [] k 0 .label) is s
+container k r is s = made (nodeIs (r .pickle) (r .nodes) [] k 0 .label) is s
 
 -- what an effect does; h values were on the stack before the opcode took any
 unfoldable pub enacted : Effect → Rooms → ℕ → Res Next
-enacted (Push c a b) r h = going (pushNode (nodeIs (r .pickle) (r .unescaped) (r .nodes) [] a b) (stateOf r c))
+enacted (Push c a b) r h = going (pushNode (nodeIs (r .pickle) (r .nodes) [] a b) (stateOf r c))
 enacted (Share c i) r h = going (pushId (i .0) (stateOf r c))
 enacted (Mark c) r h = going (mark (stateOf r c))
 enacted (Go c) r h = ok (goes (stateOf r c))
@@ -61,23 +58,21 @@ enacted (Make c k) r h = going (container k r (above (c .stack) h (r .stack)) (s
 enacted (Extend c o) r h = going (grow (o .0) (above (c .stack) h (r .stack)) (stateOf r c))
 enacted (Remember c i w k) r h = going (remember (k .0) (i .0) (stateOf r c))
 enacted (Build c o i) r h = ok (goes (state (o .0) (i .0) (stateOf r c)))
-enacted (Unescape c from n) r h = going (push (BytesL (bytesOf (unescapeString (take n (drop from (r .pickle)))))) (stateOf r c))
 enacted (Stop c) r h = ok (stops (stateOf r c))
 enacted (Refused c v w why) r h = no why
 
 -- ---- what holds of the rooms and counts
 
--- the log of links is twice as long as the machine needs: the builder adds those of sets and Objects
+-- a room may be longer than the machine needs
 pub record Lengths (r : Rooms) : Type 0 where
   pub pickle : length (r .pickle) ≤ 65536
-  pub nodes : length (r .nodes) ≡ 2 * nodesLimit
-  pub owners : length (r .owners) ≡ 2 * linksLimit
-  pub children : length (r .children) ≡ 2 * linksLimit
-  pub stack : length (r .stack) ≡ stackLimit
-  pub marks : length (r .marks) ≡ marksLimit
-  pub keys : length (r .keys) ≡ memoLimit
-  pub held : length (r .held) ≡ memoLimit
-  pub unescaped : length (r .unescaped) ≡ 65536
+  pub nodes : 2 * nodesLimit ≤ length (r .nodes)
+  pub owners : linksLimit ≤ length (r .owners)
+  pub children : linksLimit ≤ length (r .children)
+  pub stack : stackLimit ≤ length (r .stack)
+  pub marks : marksLimit ≤ length (r .marks)
+  pub keys : memoLimit ≤ length (r .keys)
+  pub held : memoLimit ≤ length (r .held)
 
 -- zero from n on
 unfoldable pub Blank : ℕ → List ℕ → Type 0
@@ -92,12 +87,10 @@ pub record Clean (r : Rooms) (c : Counts) : Type 0 where
   pub marks : Blank (c .most) (r .marks)
   pub keys : Blank (c .memo) (r .keys)
   pub held : Blank (c .memo) (r .held)
-  pub unescaped : Blank (c .unescaped) (r .unescaped)
 
 pub record Firm (r : Rooms) (c : Counts) : Type 0 where
   pub lengths : Lengths r
   pub at : c .at ≤ length (r .pickle)
-  pub unescaped : c .unescaped ≤ c .at
   pub nodes : c .nodes ≤ nodesLimit
   pub links : c .links ≤ linksLimit
   pub stack : c .stack ≤ c .deepest
@@ -106,7 +99,7 @@ pub record Firm (r : Rooms) (c : Counts) : Type 0 where
   pub most : c .most ≤ marksLimit
   pub memo : c .memo ≤ memoLimit
   pub numbered : Numbered (r .keys) (c .memo) (c .greatest)
-  pub kept : Kept (r .nodes) (r .owners) (r .children) (c .links) (c .nodes) (c .unescaped)
+  pub kept : Kept (r .nodes) (r .owners) (r .children) (c .links) (c .nodes)
   pub clean : Clean r c
 
 pub record Sound (r : Rooms) (c : Counts) : Type 0 where
@@ -117,7 +110,7 @@ pub record Sound (r : Rooms) (c : Counts) : Type 0 where
 
 -- the effect can be had in the rooms
 unfoldable pub Fits : Effect → Rooms → ℕ → Type 0
-Fits (Push c a b) r h = Firm r c × Class (r .nodes) (c .nodes) a × Used (c .unescaped) a b × (Holds a → b ≡ 0)
+Fits (Push c a b) r h = Firm r c × Class (r .nodes) (c .nodes) a × (Holds a → b ≡ 0)
 Fits (Share c i) r h = Firm r c × (i .0 < c .nodes)
 Fits (Mark c) r h = Firm r c
 Fits (Go c) r h = Firm r c
@@ -125,9 +118,6 @@ Fits (Make c k) r h = Firm r c × (c .stack ≤ h) × (h ≤ c .deepest) × Hold
 Fits (Extend c o) r h = Firm r c × (c .stack ≤ h) × (h ≤ c .deepest) × (o .0 < c .nodes) × Holds (first (r .nodes) (o .0)) × (kindIn (first (r .nodes) (o .0)) ≢ 7)
 Fits (Remember c i w k) r h = Firm r c × (i .0 < c .nodes)
 Fits (Build c o i) r h = Firm r c × (o .0 < c .nodes) × (i .0 < c .nodes) × (kindIn (first (r .nodes) (o .0)) ≡ 12)
-Fits (Unescape c from n) r h =
-    Firm r c × (from + n ≤ length (r .pickle)) × (reads (unescapeString (take n (drop from (r .pickle)))) ≡ true)
-    × (c .unescaped + length (bytesOf (unescapeString (take n (drop from (r .pickle))))) ≤ c .at)
 Fits (Stop c) r h = Firm r c
 Fits (Refused c v w why) r h = Unit {0}
 

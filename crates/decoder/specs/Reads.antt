@@ -20,13 +20,12 @@ use Rattle.decoder.specs.Effects.{Lengths, Clean, Firm, above}
 
 -- place, stack and marks moved
 abbrev pub cutTo : Counts → ℕ → ℕ → ℕ → Counts
-cutTo c a n m = record { at = a; nodes = c .nodes; links = c .links; stack = n; deepest = c .deepest; marks = m; most = c .most; memo = c .memo; greatest = c .greatest; unescaped = c .unescaped }
+cutTo c a n m = record { at = a; nodes = c .nodes; links = c .links; stack = n; deepest = c .deepest; marks = m; most = c .most; memo = c .memo; greatest = c .greatest }
 
 pub firm-cut : (r : Rooms) (c : Counts) (a n m : ℕ) → Firm r c → c .at ≤ a → a ≤ length (r .pickle) → n ≤ c .stack → m ≤ c .marks → Firm r (cutTo c a n m)
 firm-cut r c a n m f h i k l = record {
   lengths = f .lengths;
   at = i;
-  unescaped = let x = f .unescaped in omega arith;
   nodes = f .nodes;
   links = f .links;
   stack = let x = f .stack in omega arith;
@@ -36,7 +35,7 @@ firm-cut r c a n m f h i k l = record {
   memo = f .memo;
   numbered = f .numbered;
   kept = f .kept;
-  clean = record { nodes = f .clean .nodes; owners = f .clean .owners; children = f .clean .children; stack = f .clean .stack; marks = f .clean .marks; keys = f .clean .keys; held = f .clean .held; unescaped = f .clean .unescaped };
+  clean = record { nodes = f .clean .nodes; owners = f .clean .owners; children = f .clean .children; stack = f .clean .stack; marks = f .clean .marks; keys = f .clean .keys; held = f .clean .held };
 }
 
 -- ---- a search that began at k

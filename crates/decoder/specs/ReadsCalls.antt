@@ -100,15 +100,15 @@ module _ (r : Rooms) (c : Counts) (s : Sound r c) (two : 2 ≤ c .stack) (o i : 
   -- the class comes before the arguments
   pub call-no-class : kindIn (first (r .nodes) o) ≢ 11 → (makes : Makes) → called makes (stateOf r c) ≡ no (Invalid AClass)
   unfolding _>>=_
-  call-no-class d makes = taken makes ∙ rw (class-kind (r .pickle) (r .unescaped) (r .nodes) (kidsOf r c o) (first (r .nodes) o) (second (r .nodes) o), ne-eqb (kindIn (first (r .nodes) o)) 11 d)
+  call-no-class d makes = taken makes ∙ rw (class-kind (r .pickle) (r .nodes) (kidsOf r c o) (first (r .nodes) o) (second (r .nodes) o), ne-eqb (kindIn (first (r .nodes) o)) 11 d)
 
   module _ (global : kindIn (first (r .nodes) o) ≡ 11) where
     named : classOf (nodeOf r c o .label) ≡ ok (moduleOf (r .pickle) (first (r .nodes) o), nameOf (r .pickle) (second (r .nodes) o))
-    named = class-kind (r .pickle) (r .unescaped) (r .nodes) (kidsOf r c o) (first (r .nodes) o) (second (r .nodes) o) ∙ rw (eq-eqb (kindIn (first (r .nodes) o)) 11 global)
+    named = class-kind (r .pickle) (r .nodes) (kidsOf r c o) (first (r .nodes) o) (second (r .nodes) o) ∙ rw (eq-eqb (kindIn (first (r .nodes) o)) 11 global)
 
     pub call-no-arguments : kindIn (first (r .nodes) i) ≢ 7 → (makes : Makes) → called makes (stateOf r c) ≡ no (Invalid Arguments)
     unfolding _>>=_ need
-    call-no-arguments d makes = taken makes ∙ rw (named, tuple-kind (r .pickle) (r .unescaped) (r .nodes) (kidsOf r c i) (first (r .nodes) i) (second (r .nodes) i), ne-eqb (kindIn (first (r .nodes) i)) 7 d)
+    call-no-arguments d makes = taken makes ∙ rw (named, tuple-kind (r .pickle) (r .nodes) (kidsOf r c i) (first (r .nodes) i) (second (r .nodes) i), ne-eqb (kindIn (first (r .nodes) i)) 7 d)
 
     pub call-both : kindIn (first (r .nodes) i) ≡ 7 → Calls c r o i
     unfolding _>>=_ need nodeIs
@@ -118,7 +118,7 @@ module _ (r : Rooms) (c : Counts) (s : Sound r c) (two : 2 ≤ c .stack) (o i : 
       class-kind = global;
       args-node = upper-node;
       args-kind = e;
-      step = λ makes. taken makes ∙ rw (named, tuple-kind (r .pickle) (r .unescaped) (r .nodes) (kidsOf r c i) (first (r .nodes) i) (second (r .nodes) i), e);
+      step = λ makes. taken makes ∙ rw (named, tuple-kind (r .pickle) (r .nodes) (kidsOf r c i) (first (r .nodes) i) (second (r .nodes) i), e);
     }
 
   -- ---- BUILD
@@ -132,11 +132,11 @@ module _ (r : Rooms) (c : Counts) (s : Sound r c) (two : 2 ≤ c .stack) (o i : 
 
   pub build-no-object : kindIn (first (r .nodes) o) ≢ 12 → build (stateOf r c) ≡ no (Invalid Object)
   unfolding _>>=_ need
-  build-no-object d = building ∙ rw (object-kind (r .pickle) (r .unescaped) (r .nodes) (kidsOf r c o) (first (r .nodes) o) (second (r .nodes) o), ne-eqb (kindIn (first (r .nodes) o)) 12 d)
+  build-no-object d = building ∙ rw (object-kind (r .pickle) (r .nodes) (kidsOf r c o) (first (r .nodes) o) (second (r .nodes) o), ne-eqb (kindIn (first (r .nodes) o)) 12 d)
 
   pub build-object : kindIn (first (r .nodes) o) ≡ 12 → build (stateOf r c) ≡ ok (state o i (stateOf r (cutTo c (c .at) (c .stack - 1) (c .marks))))
   unfolding _>>=_ need
-  build-object e = building ∙ rw (object-kind (r .pickle) (r .unescaped) (r .nodes) (kidsOf r c o) (first (r .nodes) o) (second (r .nodes) o), eq-eqb (kindIn (first (r .nodes) o)) 12 e)
+  build-object e = building ∙ rw (object-kind (r .pickle) (r .nodes) (kidsOf r c o) (first (r .nodes) o) (second (r .nodes) o), eq-eqb (kindIn (first (r .nodes) o)) 12 e)
 
 -- ---- what REDUCE makes of a class
 

@@ -16,7 +16,7 @@ use Rattle.input.specs.Bytes.{lowFirst, lastByte}
 use Rattle.number.specs.Number.{turned}
 use Rattle.utf8.specs.Utf8.{repair}
 use Rattle.text.specs.Pieces.{bytesOf}
-use Rattle.text.specs.Text.{unescapeUnicode}
+use Rattle.text.specs.Text.{unescapeString, unescapeUnicode}
 use Rattle.value.specs.Value.{Label, BoolL, I64L, F64L, BytesL, StringL, GlobalL}
 use Rattle.value.specs.Shape.{kindIn}
 use Rattle.input.specs.declared.LineEnd.{LineEnd}
@@ -31,7 +31,7 @@ use Rattle.decoder.specs.Run.{going}
 use Rattle.decoder.specs.Rooms.{Rooms, Counts, moduleOf, nameOf, nodeIs, stateOf, atTo, Holds, aList, aTuple, aDict}
 use Rattle.decoder.specs.RoomLists.{within-at}
 use Rattle.decoder.specs.RoomReads.{node-kind, kind-made, rest-made}
-use Rattle.decoder.specs.RoomKeeps.{class-none, used-none}
+use Rattle.decoder.specs.RoomKeeps.{class-none}
 use Rattle.decoder.specs.Effects.{Firm, Sound, Says, Fits, Lent, Decides, enacted, refusing, says-refused}
 use Rattle.decoder.specs.Reads.{cutTo, firm-cut, bytes-short, bytes-got, line-none, line-got}
 
@@ -68,12 +68,12 @@ part read label m = m >>= λ q. leaf (read (q .0)) >>= λ v. push (label v) (q .
 
 -- the kinds of values and Globals
 unfoldable pub leafy : ℕ → Bool
-leafy j = leb j 5 || (eqb j 11 || eqb j 14)
+leafy j = leb j 5 || (eqb j 11 || (eqb j 13 || eqb j 14))
 
 -- the words k and b are those of a value or a Global
 pub record Makes (p : List ℕ) (k b : ℕ) (l : Label) : Type 0 where
   pub kind : leafy (kindIn k) ≡ true
-  pub node : (u ws : List ℕ) → nodeIs p u ws [] k b ≡ plain l
+  pub node : (ws : List ℕ) → nodeIs p ws [] k b ≡ plain l
 
 wrong : (j m : ℕ) → leafy j ≡ true → leafy m ≡ false → j ≡ m → ⊥
 wrong j m t f e = let z : _≡_ {A = ℕ} 0 1 = cc in omega arith
@@ -99,8 +99,8 @@ module _ (r : Rooms) (c : Counts) (s : Sound r c) where
   pub says-push : (a k b : ℕ) (l : Label) (m : Res State) → m ≡ push l (stateOf r (atTo c a)) → Makes (r .pickle) k b l → c .at ≤ a → a ≤ length (r .pickle) → Says (Push (cutTo c a (c .stack) (c .marks)) k b) r c (going m)
   unfolding enacted Fits leafy push
   says-push a k b l m e n h i = record {
-    enacts = rw (e, n .node (r .unescaped) (r .nodes));
-    fits = (firm-read a h i, class-none (r .nodes) (c .nodes) k (wrong (kindIn k) 12 (n .kind) refl), used-none (c .unescaped) k b (wrong (kindIn k) 13 (n .kind) refl), λ x. absurd (no-links k (n .kind) x));
+    enacts = rw (e, n .node (r .nodes));
+    fits = (firm-read a h i, class-none (r .nodes) (c .nodes) k (wrong (kindIn k) 12 (n .kind) refl), λ x. absurd (no-links k (n .kind) x));
   }
 
 -- ---- what the code knows of the pickle
@@ -266,30 +266,34 @@ module _ (p : List ℕ) where
 
   pub makes-bool : (b : Bool) → Makes p 1 (boolByte b) (BoolL b)
   unfolding leafy kindIn nodeIs
-  makes-bool true = record { kind = refl; node = λ u ws. refl }
-  makes-bool false = record { kind = refl; node = λ u ws. refl }
+  makes-bool true = record { kind = refl; node = λ ws. refl }
+  makes-bool false = record { kind = refl; node = λ ws. refl }
 
   pub makes-i64 : (b : ℕ) → Makes p 2 b (I64L b)
   unfolding leafy kindIn nodeIs
-  makes-i64 b = record { kind = refl; node = λ u ws. refl }
+  makes-i64 b = record { kind = refl; node = λ ws. refl }
 
   pub makes-f64 : (b : ℕ) → Makes p 3 b (F64L b)
   unfolding leafy kindIn nodeIs
-  makes-f64 b = record { kind = refl; node = λ u ws. refl }
+  makes-f64 b = record { kind = refl; node = λ ws. refl }
 
   -- a text at `at`, of n bytes
   module _ (at n : ℕ) (h : at < 2 ^ 32) where
     pub makes-bytes : Makes p 4 (n * 2 ^ 32 + at) (BytesL (take n (drop at p)))
     unfolding leafy kindIn nodeIs
-    makes-bytes = record { kind = refl; node = λ u ws. ap (λ (t : List ℕ). plain (BytesL t)) (within-at 32 at n p h) }
+    makes-bytes = record { kind = refl; node = λ ws. ap (λ (t : List ℕ). plain (BytesL t)) (within-at 32 at n p h) }
 
     pub makes-string : Makes p 5 (n * 2 ^ 32 + at) (StringL (repair (take n (drop at p))))
     unfolding leafy kindIn nodeIs
-    makes-string = record { kind = refl; node = λ u ws. ap (λ (t : List ℕ). plain (StringL (repair t))) (within-at 32 at n p h) }
+    makes-string = record { kind = refl; node = λ ws. ap (λ (t : List ℕ). plain (StringL (repair t))) (within-at 32 at n p h) }
+
+    pub makes-escaped : Makes p 13 (n * 2 ^ 32 + at) (BytesL (bytesOf (unescapeString (take n (drop at p)))))
+    unfolding leafy kindIn nodeIs
+    makes-escaped = record { kind = refl; node = λ ws. ap (λ (t : List ℕ). plain (BytesL (bytesOf (unescapeString t)))) (within-at 32 at n p h) }
 
     pub makes-unicode : Makes p 14 (n * 2 ^ 32 + at) (StringL (bytesOf (unescapeUnicode (take n (drop at p)))))
     unfolding leafy kindIn nodeIs
-    makes-unicode = record { kind = refl; node = λ u ws. ap (λ (t : List ℕ). plain (StringL (bytesOf (unescapeUnicode t)))) (within-at 32 at n p h) }
+    makes-unicode = record { kind = refl; node = λ ws. ap (λ (t : List ℕ). plain (StringL (bytesOf (unescapeUnicode t)))) (within-at 32 at n p h) }
 
   -- the lines of a Global: a module of m bytes at `at`, and a name of n at `from`
   pub makes-global : (at m from n : ℕ) → at < 2 ^ 24 → from < 2 ^ 32 → Makes p (11 + 16 * (m * 2 ^ 24 + at)) (n * 2 ^ 32 + from) (GlobalL (repair (take m (drop at p))) (repair (take n (drop from p))))
@@ -299,7 +303,7 @@ module _ (p : List ℕ) where
       let e = kind-made 11 w (omega arith) in
       record {
         kind = rw e;
-        node = λ u ws. rw (node-kind p u ws [] (11 + 16 * w) (n * 2 ^ 32 + from) 11 e, rest-made 11 w (omega arith), within-at 24 at m p h, within-at 32 from n p k);
+        node = λ ws. rw (node-kind p ws [] (11 + 16 * w) (n * 2 ^ 32 + from) 11 e, rest-made 11 w (omega arith), within-at 24 at m p h, within-at 32 from n p k);
       }
 
 -- ---- a line as a place and a length

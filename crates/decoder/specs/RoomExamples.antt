@@ -29,11 +29,10 @@ sharedRooms = record {
   marks = 3 ∷ [];
   keys = 0 ∷ 8 ∷ [];
   held = 0 ∷ 8 ∷ [];
-  unescaped = 1 ∷ [];
 }
 
 abbrev pub sharedCounts : Counts
-sharedCounts = record { at = 12; nodes = 3; links = 3; stack = 1; deepest = 2; marks = 0; most = 1; memo = 1; greatest = 0; unescaped = 0 }
+sharedCounts = record { at = 12; nodes = 3; links = 3; stack = 1; deepest = 2; marks = 0; most = 1; memo = 1; greatest = 0 }
 
 pub shared-rooms : run (sharedRooms .pickle) ≡ ok (stateOf sharedRooms sharedCounts)
 unfolding evaluates
@@ -43,18 +42,17 @@ shared-rooms = shared
 abbrev pub objectRooms : Rooms
 objectRooms = record {
   pickle = 99 ∷ 109 ∷ 10 ∷ 67 ∷ 10 ∷ 41 ∷ 129 ∷ 125 ∷ 98 ∷ 86 ∷ 92 ∷ 117 ∷ 48 ∷ 48 ∷ 101 ∷ 57 ∷ 10 ∷ 88 ∷ 1 ∷ 0 ∷ 0 ∷ 0 ∷ 255 ∷ 85 ∷ 1 ∷ 65 ∷ 83 ∷ 39 ∷ 92 ∷ 110 ∷ 39 ∷ 10 ∷ 46 ∷ [];
-  nodes = (11 + 16 * (1 + 2 ^ 24 * 1)) ∷ (3 + 2 ^ 32 * 1) ∷ 7 ∷ 0 ∷ (12 + 16 * (1 + 2 * 1 + 4 * 0)) ∷ (1 + 2 ^ 32 * 3) ∷ 10 ∷ 0 ∷ 14 ∷ (10 + 2 ^ 32 * 6) ∷ 5 ∷ (22 + 2 ^ 32 * 1) ∷ 4 ∷ (25 + 2 ^ 32 * 1) ∷ 13 ∷ (0 + 2 ^ 32 * 1) ∷ [];
+  nodes = (11 + 16 * (1 + 2 ^ 24 * 1)) ∷ (3 + 2 ^ 32 * 1) ∷ 7 ∷ 0 ∷ (12 + 16 * (1 + 2 * 1 + 4 * 0)) ∷ (1 + 2 ^ 32 * 3) ∷ 10 ∷ 0 ∷ 14 ∷ (10 + 2 ^ 32 * 6) ∷ 5 ∷ (22 + 2 ^ 32 * 1) ∷ 4 ∷ (25 + 2 ^ 32 * 1) ∷ 13 ∷ (27 + 2 ^ 32 * 4) ∷ [];
   owners = [];
   children = [];
   stack = 2 ∷ 4 ∷ 5 ∷ 6 ∷ 7 ∷ [];
   marks = [];
   keys = [];
   held = [];
-  unescaped = 10 ∷ 0 ∷ [];
 }
 
 abbrev pub objectCounts : Counts
-objectCounts = record { at = 32; nodes = 8; links = 0; stack = 5; deepest = 7; marks = 0; most = 0; memo = 0; greatest = 0; unescaped = 1 }
+objectCounts = record { at = 32; nodes = 8; links = 0; stack = 5; deepest = 7; marks = 0; most = 0; memo = 0; greatest = 0 }
 
 pub object-rooms : stateOf objectRooms objectCounts
     ≡ record {

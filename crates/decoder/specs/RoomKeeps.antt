@@ -9,7 +9,7 @@ use lib.Seq.{getD-set-same, getD-set-other, getD-at}
 use native.Mathlib.Decide.{ℕ-discrete}
 use native.Mathlib.Omega.{arith}
 use Rattle.value.specs.Shape.{kindIn}
-use Rattle.decoder.specs.Rooms.{items, first, second, wordsSet, classIn, Holds, aList, aTuple, aDict, Owned, Holding, Class, Classed, Used, AllUsed, Counted, Together, Placed, Built, Kept}
+use Rattle.decoder.specs.Rooms.{items, first, second, wordsSet, classIn, Holds, aList, aTuple, aDict, Owned, Holding, Class, Classed, Counted, Together, Placed, Built, Kept}
 use Rattle.decoder.specs.RoomLists.{items-own, items-other, items-new, first-other, second-other, first-set, second-set, words-second, holds-below}
 use Rattle.decoder.specs.RoomReads.{objectWord, object-made}
 
@@ -107,37 +107,6 @@ module _ (ws : List ℕ) (n o a b : ℕ) (room : suc (2 * o) < length ws) (kind 
   classed-words h i l k =
       let v = h i l (sym (same-kind i) ∙ k) in
       rw (same-class i) (v .0, same-kind (classIn (first ws i)) ∙ v .1)
-
--- ---- Bytes in the unescaped text
-
--- no Bytes in it
-pub used-none : (m a b : ℕ) → kindIn a ≢ 13 → Used m a b
-unfolding Used
-used-none m a b h k = absurd (h k)
-
-module _ (ws : List ℕ) (n m o a b : ℕ) (room : suc (2 * o) < length ws) (h : AllUsed ws n m) (new : Used m a b) where
-  set-used : (i : ℕ) → (i ≢ o → i < n) → Used m (first (wordsSet ws o a b) i) (second (wordsSet ws o a b) i)
-  unfolding AllUsed
-  set-used i k = go (ℕ-discrete i o)
-    where
-      go : Dec (i ≡ o) → Used m (first (wordsSet ws o a b) i) (second (wordsSet ws o a b) i)
-      go (yes e) = rw (e, first-set ws o a b room, second-set ws o a b room) new
-      go (no d) = rw (first-other ws o a b i d, second-other ws o a b i d) (h i (k d))
-
-  -- words changed of a node
-  pub used-words : AllUsed (wordsSet ws o a b) n m
-  unfolding AllUsed
-  used-words i l = set-used i (λ d. l)
-
-  -- a node more
-  pub used-node : o ≡ n → AllUsed (wordsSet ws o a b) (suc n) m
-  unfolding AllUsed
-  used-node e i l = set-used i (λ d. omega arith)
-
--- text more
-pub used-more : (ws : List ℕ) (n m m′ : ℕ) → m ≤ m′ → AllUsed ws n m → AllUsed ws n m′
-unfolding AllUsed Used
-used-more ws n m m′ l h i z k = let v = h i z k in omega arith
 
 -- ---- the words that count items
 
@@ -259,48 +228,41 @@ module _ (ws owners children : List ℕ) (links n : ℕ) (h : Placed ws owners c
 
 -- ---- all of it together
 
-pub kept-start : (ws owners children : List ℕ) → Kept ws owners children 0 0 0
-unfolding Owned Holding Classed AllUsed Counted Placed
-kept-start ws owners children = record { owned = λ k l. absurd (omega arith); holding = λ k l. absurd (omega arith); classed = λ i l. absurd (omega arith); used = λ i l. absurd (omega arith); counted = λ i l. absurd (omega arith); placed = λ i l. absurd (omega arith) }
+pub kept-start : (ws owners children : List ℕ) → Kept ws owners children 0 0
+unfolding Owned Holding Classed Counted Placed
+kept-start ws owners children = record { owned = λ k l. absurd (omega arith); holding = λ k l. absurd (omega arith); classed = λ i l. absurd (omega arith); counted = λ i l. absurd (omega arith); placed = λ i l. absurd (omega arith) }
 
-module _ (ws owners children : List ℕ) (links n m : ℕ) (h : Kept ws owners children links n m) where
+module _ (ws owners children : List ℕ) (links n : ℕ) (h : Kept ws owners children links n) where
   -- a node more
-  pub kept-node : (a b : ℕ) → suc (2 * n) < length ws → links ≤ length owners → Class ws n a → Used m a b → Empty links a b → Kept (wordsSet ws n a b) owners children links (suc n) m
+  pub kept-node : (a b : ℕ) → suc (2 * n) < length ws → links ≤ length owners → Class ws n a → Empty links a b → Kept (wordsSet ws n a b) owners children links (suc n)
   unfolding Owned
-  kept-node a b room l class used new = record {
+  kept-node a b room l class new = record {
     owned = owned-node owners links n (h .owned);
     holding = holding-node ws owners links n (h .owned) (h .holding) a b;
     classed = classed-node ws n a b room (h .classed) class;
-    used = used-node ws n m n a b room (h .used) used refl;
     counted = counted-node ws owners children links n (h .counted) a b room (items-new owners children links n (λ k y e. let v = h .owned k y in omega arith) l) new;
     placed = placed-node ws owners children links n (h .placed) a b room new;
   }
 
   -- a link more, with its owner's count
   pub kept-link : (o k : ℕ) → suc (2 * o) < length ws → o < n → Holds (first ws o) → links < length owners → links < length children → suc (second ws o % 2 ^ 32) < 2 ^ 32 → (kindIn (first ws o) ≡ 7 → second ws o / 2 ^ 32 + second ws o % 2 ^ 32 ≡ links)
-      → Kept (set ws (suc (2 * o)) (suc (second ws o))) (set owners links o) (set children links k) (suc links) n m
+      → Kept (set ws (suc (2 * o)) (suc (second ws o))) (set owners links o) (set children links k) (suc links) n
   kept-link o k room z t l l′ small end = record {
     owned = owned-link owners links n o l z (h .owned);
     holding = rw (← words-second ws o (suc (second ws o))) (holding-words ws (set owners links o) (suc links) o (first ws o) (suc (second ws o)) room refl (holding-link ws owners links o l t (h .holding)));
     classed = rw (← words-second ws o (suc (second ws o))) (classed-words ws n o (first ws o) (suc (second ws o)) room refl refl (h .classed));
-    used = rw (← words-second ws o (suc (second ws o))) (used-words ws n m o (first ws o) (suc (second ws o)) room (h .used) (used-none m (first ws o) (suc (second ws o)) (λ e. let v = holds-below (first ws o) t in omega arith)));
     counted = counted-link ws owners children links n (h .counted) o k room z l l′ small;
     placed = placed-link ws owners children links n (h .placed) o k room z l l′ small (h .counted) end;
   }
 
   -- BUILD
-  pub kept-build : (o a b i : ℕ) → suc (2 * o) < length ws → kindIn (first ws o) ≡ 12 → Built (first ws o) (second ws o) a b i → Kept (wordsSet ws o a b) owners children links n m
+  pub kept-build : (o a b i : ℕ) → suc (2 * o) < length ws → kindIn (first ws o) ≡ 12 → Built (first ws o) (second ws o) a b i → Kept (wordsSet ws o a b) owners children links n
   kept-build o a b i room k new =
       let e = new .kind in
       record {
         owned = h .owned;
         holding = holding-words ws owners links o a b room (e ∙ sym k) (h .holding);
         classed = classed-words ws n o a b room (e ∙ sym k) (new .class) (h .classed);
-        used = used-words ws n m o a b room (h .used) (used-none m a b (λ q. omega arith));
         counted = counted-words ws owners children links n (h .counted) o a b room (λ t. let v = holds-below a t in omega arith);
         placed = placed-words ws owners children links n (h .placed) o a b room (λ q. omega arith);
       }
-
-  -- unescaped text more
-  pub kept-text : (m′ : ℕ) → m ≤ m′ → Kept ws owners children links n m′
-  kept-text m′ l = record { owned = h .owned; holding = h .holding; classed = h .classed; used = used-more ws n m m′ l (h .used); counted = h .counted; placed = h .placed }

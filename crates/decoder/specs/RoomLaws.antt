@@ -10,9 +10,9 @@ use native.Mathlib.Omega.{arith}
 use Rattle.value.specs.Value.{NoneL}
 use Rattle.value.specs.Shape.{kindIn}
 use Rattle.decoder.specs.State.{Node, plain, withInput, withNodes, withStack, withMarks, withMemo, withLinks, nodeAt, extend, insert}
-use Rattle.decoder.specs.RoomLists.{getD-tab, tab-same, tab-set, items-own, items-other, items-new, first-other, second-other, first-set, second-set, words-second, within-same, holds-below}
+use Rattle.decoder.specs.RoomLists.{getD-tab, tab-same, tab-set, items-own, items-other, items-new, first-other, second-other, first-set, second-set, words-second, holds-below}
 use Rattle.decoder.specs.RoomMemo.{insert-absent, insert-present}
-use Rattle.decoder.specs.Rooms.{Rooms, Counts, tab, first, second, wordsSet, within, classIn, partsOf, choices, nodeIs, kidsOf, nodeOf, nodesOf, stateOf, wordsIn, logIn, stackIn, marksIn, memoIn, unescapedIn, atTo, nodesTo, linksTo, stackTo, marksTo, memoTo, unescapedTo, Holds, Owned, Class, Classed, Used, AllUsed, Absent, Built, aList, aTuple, aDict}
+use Rattle.decoder.specs.Rooms.{Rooms, Counts, tab, first, second, wordsSet, classIn, partsOf, choices, nodeIs, kidsOf, nodeOf, nodesOf, stateOf, wordsIn, logIn, stackIn, marksIn, memoIn, atTo, nodesTo, linksTo, stackTo, marksTo, memoTo, Holds, Owned, Class, Classed, Absent, Built, aList, aTuple, aDict}
 
 -- ---- the pickle, the stack and the marks
 
@@ -42,50 +42,41 @@ module _ (r : Rooms) (c : Counts) where
 
 -- ---- one node
 
-module _ (p u : List ℕ) (a b : ℕ) where
+module _ (p : List ℕ) (a b : ℕ) where
   -- of the other nodes, only an Object's class counts
-  pub node-words : (ks ws ws′ : List ℕ) → (kindIn a ≡ 12 → (first ws′ (classIn a) ≡ first ws (classIn a)) × (second ws′ (classIn a) ≡ second ws (classIn a))) → nodeIs p u ws′ ks a b ≡ nodeIs p u ws ks a b
+  pub node-words : (ks ws ws′ : List ℕ) → (kindIn a ≡ 12 → (first ws′ (classIn a) ≡ first ws (classIn a)) × (second ws′ (classIn a) ≡ second ws (classIn a))) → nodeIs p ws′ ks a b ≡ nodeIs p ws ks a b
   unfolding nodeIs
   node-words ks ws ws′ h = go (ℕ-discrete (kindIn a) 12)
     where
-      go : Dec (kindIn a ≡ 12) → getD (choices p u ws′ ks a b) (kindIn a) (plain NoneL) ≡ getD (choices p u ws ks a b) (kindIn a) (plain NoneL)
+      go : Dec (kindIn a ≡ 12) → getD (choices p ws′ ks a b) (kindIn a) (plain NoneL) ≡ getD (choices p ws ks a b) (kindIn a) (plain NoneL)
       go (yes e) = rw (h e .0, h e .1)
-      go (no d) = getD-set-other (choices p u ws ks a b) 12 (kindIn a) (getD (choices p u ws′ ks a b) 12 (plain NoneL)) (plain NoneL) d
+      go (no d) = getD-set-other (choices p ws ks a b) 12 (kindIn a) (getD (choices p ws′ ks a b) 12 (plain NoneL)) (plain NoneL) d
 
   -- a List, Tuple or Dict with a child more
-  pub node-grown : (ks ws : List ℕ) (k : ℕ) → Holds a → nodeIs p u ws (ks ++ (k ∷ [])) a b ≡ record { label = nodeIs p u ws ks a b .label; kids = nodeIs p u ws ks a b .kids ++ (k ∷ []) }
+  pub node-grown : (ks ws : List ℕ) (k : ℕ) → Holds a → nodeIs p ws (ks ++ (k ∷ [])) a b ≡ record { label = nodeIs p ws ks a b .label; kids = nodeIs p ws ks a b .kids ++ (k ∷ []) }
   unfolding nodeIs
   node-grown ks ws k (aList e) = rw e
   node-grown ks ws k (aTuple e) = rw e
   node-grown ks ws k (aDict e) = rw e
 
   -- its second word does not count
-  pub node-count : (ks ws : List ℕ) (b′ : ℕ) → Holds a → nodeIs p u ws ks a b′ ≡ nodeIs p u ws ks a b
+  pub node-count : (ks ws : List ℕ) (b′ : ℕ) → Holds a → nodeIs p ws ks a b′ ≡ nodeIs p ws ks a b
   unfolding nodeIs
   node-count ks ws b′ (aList e) = rw e
   node-count ks ws b′ (aTuple e) = rw e
   node-count ks ws b′ (aDict e) = rw e
 
-  -- of the unescaped text, only Bytes in it count
-  pub node-text : (u′ ks ws : List ℕ) → (kindIn a ≡ 13 → within 32 b u′ ≡ within 32 b u) → nodeIs p u′ ws ks a b ≡ nodeIs p u ws ks a b
-  unfolding nodeIs
-  node-text u′ ks ws h = go (ℕ-discrete (kindIn a) 13)
-    where
-      go : Dec (kindIn a ≡ 13) → getD (choices p u′ ws ks a b) (kindIn a) (plain NoneL) ≡ getD (choices p u ws ks a b) (kindIn a) (plain NoneL)
-      go (yes e) = rw (e, h e)
-      go (no d) = getD-set-other (choices p u ws ks a b) 13 (kindIn a) (getD (choices p u′ ws ks a b) 13 (plain NoneL)) (plain NoneL) d
-
   -- an Object with a state
-  pub node-built : (ks ws : List ℕ) (a′ b′ i : ℕ) → kindIn a ≡ 12 → Built a b a′ b′ i → nodeIs p u ws ks a′ b′ ≡ record { label = nodeIs p u ws ks a b .label; kids = getD (nodeIs p u ws ks a b .kids) 0 0 ∷ i ∷ [] }
+  pub node-built : (ks ws : List ℕ) (a′ b′ i : ℕ) → kindIn a ≡ 12 → Built a b a′ b′ i → nodeIs p ws ks a′ b′ ≡ record { label = nodeIs p ws ks a b .label; kids = getD (nodeIs p ws ks a b .kids) 0 0 ∷ i ∷ [] }
   unfolding nodeIs partsOf
   node-built ks ws a′ b′ i k h = rw (k, h .kind, h .new, h .state, h .class, h .arguments, h .item)
 
 -- words set for node n leave a node whose class is not n
-words-other : (p u ks ws : List ℕ) (n a b i : ℕ) → i ≢ n → (kindIn (first ws i) ≡ 12 → classIn (first ws i) ≢ n)
-    → nodeIs p u (wordsSet ws n a b) ks (first (wordsSet ws n a b) i) (second (wordsSet ws n a b) i) ≡ nodeIs p u ws ks (first ws i) (second ws i)
-words-other p u ks ws n a b i d h =
+words-other : (p ks ws : List ℕ) (n a b i : ℕ) → i ≢ n → (kindIn (first ws i) ≡ 12 → classIn (first ws i) ≢ n)
+    → nodeIs p (wordsSet ws n a b) ks (first (wordsSet ws n a b) i) (second (wordsSet ws n a b) i) ≡ nodeIs p ws ks (first ws i) (second ws i)
+words-other p ks ws n a b i d h =
     rw (first-other ws n a b i d, second-other ws n a b i d)
-    (node-words p u (first ws i) (second ws i) ks ws (wordsSet ws n a b) (λ e. (first-other ws n a b (classIn (first ws i)) (h e), second-other ws n a b (classIn (first ws i)) (h e))))
+    (node-words p (first ws i) (second ws i) ks ws (wordsSet ws n a b) (λ e. (first-other ws n a b (classIn (first ws i)) (h e), second-other ws n a b (classIn (first ws i)) (h e))))
 
 -- ---- a link more
 
@@ -102,7 +93,7 @@ module _ (r : Rooms) (c : Counts) where
       c₁ = linksTo c (suc (c .links))
 
       of : List ℕ → ℕ → Node
-      of ks i = nodeIs (r .pickle) (r .unescaped) (r .nodes) ks (first (r .nodes) i) (second (r .nodes) i)
+      of ks i = nodeIs (r .pickle) (r .nodes) ks (first (r .nodes) i) (second (r .nodes) i)
 
       other : (i : ℕ) → i < c .nodes → i ≢ o → nodeOf r₁ c₁ i ≡ nodeOf r c i
       other i z d = ap (λ (ks : List ℕ). of ks i) (items-other (r .owners) (r .children) (c .links) o k l l′ i d)
@@ -111,12 +102,12 @@ module _ (r : Rooms) (c : Counts) where
       own =
           rw (getD-tab (nodeOf r c) (c .nodes) o (plain NoneL) h)
           (ap (λ (ks : List ℕ). of ks o) (items-own (r .owners) (r .children) (c .links) o k l l′)
-          ∙ node-grown (r .pickle) (r .unescaped) (first (r .nodes) o) (second (r .nodes) o) (kidsOf r c o) (r .nodes) k t)
+          ∙ node-grown (r .pickle) (first (r .nodes) o) (second (r .nodes) o) (kidsOf r c o) (r .nodes) k t)
 
   -- ---- a node more
 
   pub node-more : (a b : ℕ) → suc (2 * c .nodes) < length (r .nodes) → c .links ≤ length (r .owners) → Owned (r .owners) (c .links) (c .nodes) → Classed (r .nodes) (c .nodes) → Class (r .nodes) (c .nodes) a
-      → stateOf (wordsIn r (wordsSet (r .nodes) (c .nodes) a b)) (nodesTo c (suc (c .nodes))) ≡ withNodes (stateOf r c) (stateOf r c .nodes ++ (nodeIs (r .pickle) (r .unescaped) (r .nodes) [] a b ∷ []))
+      → stateOf (wordsIn r (wordsSet (r .nodes) (c .nodes) a b)) (nodesTo c (suc (c .nodes))) ≡ withNodes (stateOf r c) (stateOf r c .nodes ++ (nodeIs (r .pickle) (r .nodes) [] a b ∷ []))
   unfolding stateOf tab Owned Classed Class
   node-more a b h l own cl new = ap (withNodes (stateOf r c)) (ap₂ (λ (x : List Node) (y : Node). x ++ (y ∷ [])) (tab-same (nodeOf r c) (nodeOf r₁ c₁) (c .nodes) old) last)
     where
@@ -127,12 +118,12 @@ module _ (r : Rooms) (c : Counts) where
       c₁ = nodesTo c (suc (c .nodes))
 
       old : (i : ℕ) → i < c .nodes → nodeOf r₁ c₁ i ≡ nodeOf r c i
-      old i z = words-other (r .pickle) (r .unescaped) (kidsOf r c i) (r .nodes) (c .nodes) a b i (λ e. omega arith) (λ k e. let v = cl i z k .0 in omega arith)
+      old i z = words-other (r .pickle) (kidsOf r c i) (r .nodes) (c .nodes) a b i (λ e. omega arith) (λ k e. let v = cl i z k .0 in omega arith)
 
-      last : nodeOf r₁ c₁ (c .nodes) ≡ nodeIs (r .pickle) (r .unescaped) (r .nodes) [] a b
+      last : nodeOf r₁ c₁ (c .nodes) ≡ nodeIs (r .pickle) (r .nodes) [] a b
       last =
           rw (first-set (r .nodes) (c .nodes) a b h, second-set (r .nodes) (c .nodes) a b h, items-new (r .owners) (r .children) (c .links) (c .nodes) (λ k z e. let v = own k z in omega arith) l)
-          (node-words (r .pickle) (r .unescaped) a b [] (r .nodes) (wordsSet (r .nodes) (c .nodes) a b) (λ k. let v = new k .0 in (first-other (r .nodes) (c .nodes) a b (classIn a) (λ e. omega arith), second-other (r .nodes) (c .nodes) a b (classIn a) (λ e. omega arith))))
+          (node-words (r .pickle) a b [] (r .nodes) (wordsSet (r .nodes) (c .nodes) a b) (λ k. let v = new k .0 in (first-other (r .nodes) (c .nodes) a b (classIn a) (λ e. omega arith), second-other (r .nodes) (c .nodes) a b (classIn a) (λ e. omega arith))))
 
   -- ---- the memo
 
@@ -171,11 +162,11 @@ module _ (r : Rooms) (c : Counts) where
       class i z k e = let v : kindIn (first (r .nodes) o) ≡ 11 = rw e at (cl i z k .1) in let u = holds-below (first (r .nodes) o) t in omega arith
 
       go : (i : ℕ) → i < c .nodes → Dec (i ≡ o) → nodeOf r₁ c i ≡ nodeOf r c i
-      go i z (no d) = words-other (r .pickle) (r .unescaped) (kidsOf r c i) (r .nodes) o a b i d (class i z)
+      go i z (no d) = words-other (r .pickle) (kidsOf r c i) (r .nodes) o a b i d (class i z)
       go i z (yes e) =
           rw (e, first-set (r .nodes) o a b h, second-set (r .nodes) o a b h)
-          (node-words (r .pickle) (r .unescaped) a b (kidsOf r c o) (r .nodes) ws (λ k. let v = holds-below a t in absurd (omega arith))
-          ∙ node-count (r .pickle) (r .unescaped) a (second (r .nodes) o) (kidsOf r c o) (r .nodes) b t)
+          (node-words (r .pickle) a b (kidsOf r c o) (r .nodes) ws (λ k. let v = holds-below a t in absurd (omega arith))
+          ∙ node-count (r .pickle) a (second (r .nodes) o) (kidsOf r c o) (r .nodes) b t)
 
   -- BUILD
   pub build-set : (o a b i : ℕ) → o < c .nodes → suc (2 * o) < length (r .nodes) → Classed (r .nodes) (c .nodes) → kindIn (first (r .nodes) o) ≡ 12 → Built (first (r .nodes) o) (second (r .nodes) o) a b i
@@ -193,7 +184,7 @@ module _ (r : Rooms) (c : Counts) where
       class j z k e = let v : kindIn (first (r .nodes) o) ≡ 11 = rw e at (cl j z k .1) in omega arith
 
       other : (j : ℕ) → j < c .nodes → j ≢ o → nodeOf r₁ c j ≡ nodeOf r c j
-      other j z d = words-other (r .pickle) (r .unescaped) (kidsOf r c j) (r .nodes) o a b j d (class j z)
+      other j z d = words-other (r .pickle) (kidsOf r c j) (r .nodes) o a b j d (class j z)
 
       apart : classIn a ≢ o
       apart = rw (new .class) (class o l t)
@@ -201,13 +192,5 @@ module _ (r : Rooms) (c : Counts) where
       own : nodeOf r₁ c o ≡ record { label = getD (nodesOf r c) o (plain NoneL) .label; kids = getD (getD (nodesOf r c) o (plain NoneL) .kids) 0 0 ∷ i ∷ [] }
       own =
           rw (getD-tab (nodeOf r c) (c .nodes) o (plain NoneL) l, first-set (r .nodes) o a b h, second-set (r .nodes) o a b h)
-          (node-words (r .pickle) (r .unescaped) a b (kidsOf r c o) (r .nodes) ws (λ k. (first-other (r .nodes) o a b (classIn a) apart, second-other (r .nodes) o a b (classIn a) apart))
-          ∙ node-built (r .pickle) (r .unescaped) (first (r .nodes) o) (second (r .nodes) o) (kidsOf r c o) (r .nodes) a b i t new)
-
-  -- ---- unescaped text behind the part that is used
-
-  pub text-more : (u : List ℕ) (m : ℕ) → AllUsed (r .nodes) (c .nodes) (c .unescaped) → take (c .unescaped) u ≡ take (c .unescaped) (r .unescaped) → stateOf (unescapedIn r u) (unescapedTo c m) ≡ stateOf r c
-  unfolding stateOf AllUsed Used
-  text-more u m h e =
-      ap (withNodes (stateOf r c)) (tab-same (nodeOf r c) (nodeOf (unescapedIn r u) (unescapedTo c m)) (c .nodes)
-      (λ i z. node-text (r .pickle) (r .unescaped) (first (r .nodes) i) (second (r .nodes) i) u (kidsOf r c i) (r .nodes) (λ k. within-same 32 (second (r .nodes) i) (c .unescaped) (r .unescaped) u (h i z k) e)))
+          (node-words (r .pickle) a b (kidsOf r c o) (r .nodes) ws (λ k. (first-other (r .nodes) o a b (classIn a) apart, second-other (r .nodes) o a b (classIn a) apart))
+          ∙ node-built (r .pickle) (first (r .nodes) o) (second (r .nodes) o) (kidsOf r c o) (r .nodes) a b i t new)

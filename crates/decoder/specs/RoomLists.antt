@@ -1,11 +1,11 @@
 -- Laws of the lists that are read off rooms: tables, the log of links, the words of nodes, texts.
-use Prim.Native.Nat.{ℕ, suc, zero, _+_, _*_, _^_, _/_, _%_, _<_, _≤_}
+use Prim.Native.Nat.{ℕ, suc, zero, _+_, _*_, _^_, _<_, _≤_}
 use mathlib.Core.Bool.{Bool, true, false, cond}
 use mathlib.Core.List.{List, [], _∷_, _++_, append-nil}
 use mathlib.Core.Path.{_≡_, refl, sym, _∙_, ap}
 use mathlib.Core.Logic.{_≢_}
 use lib.ListN.{length, length-append, length-set, getD, take, drop, set, List·getD-append}
-use lib.Seq.{take-take, take-suc-set, length-take-le, getD-take, getD-set-same, getD-set-other, getD-at, ext-getD, set-getD}
+use lib.Seq.{take-suc-set, length-take-le, getD-take, getD-set-same, getD-set-other, getD-at, ext-getD, set-getD}
 use lib.Pow.{high, low}
 use lib.Dec.{eqb}
 use borrow.Author.Tests.{eq-eqb, ne-eqb}
@@ -106,27 +106,13 @@ pub words-second : (ws : List ℕ) (n b : ℕ) → wordsSet ws n (first ws n) b 
 unfolding wordsSet first
 words-second ws n b = rw (set-getD ws (2 * n) 0)
 
--- a container is neither Global nor Object nor text in the unescaped room: those kinds are above 10
+-- a container is neither Global nor Object nor a line: those kinds are above 10
 pub holds-below : (a : ℕ) → Holds a → kindIn a ≤ 10
 holds-below a (aList e) = omega arith
 holds-below a (aTuple e) = omega arith
 holds-below a (aDict e) = omega arith
 
 -- ---- texts
-
-cut : (n q m : ℕ) (t : List ℕ) → q + n ≤ m → take n (drop q (take m t)) ≡ take n (drop q t)
-cut n zero m t h = take-take n m t (omega arith)
-cut n (suc q) zero t h = absurd (omega arith)
-cut n (suc q) (suc m) [] h = refl
-cut n (suc q) (suc m) (b ∷ t) h = cut n q m t (omega arith)
-
--- a text within the first m bytes is known by them
-pub within-same : (k w m : ℕ) (t t′ : List ℕ) → w % 2 ^ k + w / 2 ^ k ≤ m → take m t′ ≡ take m t → within k w t′ ≡ within k w t
-unfolding within
-within-same k w m t t′ h e =
-    sym (cut (w / 2 ^ k) (w % 2 ^ k) m t′ h)
-    ∙ ap (λ (x : List ℕ). take (w / 2 ^ k) (drop (w % 2 ^ k) x)) e
-    ∙ cut (w / 2 ^ k) (w % 2 ^ k) m t h
 
 -- a number made of a length and a place says the text of that length there
 pub within-at : (k place n : ℕ) (t : List ℕ) → place < 2 ^ k → within k (n * 2 ^ k + place) t ≡ take n (drop place t)

@@ -24,7 +24,7 @@ use Rattle.decoder.specs.RoomLists.{length-tab, getD-tab}
 -- ---- the parts of the state
 
 -- with nothing read yet
-pub start-of : (r : Rooms) → stateOf r (record { at = 0; nodes = 0; links = 0; stack = 0; deepest = 0; marks = 0; most = 0; memo = 0; greatest = 0; unescaped = 0 }) ≡ start (r .pickle)
+pub start-of : (r : Rooms) → stateOf r (record { at = 0; nodes = 0; links = 0; stack = 0; deepest = 0; marks = 0; most = 0; memo = 0; greatest = 0 }) ≡ start (r .pickle)
 unfolding stateOf tab entries start
 start-of r = refl
 
@@ -71,16 +71,16 @@ itself : (t : Bool) → cond t true false ≡ t
 itself true = refl
 itself false = refl
 
-module _ (p u ws ks : List ℕ) (a b : ℕ) where
-  pub node-kind : (k : ℕ) → kindIn a ≡ k → nodeIs p u ws ks a b ≡ getD (choices p u ws ks a b) k (plain NoneL)
+module _ (p ws ks : List ℕ) (a b : ℕ) where
+  pub node-kind : (k : ℕ) → kindIn a ≡ k → nodeIs p ws ks a b ≡ getD (choices p ws ks a b) k (plain NoneL)
   unfolding nodeIs
   node-kind k e = rw e
 
   -- what is d for all kinds but n, for which it is x
-  alone : {B : Type 0} (f : Label → B) (n : ℕ) (x d : B) → n < 15 → f NoneL ≡ d → map (λ (l : Node). f (l .label)) (choices p u ws ks a b) ≡ set (replicate 15 d) n x → f (nodeIs p u ws ks a b .label) ≡ cond (eqb (kindIn a) n) x d
+  alone : {B : Type 0} (f : Label → B) (n : ℕ) (x d : B) → n < 15 → f NoneL ≡ d → map (λ (l : Node). f (l .label)) (choices p ws ks a b) ≡ set (replicate 15 d) n x → f (nodeIs p ws ks a b .label) ≡ cond (eqb (kindIn a) n) x d
   unfolding nodeIs
   alone f n x d h z e =
-      sym (List·getD-map (λ (l : Node). f (l .label)) (choices p u ws ks a b) (kindIn a) (plain NoneL))
+      sym (List·getD-map (λ (l : Node). f (l .label)) (choices p ws ks a b) (kindIn a) (plain NoneL))
       ∙ rw (e, z) (go (ℕ-discrete (kindIn a) n))
     where
       go : Dec (kindIn a ≡ n) → getD (set (replicate 15 d) n x) (kindIn a) d ≡ cond (eqb (kindIn a) n) x d
@@ -91,19 +91,19 @@ module _ (p u ws ks : List ℕ) (a b : ℕ) where
           all (yes l) = getD-replicate 15 (kindIn a) d d l
           all (no l) = List·getD-eq-default (replicate 15 d) d {n = kindIn a} (rw length-replicate (omega arith))
 
-  pub list-kind : isList (nodeIs p u ws ks a b .label) ≡ eqb (kindIn a) 6
+  pub list-kind : isList (nodeIs p ws ks a b .label) ≡ eqb (kindIn a) 6
   list-kind = alone isList 6 true false (omega arith) refl refl ∙ itself (eqb (kindIn a) 6)
 
-  pub tuple-kind : isTuple (nodeIs p u ws ks a b .label) ≡ eqb (kindIn a) 7
+  pub tuple-kind : isTuple (nodeIs p ws ks a b .label) ≡ eqb (kindIn a) 7
   tuple-kind = alone isTuple 7 true false (omega arith) refl refl ∙ itself (eqb (kindIn a) 7)
 
-  pub dict-kind : isDict (nodeIs p u ws ks a b .label) ≡ eqb (kindIn a) 10
+  pub dict-kind : isDict (nodeIs p ws ks a b .label) ≡ eqb (kindIn a) 10
   dict-kind = alone isDict 10 true false (omega arith) refl refl ∙ itself (eqb (kindIn a) 10)
 
-  pub object-kind : isObject (nodeIs p u ws ks a b .label) ≡ eqb (kindIn a) 12
+  pub object-kind : isObject (nodeIs p ws ks a b .label) ≡ eqb (kindIn a) 12
   object-kind = alone isObject 12 true false (omega arith) refl refl ∙ itself (eqb (kindIn a) 12)
 
-  pub class-kind : classOf (nodeIs p u ws ks a b .label) ≡ cond (eqb (kindIn a) 11) (ok (moduleOf p a, nameOf p b)) (state.no (Invalid Class))
+  pub class-kind : classOf (nodeIs p ws ks a b .label) ≡ cond (eqb (kindIn a) 11) (ok (moduleOf p a, nameOf p b)) (state.no (Invalid Class))
   class-kind = alone classOf 11 (ok (moduleOf p a, nameOf p b)) (state.no (Invalid Class)) (omega arith) refl refl
 
 -- ---- words made
@@ -127,9 +127,9 @@ object-made false class =
     (omega arith, ne-eqb ((12 + 16 * bit false + 64 * class) / 16 % 2) 1 (λ e. omega arith), ne-eqb ((12 + 16 * bit false + 64 * class) / 32 % 2) 1 (λ e. omega arith), omega arith)
 
 -- an Object just made is one of its class, whose node's words stand at `class`
-pub object-node : (p u ws ks : List ℕ) (new : Bool) (class args : ℕ) → args < 2 ^ 32 → nodeIs p u ws ks (objectWord new class) args ≡ object (moduleOf p (first ws class), nameOf p (second ws class)) new args
+pub object-node : (p ws ks : List ℕ) (new : Bool) (class args : ℕ) → args < 2 ^ 32 → nodeIs p ws ks (objectWord new class) args ≡ object (moduleOf p (first ws class), nameOf p (second ws class)) new args
 unfolding nodeIs partsOf
-object-node p u ws ks new class args h =
+object-node p ws ks new class args h =
     let m = object-made new class in
     let e : args % 2 ^ 32 ≡ args = omega arith in
     rw (m .0, m .1, m .2, m .3, e)

@@ -8,13 +8,13 @@ use lib.ListN.{length, getD, take, drop, set}
 use lib.Dec.{eqb}
 use Rattle.utf8.specs.Utf8.{repair}
 use Rattle.text.specs.Pieces.{bytesOf}
-use Rattle.text.specs.Text.{unescapeUnicode}
+use Rattle.text.specs.Text.{unescapeString, unescapeUnicode}
 use Rattle.value.specs.Value.{NoneL, BoolL, I64L, F64L, BytesL, StringL, ListL, TupleL, SetL, FrozenSetL, DictL, GlobalL, ObjectL}
 use Rattle.value.specs.Shape.{kindIn, newIn, stateIn}
 use Rattle.decoder.specs.State.{Node, State, plain}
 pub use Rattle.decoder.specs.declared.Counts.{Counts}
 
--- the rooms: the pickle, two words a node, the log of links (owner, child), stack, marks, the memo (number, node), unescaped text
+-- the rooms: the pickle, two words a node, the log of links (owner, child), stack, marks, the memo (number, node)
 pub record Rooms : Type 0 where
   pub pickle : List ℕ
   pub nodes : List ℕ
@@ -24,7 +24,6 @@ pub record Rooms : Type 0 where
   pub marks : List ℕ
   pub keys : List ℕ
   pub held : List ℕ
-  pub unescaped : List ℕ
 
 -- ---- lists read off rooms
 
@@ -78,10 +77,10 @@ nameOf p b = repair (within 32 b p)
 unfoldable pub partsOf : ℕ → ℕ → List ℕ
 partsOf a b = b % 2 ^ 32 ∷ cond (stateIn a) (b / 2 ^ 32 ∷ []) []
 
--- the nodes that the words a and b say for the kinds 0 to 14: p is the pickle, u the unescaped text, ws the words of all nodes, ks
--- the children of the node's links. 13 are Bytes in u, 14 a String of UNICODE as its line
-abbrev pub choices : List ℕ → List ℕ → List ℕ → List ℕ → ℕ → ℕ → List Node
-choices p u ws ks a b =
+-- the nodes that the words a and b say for the kinds 0 to 14: p is the pickle, ws the words of all nodes, ks the children of the node's
+-- links. 13 are Bytes of a STRING with an escape and 14 a String of UNICODE, both as their lines
+abbrev pub choices : List ℕ → List ℕ → List ℕ → ℕ → ℕ → List Node
+choices p ws ks a b =
     plain NoneL
     ∷ plain (BoolL (eqb b 1))
     ∷ plain (I64L b)
@@ -95,13 +94,13 @@ choices p u ws ks a b =
     ∷ record { label = DictL; kids = ks }
     ∷ plain (GlobalL (moduleOf p a) (nameOf p b))
     ∷ record { label = ObjectL (moduleOf p (first ws (classIn a))) (nameOf p (second ws (classIn a))) (newIn a); kids = partsOf a b }
-    ∷ plain (BytesL (within 32 b u))
+    ∷ plain (BytesL (bytesOf (unescapeString (within 32 b p))))
     ∷ plain (StringL (bytesOf (unescapeUnicode (within 32 b p))))
     ∷ []
 
 -- the one of the kind that a says
-unfoldable pub nodeIs : List ℕ → List ℕ → List ℕ → List ℕ → ℕ → ℕ → Node
-nodeIs p u ws ks a b = getD (choices p u ws ks a b) (kindIn a) (plain NoneL)
+unfoldable pub nodeIs : List ℕ → List ℕ → List ℕ → ℕ → ℕ → Node
+nodeIs p ws ks a b = getD (choices p ws ks a b) (kindIn a) (plain NoneL)
 
 -- ---- the state
 
@@ -111,7 +110,7 @@ kidsOf r c i = items (take (c .links) (r .owners)) (take (c .links) (r .children
 
 -- node i
 abbrev pub nodeOf : Rooms → Counts → ℕ → Node
-nodeOf r c i = nodeIs (r .pickle) (r .unescaped) (r .nodes) (kidsOf r c i) (first (r .nodes) i) (second (r .nodes) i)
+nodeOf r c i = nodeIs (r .pickle) (r .nodes) (kidsOf r c i) (first (r .nodes) i) (second (r .nodes) i)
 
 -- all of them
 abbrev pub nodesOf : Rooms → Counts → List Node
@@ -128,51 +127,45 @@ stateOf r c = record { input = drop (c .at) (r .pickle); nodes = nodesOf r c; st
 -- ---- one room changed
 
 abbrev pub wordsIn : Rooms → List ℕ → Rooms
-wordsIn r l = record { pickle = r .pickle; nodes = l; owners = r .owners; children = r .children; stack = r .stack; marks = r .marks; keys = r .keys; held = r .held; unescaped = r .unescaped }
+wordsIn r l = record { pickle = r .pickle; nodes = l; owners = r .owners; children = r .children; stack = r .stack; marks = r .marks; keys = r .keys; held = r .held }
 
 abbrev pub logIn : Rooms → List ℕ → List ℕ → Rooms
-logIn r ws cs = record { pickle = r .pickle; nodes = r .nodes; owners = ws; children = cs; stack = r .stack; marks = r .marks; keys = r .keys; held = r .held; unescaped = r .unescaped }
+logIn r ws cs = record { pickle = r .pickle; nodes = r .nodes; owners = ws; children = cs; stack = r .stack; marks = r .marks; keys = r .keys; held = r .held }
 
 abbrev pub stackIn : Rooms → List ℕ → Rooms
-stackIn r l = record { pickle = r .pickle; nodes = r .nodes; owners = r .owners; children = r .children; stack = l; marks = r .marks; keys = r .keys; held = r .held; unescaped = r .unescaped }
+stackIn r l = record { pickle = r .pickle; nodes = r .nodes; owners = r .owners; children = r .children; stack = l; marks = r .marks; keys = r .keys; held = r .held }
 
 abbrev pub marksIn : Rooms → List ℕ → Rooms
-marksIn r l = record { pickle = r .pickle; nodes = r .nodes; owners = r .owners; children = r .children; stack = r .stack; marks = l; keys = r .keys; held = r .held; unescaped = r .unescaped }
+marksIn r l = record { pickle = r .pickle; nodes = r .nodes; owners = r .owners; children = r .children; stack = r .stack; marks = l; keys = r .keys; held = r .held }
 
 abbrev pub memoIn : Rooms → List ℕ → List ℕ → Rooms
-memoIn r ks hs = record { pickle = r .pickle; nodes = r .nodes; owners = r .owners; children = r .children; stack = r .stack; marks = r .marks; keys = ks; held = hs; unescaped = r .unescaped }
-
-abbrev pub unescapedIn : Rooms → List ℕ → Rooms
-unescapedIn r l = record { pickle = r .pickle; nodes = r .nodes; owners = r .owners; children = r .children; stack = r .stack; marks = r .marks; keys = r .keys; held = r .held; unescaped = l }
+memoIn r ks hs = record { pickle = r .pickle; nodes = r .nodes; owners = r .owners; children = r .children; stack = r .stack; marks = r .marks; keys = ks; held = hs }
 
 -- ---- one count changed
 
 abbrev pub atTo : Counts → ℕ → Counts
-atTo c n = record { at = n; nodes = c .nodes; links = c .links; stack = c .stack; deepest = c .deepest; marks = c .marks; most = c .most; memo = c .memo; greatest = c .greatest; unescaped = c .unescaped }
+atTo c n = record { at = n; nodes = c .nodes; links = c .links; stack = c .stack; deepest = c .deepest; marks = c .marks; most = c .most; memo = c .memo; greatest = c .greatest }
 
 abbrev pub nodesTo : Counts → ℕ → Counts
-nodesTo c n = record { at = c .at; nodes = n; links = c .links; stack = c .stack; deepest = c .deepest; marks = c .marks; most = c .most; memo = c .memo; greatest = c .greatest; unescaped = c .unescaped }
+nodesTo c n = record { at = c .at; nodes = n; links = c .links; stack = c .stack; deepest = c .deepest; marks = c .marks; most = c .most; memo = c .memo; greatest = c .greatest }
 
 abbrev pub linksTo : Counts → ℕ → Counts
-linksTo c n = record { at = c .at; nodes = c .nodes; links = n; stack = c .stack; deepest = c .deepest; marks = c .marks; most = c .most; memo = c .memo; greatest = c .greatest; unescaped = c .unescaped }
+linksTo c n = record { at = c .at; nodes = c .nodes; links = n; stack = c .stack; deepest = c .deepest; marks = c .marks; most = c .most; memo = c .memo; greatest = c .greatest }
 
 abbrev pub stackTo : Counts → ℕ → Counts
-stackTo c n = record { at = c .at; nodes = c .nodes; links = c .links; stack = n; deepest = c .deepest; marks = c .marks; most = c .most; memo = c .memo; greatest = c .greatest; unescaped = c .unescaped }
+stackTo c n = record { at = c .at; nodes = c .nodes; links = c .links; stack = n; deepest = c .deepest; marks = c .marks; most = c .most; memo = c .memo; greatest = c .greatest }
 
 abbrev pub deepestTo : Counts → ℕ → Counts
-deepestTo c n = record { at = c .at; nodes = c .nodes; links = c .links; stack = c .stack; deepest = n; marks = c .marks; most = c .most; memo = c .memo; greatest = c .greatest; unescaped = c .unescaped }
+deepestTo c n = record { at = c .at; nodes = c .nodes; links = c .links; stack = c .stack; deepest = n; marks = c .marks; most = c .most; memo = c .memo; greatest = c .greatest }
 
 abbrev pub marksTo : Counts → ℕ → Counts
-marksTo c n = record { at = c .at; nodes = c .nodes; links = c .links; stack = c .stack; deepest = c .deepest; marks = n; most = c .most; memo = c .memo; greatest = c .greatest; unescaped = c .unescaped }
+marksTo c n = record { at = c .at; nodes = c .nodes; links = c .links; stack = c .stack; deepest = c .deepest; marks = n; most = c .most; memo = c .memo; greatest = c .greatest }
 
 abbrev pub mostTo : Counts → ℕ → Counts
-mostTo c n = record { at = c .at; nodes = c .nodes; links = c .links; stack = c .stack; deepest = c .deepest; marks = c .marks; most = n; memo = c .memo; greatest = c .greatest; unescaped = c .unescaped }
+mostTo c n = record { at = c .at; nodes = c .nodes; links = c .links; stack = c .stack; deepest = c .deepest; marks = c .marks; most = n; memo = c .memo; greatest = c .greatest }
 
 abbrev pub memoTo : Counts → ℕ → Counts
-memoTo c n = record { at = c .at; nodes = c .nodes; links = c .links; stack = c .stack; deepest = c .deepest; marks = c .marks; most = c .most; memo = n; greatest = c .greatest; unescaped = c .unescaped }
-
-abbrev pub unescapedTo : Counts → ℕ → Counts
-unescapedTo c n = record { at = c .at; nodes = c .nodes; links = c .links; stack = c .stack; deepest = c .deepest; marks = c .marks; most = c .most; memo = c .memo; greatest = c .greatest; unescaped = n }
+memoTo c n = record { at = c .at; nodes = c .nodes; links = c .links; stack = c .stack; deepest = c .deepest; marks = c .marks; most = c .most; memo = n; greatest = c .greatest }
 
 -- ---- what the code keeps
 
@@ -193,14 +186,6 @@ Class ws n a = kindIn a ≡ 12 → (classIn a < n) × (kindIn (first ws (classIn
 -- every Object's class is a Global
 unfoldable pub Classed : List ℕ → ℕ → Type 0
 Classed ws n = (i : ℕ) → i < n → Class ws n (first ws i)
-
--- if a and b are the words of Bytes in the unescaped text, they end within its first m bytes
-unfoldable pub Used : ℕ → ℕ → ℕ → Type 0
-Used m a b = kindIn a ≡ 13 → b % 2 ^ 32 + b / 2 ^ 32 ≤ m
-
--- all such Bytes do
-unfoldable pub AllUsed : List ℕ → ℕ → ℕ → Type 0
-AllUsed ws n m = (i : ℕ) → i < n → Used m (first ws i) (second ws i)
 
 -- none of the first n memo numbers is k
 unfoldable pub Absent : List ℕ → ℕ → ℕ → Type 0
@@ -237,11 +222,10 @@ Placed ws owners children links n = (i : ℕ) → i < n → kindIn (first ws i) 
 unfoldable pub Holding : List ℕ → List ℕ → ℕ → Type 0
 Holding ws owners links = (k : ℕ) → k < links → Holds (first ws (getD owners k 0))
 
--- what the code keeps of its words and its log, for n nodes and m bytes of unescaped text
-pub record Kept (ws owners children : List ℕ) (links n m : ℕ) : Type 0 where
+-- what the code keeps of its words and its log, for n nodes
+pub record Kept (ws owners children : List ℕ) (links n : ℕ) : Type 0 where
   pub owned : Owned owners links n
   pub holding : Holding ws owners links
   pub classed : Classed ws n
-  pub used : AllUsed ws n m
   pub counted : Counted ws owners children links n
   pub placed : Placed ws owners children links n

@@ -131,9 +131,9 @@ module _ (r : Rooms) (c : Counts) (s : Sound r c) where
     unfolding isGrown
     right h = rw (node-at r (cutTo c (c .at) keep m) owner (on-stack (keep - 1) (omega arith))) (go kin)
       where
-        go : Grows k → cond (eqb k 6) (isList (nodeIs (r .pickle) (r .unescaped) (r .nodes) (kidsOf r c owner) (first (r .nodes) owner) (second (r .nodes) owner) .label)) (isDict (nodeIs (r .pickle) (r .unescaped) (r .nodes) (kidsOf r c owner) (first (r .nodes) owner) (second (r .nodes) owner) .label)) ≡ eqb (kindIn (first (r .nodes) owner)) k
-        go (lists e) = rw e (list-kind (r .pickle) (r .unescaped) (r .nodes) (kidsOf r c owner) (first (r .nodes) owner) (second (r .nodes) owner))
-        go (dicts e) = rw e (dict-kind (r .pickle) (r .unescaped) (r .nodes) (kidsOf r c owner) (first (r .nodes) owner) (second (r .nodes) owner))
+        go : Grows k → cond (eqb k 6) (isList (nodeIs (r .pickle) (r .nodes) (kidsOf r c owner) (first (r .nodes) owner) (second (r .nodes) owner) .label)) (isDict (nodeIs (r .pickle) (r .nodes) (kidsOf r c owner) (first (r .nodes) owner) (second (r .nodes) owner) .label)) ≡ eqb (kindIn (first (r .nodes) owner)) k
+        go (lists e) = rw e (list-kind (r .pickle) (r .nodes) (kidsOf r c owner) (first (r .nodes) owner) (second (r .nodes) owner))
+        go (dicts e) = rw e (dict-kind (r .pickle) (r .nodes) (kidsOf r c owner) (first (r .nodes) owner) (second (r .nodes) owner))
 
     pub added-wrong : keep ≢ 0 → kindIn (first (r .nodes) owner) ≢ k → going (added (isGrown k) (Invalid why) is t) ≡ no (Invalid why)
     unfolding added _>>=_ going need

@@ -54,7 +54,6 @@ pub struct Counts {
     pub most: usize,
     pub memo: usize,
     pub greatest: usize,
-    pub unescaped: usize,
 }
 
 // What an opcode comes to, with the counts after what it read and took.
@@ -67,13 +66,12 @@ pub enum Effect {
     Extend(Counts, NodeId),
     Remember(Counts, NodeId, u64, MemoKey),
     Build(Counts, NodeId, NodeId),
-    Unescape(Counts, usize, usize),
     Stop(Counts),
     Refused(Counts, u64, u64, Refusal),
 }
 
-// The kinds of a node's first word. 0 to 12 are those of a table's record; Bytes that had an escape stand in the room of unescaped text,
-// and a String of UNICODE stays its line.
+// The kinds of a node's first word. 0 to 12 are those of a table's record; Bytes of a STRING with an escape and a String of UNICODE stay
+// their lines, quotes and all.
 pub const NONE: u64 = 0;
 
 pub const BOOL: u64 = 1;
@@ -100,7 +98,7 @@ pub const GLOBAL: u64 = 11;
 
 pub const OBJECT: u64 = 12;
 
-pub const UNESCAPED: u64 = 13;
+pub const ESCAPED: u64 = 13;
 
 pub const UNICODE: u64 = 14;
 
@@ -118,7 +116,6 @@ pub fn cut(c: Counts, at: usize, stack: usize, marks: usize) -> Counts
         most: c.most,
         memo: c.memo,
         greatest: c.greatest,
-        unescaped: c.unescaped,
     }
 }
 
@@ -321,7 +318,7 @@ pub fn binfloat(pickle: &[u8], c: Counts) -> Effect
     Effect::Push(read_to(c, at + 8), F64, f64_at(pickle, at))
 }
 
-// STRING: a value without an escape is a part of the pickle, any other is unescaped.
+// STRING: a value without an escape is a part of the pickle; any other keeps its line, and is unescaped when it is built.
 pub fn string(pickle: &[u8], c: Counts) -> Effect
     requires { ⌜ Lent c (λ r. r .pickle ≡ now pickle) ⌝ }
     ensures { λ e. ⌜ Decides c (λ r. r .pickle ≡ now (pickle .entry)) (λ s. going (string s)) e ⌝ }
@@ -335,7 +332,9 @@ pub fn string(pickle: &[u8], c: Counts) -> Effect
                 Quoted::Plain => {
                     Effect::Push(read_to(c, end + 1), BYTES, text_word(c.at + 1, len - 2))
                 }
-                Quoted::Escaped(_) => Effect::Unescape(read_to(c, end + 1), c.at, len),
+                Quoted::Escaped(_) => {
+                    Effect::Push(read_to(c, end + 1), ESCAPED, text_word(c.at, len))
+                }
                 Quoted::Refused(_) => Effect::Refused(c, 0, 0, Refusal::InvalidLiteral),
             }
         }

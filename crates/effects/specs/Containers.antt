@@ -21,7 +21,7 @@ use Rattle.decoder.specs.Run.{goes, going}
 use Rattle.decoder.specs.Rooms.{Rooms, first, nodeIs, wordsSet, stateOf, wordsIn, logIn, stackIn, linksTo, nodesTo, Class, Holds, aList, aTuple, aDict}
 use Rattle.decoder.specs.RoomReads.{nodes-length, stack-length, links-of}
 use Rattle.decoder.specs.RoomLists.{first-set, second-set, holds-below}
-use Rattle.decoder.specs.RoomKeeps.{Empty, class-none, used-none}
+use Rattle.decoder.specs.RoomKeeps.{Empty, class-none}
 use Rattle.decoder.specs.RoomLaws.{node-count}
 use Rattle.decoder.specs.RoomLinks.{extend-new}
 use Rattle.decoder.specs.Effects.{Firm, Fits, enacted, container, grow, above}
@@ -106,11 +106,11 @@ module _ (r : Rooms) (c : Counts) where
 -- ---- a container made
 
 -- without links it is its label alone
-plain-made : (p u ws : List ℕ) (k b : ℕ) → Holds k → nodeIs p u ws [] k b ≡ plain (nodeIs p u ws [] k b .label)
+plain-made : (p ws : List ℕ) (k b : ℕ) → Holds k → nodeIs p ws [] k b ≡ plain (nodeIs p ws [] k b .label)
 unfolding nodeIs
-plain-made p u ws k b (aList e) = rw e
-plain-made p u ws k b (aTuple e) = rw e
-plain-made p u ws k b (aDict e) = rw e
+plain-made p ws k b (aList e) = rw e
+plain-made p ws k b (aTuple e) = rw e
+plain-made p ws k b (aDict e) = rw e
 
 module _ (r : Rooms) (c : Counts) (k had : ℕ) (f : Fits (Make c k) r had) where
   pub firm : Firm r c
@@ -130,7 +130,7 @@ module _ (r : Rooms) (c : Counts) (k had : ℕ) (f : Fits (Make c k) r had) wher
   kin = f .3
 
   abbrev label : Label
-  label = nodeIs (r .pickle) (r .unescaped) (r .nodes) [] k 0 .label
+  label = nodeIs (r .pickle) (r .nodes) [] k 0 .label
 
   abbrev is : List ℕ
   is = above (c .stack) had (r .stack)
@@ -180,10 +180,10 @@ module _ (r : Rooms) (c : Counts) (k had : ℕ) (f : Fits (Make c k) r had) wher
 
       pub bare-firm : Firm r₁ c₁
       unfolding Empty
-      bare-firm = node-firm r c firm l k word none (used-none (c .unescaped) k word (λ e. let v = holds-below k kin in omega arith)) (λ t. let x = word-parts .1 in (word-parts .0, omega arith))
+      bare-firm = node-firm r c firm l k word none (λ t. let x = word-parts .1 in (word-parts .0, omega arith))
 
       bare : stateOf r₁ c₁ ≡ withNodes (stateOf r c) (stateOf r c .nodes ++ (plain label ∷ []))
-      bare = node-pushed r c firm l k word none ∙ ap (λ (x : Node). withNodes (stateOf r c) (stateOf r c .nodes ++ (x ∷ []))) (node-count (r .pickle) (r .unescaped) k 0 [] (r .nodes) word kin ∙ plain-made (r .pickle) (r .unescaped) (r .nodes) k 0 kin)
+      bare = node-pushed r c firm l k word none ∙ ap (λ (x : Node). withNodes (stateOf r c) (stateOf r c .nodes ++ (x ∷ []))) (node-count (r .pickle) k 0 [] (r .nodes) word kin ∙ plain-made (r .pickle) (r .nodes) k 0 kin)
 
       module _ (ns ws cs : List ℕ) (d : Linked r₁ c₁ (c .nodes) is n ns ws cs) where
         filled : stateOf (linkedIn r₁ ns ws cs) (linksTo c₁ n) ≡ withNodes (withLinks (stateOf r c) n) (stateOf r c .nodes ++ (record { label = label; kids = is } ∷ []))
@@ -202,13 +202,13 @@ module _ (r : Rooms) (c : Counts) (k had : ℕ) (f : Fits (Make c k) r had) wher
 -- ---- of the lists that were lent
 
 module _ (nodes owners children stack : List ℕ) (c : Counts) (k had : ℕ) (a : Makeable nodes owners children stack c k had) where
-  pub make-rooms : (length nodes ≡ 8192) × (length stack ≡ 2048) × (c .links ≤ 8192) × (c .stack ≤ had) × (had ≤ 2048)
+  pub make-rooms : (8192 ≤ length nodes) × (2048 ≤ length stack) × (c .links ≤ 8192) × (c .stack ≤ had) × (had ≤ 2048)
   unfolding Fits
   make-rooms =
       let f = a .fits .0 in
       let x = a .fits .2 in
       let y = f .deepest in
-      (sym (ap length (a .nodes-are)) ∙ f .lengths .nodes, sym (ap length (a .stack-is)) ∙ f .lengths .stack, f .links, a .fits .1, omega arith)
+      (rw (a .nodes-are) at (f .lengths .nodes), rw (a .stack-is) at (f .lengths .stack), f .links, a .fits .1, omega arith)
 
   pub make-linkable : had - c .stack ≤ linksLimit - c .links → c .nodes < nodesLimit → Linkable (set (set nodes (2 * c .nodes) k) (2 * c .nodes + 1) (c .links * 2 ^ 32)) owners children stack (c .stack) had (c .links) (c .nodes)
   make-linkable h l =
@@ -271,7 +271,7 @@ module _ (nodes owners children stack : List ℕ) (c : Counts) (o had : ℕ) (a 
       let z = f .links in
       let y = f .deepest in
       let x = a .fits .2 in
-      let w : length stack ≡ 2048 = sym (ap length (a .stack-is)) ∙ f .lengths .stack in
+      let w : 2048 ≤ length stack = rw (a .stack-is) at (f .lengths .stack) in
       record { rooms = a .rooms; counts = c; nodes-are = a .nodes-are; owners-are = a .owners-are; children-are = a .children-are; stack-is = refl; links-are = refl; firm = f; inside = a .fits .3; holds = rw (a .nodes-are) at (a .fits .4); end = λ z. absurd (a .fits .5 (rw (a .nodes-are) z)); low = a .fits .1; high = omega arith; room = omega arith }
 
   pub extended-lent : (ns ws cs : List ℕ) (n : ℕ) → had - c .stack ≤ linksLimit - c .links → n ≡ c .links + (had - c .stack) → LinkAll nodes owners children stack (c .stack) (c .links) o had ns ws cs n

@@ -39,7 +39,7 @@ done-refused why r n e = record { means = sym e; stays = refl }
 
 -- a value more on the stack
 abbrev pub pushedTo : Counts → ℕ → ℕ → Counts
-pushedTo c n l = record { at = c .at; nodes = n; links = l; stack = c .stack + 1; deepest = max (c .deepest) (c .stack + 1); marks = c .marks; most = c .most; memo = c .memo; greatest = c .greatest; unescaped = c .unescaped }
+pushedTo c n l = record { at = c .at; nodes = n; links = l; stack = c .stack + 1; deepest = max (c .deepest) (c .stack + 1); marks = c .marks; most = c .most; memo = c .memo; greatest = c .greatest }
 
 -- ---- zero from a number on
 

@@ -20,7 +20,7 @@ use Rattle.decoder.specs.Run.{goes, going}
 use Rattle.decoder.specs.Rooms.{Rooms, items, first, second, nodeIs, stateOf, wordsIn, logIn, stackIn, linksTo, nodesTo, Counted, Holds, aList, aTuple, aDict}
 use Rattle.decoder.specs.RoomReads.{nodes-length, links-of}
 use Rattle.decoder.specs.RoomLists.{words-second, first-set}
-use Rattle.decoder.specs.RoomKeeps.{kept-link, suc-low, suc-high, class-none, used-none}
+use Rattle.decoder.specs.RoomKeeps.{kept-link, suc-low, suc-high}
 use Rattle.decoder.specs.RoomLists.{holds-below}
 use Rattle.decoder.specs.RoomLinks.{extend-none, extend-new, link-next, link-counted}
 use Rattle.decoder.specs.Effects.{Lengths, Clean, Firm, Fits, enacted, container, grow, above}
@@ -130,9 +130,8 @@ module _ (r : Rooms) (c : Counts) (o : ℕ) where
 
       next-firm : Firm (linkedIn r ns′ (set ws n o) (set cs n k)) (linksTo c (suc n))
       next-firm = let f = l .firm in record {
-        lengths = record { pickle = f .lengths .pickle; nodes = length-set ns (suc (2 * o)) (suc (second ns o)) ∙ f .lengths .nodes; owners = length-set ws n o ∙ f .lengths .owners; children = length-set cs n k ∙ f .lengths .children; stack = f .lengths .stack; marks = f .lengths .marks; keys = f .lengths .keys; held = f .lengths .held; unescaped = f .lengths .unescaped };
+        lengths = record { pickle = f .lengths .pickle; nodes = rw length-set (f .lengths .nodes); owners = rw length-set (f .lengths .owners); children = rw length-set (f .lengths .children); stack = f .lengths .stack; marks = f .lengths .marks; keys = f .lengths .keys; held = f .lengths .held };
         at = f .at;
-        unescaped = f .unescaped;
         nodes = f .nodes;
         links = omega arith;
         stack = f .stack;
@@ -141,8 +140,8 @@ module _ (r : Rooms) (c : Counts) (o : ℕ) where
         most = f .most;
         memo = f .memo;
         numbered = f .numbered;
-        kept = kept-link ns ws cs n (c .nodes) (c .unescaped) (f .kept) o k room h (l .holds) owner-room child-room small (l .end);
-        clean = record { nodes = blank-set (2 * c .nodes) (2 * c .nodes) ns (f .clean .nodes) (omega arith) (suc (2 * o)) (suc (second ns o)) (omega arith); owners = blank-set n (suc n) ws (f .clean .owners) (omega arith) n o (omega arith); children = blank-set n (suc n) cs (f .clean .children) (omega arith) n k (omega arith); stack = f .clean .stack; marks = f .clean .marks; keys = f .clean .keys; held = f .clean .held; unescaped = f .clean .unescaped };
+        kept = kept-link ns ws cs n (c .nodes) (f .kept) o k room h (l .holds) owner-room child-room small (l .end);
+        clean = record { nodes = blank-set (2 * c .nodes) (2 * c .nodes) ns (f .clean .nodes) (omega arith) (suc (2 * o)) (suc (second ns o)) (omega arith); owners = blank-set n (suc n) ws (f .clean .owners) (omega arith) n o (omega arith); children = blank-set n (suc n) cs (f .clean .children) (omega arith) n k (omega arith); stack = f .clean .stack; marks = f .clean .marks; keys = f .clean .keys; held = f .clean .held };
       }
 
       next-holds : Holds (first ns′ o)
@@ -224,14 +223,14 @@ module _ (nodes owners children stack : List ℕ) (from links o : ℕ) where
 
   module _ (to : ℕ) (a : Linkable nodes owners children stack from to links o) where
     -- what linking needs of its rooms
-    pub link-rooms : (length nodes ≡ 8192) × (length owners ≡ 16384) × (length children ≡ 16384) × (getD nodes (2 * o + 1) 0 % 2 ^ 32 ≤ links) × (o < 4096)
+    pub link-rooms : (8192 ≤ length nodes) × (8192 ≤ length owners) × (8192 ≤ length children) × (getD nodes (2 * o + 1) 0 % 2 ^ 32 ≤ links) × (o < 4096)
     unfolding second
     link-rooms =
         let f = a .firm in
         let x = a .inside in
         let y = f .nodes in
         let v = count-small (a .rooms) (a .counts) o [] (a .counts .links) (a .rooms .nodes) (a .rooms .owners) (a .rooms .children) (linked-start (a .rooms) (a .counts) o f (rw (a .nodes-are) (a .holds)) (rw (a .nodes-are, a .links-are) (a .end))) x in
-        (sym (ap length (a .nodes-are)) ∙ f .lengths .nodes, sym (ap length (a .owners-are)) ∙ f .lengths .owners, sym (ap length (a .children-are)) ∙ f .lengths .children, rw (a .nodes-are, a .links-are, ← add-one (2 * o)) at v, omega arith)
+        (rw (a .nodes-are) at (f .lengths .nodes), rw (a .owners-are) at (f .lengths .owners), rw (a .children-are) at (f .lengths .children), rw (a .nodes-are, a .links-are, ← add-one (2 * o)) at v, omega arith)
 
     pub link-end : LinkAll nodes owners children stack from links o to (counting (to - from)) (owning (to - from)) (holding (to - from)) (links + (to - from))
     link-end =

@@ -15,7 +15,7 @@ use Rattle.decoder.specs.declared.Effect.the-variants.{Push, Share, Mark}
 use Rattle.decoder.specs.State.{State, Node, ok, no, _>>=_, need, nodesLimit, stackLimit, marksLimit, withNodes, withStack, withMarks, pushId, pushNode}
 use Rattle.decoder.specs.Opcodes.{mark}
 use Rattle.decoder.specs.Run.{goes, going}
-use Rattle.decoder.specs.Rooms.{Rooms, nodeIs, wordsSet, stateOf, wordsIn, stackIn, marksIn, nodesTo, stackTo, deepestTo, marksTo, mostTo, Class, Used, Holds, Kept}
+use Rattle.decoder.specs.Rooms.{Rooms, nodeIs, wordsSet, stateOf, wordsIn, stackIn, marksIn, nodesTo, stackTo, deepestTo, marksTo, mostTo, Class}
 use Rattle.decoder.specs.RoomLaws.{node-more, stack-more, marks-more}
 use Rattle.decoder.specs.RoomReads.{nodes-length, stack-length, marks-length}
 use Rattle.decoder.specs.RoomKeeps.{Empty, empty-zero, kept-node}
@@ -61,9 +61,8 @@ module _ (r : Rooms) (c : Counts) (f : Firm r c) where
 
   pub id-firm : c .stack < stackLimit → (i : ℕ) → Firm (withId i) (pushedTo c (c .nodes) (c .links))
   id-firm h i = record {
-    lengths = record { pickle = f .lengths .pickle; nodes = f .lengths .nodes; owners = f .lengths .owners; children = f .lengths .children; stack = length-set (r .stack) (c .stack) i ∙ f .lengths .stack; marks = f .lengths .marks; keys = f .lengths .keys; held = f .lengths .held; unescaped = f .lengths .unescaped };
+    lengths = record { pickle = f .lengths .pickle; nodes = f .lengths .nodes; owners = f .lengths .owners; children = f .lengths .children; stack = rw length-set (f .lengths .stack); marks = f .lengths .marks; keys = f .lengths .keys; held = f .lengths .held };
     at = f .at;
-    unescaped = f .unescaped;
     nodes = f .nodes;
     links = f .links;
     stack = omega arith;
@@ -73,7 +72,7 @@ module _ (r : Rooms) (c : Counts) (f : Firm r c) where
     memo = f .memo;
     numbered = f .numbered;
     kept = f .kept;
-    clean = record { nodes = f .clean .nodes; owners = f .clean .owners; children = f .clean .children; stack = blank-set (c .deepest) (max (c .deepest) (c .stack + 1)) (r .stack) (f .clean .stack) (omega arith) (c .stack) i (omega arith); marks = f .clean .marks; keys = f .clean .keys; held = f .clean .held; unescaped = f .clean .unescaped };
+    clean = record { nodes = f .clean .nodes; owners = f .clean .owners; children = f .clean .children; stack = blank-set (c .deepest) (max (c .deepest) (c .stack + 1)) (r .stack) (f .clean .stack) (omega arith) (c .stack) i (omega arith); marks = f .clean .marks; keys = f .clean .keys; held = f .clean .held };
   }
 
 -- ---- a node more
@@ -97,22 +96,21 @@ module _ (r : Rooms) (c : Counts) (f : Firm r c) where
     log-room : c .links ≤ length (r .owners)
     log-room = let x = f .lengths .owners in let y = f .links in omega arith
 
-    pub node-pushed : stateOf (withNode a b) oneNode ≡ withNodes (stateOf r c) (stateOf r c .nodes ++ (nodeIs (r .pickle) (r .unescaped) (r .nodes) [] a b ∷ []))
+    pub node-pushed : stateOf (withNode a b) oneNode ≡ withNodes (stateOf r c) (stateOf r c .nodes ++ (nodeIs (r .pickle) (r .nodes) [] a b ∷ []))
     node-pushed =
         let e : c .nodes + 1 ≡ suc (c .nodes) = omega arith in
         ap (λ (n : ℕ). stateOf (withNode a b) (nodesTo c n)) e ∙ node-more r c a b words-room log-room (f .kept .owned) (f .kept .classed) class
 
     -- what is left of `pushNode`
-    pub node-then : pushNode (nodeIs (r .pickle) (r .unescaped) (r .nodes) [] a b) (stateOf r c) ≡ pushId (c .nodes) (stateOf (withNode a b) oneNode)
+    pub node-then : pushNode (nodeIs (r .pickle) (r .nodes) [] a b) (stateOf r c) ≡ pushId (c .nodes) (stateOf (withNode a b) oneNode)
     unfolding pushNode _>>=_ need
     node-then = rw (nodes-length r c, lt-ltb (c .nodes) nodesLimit h, node-pushed)
 
-    pub node-firm : Used (c .unescaped) a b → Empty (c .links) a b → Firm (withNode a b) oneNode
+    pub node-firm : Empty (c .links) a b → Firm (withNode a b) oneNode
     unfolding wordsSet
-    node-firm used empty = record {
-      lengths = record { pickle = f .lengths .pickle; nodes = length-set (set (r .nodes) (2 * c .nodes) a) (suc (2 * c .nodes)) b ∙ length-set (r .nodes) (2 * c .nodes) a ∙ f .lengths .nodes; owners = f .lengths .owners; children = f .lengths .children; stack = f .lengths .stack; marks = f .lengths .marks; keys = f .lengths .keys; held = f .lengths .held; unescaped = f .lengths .unescaped };
+    node-firm empty = record {
+      lengths = record { pickle = f .lengths .pickle; nodes = rw (length-set, length-set) (f .lengths .nodes); owners = f .lengths .owners; children = f .lengths .children; stack = f .lengths .stack; marks = f .lengths .marks; keys = f .lengths .keys; held = f .lengths .held };
       at = f .at;
-      unescaped = f .unescaped;
       nodes = omega arith;
       links = f .links;
       stack = f .stack;
@@ -121,8 +119,8 @@ module _ (r : Rooms) (c : Counts) (f : Firm r c) where
       most = f .most;
       memo = f .memo;
       numbered = f .numbered;
-      kept = rw (add-one (c .nodes)) (kept-node (r .nodes) (r .owners) (r .children) (c .links) (c .nodes) (c .unescaped) (f .kept) a b words-room log-room class used empty);
-      clean = record { nodes = blank-set (2 * (c .nodes + 1)) (2 * (c .nodes + 1)) (set (r .nodes) (2 * c .nodes) a) (blank-set (2 * c .nodes) (2 * (c .nodes + 1)) (r .nodes) (f .clean .nodes) (omega arith) (2 * c .nodes) a (omega arith)) (omega arith) (suc (2 * c .nodes)) b (omega arith); owners = f .clean .owners; children = f .clean .children; stack = f .clean .stack; marks = f .clean .marks; keys = f .clean .keys; held = f .clean .held; unescaped = f .clean .unescaped };
+      kept = rw (add-one (c .nodes)) (kept-node (r .nodes) (r .owners) (r .children) (c .links) (c .nodes) (f .kept) a b words-room log-room class empty);
+      clean = record { nodes = blank-set (2 * (c .nodes + 1)) (2 * (c .nodes + 1)) (set (r .nodes) (2 * c .nodes) a) (blank-set (2 * c .nodes) (2 * (c .nodes + 1)) (r .nodes) (f .clean .nodes) (omega arith) (2 * c .nodes) a (omega arith)) (omega arith) (suc (2 * c .nodes)) b (omega arith); owners = f .clean .owners; children = f .clean .children; stack = f .clean .stack; marks = f .clean .marks; keys = f .clean .keys; held = f .clean .held };
     }
 
 -- ---- what the functions answer
@@ -139,19 +137,19 @@ module _ (r : Rooms) (h : ℕ) (c : Counts) where
   module _ (a b : ℕ) (f : Fits (Push c a b) r h) where
     pub push-node-full : nodesLimit ≤ c .nodes → Done (step.Refused c NodesFull) r r (enacted (Push c a b) r h)
     unfolding enacted Fits going
-    push-node-full l = done-refused NodesFull r (going (pushNode (nodeIs (r .pickle) (r .unescaped) (r .nodes) [] a b) (stateOf r c))) (rw (node-full r c (f .0) l (nodeIs (r .pickle) (r .unescaped) (r .nodes) [] a b)))
+    push-node-full l = done-refused NodesFull r (going (pushNode (nodeIs (r .pickle) (r .nodes) [] a b) (stateOf r c))) (rw (node-full r c (f .0) l (nodeIs (r .pickle) (r .nodes) [] a b)))
 
     pub push-node-high : c .nodes < nodesLimit → stackLimit ≤ c .stack → Done (step.Refused c StackFull) r r (enacted (Push c a b) r h)
     unfolding enacted Fits going
     push-node-high l k =
-        done-refused StackFull r (going (pushNode (nodeIs (r .pickle) (r .unescaped) (r .nodes) [] a b) (stateOf r c)))
-        (rw (node-then r c (f .0) l a b (f .1), id-full (withNode r c (f .0) a b) (oneNode r c (f .0)) (node-firm r c (f .0) l a b (f .1) (f .2) (empty-zero (c .links) a b (f .3))) k (c .nodes)))
+        done-refused StackFull r (going (pushNode (nodeIs (r .pickle) (r .nodes) [] a b) (stateOf r c)))
+        (rw (node-then r c (f .0) l a b (f .1), id-full (withNode r c (f .0) a b) (oneNode r c (f .0)) (node-firm r c (f .0) l a b (f .1) (empty-zero (c .links) a b (f .2))) k (c .nodes)))
 
     pub push-node-done : c .nodes < nodesLimit → c .stack < stackLimit
         → Done (step.Next (pushedTo c (c .nodes + 1) (c .links))) r (stackIn (wordsIn r (wordsSet (r .nodes) (c .nodes) a b)) (set (r .stack) (c .stack) (c .nodes))) (enacted (Push c a b) r h)
     unfolding enacted Fits going meant Stays
     push-node-done l k =
-        let g = node-firm r c (f .0) l a b (f .1) (f .2) (empty-zero (c .links) a b (f .3)) in
+        let g = node-firm r c (f .0) l a b (f .1) (empty-zero (c .links) a b (f .2)) in
         record {
           means = rw (node-then r c (f .0) l a b (f .1), id-pushed (withNode r c (f .0) a b) (oneNode r c (f .0)) g k (c .nodes));
           stays = id-firm (withNode r c (f .0) a b) (oneNode r c (f .0)) g k (c .nodes);
@@ -160,7 +158,7 @@ module _ (r : Rooms) (h : ℕ) (c : Counts) where
   -- ---- a mark
 
   abbrev pub markedTo : Counts
-  markedTo = record { at = c .at; nodes = c .nodes; links = c .links; stack = c .stack; deepest = c .deepest; marks = c .marks + 1; most = max (c .most) (c .marks + 1); memo = c .memo; greatest = c .greatest; unescaped = c .unescaped }
+  markedTo = record { at = c .at; nodes = c .nodes; links = c .links; stack = c .stack; deepest = c .deepest; marks = c .marks + 1; most = max (c .most) (c .marks + 1); memo = c .memo; greatest = c .greatest }
 
   module _ (f : Firm r c) where
     marks-held : length (stateOf r c .marks) ≡ c .marks
@@ -186,9 +184,8 @@ module _ (r : Rooms) (h : ℕ) (c : Counts) where
 
     mark-firm : c .marks < marksLimit → Firm withMark markedTo
     mark-firm l = record {
-      lengths = record { pickle = f .lengths .pickle; nodes = f .lengths .nodes; owners = f .lengths .owners; children = f .lengths .children; stack = f .lengths .stack; marks = length-set (r .marks) (c .marks) (c .stack) ∙ f .lengths .marks; keys = f .lengths .keys; held = f .lengths .held; unescaped = f .lengths .unescaped };
+      lengths = record { pickle = f .lengths .pickle; nodes = f .lengths .nodes; owners = f .lengths .owners; children = f .lengths .children; stack = f .lengths .stack; marks = rw length-set (f .lengths .marks); keys = f .lengths .keys; held = f .lengths .held };
       at = f .at;
-      unescaped = f .unescaped;
       nodes = f .nodes;
       links = f .links;
       stack = f .stack;
@@ -198,7 +195,7 @@ module _ (r : Rooms) (h : ℕ) (c : Counts) where
       memo = f .memo;
       numbered = f .numbered;
       kept = f .kept;
-      clean = record { nodes = f .clean .nodes; owners = f .clean .owners; children = f .clean .children; stack = f .clean .stack; marks = blank-set (c .most) (max (c .most) (c .marks + 1)) (r .marks) (f .clean .marks) (omega arith) (c .marks) (c .stack) (omega arith); keys = f .clean .keys; held = f .clean .held; unescaped = f .clean .unescaped };
+      clean = record { nodes = f .clean .nodes; owners = f .clean .owners; children = f .clean .children; stack = f .clean .stack; marks = blank-set (c .most) (max (c .most) (c .marks + 1)) (r .marks) (f .clean .marks) (omega arith) (c .marks) (c .stack) (omega arith); keys = f .clean .keys; held = f .clean .held };
     }
 
   pub put-mark-full : Fits (Mark c) r h → marksLimit ≤ c .marks → Done (step.Refused c MarksFull) r r (enacted (Mark c) r h)

@@ -3,10 +3,8 @@
 use decoder::Counts;
 use decoder::MemoKey;
 use decoder::NodeId;
-use decoder::UNESCAPED;
 use decoder::slot;
 use refusal::Refusal;
-use text::unescape_string;
 ghost use mathlib.Core.Bool.{cond};
 ghost use mathlib.Core.Path.{_≡_};
 ghost use Prim.Native.Nat.{_+_, _-_, _*_, _^_, _%_, _<_, _≤_, max};
@@ -18,7 +16,7 @@ ghost use Rattle.effects.specs.Push.{PushNode, PushId, PutMark};
 ghost use Rattle.effects.specs.Links.{filled, Linkable, LinkAll};
 ghost use Rattle.effects.specs.Containers.{Makeable, Makes, Extendable, Extends};
 ghost use Rattle.effects.specs.Memo.{Rememberable, Remembers};
-ghost use Rattle.effects.specs.Words.{Buildable, Builds, Unescapable, Unescapes};
+ghost use Rattle.effects.specs.Words.{Buildable, Builds};
 
 // What a step comes to: the counts with which the machine goes on or has stopped, or why it refuses.
 pub enum Step {
@@ -27,7 +25,7 @@ pub enum Step {
     Refused(Counts, Refusal),
 }
 
-// Document 01's limits, and so the rooms' lengths.
+// Document 01's limits: the rooms are at least so long.
 pub const NODES: usize = 4096;
 
 pub const LINKS: usize = 8192;
@@ -60,13 +58,12 @@ fn pushed(c: Counts, nodes: usize, links: usize) -> Counts
         most: c.most,
         memo: c.memo,
         greatest: c.greatest,
-        unescaped: c.unescaped,
     }
 }
 
 // A node with its two words and no links: NodesFull, then StackFull.
 pub fn push_node(nodes: &mut [u64], stack: &mut [u16], c: Counts, a: u64, b: u64) -> Step
-    requires { ⌜ (length (now nodes) ≡ 8192) × (length (now stack) ≡ 2048) ⌝ }
+    requires { ⌜ (8192 ≤ length (now nodes)) × (2048 ≤ length (now stack)) ⌝ }
     ensures { λ t. ⌜ PushNode (now (nodes .entry)) (now (stack .entry)) c a b (now (nodes .exit)) (now (stack .exit)) t ⌝ }
 {
     if NODES <= c.nodes {
@@ -86,7 +83,7 @@ pub fn push_node(nodes: &mut [u64], stack: &mut [u16], c: Counts, a: u64, b: u64
 
 // A node again: StackFull.
 pub fn push_id(stack: &mut [u16], c: Counts, id: NodeId) -> Step
-    requires { ⌜ (length (now stack) ≡ 2048) × (id .0 < 65536) ⌝ }
+    requires { ⌜ (2048 ≤ length (now stack)) × (id .0 < 65536) ⌝ }
     ensures { λ t. ⌜ PushId (now (stack .entry)) c (id .0) (now (stack .exit)) t ⌝ }
 {
     if STACK <= c.stack {
@@ -99,7 +96,7 @@ pub fn push_id(stack: &mut [u16], c: Counts, id: NodeId) -> Step
 
 // The stack's length as a mark: MarksFull.
 pub fn put_mark(marks: &mut [u16], c: Counts) -> Step
-    requires { ⌜ (length (now marks) ≡ 256) × (c .stack ≤ 2048) ⌝ }
+    requires { ⌜ (256 ≤ length (now marks)) × (c .stack ≤ 2048) ⌝ }
     ensures { λ t. ⌜ PutMark (now (marks .entry)) c (now (marks .exit)) t ⌝ }
 {
     if MARKS <= c.marks {
@@ -118,7 +115,6 @@ pub fn put_mark(marks: &mut [u16], c: Counts) -> Step
         most: most(c.most, marks),
         memo: c.memo,
         greatest: c.greatest,
-        unescaped: c.unescaped,
     })
 }
 
@@ -250,7 +246,6 @@ pub fn extend(
         most: c.most,
         memo: c.memo,
         greatest: c.greatest,
-        unescaped: c.unescaped,
     })
 }
 
@@ -279,49 +274,6 @@ pub fn build(nodes: &mut [u64], c: Counts, object: NodeId, state: NodeId) -> Ste
     Step::Next(c)
 }
 
-// Bytes that had an escape: NodesFull, StackFull; then their text behind that of earlier ones, and a node with its place and length.
-pub fn unescape(
-    pickle: &[u8],
-    nodes: &mut [u64],
-    stack: &mut [u16],
-    unescaped: &mut [u8],
-    c: Counts,
-    from: usize,
-    len: usize,
-) -> Step
-    requires { ⌜ Unescapable (now pickle) (now nodes) (now stack) (now unescaped) c from len ⌝ }
-    ensures { λ t. ⌜ Unescapes (now (pickle .entry)) (now (nodes .entry)) (now (stack .entry)) (now (unescaped .entry)) c from len (now (nodes .exit)) (now (stack .exit)) (now (unescaped .exit)) t ⌝ }
-{
-    if NODES <= c.nodes {
-        return Step::Refused(c, Refusal::NodesFull);
-    }
-    if STACK <= c.stack {
-        return Step::Refused(c, Refusal::StackFull);
-    }
-    let used = c.unescaped;
-    let end = from + len;
-    let n = unescape_string(&pickle[from..end], &mut unescaped[used..65536]);
-    let word = n as u64 * 0x1_0000_0000 + used as u64;
-    push_node(
-        nodes,
-        stack,
-        Counts {
-            at: c.at,
-            nodes: c.nodes,
-            links: c.links,
-            stack: c.stack,
-            deepest: c.deepest,
-            marks: c.marks,
-            most: c.most,
-            memo: c.memo,
-            greatest: c.greatest,
-            unescaped: used + n,
-        },
-        UNESCAPED,
-        word,
-    )
-}
-
 // An entry of the memo: its number's node replaced, or one more; MemoFull.
 pub fn remember(keys: &mut [u32], held: &mut [u16], c: Counts, key: MemoKey, id: NodeId) -> Step
     requires { ⌜ Rememberable (now keys) (now held) c (key .0) (id .0) ⌝ }
@@ -347,6 +299,5 @@ pub fn remember(keys: &mut [u32], held: &mut [u16], c: Counts, key: MemoKey, id:
         most: c.most,
         memo: c.memo + 1,
         greatest: most(c.greatest, key.0 as usize + 1),
-        unescaped: c.unescaped,
     })
 }

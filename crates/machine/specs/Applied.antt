@@ -1,4 +1,4 @@
--- What an effect's function asks for, of an effect that fits.
+-- An effect had in rooms that it fits: what `apply` promises, and what each effect's function asks for.
 use Prim.Native.Nat.{ℕ, _<_, _≤_}
 use mathlib.Core.List.{List}
 use mathlib.Core.Path.{_≡_, refl}
@@ -8,25 +8,36 @@ use Rattle.refusal.specs.declared.Refusal.{Refusal}
 use Rattle.decoder.specs.declared.Counts.{Counts}
 use Rattle.decoder.specs.declared.NodeId.{NodeId}
 use Rattle.decoder.specs.declared.MemoKey.{MemoKey}
-use Rattle.decoder.specs.declared.Effect.the-variants.{Push, Share, Mark, Go, Make, Extend, Remember, Build, Unescape, Stop, Refused}
+use Rattle.decoder.specs.declared.Effect.{Effect}
+use Rattle.decoder.specs.declared.Effect.the-variants.{Push, Share, Mark, Go, Make, Extend, Remember, Build, Stop, Refused}
 use Rattle.decoder.specs.Rooms.{Rooms}
 use Rattle.decoder.specs.Effects.{Fits, enacted}
+use Rattle.effects.specs.declared.Step.{Step}
 use Rattle.effects.specs.declared.Step.the-variants as step
 use Rattle.effects.specs.Done.{meant, Stays, Done, done-refused}
 use Rattle.effects.specs.Containers.{Makeable, Extendable}
 use Rattle.effects.specs.Memo.{Rememberable}
-use Rattle.effects.specs.Words.{Buildable, Unescapable}
+use Rattle.effects.specs.Words.{Buildable}
+
+-- rooms as they are with each pickle, and some pickle with which the effect fits them
+pub record Fitting (e : Effect) (had : ℕ) (rooms : List ℕ → Rooms) : Type 0 where
+  pub pickle : List ℕ
+  pub fits : Fits e (rooms pickle) had
+
+-- with all pickles with which it fits, the step t has it
+unfoldable pub Applies : Effect → ℕ → Step → (List ℕ → Rooms) → (List ℕ → Rooms) → Type 0
+Applies e had t before after = (p : List ℕ) → Fits e (before p) had → Done t (before p) (after p) (enacted e (before p) had)
 
 module _ (r : Rooms) (h : ℕ) (c : Counts) where
-  pub push-lengths : (a b : ℕ) → Fits (Push c a b) r h → (length (r .nodes) ≡ 8192) × (length (r .stack) ≡ 2048)
+  pub push-lengths : (a b : ℕ) → Fits (Push c a b) r h → (8192 ≤ length (r .nodes)) × (2048 ≤ length (r .stack))
   unfolding Fits
   push-lengths a b f = (f .0 .lengths .nodes, f .0 .lengths .stack)
 
-  pub share-lengths : (i : NodeId) → Fits (Share c i) r h → (length (r .stack) ≡ 2048) × (i .0 < 65536)
+  pub share-lengths : (i : NodeId) → Fits (Share c i) r h → (2048 ≤ length (r .stack)) × (i .0 < 65536)
   unfolding Fits
   share-lengths i f = let x = f .1 in let y = f .0 .nodes in (f .0 .lengths .stack, omega arith)
 
-  pub mark-lengths : Fits (Mark c) r h → (length (r .marks) ≡ 256) × (c .stack ≤ 2048)
+  pub mark-lengths : Fits (Mark c) r h → (256 ≤ length (r .marks)) × (c .stack ≤ 2048)
   unfolding Fits
   mark-lengths f = let x = f .stack in let y = f .deepest in (f .lengths .marks, omega arith)
 
@@ -43,10 +54,6 @@ module _ (r : Rooms) (h : ℕ) (c : Counts) where
   pub buildable : (o i : NodeId) → Fits (Build c o i) r h → Buildable (r .nodes) c (o .0) (i .0)
   unfolding Fits
   buildable o i f = record { rooms = r; nodes-are = refl; fits = f }
-
-  pub unescapable : (from n : ℕ) → Fits (Unescape c from n) r h → Unescapable (r .pickle) (r .nodes) (r .stack) (r .unescaped) c from n
-  unfolding Fits
-  unescapable from n f = record { rooms = r; pickle-is = refl; nodes-are = refl; stack-is = refl; unescaped-is = refl; fits = f }
 
   -- effects that change no room
   pub goes-on : Fits (Go c) r h → Done (step.Next c) r r (enacted (Go c) r h)

@@ -9,12 +9,16 @@ use native.Mathlib.Omega.{arith}
 use Rattle.rooms.specs.Cleared.{cleared}
 use Rattle.decoder.specs.declared.Counts.{Counts}
 use Rattle.decoder.specs.Effects.{Firm, Blank}
-use Rattle.machine.specs.Lent.{roomsOf}
+use Rattle.decoder.specs.Rooms.{Rooms}
 
--- with some pickle these rooms and counts are firm
-pub record UsedBy (nodes owners children stack marks keys held unescaped : List ℕ) (c : Counts) : Type 0 where
-  pub pickle : List ℕ
-  pub firm : Firm (roomsOf pickle nodes owners children stack marks keys held unescaped) c
+-- of a room that was all zero, only the first n were used
+pub record UsedTo (n : ℕ) (l : List ℕ) : Type 0 where
+  pub room : n ≤ length l
+  pub blank : Blank n l
+
+-- a room as long, and all zero
+unfoldable pub zeroed : List ℕ → List ℕ
+zeroed l = replicate (length l) 0
 
 pub zeros : (m i : ℕ) → _≡_ {A = ℕ} (getD (replicate m 0) i 0) 0
 zeros zero i = refl
@@ -33,51 +37,31 @@ all-zero l n m e h b = ext-getD 0 (replicate n 0 ++ drop n l) (replicate m 0) (r
         let y : i ≡ length (replicate {A = ℕ} n 0) + (i - n) = omega arith in
         ap (λ (j : ℕ). getD (replicate n 0 ++ drop n l) j 0) y ∙ getD-append-add (replicate n 0) (drop n l) (i - n) 0 ∙ getD-drop n l (i - n) 0 ∙ b (n + (i - n)) (omega arith) ∙ sym (zeros m i)
 
-module _ (nodes owners children stack marks keys held unescaped : List ℕ) (c : Counts) (u : UsedBy nodes owners children stack marks keys held unescaped c) where
-  pub nodes-room : 2 * c .nodes ≤ length nodes
-  nodes-room = let x = u .firm .nodes in let w = u .firm .lengths .nodes in omega arith
+-- what was used, cleared
+pub used-cleared : (n : ℕ) (l : List ℕ) → UsedTo n l → cleared n l ≡ zeroed l
+unfolding zeroed
+used-cleared n l u = all-zero l n (length l) refl (u .room) (u .blank)
 
-  pub nodes-zero : cleared (2 * c .nodes) nodes ≡ replicate 8192 0
-  nodes-zero = let x = u .firm .nodes in all-zero nodes (2 * c .nodes) 8192 (u .firm .lengths .nodes) (omega arith) (u .firm .clean .nodes)
+-- ---- what the counts say of each room
 
-  pub owners-room : c .links ≤ length owners
-  owners-room = let x = u .firm .links in let w = u .firm .lengths .owners in omega arith
+module _ (r : Rooms) (c : Counts) (f : Firm r c) where
+  pub nodes-used : UsedTo (2 * c .nodes) (r .nodes)
+  nodes-used = let x = f .nodes in let w = f .lengths .nodes in record { room = omega arith; blank = f .clean .nodes }
 
-  pub owners-zero : cleared (c .links) owners ≡ replicate 16384 0
-  owners-zero = let x = u .firm .links in all-zero owners (c .links) 16384 (u .firm .lengths .owners) (omega arith) (u .firm .clean .owners)
+  pub owners-used : UsedTo (c .links) (r .owners)
+  owners-used = let x = f .links in let w = f .lengths .owners in record { room = omega arith; blank = f .clean .owners }
 
-  pub children-room : c .links ≤ length children
-  children-room = let x = u .firm .links in let w = u .firm .lengths .children in omega arith
+  pub children-used : UsedTo (c .links) (r .children)
+  children-used = let x = f .links in let w = f .lengths .children in record { room = omega arith; blank = f .clean .children }
 
-  pub children-zero : cleared (c .links) children ≡ replicate 16384 0
-  children-zero = let x = u .firm .links in all-zero children (c .links) 16384 (u .firm .lengths .children) (omega arith) (u .firm .clean .children)
+  pub stack-used : UsedTo (c .deepest) (r .stack)
+  stack-used = let x = f .deepest in let w = f .lengths .stack in record { room = omega arith; blank = f .clean .stack }
 
-  pub stack-room : c .deepest ≤ length stack
-  stack-room = let x = u .firm .deepest in let w = u .firm .lengths .stack in omega arith
+  pub marks-used : UsedTo (c .most) (r .marks)
+  marks-used = let x = f .most in let w = f .lengths .marks in record { room = omega arith; blank = f .clean .marks }
 
-  pub stack-zero : cleared (c .deepest) stack ≡ replicate 2048 0
-  stack-zero = let x = u .firm .deepest in all-zero stack (c .deepest) 2048 (u .firm .lengths .stack) (omega arith) (u .firm .clean .stack)
+  pub keys-used : UsedTo (c .memo) (r .keys)
+  keys-used = let x = f .memo in let w = f .lengths .keys in record { room = omega arith; blank = f .clean .keys }
 
-  pub marks-room : c .most ≤ length marks
-  marks-room = let x = u .firm .most in let w = u .firm .lengths .marks in omega arith
-
-  pub marks-zero : cleared (c .most) marks ≡ replicate 256 0
-  marks-zero = let x = u .firm .most in all-zero marks (c .most) 256 (u .firm .lengths .marks) (omega arith) (u .firm .clean .marks)
-
-  pub keys-room : c .memo ≤ length keys
-  keys-room = let x = u .firm .memo in let w = u .firm .lengths .keys in omega arith
-
-  pub keys-zero : cleared (c .memo) keys ≡ replicate 1024 0
-  keys-zero = let x = u .firm .memo in all-zero keys (c .memo) 1024 (u .firm .lengths .keys) (omega arith) (u .firm .clean .keys)
-
-  pub held-room : c .memo ≤ length held
-  held-room = let x = u .firm .memo in let w = u .firm .lengths .held in omega arith
-
-  pub held-zero : cleared (c .memo) held ≡ replicate 1024 0
-  held-zero = let x = u .firm .memo in all-zero held (c .memo) 1024 (u .firm .lengths .held) (omega arith) (u .firm .clean .held)
-
-  pub unescaped-room : c .unescaped ≤ length unescaped
-  unescaped-room = let x = u .firm .unescaped in let y = u .firm .at in let z = u .firm .lengths .pickle in let w = u .firm .lengths .unescaped in omega arith
-
-  pub unescaped-zero : cleared (c .unescaped) unescaped ≡ replicate 65536 0
-  unescaped-zero = let x = u .firm .unescaped in let y = u .firm .at in let z = u .firm .lengths .pickle in all-zero unescaped (c .unescaped) 65536 (u .firm .lengths .unescaped) (omega arith) (u .firm .clean .unescaped)
+  pub held-used : UsedTo (c .memo) (r .held)
+  held-used = let x = f .memo in let w = f .lengths .held in record { room = omega arith; blank = f .clean .held }

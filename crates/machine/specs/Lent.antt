@@ -23,14 +23,14 @@ use Rattle.decoder.specs.State.{State, Res, ok, _>>=_, byte, bytes, plain, push
 use Rattle.decoder.specs.Opcodes.{tupleN}
 use Rattle.decoder.specs.Run.{Next, goes, stops, going, does, decide, step}
 use Rattle.decoder.specs.Rooms.{Rooms, nodeIs, stateOf, Holds, aList, aTuple, aDict}
-use Rattle.decoder.specs.RoomKeeps.{class-none, used-none}
+use Rattle.decoder.specs.RoomKeeps.{class-none}
 use Rattle.decoder.specs.Pickletools.{decided}
 use Rattle.decoder.specs.Effects.{Firm, Sound, Lent, Decides, Says, Fits, enacted, refusing}
 use Rattle.decoder.specs.Reads.{cutTo, bytes-short, bytes-got}
 use Rattle.decoder.specs.ReadsMemo.{sound-read}
 
-abbrev pub roomsOf : List ℕ → List ℕ → List ℕ → List ℕ → List ℕ → List ℕ → List ℕ → List ℕ → List ℕ → Rooms
-roomsOf p n w c s m k h u = record { pickle = p; nodes = n; owners = w; children = c; stack = s; marks = m; keys = k; held = h; unescaped = u }
+abbrev pub roomsOf : List ℕ → List ℕ → List ℕ → List ℕ → List ℕ → List ℕ → List ℕ → List ℕ → Rooms
+roomsOf p n w c s m k h = record { pickle = p; nodes = n; owners = w; children = c; stack = s; marks = m; keys = k; held = h }
 
 -- rooms with these lists
 pub record Agrees (p n d s m k h : List ℕ) (r : Rooms) : Type 0 where
@@ -105,20 +105,20 @@ module _ (c : Counts) where
   stop r z a = record { enacts = refl; fits = z .firm }
 
   -- a value without contents, of the kind a
-  pushes : (o : Opcode) (l : Label) (a b : ℕ) → ((s : State) → does o s ≡ going (push l s)) → ((p u ws : List ℕ) → nodeIs p u ws [] a b ≡ plain l) → kindIn a < 11 → (Holds a → b ≡ 0) → Decides c (λ r. Unit {0}) (does o) (Push c a b)
+  pushes : (o : Opcode) (l : Label) (a b : ℕ) → ((s : State) → does o s ≡ going (push l s)) → ((p ws : List ℕ) → nodeIs p ws [] a b ≡ plain l) → kindIn a < 11 → (Holds a → b ≡ 0) → Decides c (λ r. Unit {0}) (does o) (Push c a b)
   unfolding Decides enacted Fits push
   pushes o l a b e n k t r z x = record {
-    enacts = rw (e (stateOf r c), n (r .pickle) (r .unescaped) (r .nodes));
-    fits = (z .firm, class-none (r .nodes) (c .nodes) a (λ q. omega arith), used-none (c .unescaped) a b (λ q. omega arith), t);
+    enacts = rw (e (stateOf r c), n (r .pickle) (r .nodes));
+    fits = (z .firm, class-none (r .nodes) (c .nodes) a (λ q. omega arith), t);
   }
 
   pub none-pushed : Decides c (λ r. Unit {0}) (does NONE) (Push c 0 0)
   unfolding does nodeIs kindIn
-  none-pushed = pushes NONE NoneL 0 0 (λ s. refl) (λ p u ws. refl) (omega arith) (λ t. refl)
+  none-pushed = pushes NONE NoneL 0 0 (λ s. refl) (λ p ws. refl) (omega arith) (λ t. refl)
 
   pub true-pushed : Decides c (λ r. Unit {0}) (does NEWTRUE) (Push c 1 1)
   unfolding does nodeIs kindIn
-  true-pushed = pushes NEWTRUE (BoolL true) 1 1 (λ s. refl) (λ p u ws. refl) (omega arith) bool
+  true-pushed = pushes NEWTRUE (BoolL true) 1 1 (λ s. refl) (λ p ws. refl) (omega arith) bool
     where
       bool : Holds 1 → _≡_ {A = ℕ} 1 0
       bool (aList e) = absurd (omega arith)
@@ -127,19 +127,19 @@ module _ (c : Counts) where
 
   pub false-pushed : Decides c (λ r. Unit {0}) (does NEWFALSE) (Push c 1 0)
   unfolding does nodeIs kindIn
-  false-pushed = pushes NEWFALSE (BoolL false) 1 0 (λ s. refl) (λ p u ws. refl) (omega arith) (λ t. refl)
+  false-pushed = pushes NEWFALSE (BoolL false) 1 0 (λ s. refl) (λ p ws. refl) (omega arith) (λ t. refl)
 
   pub list-pushed : Decides c (λ r. Unit {0}) (does «EMPTY_LIST») (Push c 6 0)
   unfolding does nodeIs kindIn
-  list-pushed = pushes «EMPTY_LIST» ListL 6 0 (λ s. refl) (λ p u ws. refl) (omega arith) (λ t. refl)
+  list-pushed = pushes «EMPTY_LIST» ListL 6 0 (λ s. refl) (λ p ws. refl) (omega arith) (λ t. refl)
 
   pub tuple-pushed : Decides c (λ r. Unit {0}) (does «EMPTY_TUPLE») (Push c 7 0)
   unfolding does nodeIs kindIn
-  tuple-pushed = pushes «EMPTY_TUPLE» TupleL 7 0 (λ s. refl) (λ p u ws. refl) (omega arith) (λ t. refl)
+  tuple-pushed = pushes «EMPTY_TUPLE» TupleL 7 0 (λ s. refl) (λ p ws. refl) (omega arith) (λ t. refl)
 
   pub dict-pushed : Decides c (λ r. Unit {0}) (does «EMPTY_DICT») (Push c 10 0)
   unfolding does nodeIs kindIn
-  dict-pushed = pushes «EMPTY_DICT» DictL 10 0 (λ s. refl) (λ p u ws. refl) (omega arith) (λ t. refl)
+  dict-pushed = pushes «EMPTY_DICT» DictL 10 0 (λ s. refl) (λ p ws. refl) (omega arith) (λ t. refl)
 
 -- ---- TUPLE1 to TUPLE3, and what no arm takes
 

@@ -24,7 +24,7 @@ use Rattle.machine.specs.declared.Outcome.the-variants as outcome
 
 -- nothing read or used
 abbrev pub start : Counts
-start = record { at = 0; nodes = 0; links = 0; stack = 0; deepest = 0; marks = 0; most = 0; memo = 0; greatest = 0; unescaped = 0 }
+start = record { at = 0; nodes = 0; links = 0; stack = 0; deepest = 0; marks = 0; most = 0; memo = 0; greatest = 0 }
 
 -- what an outcome means
 unfoldable pub ended : Outcome → Rooms → Res State
@@ -41,6 +41,19 @@ pub record Ran (o : Outcome) (p : List ℕ) (r : Rooms) : Type 0 where
   pub means : ended o r ≡ run p
   pub sound : Sound r (countsOf o)
   pub same : r .pickle ≡ p
+
+-- rooms as long as others
+pub record AsLong (r r₀ : Rooms) : Type 0 where
+  pub nodes : length (r .nodes) ≡ length (r₀ .nodes)
+  pub owners : length (r .owners) ≡ length (r₀ .owners)
+  pub children : length (r .children) ≡ length (r₀ .children)
+  pub stack : length (r .stack) ≡ length (r₀ .stack)
+  pub marks : length (r .marks) ≡ length (r₀ .marks)
+  pub keys : length (r .keys) ≡ length (r₀ .keys)
+  pub held : length (r .held) ≡ length (r₀ .held)
+
+pub as-long : (r : Rooms) → AsLong r r
+as-long r = record { nodes = refl; owners = refl; children = refl; stack = refl; marks = refl; keys = refl; held = refl }
 
 -- ---- one step
 

@@ -1,5 +1,5 @@
 // The run of de.rs's `Decoder`: `decide` has the one match over the opcode byte and answers an effect, `apply` has it, `run` goes on to
-// STOP, and `clear_used` makes the rooms zero again.
+// STOP. What it used of the rooms is cleared by the counts, by those who lend them.
 use decoder::BOOL;
 use decoder::Counts;
 use decoder::DICT;
@@ -15,24 +15,17 @@ use effects::push_id;
 use effects::push_node;
 use effects::put_mark;
 use effects::remember;
-use effects::unescape;
 use refusal::Refusal;
-use rooms::clear_bytes;
-use rooms::clear_ints;
-use rooms::clear_shorts;
-use rooms::clear_words;
-ghost use mathlib.Core.Path.{_≡_};
-ghost use lib.ListN.{replicate};
 ghost use Rattle.decoder.specs.Run.{step};
 ghost use Rattle.decoder.specs.Rooms.{stateOf};
-ghost use Rattle.decoder.specs.Effects.{Lent, Decides, Sound, Fits, enacted};
+ghost use Rattle.decoder.specs.Effects.{Lent, Decides, Sound};
 ghost use Rattle.effects.specs.Done.{Done};
 ghost use Rattle.machine.specs.Lent.{roomsOf, Agrees};
+ghost use Rattle.machine.specs.Applied.{Fitting, Applies};
 ghost use Rattle.machine.specs.Ran.{start, Ran};
-ghost use Rattle.machine.specs.Clear.{UsedBy};
 
+// Has an effect. It reads no pickle: what it does is right for all pickles with which the effect fits.
 pub fn apply(
-    pickle: &[u8],
     nodes: &mut [u64],
     owners: &mut [u16],
     children: &mut [u16],
@@ -40,12 +33,11 @@ pub fn apply(
     marks: &mut [u16],
     keys: &mut [u32],
     held: &mut [u16],
-    unescaped: &mut [u8],
     had: usize,
     e: Effect,
 ) -> Step
-    requires { ⌜ Fits e (roomsOf (now pickle) (now nodes) (now owners) (now children) (now stack) (now marks) (now keys) (now held) (now unescaped)) had ⌝ }
-    ensures { λ t. ⌜ Done t (roomsOf (now (pickle .entry)) (now (nodes .entry)) (now (owners .entry)) (now (children .entry)) (now (stack .entry)) (now (marks .entry)) (now (keys .entry)) (now (held .entry)) (now (unescaped .entry))) (roomsOf (now (pickle .entry)) (now (nodes .exit)) (now (owners .exit)) (now (children .exit)) (now (stack .exit)) (now (marks .exit)) (now (keys .exit)) (now (held .exit)) (now (unescaped .exit))) (enacted e (roomsOf (now (pickle .entry)) (now (nodes .entry)) (now (owners .entry)) (now (children .entry)) (now (stack .entry)) (now (marks .entry)) (now (keys .entry)) (now (held .entry)) (now (unescaped .entry))) had) ⌝ }
+    requires { ⌜ Fitting e had (λ p. roomsOf p (now nodes) (now owners) (now children) (now stack) (now marks) (now keys) (now held)) ⌝ }
+    ensures { λ t. ⌜ Applies e had t (λ p. roomsOf p (now (nodes .entry)) (now (owners .entry)) (now (children .entry)) (now (stack .entry)) (now (marks .entry)) (now (keys .entry)) (now (held .entry))) (λ p. roomsOf p (now (nodes .exit)) (now (owners .exit)) (now (children .exit)) (now (stack .exit)) (now (marks .exit)) (now (keys .exit)) (now (held .exit))) ⌝ }
 {
     match e {
         Effect::Push(c, a, b) => push_node(nodes, stack, c, a, b),
@@ -56,7 +48,6 @@ pub fn apply(
         Effect::Extend(c, owner) => extend(nodes, owners, children, stack, c, owner, had),
         Effect::Remember(c, id, _, key) => remember(keys, held, c, key, id),
         Effect::Build(c, object, state) => build(nodes, c, object, state),
-        Effect::Unescape(c, from, len) => unescape(pickle, nodes, stack, unescaped, c, from, len),
         Effect::Stop(c) => Step::Stop(c),
         Effect::Refused(c, _, _, why) => Step::Refused(c, why),
     }
@@ -91,7 +82,6 @@ pub fn decide(
         most: c.most,
         memo: c.memo,
         greatest: c.greatest,
-        unescaped: c.unescaped,
     };
     match code {
         op::MARK => Effect::Mark(d),
@@ -152,15 +142,13 @@ pub fn take_step(
     marks: &mut [u16],
     keys: &mut [u32],
     held: &mut [u16],
-    unescaped: &mut [u8],
     c: Counts,
 ) -> Step
-    requires { ⌜ Sound (roomsOf (now pickle) (now nodes) (now owners) (now children) (now stack) (now marks) (now keys) (now held) (now unescaped)) c ⌝ }
-    ensures { λ t. ⌜ Done t (roomsOf (now (pickle .entry)) (now (nodes .entry)) (now (owners .entry)) (now (children .entry)) (now (stack .entry)) (now (marks .entry)) (now (keys .entry)) (now (held .entry)) (now (unescaped .entry))) (roomsOf (now (pickle .entry)) (now (nodes .exit)) (now (owners .exit)) (now (children .exit)) (now (stack .exit)) (now (marks .exit)) (now (keys .exit)) (now (held .exit)) (now (unescaped .exit))) (step (stateOf (roomsOf (now (pickle .entry)) (now (nodes .entry)) (now (owners .entry)) (now (children .entry)) (now (stack .entry)) (now (marks .entry)) (now (keys .entry)) (now (held .entry)) (now (unescaped .entry))) c)) ⌝ }
+    requires { ⌜ Sound (roomsOf (now pickle) (now nodes) (now owners) (now children) (now stack) (now marks) (now keys) (now held)) c ⌝ }
+    ensures { λ t. ⌜ Done t (roomsOf (now (pickle .entry)) (now (nodes .entry)) (now (owners .entry)) (now (children .entry)) (now (stack .entry)) (now (marks .entry)) (now (keys .entry)) (now (held .entry))) (roomsOf (now (pickle .entry)) (now (nodes .exit)) (now (owners .exit)) (now (children .exit)) (now (stack .exit)) (now (marks .exit)) (now (keys .exit)) (now (held .exit))) (step (stateOf (roomsOf (now (pickle .entry)) (now (nodes .entry)) (now (owners .entry)) (now (children .entry)) (now (stack .entry)) (now (marks .entry)) (now (keys .entry)) (now (held .entry))) c)) ⌝ }
 {
     let e = decide(pickle, nodes, children, stack, marks, keys, held, c);
     apply(
-        pickle,
         nodes,
         owners,
         children,
@@ -168,7 +156,6 @@ pub fn take_step(
         marks,
         keys,
         held,
-        unescaped,
         c.stack,
         e,
     )
@@ -190,10 +177,9 @@ pub fn run(
     marks: &mut [u16],
     keys: &mut [u32],
     held: &mut [u16],
-    unescaped: &mut [u8],
 ) -> Outcome
-    requires { ⌜ Sound (roomsOf (now pickle) (now nodes) (now owners) (now children) (now stack) (now marks) (now keys) (now held) (now unescaped)) start ⌝ }
-    ensures { λ o. ⌜ Ran o (now (pickle .entry)) (roomsOf (now (pickle .entry)) (now (nodes .exit)) (now (owners .exit)) (now (children .exit)) (now (stack .exit)) (now (marks .exit)) (now (keys .exit)) (now (held .exit)) (now (unescaped .exit))) ⌝ }
+    requires { ⌜ Sound (roomsOf (now pickle) (now nodes) (now owners) (now children) (now stack) (now marks) (now keys) (now held)) start ⌝ }
+    ensures { λ o. ⌜ Ran o (now (pickle .entry)) (roomsOf (now (pickle .entry)) (now (nodes .exit)) (now (owners .exit)) (now (children .exit)) (now (stack .exit)) (now (marks .exit)) (now (keys .exit)) (now (held .exit))) ⌝ }
 {
     let mut c = Counts {
         at: 0,
@@ -205,50 +191,13 @@ pub fn run(
         most: 0,
         memo: 0,
         greatest: 0,
-        unescaped: 0,
     };
     loop {
-        let t = take_step(
-            pickle,
-            nodes,
-            owners,
-            children,
-            stack,
-            marks,
-            keys,
-            held,
-            unescaped,
-            c,
-        );
+        let t = take_step(pickle, nodes, owners, children, stack, marks, keys, held, c);
         match t {
             Step::Next(d) => c = d,
             Step::Stop(d) => return Outcome::Stopped(d),
             Step::Refused(_, why) => return Outcome::Refused(c, why),
         }
     }
-}
-
-// The rooms all zero again, after a run that began with zero rooms and ended with the counts `c`: only what was used is cleared.
-pub fn clear_used(
-    nodes: &mut [u64],
-    owners: &mut [u16],
-    children: &mut [u16],
-    stack: &mut [u16],
-    marks: &mut [u16],
-    keys: &mut [u32],
-    held: &mut [u16],
-    unescaped: &mut [u8],
-    c: Counts,
-)
-    requires { ⌜ UsedBy (now nodes) (now owners) (now children) (now stack) (now marks) (now keys) (now held) (now unescaped) c ⌝ }
-    ensures { λ _. ⌜ (now (nodes .exit) ≡ replicate 8192 0) × (now (owners .exit) ≡ replicate 16384 0) × (now (children .exit) ≡ replicate 16384 0) × (now (stack .exit) ≡ replicate 2048 0) × (now (marks .exit) ≡ replicate 256 0) × (now (keys .exit) ≡ replicate 1024 0) × (now (held .exit) ≡ replicate 1024 0) × (now (unescaped .exit) ≡ replicate 65536 0) ⌝ }
-{
-    clear_words(nodes, 2 * c.nodes);
-    clear_shorts(owners, c.links);
-    clear_shorts(children, c.links);
-    clear_shorts(stack, c.deepest);
-    clear_shorts(marks, c.most);
-    clear_ints(keys, c.memo);
-    clear_shorts(held, c.memo);
-    clear_bytes(unescaped, c.unescaped);
 }

@@ -25,8 +25,9 @@ use Rattle.builder.specs.Reading.{Reading, prefix}
 use Rattle.ser.specs.Image.{pickled}
 use Rattle.ser.specs.Writable.{writableIn}
 use Rattle.ser.specs.Call.{written, WriteCall}
-use Rattle.read.specs.Slices.{Slices, filled}
-use Rattle.de.specs.Call.{Left, short, blank, reading, ReadCall}
+use Rattle.rooms.specs.Stated.{Slices, stated, tableOf, textOf, begun, short}
+use Rattle.de.specs.Call.{Left, reading, ReadCall}
+use Rattle.de.specs.Theorems.{call-answer, call-table, call-text}
 use Rattle.outback.specs.Added.{added}
 use Rattle.outback.specs.SetCalls.{twoArgumentsIn}
 use Rattle.outback.specs.Tables.{Words, true-of}
@@ -91,24 +92,26 @@ wrote {w} {n} {t} {o} {o′} {r} x = go (decided w n t)
 
 -- ---- the reading
 
--- where no slice is too short the call answers with its reading
-own-answer : (x : Reading) (l l′ : Slices) (a : Answer) → ReadCall x l l′ a → T (not (added (a .number))) → (a ≡ x .answer) × (l′ ≡ filled x (blank l))
+-- where no slice is too short the call answers with its reading, and fills table and text with what that says
+own-answer : (x : Reading) (l l′ : Slices) (a : Answer) → ReadCall x l l′ a → T (not (added (a .number))) → (a ≡ x .answer) × (tableOf l′ ≡ begun (x .words) (tableOf l)) × (textOf l′ ≡ begun (x .bytes) (textOf l))
 unfolding reading
-own-answer x l l′ a c free = go (short l) c
+own-answer x l l′ a c free = go (short stated l) refl
   where
-    go : (b : Bool) → _≡_ {A = Left} (record { answer = a; slices = l′ }) (cond b (record { answer = refusedAnswer ShortRoom; slices = l }) (record { answer = x .answer; slices = filled x (blank l) })) → (a ≡ x .answer) × (l′ ≡ filled x (blank l))
-    go true e = let z : a ≡ refusedAnswer ShortRoom = ap (λ (y : Left). y .answer) e in absurd (rw z at free)
-    go false e = (ap (λ (y : Left). y .answer) e, ap (λ (y : Left). y .slices) e)
+    go : (b : Bool) → short stated l ≡ b → (a ≡ x .answer) × (tableOf l′ ≡ begun (x .words) (tableOf l)) × (textOf l′ ≡ begun (x .bytes) (textOf l))
+    go false e = (call-answer x l l′ a c e, call-table x l l′ a c e, call-text x l l′ a c e)
+    go true e =
+        let q : _≡_ {A = Left} (record { answer = a; slices = l′ }) (record { answer = refusedAnswer ShortRoom; slices = l }) = c ∙ rw e in
+        let z : a ≡ refusedAnswer ShortRoom = ap (λ (y : Left). y .answer) q in
+        absurd (rw z at free)
 
 -- the reading that was lent l left l′ with the answer a: exactly the table and text written, and as many bytes as were written
 pub record Returned (w : List ℕ) (n : ℕ) (t : List ℕ) (r : Answer) (l l′ : Slices) (a : Answer) : Type 0 where
   pub answer : a ≡ record { number = 0; detail = 0; length = r .length; count = n }
-  pub table : l′ .table ≡ take (4 * n) w ++ drop (4 * n) (l .table)
-  pub text : l′ .text ≡ t ++ drop (length t) (l .text)
+  pub table : tableOf l′ ≡ take (4 * n) w ++ drop (4 * n) (tableOf l)
+  pub text : textOf l′ ≡ begun t (textOf l)
 
 pub calls-out-and-back : {w : List ℕ} {n : ℕ} {t o o′ : List ℕ} {r : Answer} → Written w n t o o′ r → (rest : List ℕ) (l l′ : Slices) (a : Answer)
     → ReadCall (prefix (bytesOf o′ r ++ rest)) l l′ a → T (not (added (a .number))) → Returned w n t r l l′ a
-unfolding filled blank
 calls-out-and-back {w} {n} {t} {o} {o′} {r} x rest l l′ a c free =
     let y = wrote x in
     let z = own-answer (prefix (bytesOf o′ r ++ rest)) l l′ a c free in
@@ -118,8 +121,8 @@ calls-out-and-back {w} {n} {t} {o} {o′} {r} x rest l l′ a c free =
     let k : length (take (4 * n) w) ≡ 4 * n = length-take-le (4 * n) w (y .out .formed .lent) in
     record {
       answer = z .0 ∙ ap (λ (b : Reading). b .answer) q ∙ ap (λ (k : ℕ). gives k w n t .answer) (sym (y .long));
-      table = ap (λ (s : Slices). s .table) (z .1) ∙ ap (λ (b : Reading). b .words ++ drop (length (b .words)) (l .table)) q ∙ rw k;
-      text = ap (λ (s : Slices). s .text) (z .1) ∙ ap (λ (b : Reading). b .bytes ++ drop (length (b .bytes)) (l .text)) q;
+      table = z .1 ∙ ap (λ (b : Reading). begun (b .words) (tableOf l)) q ∙ rw k;
+      text = z .2 ∙ ap (λ (b : Reading). begun (b .bytes) (textOf l)) q;
     }
 
 -- ---- two writings, the second's bytes read without an added refusal

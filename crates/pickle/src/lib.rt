@@ -5,11 +5,11 @@ use refusal::Answer;
 use refusal::Refusal;
 use refusal::Which;
 use table::Compared;
+ghost use mathlib.Core.List.{[], _∷_};
 ghost use mathlib.Core.Path.{_≡_};
 ghost use Rattle.builder.specs.Reading.{prefix, whole};
 ghost use Rattle.table.specs.Compare.{Compares};
 ghost use Rattle.table.specs.Length.{textLength};
-ghost use Rattle.read.specs.Slices.{slices};
 ghost use Rattle.de.specs.Call.{ReadCall};
 ghost use Rattle.ser.specs.Call.{WriteCall};
 ghost use Rattle.pickle.specs.List.{ListCall};
@@ -29,19 +29,22 @@ pub extern "C" fn qelemvir_from_bytes_prefix(
     starts: &mut [u16],
     sorted: &mut [u16],
     measures: &mut [u64],
-    flat: &mut [u64],
-    raw: &mut [u64],
-    texts: &mut [u8],
-    words: &mut [u64],
-    spare: &mut [u64],
-    order: &mut [u64],
-    other: &mut [u64],
     table: &mut [u64],
     text: &mut [u8],
 ) -> Answer
-    ensures { λ a. ⌜ ReadCall (prefix (now (pickle .entry))) (slices (now (nodes .entry)) (now (owners .entry)) (now (children .entry)) (now (stack .entry)) (now (marks .entry)) (now (keys .entry)) (now (held .entry)) (now (unescaped .entry)) (now (starts .entry)) (now (sorted .entry)) (now (measures .entry)) (now (flat .entry)) (now (raw .entry)) (now (texts .entry)) (now (words .entry)) (now (spare .entry)) (now (order .entry)) (now (other .entry)) (now (table .entry)) (now (text .entry))) (slices (now (nodes .exit)) (now (owners .exit)) (now (children .exit)) (now (stack .exit)) (now (marks .exit)) (now (keys .exit)) (now (held .exit)) (now (unescaped .exit)) (now (starts .exit)) (now (sorted .exit)) (now (measures .exit)) (now (flat .exit)) (now (raw .exit)) (now (texts .exit)) (now (words .exit)) (now (spare .exit)) (now (order .exit)) (now (other .exit)) (now (table .exit)) (now (text .exit))) a ⌝ }
+    ensures { λ a.
+        ⌜ ReadCall (prefix (now (pickle .entry)))
+        (now (nodes .entry) ∷ now (owners .entry) ∷ now (children .entry) ∷ now (stack .entry)
+        ∷ now (marks .entry) ∷ now (keys .entry) ∷ now (held .entry)
+        ∷ now (unescaped .entry) ∷ now (starts .entry) ∷ now (sorted .entry) ∷ now (measures .entry)
+        ∷ now (table .entry) ∷ now (text .entry) ∷ [])
+        (now (nodes .exit) ∷ now (owners .exit) ∷ now (children .exit) ∷ now (stack .exit)
+        ∷ now (marks .exit) ∷ now (keys .exit) ∷ now (held .exit)
+        ∷ now (unescaped .exit) ∷ now (starts .exit) ∷ now (sorted .exit) ∷ now (measures .exit)
+        ∷ now (table .exit) ∷ now (text .exit) ∷ []) a ⌝ }
 {
-    de::from_bytes_prefix(
+    de::reading(
+        false,
         pickle,
         nodes,
         owners,
@@ -54,13 +57,6 @@ pub extern "C" fn qelemvir_from_bytes_prefix(
         starts,
         sorted,
         measures,
-        flat,
-        raw,
-        texts,
-        words,
-        spare,
-        order,
-        other,
         table,
         text,
     )
@@ -81,19 +77,22 @@ pub extern "C" fn qelemvir_from_bytes(
     starts: &mut [u16],
     sorted: &mut [u16],
     measures: &mut [u64],
-    flat: &mut [u64],
-    raw: &mut [u64],
-    texts: &mut [u8],
-    words: &mut [u64],
-    spare: &mut [u64],
-    order: &mut [u64],
-    other: &mut [u64],
     table: &mut [u64],
     text: &mut [u8],
 ) -> Answer
-    ensures { λ a. ⌜ ReadCall (whole (now (pickle .entry))) (slices (now (nodes .entry)) (now (owners .entry)) (now (children .entry)) (now (stack .entry)) (now (marks .entry)) (now (keys .entry)) (now (held .entry)) (now (unescaped .entry)) (now (starts .entry)) (now (sorted .entry)) (now (measures .entry)) (now (flat .entry)) (now (raw .entry)) (now (texts .entry)) (now (words .entry)) (now (spare .entry)) (now (order .entry)) (now (other .entry)) (now (table .entry)) (now (text .entry))) (slices (now (nodes .exit)) (now (owners .exit)) (now (children .exit)) (now (stack .exit)) (now (marks .exit)) (now (keys .exit)) (now (held .exit)) (now (unescaped .exit)) (now (starts .exit)) (now (sorted .exit)) (now (measures .exit)) (now (flat .exit)) (now (raw .exit)) (now (texts .exit)) (now (words .exit)) (now (spare .exit)) (now (order .exit)) (now (other .exit)) (now (table .exit)) (now (text .exit))) a ⌝ }
+    ensures { λ a.
+        ⌜ ReadCall (whole (now (pickle .entry)))
+        (now (nodes .entry) ∷ now (owners .entry) ∷ now (children .entry) ∷ now (stack .entry)
+        ∷ now (marks .entry) ∷ now (keys .entry) ∷ now (held .entry)
+        ∷ now (unescaped .entry) ∷ now (starts .entry) ∷ now (sorted .entry) ∷ now (measures .entry)
+        ∷ now (table .entry) ∷ now (text .entry) ∷ [])
+        (now (nodes .exit) ∷ now (owners .exit) ∷ now (children .exit) ∷ now (stack .exit)
+        ∷ now (marks .exit) ∷ now (keys .exit) ∷ now (held .exit)
+        ∷ now (unescaped .exit) ∷ now (starts .exit) ∷ now (sorted .exit) ∷ now (measures .exit)
+        ∷ now (table .exit) ∷ now (text .exit) ∷ []) a ⌝ }
 {
-    de::from_bytes(
+    de::reading(
+        true,
         pickle,
         nodes,
         owners,
@@ -106,13 +105,6 @@ pub extern "C" fn qelemvir_from_bytes(
         starts,
         sorted,
         measures,
-        flat,
-        raw,
-        texts,
-        words,
-        spare,
-        order,
-        other,
         table,
         text,
     )

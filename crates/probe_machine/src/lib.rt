@@ -22,13 +22,12 @@ pub extern "C" fn probe_machine(pickle: &[u8]) -> Answer {
         return refusal::refused(Refusal::TooLong);
     }
     let mut nodes = [0u64; 8192];
-    let mut owners = [0u16; 16384];
-    let mut children = [0u16; 16384];
+    let mut owners = [0u16; 8192];
+    let mut children = [0u16; 8192];
     let mut stack = [0u16; 2048];
     let mut marks = [0u16; 256];
     let mut keys = [0u32; 1024];
     let mut held = [0u16; 1024];
-    let mut unescaped = [0u8; 65536];
     ended(machine::run(
         pickle,
         &mut nodes,
@@ -38,6 +37,5 @@ pub extern "C" fn probe_machine(pickle: &[u8]) -> Answer {
         &mut marks,
         &mut keys,
         &mut held,
-        &mut unescaped,
     ))
 }

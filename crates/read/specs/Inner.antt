@@ -1,55 +1,136 @@
--- The inner reading: rooms that are zero, and are zero again.
-use Prim.Native.Nat.{ℕ, _≤_}
-use mathlib.Core.Bool.{Bool}
-use mathlib.Core.List.{List}
-use mathlib.Core.Path.{_≡_, refl, sym, _∙_, ap}
-use lib.ListN.{length, replicate}
-use Rattle.input.specs.Bytes.{Bytes}
-use Rattle.decoder.specs.declared.Counts.{Counts}
-use Rattle.decoder.specs.Effects.{Sound}
+-- The inner reading: rooms whose stated parts are zero, lent, and zero again.
+use Prim.Native.Nat.{ℕ, _*_, _≤_}
+use mathlib.Core.List.{List, [], _∷_, _++_, append-assoc}
+use mathlib.Core.Path.{_≡_, sym, _∙_, ap}
+use lib.ListN.{length, length-append, take, drop, replicate, take-append-drop}
+use lib.Seq.{take-at, drop-at, length-take-le, drop-append-le}
+use native.Mathlib.Omega.{arith}
+use Rattle.refusal.specs.declared.Answer.{Answer}
+use Rattle.rooms.specs.Cleared.{cleared}
+use Rattle.rooms.specs.Stated.{Slices, machineLengths, stated, Long, AllZero, Ready, filled, long, rooms-zero}
+use Rattle.decoder.specs.Effects.{Sound, Firm}
 use Rattle.machine.specs.Lent.{roomsOf}
 use Rattle.machine.specs.Ran.{Ran, start, countsOf}
 use Rattle.machine.specs.Fresh.{fresh}
-use Rattle.machine.specs.Clear.{UsedBy}
+use Rattle.machine.specs.Clear.{UsedTo, zeroed, used-cleared, nodes-used, stack-used, marks-used, keys-used, held-used}
 use Rattle.machine.specs.declared.Outcome.{Outcome}
-use Rattle.finish.specs.Finish.{Zero, Clear, Lent}
-use Rattle.refusal.specs.declared.Answer.{Answer}
 use Rattle.builder.specs.Reading.{Reading}
-use Rattle.read.specs.Slices.{Slices, slices, filled}
+use Rattle.produce.specs.Rooms.{zeros-long}
 use Rattle.build.specs.Building.{Working}
-use Rattle.build.specs.Given.{Gives, RanIn}
+use Rattle.build.specs.Given.{RanIn}
 
--- every room zero and as long as stated, and room for the outputs
-pub record Zeroed (l : Slices) : Type 0 where
-  pub nodes : l .nodes ≡ replicate 8192 0
-  pub owners : l .owners ≡ replicate 16384 0
-  pub children : l .children ≡ replicate 16384 0
-  pub stack : l .stack ≡ replicate 2048 0
-  pub marks : l .marks ≡ replicate 256 0
-  pub keys : l .keys ≡ replicate 1024 0
-  pub held : l .held ≡ replicate 1024 0
-  pub unescaped : l .unescaped ≡ replicate 65536 0
-  pub working : Working (l .starts) (l .sorted) (l .measures) (l .flat) (l .raw) (l .texts) (l .words) (l .spare) (l .order) (l .other) (l .table) (l .text)
+-- the inner reading x in the slices l leaves l′ and answers a
+pub record Reads (x : Reading) (l l′ : Slices) (a : Answer) : Type 0 where
+  pub answer : a ≡ x .answer
+  pub slices : l′ ≡ filled (x .words) (x .bytes) l
 
-module _ (l : Slices) (z : Zeroed l) where
-  -- what the run asks
-  pub begins : (p : List ℕ) → length p ≤ 65536 → Sound (roomsOf p (l .nodes) (l .owners) (l .children) (l .stack) (l .marks) (l .keys) (l .held) (l .unescaped)) start
-  begins p h = rw (z .nodes, z .owners, z .children, z .stack, z .marks, z .keys, z .held, z .unescaped) (fresh p h)
+-- a room that has become s′: its first k cleared, it is s again
+pub record Back (k : ℕ) (s s′ : List ℕ) : Type 0 where
+  pub fits : k ≤ length s′
+  pub again : cleared k s′ ≡ s
 
-  -- what is left: the rooms as they came, and the outputs as the reading fills them
-  module _ (x : Reading) (a : Answer) (o q : List ℕ) (g : Gives x a (l .table) (l .text) o q) where
-    pub left-zero : (nodes owners children stack marks keys held unescaped : List ℕ) → (nodes ≡ replicate 8192 0) × (owners ≡ replicate 16384 0) × (children ≡ replicate 16384 0) × (stack ≡ replicate 2048 0) × (marks ≡ replicate 256 0) × (keys ≡ replicate 1024 0) × (held ≡ replicate 1024 0) × (unescaped ≡ replicate 65536 0)
-        → (starts sorted measures flat raw texts words spare order other : List ℕ) → Working starts sorted measures flat raw texts words spare order other o q
-        → slices nodes owners children stack marks keys held unescaped starts sorted measures flat raw texts words spare order other o q ≡ filled x l
-    unfolding filled
-    left-zero nodes owners children stack marks keys held unescaped e starts sorted measures flat raw texts words spare order other w =
-        rw (e .0, e .1, e .2, e .3, e .4, e .5, e .6, e .7, w .starts-zero, w .sorted-zero, w .measures-zero, w .flat-zero, w .zero .raw-zero, w .zero .texts-zero, w .zero .rest .words-zero, w .zero .rest .spare-zero, w .zero .rest .order-zero, w .zero .rest .other-zero, z .nodes, z .owners, z .children, z .stack, z .marks, z .keys, z .held, z .unescaped, z .working .starts-zero, z .working .sorted-zero, z .working .measures-zero, z .working .flat-zero, z .working .zero .raw-zero, z .working .zero .texts-zero, z .working .zero .rest .words-zero, z .working .zero .rest .spare-zero, z .working .zero .rest .order-zero, z .working .zero .rest .other-zero, g .table-is, g .text-is)
+module _ {k : ℕ} {s s′ : List ℕ} (b : Back k s s′) (j : ℕ) (e : j ≡ k) where
+  pub back-fits : j ≤ length s′
+  back-fits = rw e (b .fits)
 
--- what the answer asks
-module _ (o : Outcome) (p nodes owners children stack marks keys held unescaped : List ℕ) (r : Ran o p (roomsOf p nodes owners children stack marks keys held unescaped)) where
-  pub ran-in : Bytes p → RanIn o p nodes owners children stack unescaped
-  ran-in b = record { marks = marks; keys = keys; held = held; ran = r; bytes = b }
+  pub back-again : (t : List ℕ) → t ≡ cleared j s′ → t ≡ s
+  back-again t q = q ∙ rw e (b .again)
 
-  -- and what clearing asks, the log as it was
-  pub used-by : (owners′ children′ : List ℕ) (c : Counts) → (owners′ ≡ owners) × (children′ ≡ children) → c ≡ countsOf o → UsedBy nodes owners′ children′ stack marks keys held unescaped c
-  used-by owners′ children′ c q e = rw (q .0, q .1, e) (record { pickle = p; firm = r .sound .firm })
+-- what a run leaves of the machine's rooms: what the answer asks of their stated parts, and how the rooms are zero again
+pub record Runs (o : Outcome) (p nodes owners children stack marks nodes′ owners′ children′ stack′ marks′ : List ℕ) : Type 0 where
+  pub ran : RanIn o p (take 8192 nodes′) (take 8192 owners′) (take 8192 children′) (take 2048 stack′)
+  pub owners-behind : drop 8192 owners′ ≡ drop 8192 owners
+  pub children-behind : drop 8192 children′ ≡ drop 8192 children
+  pub nodes-back : Back (2 * countsOf o .nodes) nodes nodes′
+  pub stack-back : Back (countsOf o .deepest) stack stack′
+  pub marks-back : Back (countsOf o .most) marks marks′
+
+-- ---- a stated part, lent and put back
+
+module _ (n : ℕ) (s : List ℕ) (z : take n s ≡ replicate n 0) where
+  pub part-fits : n ≤ length s
+  part-fits = zeros-long (record { zero = z })
+
+  part-length : length (take n s) ≡ n
+  part-length = length-take-le n s part-fits
+
+  -- as e
+  module _ (e : List ℕ) (h : length e ≡ length (take n s)) where
+    pub part-is : take n (e ++ drop n s) ≡ e
+    part-is = take-at e (drop n s) n (h ∙ part-length)
+
+    pub part-behind : drop n (e ++ drop n s) ≡ drop n s
+    part-behind = drop-at e (drop n s) n (h ∙ part-length)
+
+    -- of which the first k were used
+    pub part-used : (k : ℕ) → UsedTo k e → Back k s (e ++ drop n s)
+    unfolding cleared zeroed
+    part-used k u = record {
+      fits = rw length-append (let x = u .room in omega arith);
+      again =
+          ap (λ (l : List ℕ). replicate k 0 ++ l) (drop-append-le k e (drop n s) (u .room))
+          ∙ sym (append-assoc (replicate k 0) (drop k e) (drop n s))
+          ∙ ap (λ (l : List ℕ). l ++ drop n s) (used-cleared k e u ∙ ap (λ (m : ℕ). replicate m 0) (h ∙ part-length) ∙ sym z)
+          ∙ take-append-drop n s;
+    }
+
+  -- the part of a room that has become s′, made zero
+  pub part-cleared : (s′ e : List ℕ) → length s′ ≡ length s → drop n s′ ≡ drop n s → e ≡ zeroed (take n s′) → e ++ drop n s′ ≡ s
+  unfolding zeroed
+  part-cleared s′ e h b c = rw (c, length-take-le n s′ (rw h part-fits), b, ← z) (take-append-drop n s)
+
+-- ---- the run
+
+module _ (p nodes owners children stack marks keys held : List ℕ) (z : AllZero machineLengths (nodes ∷ owners ∷ children ∷ stack ∷ marks ∷ keys ∷ held ∷ [])) where
+  -- what it asks
+  pub begins : length p ≤ 65536 → Sound (roomsOf p (take 8192 nodes) (take 8192 owners) (take 8192 children) (take 2048 stack) (take 256 marks) (take 2048 keys) (take 1024 held)) start
+  begins h =
+      rw (z .0, z .1 .0, z .1 .1 .0, z .1 .1 .1 .0, z .1 .1 .1 .1 .0, z .1 .1 .1 .1 .1 .0, z .1 .1 .1 .1 .1 .1 .0)
+      (fresh p 8192 8192 8192 2048 256 2048 1024 h (omega arith) (omega arith) (omega arith) (omega arith) (omega arith) (omega arith) (omega arith))
+
+  -- what it leaves
+  module _ (o : Outcome) (n w d s m k h : List ℕ) (r : Ran o p (roomsOf p n w d s m k h)) where
+    firm : Firm (roomsOf p n w d s m k h) (countsOf o)
+    firm = r .sound .firm
+
+    pub runs : length n ≡ length (take 8192 nodes) → length w ≡ length (take 8192 owners) → length d ≡ length (take 8192 children) → length s ≡ length (take 2048 stack) → length m ≡ length (take 256 marks)
+        → Runs o p nodes owners children stack marks (n ++ drop 8192 nodes) (w ++ drop 8192 owners) (d ++ drop 8192 children) (s ++ drop 2048 stack) (m ++ drop 256 marks)
+    runs en ew ed es em = record {
+      ran = rw (part-is 8192 nodes (z .0) n en, part-is 8192 owners (z .1 .0) w ew, part-is 8192 children (z .1 .1 .0) d ed, part-is 2048 stack (z .1 .1 .1 .0) s es) (record { marks = m; keys = k; held = h; ran = r });
+      owners-behind = part-behind 8192 owners (z .1 .0) w ew;
+      children-behind = part-behind 8192 children (z .1 .1 .0) d ed;
+      nodes-back = part-used 8192 nodes (z .0) n en (2 * countsOf o .nodes) (nodes-used _ _ firm);
+      stack-back = part-used 2048 stack (z .1 .1 .1 .0) s es (countsOf o .deepest) (stack-used _ _ firm);
+      marks-back = part-used 256 marks (z .1 .1 .1 .1 .0) m em (countsOf o .most) (marks-used _ _ firm);
+    }
+
+    pub keys-back : length k ≡ length (take 2048 keys) → Back (countsOf o .memo) keys (k ++ drop 2048 keys)
+    keys-back e = part-used 2048 keys (z .1 .1 .1 .1 .1 .0) k e (countsOf o .memo) (keys-used _ _ firm)
+
+    pub held-back : length h ≡ length (take 1024 held) → Back (countsOf o .memo) held (h ++ drop 1024 held)
+    held-back e = part-used 1024 held (z .1 .1 .1 .1 .1 .1 .0) h e (countsOf o .memo) (held-used _ _ firm)
+
+-- ---- the answer
+
+module _ (nodes owners children stack marks keys held unescaped starts sorted measures table text : List ℕ) (r : Ready (nodes ∷ owners ∷ children ∷ stack ∷ marks ∷ keys ∷ held ∷ unescaped ∷ starts ∷ sorted ∷ measures ∷ table ∷ text ∷ [])) where
+  -- what the run asks of its rooms
+  pub machine-zero : AllZero machineLengths (nodes ∷ owners ∷ children ∷ stack ∷ marks ∷ keys ∷ held ∷ [])
+  machine-zero =
+      let z = rooms-zero _ r in
+      (z .0, (z .1 .0, (z .1 .1 .0, (z .1 .1 .1 .0, (z .1 .1 .1 .1 .0, (z .1 .1 .1 .1 .1 .0, (z .1 .1 .1 .1 .1 .1 .0, tt)))))))
+
+  -- and the answer of its own
+  pub working : (list : List ℕ) → list ≡ keys → Working list unescaped starts sorted measures table text
+  working list e =
+      let z = rooms-zero _ r in
+      let b = z .1 .1 .1 .1 .1 .1 .1 in
+      let o = long stated _ (r .long) .1 .1 .1 .1 .1 .1 .1 .1 .1 .1 .1 in
+      record {
+        list-zero = rw e (record { zero = z .1 .1 .1 .1 .1 .0 });
+        decoded-zero = record { zero = b .0 };
+        starts-zero = record { zero = b .1 .0 };
+        sorted-zero = record { zero = b .1 .1 .0 };
+        measures-zero = record { zero = b .1 .1 .1 .0 };
+        table-room = o .0;
+        text-room = o .1 .0;
+      }

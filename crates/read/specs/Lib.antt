@@ -1,4 +1,2 @@
--- What the inner reading is lent, asks and leaves.
-pub mod Slices
+-- What the inner reading asks and leaves.
 pub mod Inner
-pub mod Parts

@@ -40,9 +40,8 @@ fn steps(
     marks: &mut [u16],
     keys: &mut [u32],
     held: &mut [u16],
-    unescaped: &mut [u8],
 ) -> Outcome
-    requires { ⌜ Sound (roomsOf (now pickle) (now nodes) (now owners) (now children) (now stack) (now marks) (now keys) (now held) (now unescaped)) start ⌝ }
+    requires { ⌜ Sound (roomsOf (now pickle) (now nodes) (now owners) (now children) (now stack) (now marks) (now keys) (now held)) start ⌝ }
 {
     let mut c = Counts {
         at: 0,
@@ -54,22 +53,10 @@ fn steps(
         most: 0,
         memo: 0,
         greatest: 0,
-        unescaped: 0,
     };
     loop {
         show_step(c);
-        let t = take_step(
-            pickle,
-            nodes,
-            owners,
-            children,
-            stack,
-            marks,
-            keys,
-            held,
-            unescaped,
-            c,
-        );
+        let t = take_step(pickle, nodes, owners, children, stack, marks, keys, held, c);
         match t {
             Step::Next(d) => c = d,
             Step::Stop(d) => return Outcome::Stopped(d),
@@ -102,18 +89,6 @@ fn show_numbers(numbers: &[u16], n: usize) {
     }
 }
 
-// The first n bytes, and up to seven more.
-fn show_bytes(bytes: &[u8], n: usize) {
-    let mut i = 0;
-    while i < bytes.len() / 8 {
-        if n <= 8 * i {
-            return;
-        }
-        io::print_hex(1, input::f64_at(bytes, 8 * i), 16);
-        i += 1;
-    }
-}
-
 // What the machine does with a pickle, in a line.
 fn show(
     pickle: &[u8],
@@ -124,22 +99,11 @@ fn show(
     marks: &mut [u16],
     keys: &mut [u32],
     held: &mut [u16],
-    unescaped: &mut [u8],
 )
-    requires { ⌜ Sound (roomsOf (now pickle) (now nodes) (now owners) (now children) (now stack) (now marks) (now keys) (now held) (now unescaped)) start ⌝ }
+    requires { ⌜ Sound (roomsOf (now pickle) (now nodes) (now owners) (now children) (now stack) (now marks) (now keys) (now held)) start ⌝ }
 {
-    match steps(
-        pickle,
-        nodes,
-        owners,
-        children,
-        stack,
-        marks,
-        keys,
-        held,
-        unescaped,
-    ) {
-        Outcome::Stopped(c) => show_stop(nodes, owners, children, stack, unescaped, c),
+    match steps(pickle, nodes, owners, children, stack, marks, keys, held) {
+        Outcome::Stopped(c) => show_stop(nodes, owners, children, stack, c),
         Outcome::Refused(_, why) => show_refusal(refusal::number(why), refusal::detail(why)),
     }
 }
@@ -152,14 +116,7 @@ fn show_refusal(number: u64, detail: u64) {
     io::write_all(1, b"\n");
 }
 
-fn show_stop(
-    nodes: &[u64],
-    owners: &[u16],
-    children: &[u16],
-    stack: &[u16],
-    unescaped: &[u8],
-    c: Counts,
-) {
+fn show_stop(nodes: &[u64], owners: &[u16], children: &[u16], stack: &[u16], c: Counts) {
     io::write_all(1, b" stopped ");
     io::print_decimal(1, c.at as u64);
     io::write_all(1, b" s");
@@ -172,8 +129,6 @@ fn show_stop(
     show_numbers(owners, c.links);
     io::write_all(1, b" c");
     show_numbers(children, c.links);
-    io::write_all(1, b" u");
-    show_bytes(unescaped, c.unescaped);
     io::write_all(1, b"\n");
 }
 
@@ -182,13 +137,12 @@ fn in_rooms(pickle: &[u8])
     requires { ⌜ length (now pickle) ≤ 65536 ⌝ }
 {
     let mut nodes = [0u64; 8192];
-    let mut owners = [0u16; 16384];
-    let mut children = [0u16; 16384];
+    let mut owners = [0u16; 8192];
+    let mut children = [0u16; 8192];
     let mut stack = [0u16; 2048];
     let mut marks = [0u16; 256];
     let mut keys = [0u32; 1024];
     let mut held = [0u16; 1024];
-    let mut unescaped = [0u8; 65536];
     show(
         pickle,
         &mut nodes,
@@ -198,7 +152,6 @@ fn in_rooms(pickle: &[u8])
         &mut marks,
         &mut keys,
         &mut held,
-        &mut unescaped,
     );
 }
 

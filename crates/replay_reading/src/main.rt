@@ -130,13 +130,6 @@ fn read(
     starts: &mut [u16],
     sorted: &mut [u16],
     measures: &mut [u64],
-    flat: &mut [u64],
-    raw: &mut [u64],
-    texts: &mut [u8],
-    words: &mut [u64],
-    spare: &mut [u64],
-    order: &mut [u64],
-    other: &mut [u64],
     table: &mut [u64],
     text: &mut [u8],
 ) -> Answer {
@@ -154,13 +147,6 @@ fn read(
             starts,
             sorted,
             measures,
-            flat,
-            raw,
-            texts,
-            words,
-            spare,
-            order,
-            other,
             table,
             text,
         );
@@ -178,13 +164,6 @@ fn read(
         starts,
         sorted,
         measures,
-        flat,
-        raw,
-        texts,
-        words,
-        spare,
-        order,
-        other,
         table,
         text,
     )
@@ -196,23 +175,16 @@ fn replay(whole: bool, pickle: &[u8], mark: u8) {
     let mark32 = mark as u32 * 0x1010101;
     let mark64 = mark as u64 * 0x101010101010101;
     let mut nodes = [mark64; 8192];
-    let mut owners = [mark16; 16384];
-    let mut children = [mark16; 16384];
+    let mut owners = [mark16; 8192];
+    let mut children = [mark16; 8192];
     let mut stack = [mark16; 2048];
     let mut marks = [mark16; 256];
-    let mut keys = [mark32; 1024];
+    let mut keys = [mark32; 2048];
     let mut held = [mark16; 1024];
     let mut unescaped = [mark; 65536];
     let mut starts = [mark16; 4098];
     let mut sorted = [mark16; 16384];
     let mut measures = [mark64; 4096];
-    let mut flat = [mark64; 2048];
-    let mut raw = [mark64; 8192];
-    let mut texts = [mark; 65536];
-    let mut words = [mark64; 8192];
-    let mut spare = [mark64; 8192];
-    let mut order = [mark64; 2048];
-    let mut other = [mark64; 2048];
     let mut table = [mark64; 8192];
     let mut text = [mark; 65536];
     let answer = read(
@@ -229,13 +201,6 @@ fn replay(whole: bool, pickle: &[u8], mark: u8) {
         &mut starts,
         &mut sorted,
         &mut measures,
-        &mut flat,
-        &mut raw,
-        &mut texts,
-        &mut words,
-        &mut spare,
-        &mut order,
-        &mut other,
         &mut table,
         &mut text,
     );
@@ -251,13 +216,6 @@ fn replay(whole: bool, pickle: &[u8], mark: u8) {
     hold16(&starts, 0, 0);
     hold16(&sorted, 0, 0);
     hold64(&measures, 0, 0);
-    hold64(&flat, 0, 0);
-    hold64(&raw, 0, 0);
-    hold8(&texts, 0, 0);
-    hold64(&words, 0, 0);
-    hold64(&spare, 0, 0);
-    hold64(&order, 0, 0);
-    hold64(&other, 0, 0);
     io::write_all(1, b"\n");
 }
 

@@ -9,9 +9,8 @@ use native.Mathlib.Omega.{arith}
 use Rattle.decoder.specs.State.{Node}
 use Rattle.builder.specs.Build.{at}
 use Rattle.builder.specs.Unfold.{In}
-use Rattle.measure.specs.Length.{namesLen, textLen, Readable, len-global, len-object}
-use Rattle.measure.specs.Word.{packW, textsW}
-use Rattle.measure.specs.Words.{texts-pack}
+use Rattle.resolve.specs.Length.{namesLen, textLen, Readable, len-global, len-object}
+use Rattle.resolve.specs.Word.{packW, textsW, texts-pack}
 use Rattle.resolved.specs.Walk.{State}
 use Rattle.resolved.specs.Noted.{isContainer, isTextLeaf, ahead, leafOf, LeafNoted, unseen, early, reached, Noted, noted-early}
 use Rattle.resolve.specs.Facts.{wordOf, containerKind, kindAt, classAt, Facts}

@@ -15,10 +15,9 @@ use Rattle.decoder.specs.State.{Node}
 use Rattle.builder.specs.Build.{Mark, fresh, taken, kept, mark, none, at, isTaken, firstTaken, blocked}
 use Rattle.builder.specs.Unfold.{In, here, Marked, same, other, marked}
 use Rattle.builder.specs.Measures.{value, measure}
-use Rattle.measure.specs.Word.{packW, deepW, valuesW, textsW}
-use Rattle.measure.specs.Words.{deep-pack}
-use Rattle.measure.specs.Length.{textLen}
-use Rattle.measure.specs.Walk.{held, headTaken}
+use Rattle.resolve.specs.Word.{packW, deepW, valuesW, textsW, deep-pack}
+use Rattle.resolve.specs.Length.{textLen}
+use Rattle.resolve.specs.Blocked.{held, headTaken}
 use Rattle.resolved.specs.Walk.{State, Made, markR, eachR, finishR, walk}
 use Rattle.resolved.specs.Resolves.{mark-own}
 use Rattle.resolved.specs.Inside.{walk-within}

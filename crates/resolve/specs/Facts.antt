@@ -12,8 +12,8 @@ use Rattle.decoder.specs.Opcodes.{isObject}
 use Rattle.builder.specs.Build.{taken, kept, at}
 use Rattle.builder.specs.Unfold.{In, here, there}
 use Rattle.builder.specs.Measures.{value}
-use Rattle.measure.specs.Length.{textLen, Readable}
-use Rattle.measure.specs.Words.{word}
+use Rattle.resolve.specs.Length.{textLen, Readable}
+use Rattle.resolve.specs.Word.{word}
 use Rattle.resolved.specs.Walk.{State}
 use Rattle.resolved.specs.Inside.{Within}
 use Rattle.resolved.specs.Dues.{isDue, dues}

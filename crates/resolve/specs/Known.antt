@@ -13,9 +13,8 @@ use Rattle.decoder.specs.State.{Node}
 use Rattle.builder.specs.Build.{fresh, taken, kept, mark, none, at}
 use Rattle.builder.specs.Unfold.{Marked, same, other, marked}
 use Rattle.builder.specs.Measures.{value, measure}
-use Rattle.measure.specs.Length.{textLen, len-nothing}
-use Rattle.measure.specs.Word.{packW}
-use Rattle.measure.specs.Words.{word-large}
+use Rattle.resolve.specs.Length.{textLen, len-nothing}
+use Rattle.resolve.specs.Word.{packW, word-large}
 use Rattle.resolved.specs.Walk.{State, Made, View, copied, inside, stuck, entered, view, gone, markR, eachR, finishR, walk}
 use Rattle.resolved.specs.Resolves.{Resolves}
 use Rattle.resolved.specs.Dues.{isDue, dues}

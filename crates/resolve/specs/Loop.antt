@@ -11,8 +11,7 @@ use Rattle.decoder.specs.State.{Node}
 use Rattle.builder.specs.Build.{taken, kept, mark, at}
 use Rattle.builder.specs.Unfold.{In, here, there, Marked, same, other, marked}
 use Rattle.builder.specs.Measures.{Measure, nilM, pushM, value, measure}
-use Rattle.measure.specs.Word.{packW, deepW, valuesW, textsW}
-use Rattle.measure.specs.Words.{deep-pack, values-pack, texts-pack}
+use Rattle.resolve.specs.Word.{packW, deepW, valuesW, textsW, deep-pack, values-pack, texts-pack}
 use Rattle.resolved.specs.Walk.{State, Made, overwrite, eachR, finishR, walk}
 use Rattle.resolved.specs.Resolves.{Called, old-taken}
 use Rattle.resolved.specs.Resolving.{Resolved, each-resolves, walk-resolves}

@@ -17,9 +17,6 @@ use Rattle.builder.specs.Unfold.{In, left-all}
 use Rattle.builder.specs.Fuel.{build-fuel}
 use Rattle.builder.specs.Shallow.{deep, levels}
 use Rattle.builder.specs.Measures.{value, measure, measure-deep, measure-values, measure-texts}
-use Rattle.measure.specs.Length.{Readable}
-use Rattle.measure.specs.Word.{packW}
-use Rattle.measure.specs.Total.{Blank, Measured}
 use Rattle.resolved.specs.Resolved.{StandsFor}
 use Rattle.resolved.specs.Walk.{State, start, walk-build}
 use Rattle.resolved.specs.Tree.{walked, tree-stands, levels-enough, root-slot}
@@ -32,6 +29,8 @@ use Rattle.resolved.specs.Sums.{upTo}
 use Rattle.resolved.specs.Noted.{isContainer, isTextLeaf, ahead, leafOf, LeafNoted, unseen, early, reached, Reads, is-fresh, is-taken, is-gone, is-kept, reads}
 use Rattle.resolved.specs.Reached.{textIf, container-done, leaf-done, done-leaf, done-container, texts-held}
 use Rattle.resolved.specs.Fits.{fits-start}
+use Rattle.resolve.specs.Length.{Readable}
+use Rattle.resolve.specs.Word.{packW}
 use Rattle.resolve.specs.Facts.{wordOf, Facts, Shallow, Holds}
 use Rattle.resolve.specs.Known.{word-big, word-low, leaf-deep, Knows, k-open, k-empty, k-word, Learns}
 use Rattle.resolve.specs.Ends.{Opens, Ends, ends-deep, ends-empty, ends-word, Walks}
@@ -41,11 +40,19 @@ use Rattle.resolve.specs.declared.Answer.the-variants as answer
 use Rattle.resolve.specs.declared.Seen.{Seen}
 use Rattle.resolve.specs.declared.Seen.the-variants as seen
 
+-- no node is marked
+abbrev pub Blank : ℕ → List ℕ → Type 0
+Blank n d = (i : ℕ) → i < n → getD d i 0 ≡ 0
+
+-- w is the word of v, which is no deeper than 64
+pub record Measured (v : Value) (w : ℕ) : Type 0 where
+  pub shallow : depth (one v) ≤ 64
+  pub is : w ≡ packW (depth (one v)) (size (one v)) (length (text (one v)))
+
 -- a node table at STOP is what the rooms say, no node is marked, and no due is noted in the room lent for them
 pub record Begins (p ws starts children marks room : List ℕ) (root : ℕ) : Type 0 where
-  pub unescaped : List ℕ
   pub nodes : List Node
-  pub stands : Stands p unescaped ws nodes
+  pub stands : Stands p ws nodes
   pub graph : Graph nodes starts children
   pub beyond : length nodes ≤ 4096
   pub many : length marks ≡ length nodes
@@ -176,7 +183,7 @@ worded-texts {t} {beyond = beyond} {marks = marks} root d h = root-texts t beyon
 
 module _ {p ws starts children marks room : List ℕ} {root : ℕ} (b : Begins p ws starts children marks room root) where
   facts-there : Facts p ws starts (b .nodes)
-  facts-there = facts p (b .unescaped) ws (b .nodes) starts children (b .stands) (b .graph) (b .beyond) (omega (arith, b .below))
+  facts-there = facts p ws (b .nodes) starts children (b .stands) (b .graph) (b .beyond)
 
   -- the same, with the bound that is given
   abbrev facts-at : Facts p ws starts (b .nodes)

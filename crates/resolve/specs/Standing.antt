@@ -1,25 +1,24 @@
 -- The node table at STOP says what the walk's code wants to know.
-use Prim.Native.Nat.{ℕ, suc, zero, _<_, _≤_}
+use Prim.Native.Nat.{ℕ, suc, zero, _*_, _<_, _≤_}
 use mathlib.Core.Bool.{true, false}
 use mathlib.Core.List.{List, []}
-use mathlib.Core.Path.{_≡_, refl, sym, _∙_}
-use lib.ListN.{length, getD}
+use mathlib.Core.Path.{_≡_, refl, sym, _∙_, ap}
+use lib.ListN.{length, getD, List·getD-map}
 use borrow.Author.Tests.{le-ltb, ne-eqb}
 use native.Mathlib.Omega.{arith}
-use Rattle.value.specs.Value.{NoneL}
+use Rattle.value.specs.Value.{Label, NoneL, textOf}
 use Rattle.value.specs.Shape.{kindIn}
 use Rattle.decoder.specs.State.{Node, plain}
-use Rattle.decoder.specs.Rooms.{first, second, choices, nodeIs, kidsOf, classIn, Class, Classed}
-use Rattle.decoder.specs.RoomReads.{object-kind}
+use Rattle.decoder.specs.Rooms.{first, second, choices, nodeIs, nodeOf, kidsOf, classIn, Class, Classed}
+use Rattle.decoder.specs.RoomReads.{node-at, nodes-length, object-kind}
+use Rattle.decoder.specs.Effects.{Firm}
 use Rattle.builder.specs.Build.{at}
 use Rattle.builder.specs.Graph.{Graph, Stands}
-use Rattle.measure.specs.Length.{node-is, text-len}
-use Rattle.measure.specs.Walk.{table}
-use Rattle.measure.specs.Steps.{readable}
-use Rattle.measure.specs.Limits.{ready}
+use Rattle.resolved.specs.Shown.{labelOf}
 use Rattle.resolved.specs.Noted.{isContainer, isTextLeaf}
 use Rattle.resolved.specs.Dues.{isDue}
 use Rattle.resolved.specs.Ranges.{graph-inside}
+use Rattle.resolve.specs.Length.{textLen}
 use Rattle.resolve.specs.Facts.{containerKind, dueKind, kindAt, Facts}
 
 -- a node of kind k
@@ -44,8 +43,8 @@ far-due : (k : ℕ) → 15 ≤ k → dueKind k ≡ false
 unfolding dueKind
 far-due k h = let a : 8 ≤ k = omega arith in let b : 11 ≤ k = omega arith in rw (le-ltb k 8 a, le-ltb k 11 b)
 
-module _ (p u ws ks : List ℕ) (a b : ℕ) where
-  suits : (k : ℕ) → Suits k (getD (choices p u ws ks a b) k (plain NoneL))
+module _ (p ws ks : List ℕ) (a b : ℕ) where
+  suits : (k : ℕ) → Suits k (getD (choices p ws ks a b) k (plain NoneL))
   unfolding containerKind dueKind
   suits zero = leaf refl refl refl refl refl (λ h. refl)
   suits (suc zero) = leaf refl refl refl refl refl (λ h. refl)
@@ -64,27 +63,49 @@ module _ (p u ws ks : List ℕ) (a b : ℕ) where
   suits (suc (suc (suc (suc (suc (suc (suc (suc (suc (suc (suc (suc (suc (suc zero)))))))))))))) = leaf refl refl refl refl refl (λ h. absurd (omega arith))
   suits (suc (suc (suc (suc (suc (suc (suc (suc (suc (suc (suc (suc (suc (suc (suc k))))))))))))))) = leaf (far (suc (suc (suc (suc (suc (suc (suc (suc (suc (suc (suc (suc (suc (suc (suc k))))))))))))))) (omega arith)) refl (far-due (suc (suc (suc (suc (suc (suc (suc (suc (suc (suc (suc (suc (suc (suc (suc k))))))))))))))) (omega arith)) refl refl (λ h. refl)
 
-pub facts : (p u ws : List ℕ) (t : List Node) (starts children : List ℕ) → Stands p u ws t → Graph t starts children → length t ≤ 4096 → 0 < length t
-    → Facts p ws starts t
-unfolding nodeIs kindIn first classIn Classed Class
-facts p u ws t starts children s g b z =
-    let r = ready p u ws t starts children (length t) s g refl z in
+module _ (p ws : List ℕ) (t : List Node) (s : Stands p ws t) where
+  many-nodes : s .counts .nodes ≡ length t
+  many-nodes = sym (nodes-length (s .rooms) (s .counts)) ∙ sym (ap length (s .nodes))
+
+  module _ (i : ℕ) (l : i < length t) where
+    pub node-is : at t i ≡ nodeOf (s .rooms) (s .counts) i
+    node-is = ap (λ (n : List Node). getD n i (plain NoneL)) (s .nodes) ∙ node-at (s .rooms) (s .counts) i (omega (arith, many-nodes))
+
+    -- a node's label is the one that its words say
+    pub label-is : at t i .label ≡ labelOf p ws i
+    unfolding labelOf nodeIs
+    label-is =
+        rw (node-is, ← s .pickle, ← s .words)
+        (sym (List·getD-map (λ (n : Node). n .label) (choices (s .rooms .pickle) (s .rooms .nodes) (kidsOf (s .rooms) (s .counts) i) (first (s .rooms .nodes) i) (second (s .rooms .nodes) i)) (kindIn (first (s .rooms .nodes) i)) (plain NoneL)))
+
+pub facts : (p ws : List ℕ) (t : List Node) (starts children : List ℕ) → Stands p ws t → Graph t starts children → length t ≤ 4096 → Facts p ws starts t
+unfolding nodeIs kindIn first classIn Classed Class textLen
+facts p ws t starts children s g b =
     record {
       beyond = b;
-      words-long = r .words-long;
-      starts-long = r .starts-long;
-      readable = λ i l. readable (table starts children p ws) (length t) i r l;
-      lens-are = λ i l. text-len p u ws t i s l;
-      objects = λ i l. rw (node-is p u ws t i s l, ← s .words) (object-kind (s .rooms .pickle) (s .rooms .unescaped) (s .rooms .nodes) (kidsOf (s .rooms) (s .counts) i) (first (s .rooms .nodes) i) (second (s .rooms .nodes) i));
+      words-long = long;
+      starts-long = g .room;
+      readable = λ i l. record { short = omega (arith, f .lengths .pickle, ap length (s .pickle)); words = omega (arith, long); class = λ e. omega (arith, long, classed i l e .0) };
+      lens-are = λ i l. ap (λ (x : Label). length (textOf x)) (sym (label-is p ws t s i l));
+      objects = λ i l. rw (node-is p ws t s i l, ← s .words) (object-kind (s .rooms .pickle) (s .rooms .nodes) (kidsOf (s .rooms) (s .counts) i) (first (s .rooms .nodes) i) (second (s .rooms .nodes) i));
       containers = λ i l. suit i l .containers;
       due-are = λ i l. suit i l .due-are;
       textless = λ i l. suit i l .textless;
-      classes = λ i l e. r .classed i l e;
+      classes = λ i l e. classed i l e;
       leafless = λ i l. suit i l .leafless;
       inside = λ i j m. graph-inside t starts children g i j m;
     }
   where
+    f : Firm (s .rooms) (s .counts)
+    f = s .sound .firm
+
+    long : 2 * length t ≤ length ws
+    long = omega (arith, f .lengths .nodes, f .nodes, many-nodes p ws t s, ap length (s .words))
+
+    classed : Classed ws (length t)
+    classed = rw (s .words, many-nodes p ws t s) at (f .kept .classed)
+
     suit : (i : ℕ) → i < length t → Suits (kindAt ws i) (at t i)
     suit i l =
-        rw (node-is p u ws t i s l, ← s .words)
-        (suits (s .rooms .pickle) (s .rooms .unescaped) (s .rooms .nodes) (kidsOf (s .rooms) (s .counts) i) (first (s .rooms .nodes) i) (second (s .rooms .nodes) i) (kindIn (first (s .rooms .nodes) i)))
+        rw (node-is p ws t s i l, ← s .words)
+        (suits (s .rooms .pickle) (s .rooms .nodes) (kidsOf (s .rooms) (s .counts) i) (first (s .rooms .nodes) i) (second (s .rooms .nodes) i) (kindIn (first (s .rooms .nodes) i)))

@@ -2,14 +2,20 @@
 // mark, each child that is None at its place overwritten by the number of no node, and the Sets and Dicts noted in the order in which they
 // are finished. Nothing is decoded, ordered or written here, so that what comes after is bounded by what is found out here.
 use decoder::NodeId;
-use measure::text_len;
+use text::Decoded;
+use text::Quoted;
+use text::string_len;
+use text::unicode_len;
+use utf8::repaired_len;
 ghost use mathlib.Core.Path.{_≡_};
 ghost use Prim.Native.Nat.{_+_, _*_, _<_, _≤_, min, max};
-ghost use lib.ListN.{length, getD};
+ghost use lib.ListN.{length, getD, take, drop};
 ghost use lib.Seq.{slice};
-ghost use Rattle.measure.specs.Length.{textLen, Readable};
-ghost use Rattle.measure.specs.Word.{packW};
-ghost use Rattle.measure.specs.Walk.{held};
+ghost use Rattle.text.specs.Pieces.{bytesOf};
+ghost use Rattle.text.specs.Text.{unescapeString, unescapeUnicode};
+ghost use Rattle.resolve.specs.Length.{namesLen, textLen, Readable};
+ghost use Rattle.resolve.specs.Word.{packW};
+ghost use Rattle.resolve.specs.Blocked.{held};
 ghost use Rattle.resolve.specs.Facts.{containerKind};
 ghost use Rattle.resolve.specs.Noting.{Notes};
 ghost use Rattle.resolve.specs.Class.{Owned, Owns};
@@ -50,6 +56,91 @@ fn most(x: u64, y: u64) -> u64
 {
     if x < y { y } else { x }
 }
+
+// ---- how long a node's text is
+
+// `len` bytes of a text from `place` on, or as many as there are.
+fn cut(text: &[u8], place: u64, len: u64) -> &[u8]
+    ensures { λ r. ⌜ now r ≡ take len (drop place (now (text .entry))) ⌝ }
+{
+    let n = text.len();
+    if n as u64 <= place {
+        return &text[0..0];
+    }
+    let at = place as usize;
+    if (n - at) as u64 <= len {
+        return &text[at..n];
+    }
+    let end = at + len as usize;
+    &text[at..end]
+}
+
+// Of a Global's module and name.
+fn names_len(pickle: &[u8], a: u64, b: u64) -> usize
+    requires { ⌜ length (now pickle) ≤ 65536 ⌝ }
+    ensures { λ r. ⌜ r ≡ namesLen (now (pickle .entry)) a b ⌝ }
+{
+    let module = repaired_len(cut(pickle, a / 16 % 0x100_0000, a / 16 / 0x100_0000));
+    let name = repaired_len(cut(pickle, b % 0x1_0000_0000, b / 0x1_0000_0000));
+    module + name
+}
+
+// Of a line of STRING. One that is refused has no text.
+fn string_text(line: &[u8]) -> usize
+    ensures { λ r. ⌜ r ≡ length (bytesOf (unescapeString (now (line .entry)))) ⌝ }
+{
+    match string_len(line) {
+        Quoted::Plain => line.len() - 2,
+        Quoted::Escaped(n) => n,
+        Quoted::Refused(_) => 0,
+    }
+}
+
+// Of a line of UNICODE, the same.
+fn unicode_text(line: &[u8]) -> usize
+    ensures { λ r. ⌜ r ≡ length (bytesOf (unescapeUnicode (now (line .entry)))) ⌝ }
+{
+    match unicode_len(line) {
+        Decoded::Len(n) => n,
+        Decoded::Refused(_) => 0,
+    }
+}
+
+// Of a node; an Object's is its class's.
+pub fn text_len(pickle: &[u8], nodes: &[u64], node: NodeId) -> usize
+    requires { ⌜ Readable (now pickle) (now nodes) (node .0) ⌝ }
+    ensures { λ r. ⌜ r ≡ textLen (now (pickle .entry)) (now (nodes .entry)) (node .0) ⌝ }
+{
+    let i = node.0;
+    let a = nodes[2 * i];
+    let b = nodes[2 * i + 1];
+    let place = b % 0x1_0000_0000;
+    let len = b / 0x1_0000_0000;
+    let kind = a % 16;
+    if kind == 4 {
+        let bytes = cut(pickle, place, len);
+        return bytes.len();
+    }
+    if kind == 5 {
+        return repaired_len(cut(pickle, place, len));
+    }
+    if kind == 11 {
+        return names_len(pickle, a, b);
+    }
+    if kind == 12 {
+        let class = (a / 64) as usize;
+        return names_len(pickle, nodes[2 * class], nodes[2 * class + 1]);
+    }
+    if kind == 13 {
+        return string_text(cut(pickle, place, len));
+    }
+    if kind == 14 {
+        return unicode_text(cut(pickle, place, len));
+    }
+    0
+}
+
+// ---- the walk
 
 // Has a node of this kind children?
 fn is_container(kind: u64) -> bool

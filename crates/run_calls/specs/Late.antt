@@ -10,7 +10,7 @@ use Rattle.decoder.specs.State.{State, ok, last}
 use Rattle.decoder.specs.Run.{Next, run}
 use Rattle.builder.specs.Unfold.{WritesOut, NothingContainsItself}
 use Rattle.builder.specs.Reading.{pickleLimit, told, consumed, prefix, written-out}
-use Rattle.read.specs.Slices.{Slices}
+use Rattle.rooms.specs.Stated.{Slices}
 use Rattle.de.specs.Call.{ReadCall}
 use Rattle.de.specs.Theorems.{Place, place-shows, LateItems, late-items-show}
 use Rattle.run_laws.specs.Late.{Item, Has, what, late-item}

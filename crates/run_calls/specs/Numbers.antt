@@ -9,8 +9,8 @@ use lib.ListN.{length}
 use native.Mathlib.Omega.{arith}
 use Rattle.refusal.specs.declared.Answer.{Answer}
 use Rattle.builder.specs.Reading.{Reading, pickleLimit, prefix, whole}
-use Rattle.read.specs.Slices.{Slices}
-use Rattle.de.specs.Call.{Left, short, reading, ReadCall}
+use Rattle.rooms.specs.Stated.{Slices, stated, short}
+use Rattle.de.specs.Call.{Left, reading, ReadCall}
 use Rattle.run_laws.specs.Numbers.{LeavesBytes, prefix-two, prefix-never-one, prefix-never-eleven, whole-two, whole-eleven, whole-never-one}
 
 number-of : (b : Bool) (x y : Left) → cond b x y .answer .number ≡ cond b (x .answer .number) (y .answer .number)
@@ -18,9 +18,9 @@ number-of true x y = refl
 number-of false x y = refl
 
 -- all that is used of a call's contract: its number is 1 where a slice is short, and else its reading's
-answered : (x : Reading) (l l′ : Slices) (a : Answer) → ReadCall x l l′ a → a .number ≡ cond (short l) 1 (x .answer .number)
+answered : (x : Reading) (l l′ : Slices) (a : Answer) → ReadCall x l l′ a → a .number ≡ cond (short stated l) 1 (x .answer .number)
 unfolding reading
-answered x l l′ a c = ap (λ (y : Left). y .answer .number) c ∙ number-of (short l) _ _
+answered x l l′ a c = ap (λ (y : Left). y .answer .number) c ∙ number-of (short stated l) _ _
 
 -- ---- a number that is 1 where b, and else n
 
@@ -33,31 +33,31 @@ is-other true n m e k h = (λ q. absurd (h (sym q ∙ e)), λ q. absurd (let y =
 is-other false n m e k h = (λ q. (refl, sym e ∙ q), λ q. e ∙ q .1)
 
 module _ (x : Reading) (l l′ : Slices) (a : Answer) (c : ReadCall x l l′ a) where
-  call-one : ¬ (x .answer .number ≡ 1) → (a .number ≡ 1) ↔ (short l ≡ true)
-  call-one h = is-one (short l) (x .answer .number) (a .number) (answered x l l′ a c) h
+  call-one : ¬ (x .answer .number ≡ 1) → (a .number ≡ 1) ↔ (short stated l ≡ true)
+  call-one h = is-one (short stated l) (x .answer .number) (a .number) (answered x l l′ a c) h
 
   -- any other number is the reading's, under its rule
-  call-other : (k : ℕ) → ¬ (k ≡ 1) → (Rule : Type 0) → (x .answer .number ≡ k) ↔ Rule → (a .number ≡ k) ↔ ((short l ≡ false) × Rule)
-  call-other k h Rule r = Iff·trans (is-other (short l) (x .answer .number) (a .number) (answered x l l′ a c) k h) (Iff·and Iff·rfl r)
+  call-other : (k : ℕ) → ¬ (k ≡ 1) → (Rule : Type 0) → (x .answer .number ≡ k) ↔ Rule → (a .number ≡ k) ↔ ((short stated l ≡ false) × Rule)
+  call-other k h Rule r = Iff·trans (is-other (short stated l) (x .answer .number) (a .number) (answered x l l′ a c) k h) (Iff·and Iff·rfl r)
 
 -- ---- the two calls
 
 module _ (p : List ℕ) (l l′ : Slices) (a : Answer) (c : ReadCall (prefix p) l l′ a) where
-  pub prefix-call-one : (a .number ≡ 1) ↔ (short l ≡ true)
+  pub prefix-call-one : (a .number ≡ 1) ↔ (short stated l ≡ true)
   prefix-call-one = call-one (prefix p) l l′ a c (prefix-never-one p)
 
-  pub prefix-call-two : (a .number ≡ 2) ↔ ((short l ≡ false) × (pickleLimit < length p))
+  pub prefix-call-two : (a .number ≡ 2) ↔ ((short stated l ≡ false) × (pickleLimit < length p))
   prefix-call-two = call-other (prefix p) l l′ a c 2 (λ q. omega arith) (pickleLimit < length p) (prefix-two p)
 
   pub prefix-call-never-eleven : ¬ (a .number ≡ 11)
-  prefix-call-never-eleven e = prefix-never-eleven p (is-other (short l) (prefix p .answer .number) (a .number) (answered (prefix p) l l′ a c) 11 (λ q. omega arith) .0 e .1)
+  prefix-call-never-eleven e = prefix-never-eleven p (is-other (short stated l) (prefix p .answer .number) (a .number) (answered (prefix p) l l′ a c) 11 (λ q. omega arith) .0 e .1)
 
 module _ (p : List ℕ) (l l′ : Slices) (a : Answer) (c : ReadCall (whole p) l l′ a) where
-  pub whole-call-one : (a .number ≡ 1) ↔ (short l ≡ true)
+  pub whole-call-one : (a .number ≡ 1) ↔ (short stated l ≡ true)
   whole-call-one = call-one (whole p) l l′ a c (whole-never-one p)
 
-  pub whole-call-two : (a .number ≡ 2) ↔ ((short l ≡ false) × (pickleLimit < length p))
+  pub whole-call-two : (a .number ≡ 2) ↔ ((short stated l ≡ false) × (pickleLimit < length p))
   whole-call-two = call-other (whole p) l l′ a c 2 (λ q. omega arith) (pickleLimit < length p) (whole-two p)
 
-  pub whole-call-eleven : (a .number ≡ 11) ↔ ((short l ≡ false) × LeavesBytes p)
+  pub whole-call-eleven : (a .number ≡ 11) ↔ ((short stated l ≡ false) × LeavesBytes p)
   whole-call-eleven = call-other (whole p) l l′ a c 11 (λ q. omega arith) (LeavesBytes p) (whole-eleven p)

@@ -1,71 +1,37 @@
 -- `de::clear_builder` meets its contract, room by room. Assumes nothing.
--- HEADER
 use borrow.Author.Needs.{needs}
+use mathlib.Core.Path.{refl}
+use Rattle.rooms.specs.Stated.{same, blank}
 use Rattle.de.proofs.clear_builder.Statement.{statement}
 use Rattle.de.proofs.clear_builder.Tie as tie
 
+clear-bytes-requires : tie.Need-clear-bytes-requires
+clear-bytes-requires c κs = c .before .before .before .before .before .pre .0
+
 clear-shorts-requires : tie.Need-clear-shorts-requires
-clear-shorts-requires c κs = c .before .before .before .before .before .before .before .before .before .before .before .pre .0
+clear-shorts-requires c κs = c .before .before .before .before .before .before .before .before .before .pre .1 .0
 
 clear-shorts-requires-2 : tie.Need-clear-shorts-requires-2
-clear-shorts-requires-2 c κs = c .before .before .before .before .before .before .before .before .before .before .before .before .before .before .before .pre .1
+clear-shorts-requires-2 c κs = c .before .before .before .before .before .before .before .before .before .before .before .before .before .pre .1 .1 .0
 
 clear-words-requires : tie.Need-clear-words-requires
-clear-words-requires c κs = c .before .before .before .before .before .before .before .before .before .before .before .before .before .before .before .before .before .before .before .pre .2
-
-clear-words-requires-2 : tie.Need-clear-words-requires-2
-clear-words-requires-2 c κs = c .before .before .before .before .before .before .before .before .before .before .before .before .before .before .before .before .before .before .before .before .before .before .before .pre .3
-
-clear-words-requires-3 : tie.Need-clear-words-requires-3
-clear-words-requires-3 c κs = c .before .before .before .before .before .before .before .before .before .before .before .before .before .before .before .before .before .before .before .before .before .before .before .before .before .before .before .pre .4
-
-clear-bytes-requires : tie.Need-clear-bytes-requires
-clear-bytes-requires c κs = c .before .before .before .before .before .before .before .before .before .before .before .before .before .before .before .before .before .before .before .before .before .before .before .before .before .before .before .before .before .before .before .pre .5
-
-clear-words-requires-4 : tie.Need-clear-words-requires-4
-clear-words-requires-4 c κs = c .before .before .before .before .before .before .before .before .before .before .before .before .before .before .before .before .before .before .before .before .before .before .before .before .before .before .before .before .before .before .before .before .before .before .before .pre .6
-
-clear-words-requires-5 : tie.Need-clear-words-requires-5
-clear-words-requires-5 c κs = c .before .before .before .before .before .before .before .before .before .before .before .before .before .before .before .before .before .before .before .before .before .before .before .before .before .before .before .before .before .before .before .before .before .before .before .before .before .before .before .pre .7
-
-clear-words-requires-6 : tie.Need-clear-words-requires-6
-clear-words-requires-6 c κs = c .before .before .before .before .before .before .before .before .before .before .before .before .before .before .before .before .before .before .before .before .before .before .before .before .before .before .before .before .before .before .before .before .before .before .before .before .before .before .before .before .before .before .before .pre .8
-
-clear-words-requires-7 : tie.Need-clear-words-requires-7
-clear-words-requires-7 c κs = c .before .before .before .before .before .before .before .before .before .before .before .before .before .before .before .before .before .before .before .before .before .before .before .before .before .before .before .before .before .before .before .before .before .before .before .before .before .before .before .before .before .before .before .before .before .before .before .pre .9
+clear-words-requires c κs = c .before .before .before .before .before .before .before .before .before .before .before .before .before .before .before .before .before .pre .1 .1 .1 .0
 
 same-length : tie.Need-same-length
-same-length c = c .before .before .before .before .before .before .before .before .before .before .before .before .before .before .before .before .before .before .before .before .before .before .before .before .before .before .before .before .before .before .before .before .before .before .before .before .before .before .clear-shorts .kept .0
+same-length c = c .before .before .before .before .before .before .before .before .before .before .before .before .before .before .clear-bytes .kept .0
 
 same-length-2 : tie.Need-same-length-2
-same-length-2 c = c .before .before .before .before .before .before .before .before .before .before .before .before .before .before .before .before .before .before .before .before .before .before .before .before .before .before .before .before .before .before .before .before .before .before .clear-shorts2 .kept .0
+same-length-2 c = c .before .before .before .before .before .before .before .before .before .before .clear-shorts .kept .0
 
 same-length-3 : tie.Need-same-length-3
-same-length-3 c = c .before .before .before .before .before .before .before .before .before .before .before .before .before .before .before .before .before .before .before .before .before .before .before .before .before .before .before .before .before .before .clear-words .kept .0
+same-length-3 c = c .before .before .before .before .before .before .clear-shorts2 .kept .0
 
 same-length-4 : tie.Need-same-length-4
-same-length-4 c = c .before .before .before .before .before .before .before .before .before .before .before .before .before .before .before .before .before .before .before .before .before .before .before .before .before .before .clear-words2 .kept .0
-
-same-length-5 : tie.Need-same-length-5
-same-length-5 c = c .before .before .before .before .before .before .before .before .before .before .before .before .before .before .before .before .before .before .before .before .before .before .clear-words3 .kept .0
-
-same-length-6 : tie.Need-same-length-6
-same-length-6 c = c .before .before .before .before .before .before .before .before .before .before .before .before .before .before .before .before .before .before .clear-bytes .kept .0
-
-same-length-7 : tie.Need-same-length-7
-same-length-7 c = c .before .before .before .before .before .before .before .before .before .before .before .before .before .before .clear-words4 .kept .0
-
-same-length-8 : tie.Need-same-length-8
-same-length-8 c = c .before .before .before .before .before .before .before .before .before .before .clear-words5 .kept .0
-
-same-length-9 : tie.Need-same-length-9
-same-length-9 c = c .before .before .before .before .before .before .clear-words6 .kept .0
-
-same-length-10 : tie.Need-same-length-10
-same-length-10 c = c .before .before .clear-words7 .kept .0
+same-length-4 c = c .before .before .clear-words .kept .0
 
 returns : tie.Need-returns
-returns c = (c .before .before .before .before .before .before .before .before .before .before .before .before .before .before .before .before .before .before .before .before .before .before .before .before .before .before .before .before .before .before .before .before .before .before .before .before .before .before .clear-shorts .ensures, c .before .before .before .before .before .before .before .before .before .before .before .before .before .before .before .before .before .before .before .before .before .before .before .before .before .before .before .before .before .before .before .before .before .before .clear-shorts2 .ensures, c .before .before .before .before .before .before .before .before .before .before .before .before .before .before .before .before .before .before .before .before .before .before .before .before .before .before .before .before .before .before .clear-words .ensures, c .before .before .before .before .before .before .before .before .before .before .before .before .before .before .before .before .before .before .before .before .before .before .before .before .before .before .clear-words2 .ensures, c .before .before .before .before .before .before .before .before .before .before .before .before .before .before .before .before .before .before .before .before .before .before .clear-words3 .ensures, c .before .before .before .before .before .before .before .before .before .before .before .before .before .before .before .before .before .before .clear-bytes .ensures, c .before .before .before .before .before .before .before .before .before .before .before .before .before .before .clear-words4 .ensures, c .before .before .before .before .before .before .before .before .before .before .clear-words5 .ensures, c .before .before .before .before .before .before .clear-words6 .ensures, c .before .before .clear-words7 .ensures)
+unfolding blank
+returns c = same (c .before .before .before .before .before .before .before .before .before .before .before .before .before .before .clear-bytes .ensures) (same (c .before .before .before .before .before .before .before .before .before .before .clear-shorts .ensures) (same (c .before .before .before .before .before .before .clear-shorts2 .ensures) (same (c .before .before .clear-words .ensures) refl)))
 
 pub clear-builder-spec : {M : Type 1} → statement M
-clear-builder-spec = tie.close (tie.spec clear-shorts-requires clear-shorts-requires-2 clear-words-requires clear-words-requires-2 clear-words-requires-3 clear-bytes-requires clear-words-requires-4 clear-words-requires-5 clear-words-requires-6 clear-words-requires-7 same-length same-length-2 same-length-3 same-length-4 same-length-5 same-length-6 same-length-7 same-length-8 same-length-9 same-length-10 returns)
+clear-builder-spec = tie.close (tie.spec clear-bytes-requires clear-shorts-requires clear-shorts-requires-2 clear-words-requires same-length same-length-2 same-length-3 same-length-4 returns)

@@ -1,86 +1,159 @@
 -- `read::read` meets its contract: the run, its answer, and what was used cleared. Assumes nothing.
--- HEADER
 use borrow.Author.Needs.{needs}
+use Prim.Native.Nat.{_*_}
+use mathlib.Core.List.{[], _∷_}
+use mathlib.Core.Path.{_≡_, refl, _∙_, ap}
+use native.Mathlib.Omega.{arith}
+use lib.Seq.{length-front}
+use Rattle.rooms.specs.Stated.{roomLengths, AllZero, filled, same, rooms-zero}
+use Rattle.decoder.specs.declared.Counts.{Counts}
+use Rattle.machine.specs.Ran.{countsOf}
+use Rattle.read.specs.Inner.{back-fits, back-again, part-fits, part-cleared, machine-zero, working}
 use Rattle.read.proofs.read.Statement.{statement}
 use Rattle.read.proofs.read.Tie as tie
-use native.Mathlib.Omega.{arith}
-use mathlib.Core.Path.{refl, _∙_}
-use Rattle.read.specs.Inner.{begins, ran-in, used-by, left-zero}
 
-run-requires : tie.Need-run-requires
-run-requires c κs = begins _ (c .before .before .before .before .before .before .before .before .before .before .before .before .before .before .before .before .before .before .before .before .before .before .before .before .before .before .before .before .before .pre .1) _ (c .before .before .before .before .before .before .before .before .before .before .before .before .before .before .before .before .before .before .before .before .before .before .before .before .before .before .before .before .before .pre .0)
+-- the rooms are zero
+zero : (s : tie.Start) → AllZero roomLengths (s .args .nodes .now ∷ s .args .owners .now ∷ s .args .children .now ∷ s .args .stack .now ∷ s .args .marks .now ∷ s .args .keys .now ∷ s .args .held .now ∷ s .args .unescaped .now ∷ s .args .starts .now ∷ s .args .sorted .now ∷ s .args .measures .now ∷ s .args .table .now ∷ s .args .text .now ∷ [])
+zero s = rooms-zero _ (s .pre .1)
+
+-- the run's end
+abbrev start : tie.After-run-in → tie.Start
+start c = c .before .before .before .before .before .before .before .before .before .before .before .before .before .before .before .before .before .before .before .before .before .before
+
+-- the answer's
+abbrev run : tie.After-answer → tie.After-run-in
+run c = c .before .before .before .before .before .before .before .before .before .before .before .before .before .before .before .before .before .before .before .before .before .before .before .before .before .before .before .before
+
+-- and all of it
+abbrev answer : tie.After-counts → tie.After-answer
+answer c = c .before .before .before .before .before .before .before .before .before .before .before .before .before .before .before .before .before .before .before
+
+-- the counts that it cleared by
+counted : (c : tie.After-counts) → c .counts .result ≡ countsOf (run (answer c) .run-in .result)
+counted c = c .counts .ensures
+
+abbrev ended : tie.After-slice-known32 → tie.After-counts
+ended c = c .before .before .before .before .before .before .before .before .before .before .before .before .before
+
+run-in-requires : tie.Need-run-in-requires
+run-in-requires c κs = let s = c .before .before .before .before .before .before .before .before .before .before .before .before .before .before .before .before .before .before .before .before .before in let a = s .args in (s .pre .0, machine-zero (a .nodes .now) (a .owners .now) (a .children .now) (a .stack .now) (a .marks .now) (a .keys .now) (a .held .now) (a .unescaped .now) (a .starts .now) (a .sorted .now) (a .measures .now) (a .table .now) (a .text .now) (s .pre .1))
+
+sub-answer : tie.Need-sub-answer
+sub-answer c = omega arith
+
+part-answer-start : tie.Need-part-answer-start
+part-answer-start c = omega arith
+
+part-answer-end : tie.Need-part-answer-end
+part-answer-end c = let r = c .before .before .before .before .before .before .before .before .before .before .before .before .before .before .before in rw (r .run-in .kept .1 .1 .1 .1 .0) (part-fits 2048 (start r .args .stack .now) (zero (start r) .1 .1 .1 .0))
+
+sub-answer-2 : tie.Need-sub-answer-2
+sub-answer-2 c = omega arith
+
+part-answer-start-2 : tie.Need-part-answer-start-2
+part-answer-start-2 c = omega arith
+
+part-answer-end-2 : tie.Need-part-answer-end-2
+part-answer-end-2 c = let r = c .before .before .before .before .before .before .before .before .before .before .before .before .before .before .before .before .before in rw (r .run-in .kept .1 .0) (part-fits 8192 (start r .args .nodes .now) (zero (start r) .0))
+
+sub-answer-3 : tie.Need-sub-answer-3
+sub-answer-3 c = omega arith
+
+part-answer-start-3 : tie.Need-part-answer-start-3
+part-answer-start-3 c = omega arith
+
+part-answer-end-3 : tie.Need-part-answer-end-3
+part-answer-end-3 c = let r = c .before .before .before .before .before .before .before .before .before .before .before .before .before .before .before .before .before .before in rw (r .run-in .kept .1 .1 .0) (part-fits 8192 (start r .args .owners .now) (zero (start r) .1 .0))
+
+sub-answer-4 : tie.Need-sub-answer-4
+sub-answer-4 c = omega arith
+
+part-answer-start-4 : tie.Need-part-answer-start-4
+part-answer-start-4 c = omega arith
+
+part-answer-end-4 : tie.Need-part-answer-end-4
+part-answer-end-4 c = let r = c .before .before .before .before .before .before .before .before .before .before .before .before .before .before .before .before .before .before .before in rw (r .run-in .kept .1 .1 .1 .0) (part-fits 8192 (start r .args .children .now) (zero (start r) .1 .1 .0))
 
 answer-requires : tie.Need-answer-requires
-answer-requires c κs = (ran-in _ _ _ _ _ _ _ _ _ _ (c .before .before .before .before .before .before .before .before .before .before .before .before .before .before .before .before .before .before .before .before .before .before .before .before .before .before .before .before .before .before .before .before .before .run .ensures) (λ i. omega (arith, c .before .before .before .before .before .before .before .before .before .before .before .before .before .before .before .before .before .before .before .before .before .before .before .before .before .before .before .before .before .before .before .before .before .before .before .before .before .before .before .before .before .before .before .before .before .before .before .before .before .before .before .before .before .before .before .before .before .before .before .before .before .before .shared-slice-known .given i)), (c .before .before .before .before .before .before .before .before .before .before .before .before .before .before .before .before .before .before .before .before .before .before .before .before .before .before .before .before .before .before .before .before .before .before .before .before .before .before .before .before .before .before .before .before .before .before .before .before .before .before .before .before .before .before .before .before .before .before .before .before .before .before .before .pre .1) .working)
+answer-requires c κs = let r = c .before .before .before .before .before .before .before .before .before .before .before .before .before .before .before .before .before .before .before .before .before .before .before .before .before .before .before in let a = start r .args in (r .run-in .ensures .0 .ran, working (a .nodes .now) (a .owners .now) (a .children .now) (a .stack .now) (a .marks .now) (a .keys .now) (a .held .now) (a .unescaped .now) (a .starts .now) (a .sorted .now) (a .measures .now) (a .table .now) (a .text .now) (start r .pre .1) (r .run-in .last .1 .1 .1 .1 .1 .1 .0) (r .run-in .ensures .1 .0))
 
 counts-requires : tie.Need-counts-requires
 counts-requires c κs = search needs
 
-clear-used-requires : tie.Need-clear-used-requires
-clear-used-requires c κs = used-by _ _ _ _ _ _ _ _ _ _ (c .before .before .before .before .before .before .before .before .before .before .before .before .before .before .before .before .before .before .before .before .before .before .before .before .before .before .before .before .before .before .before .before .before .before .before .before .before .before .before .before .before .before .before .before .before .before .before .before .before .before .before .before .before .before .before .before .before .before .before .before .before .before .before .before .before .before .before .before .before .before .before .run .ensures) _ _ _ (c .before .before .before .before .before .before .before .before .before .before .before .before .before .before .before .before .before .before .before .before .before .before .before .before .before .before .before .before .before .before .before .before .before .before .before .before .before .answer .ensures .1 .0) (c .counts .ensures)
+mul-clear-words : tie.Need-mul-clear-words
+mul-clear-words c = let k = c .before .before in omega (arith, ap (λ (x : Counts). x .nodes) (counted k), run (answer k) .run-in .ensures .0 .ran .ran .sound .firm .nodes)
+
+clear-words-requires : tie.Need-clear-words-requires
+clear-words-requires c κs = let k = c .before .before in back-fits (run (answer k) .run-in .ensures .0 .nodes-back) _ (ap (λ (x : Counts). 2 * x .nodes) (counted k))
+
+clear-shorts-requires : tie.Need-clear-shorts-requires
+clear-shorts-requires c κs = let k = c .before .before .before .before .before .before in back-fits (run (answer k) .run-in .ensures .0 .stack-back) _ (ap (λ (x : Counts). x .deepest) (counted k))
+
+clear-shorts-requires-2 : tie.Need-clear-shorts-requires-2
+clear-shorts-requires-2 c κs = let k = c .before .before .before .before .before .before .before .before .before .before in back-fits (run (answer k) .run-in .ensures .0 .marks-back) _ (ap (λ (x : Counts). x .most) (counted k))
 
 same-length : tie.Need-same-length
-same-length c = c .before .before .before .before .before .before .before .before .before .before .before .before .before .before .before .before .clear-used .kept .0 ∙ c .before .before .before .before .before .before .before .before .before .before .before .before .before .before .before .before .before .before .before .before .before .before .before .before .before .before .before .before .before .before .before .before .before .before .before .before .before .before .before .before .before .before .before .before .before .before .before .before .before .before .before .before .before .before .before .before .before .before .before .before .before .before .before .before .before .before .before .before .before .before .before .before .before .before .before .before .before .before .before .before .before .before .before .before .before .before .before .before .run .kept .1 .0
+same-length c = c .before .before .before .before .before .before .before .before .before .before .clear-words .kept .0 ∙ run (answer (ended c)) .run-in .kept .1 .0
 
 same-length-2 : tie.Need-same-length-2
-same-length-2 c = c .before .before .before .before .before .before .before .before .before .before .before .before .before .before .before .before .clear-used .kept .1 .0 ∙ c .before .before .before .before .before .before .before .before .before .before .before .before .before .before .before .before .before .before .before .before .before .before .before .before .before .before .before .before .before .before .before .before .before .before .before .before .before .before .before .before .before .before .before .before .before .before .before .before .before .before .before .before .before .before .answer .kept .1 .1 .1 .1 .1 .1 .0 ∙ c .before .before .before .before .before .before .before .before .before .before .before .before .before .before .before .before .before .before .before .before .before .before .before .before .before .before .before .before .before .before .before .before .before .before .before .before .before .before .before .before .before .before .before .before .before .before .before .before .before .before .before .before .before .before .before .before .before .before .before .before .before .before .before .before .before .before .before .before .before .before .before .before .before .before .before .before .before .before .before .before .before .before .before .before .before .before .before .before .run .kept .1 .1 .0
+same-length-2 c = length-front (run (answer (ended c)) .run-in .last .1 .1 .0) (answer (ended c) .answer .last .1 .1 .1 .1 .1 .0) 8192 (answer (ended c) .answer .kept .1 .1 .1 .1 .1 .0) ∙ run (answer (ended c)) .run-in .kept .1 .1 .0
 
 same-length-3 : tie.Need-same-length-3
-same-length-3 c = c .before .before .before .before .before .before .before .before .before .before .before .before .before .before .before .before .clear-used .kept .1 .1 .0 ∙ c .before .before .before .before .before .before .before .before .before .before .before .before .before .before .before .before .before .before .before .before .before .before .before .before .before .before .before .before .before .before .before .before .before .before .before .before .before .before .before .before .before .before .before .before .before .before .before .before .before .before .before .before .before .before .answer .kept .1 .1 .1 .1 .1 .1 .1 .0 ∙ c .before .before .before .before .before .before .before .before .before .before .before .before .before .before .before .before .before .before .before .before .before .before .before .before .before .before .before .before .before .before .before .before .before .before .before .before .before .before .before .before .before .before .before .before .before .before .before .before .before .before .before .before .before .before .before .before .before .before .before .before .before .before .before .before .before .before .before .before .before .before .before .before .before .before .before .before .before .before .before .before .before .before .before .before .before .before .before .before .run .kept .1 .1 .1 .0
+same-length-3 c = length-front (run (answer (ended c)) .run-in .last .1 .1 .1 .0) (answer (ended c) .answer .last .1 .1 .1 .1 .1 .1 .0) 8192 (answer (ended c) .answer .kept .1 .1 .1 .1 .1 .1 .0) ∙ run (answer (ended c)) .run-in .kept .1 .1 .1 .0
 
 same-length-4 : tie.Need-same-length-4
-same-length-4 c = c .before .before .before .before .before .before .before .before .before .before .before .before .before .before .before .before .clear-used .kept .1 .1 .1 .0 ∙ c .before .before .before .before .before .before .before .before .before .before .before .before .before .before .before .before .before .before .before .before .before .before .before .before .before .before .before .before .before .before .before .before .before .before .before .before .before .before .before .before .before .before .before .before .before .before .before .before .before .before .before .before .before .before .before .before .before .before .before .before .before .before .before .before .before .before .before .before .before .before .before .before .before .before .before .before .before .before .before .before .before .before .before .before .before .before .before .before .run .kept .1 .1 .1 .1 .0
+same-length-4 c = c .before .before .before .before .before .before .clear-shorts .kept .0 ∙ run (answer (ended c)) .run-in .kept .1 .1 .1 .1 .0
 
 same-length-5 : tie.Need-same-length-5
-same-length-5 c = c .before .before .before .before .before .before .before .before .before .before .before .before .before .before .before .before .clear-used .kept .1 .1 .1 .1 .0 ∙ c .before .before .before .before .before .before .before .before .before .before .before .before .before .before .before .before .before .before .before .before .before .before .before .before .before .before .before .before .before .before .before .before .before .before .before .before .before .before .before .before .before .before .before .before .before .before .before .before .before .before .before .before .before .before .before .before .before .before .before .before .before .before .before .before .before .before .before .before .before .before .before .before .before .before .before .before .before .before .before .before .before .before .before .before .before .before .before .before .run .kept .1 .1 .1 .1 .1 .0
+same-length-5 c = c .before .before .clear-shorts2 .kept .0 ∙ run (answer (ended c)) .run-in .kept .1 .1 .1 .1 .1 .0
 
 same-length-6 : tie.Need-same-length-6
-same-length-6 c = c .before .before .before .before .before .before .before .before .before .before .before .before .before .before .before .before .clear-used .kept .1 .1 .1 .1 .1 .0 ∙ c .before .before .before .before .before .before .before .before .before .before .before .before .before .before .before .before .before .before .before .before .before .before .before .before .before .before .before .before .before .before .before .before .before .before .before .before .before .before .before .before .before .before .before .before .before .before .before .before .before .before .before .before .before .before .before .before .before .before .before .before .before .before .before .before .before .before .before .before .before .before .before .before .before .before .before .before .before .before .before .before .before .before .before .before .before .before .before .before .run .kept .1 .1 .1 .1 .1 .1 .0
+same-length-6 c = answer (ended c) .answer .kept .1 .1 .1 .1 .1 .1 .1 .0 ∙ run (answer (ended c)) .run-in .kept .1 .1 .1 .1 .1 .1 .0
 
 same-length-7 : tie.Need-same-length-7
-same-length-7 c = c .before .before .before .before .before .before .before .before .before .before .before .before .before .before .before .before .clear-used .kept .1 .1 .1 .1 .1 .1 .0 ∙ c .before .before .before .before .before .before .before .before .before .before .before .before .before .before .before .before .before .before .before .before .before .before .before .before .before .before .before .before .before .before .before .before .before .before .before .before .before .before .before .before .before .before .before .before .before .before .before .before .before .before .before .before .before .before .before .before .before .before .before .before .before .before .before .before .before .before .before .before .before .before .before .before .before .before .before .before .before .before .before .before .before .before .before .before .before .before .before .before .run .kept .1 .1 .1 .1 .1 .1 .1 .0
+same-length-7 c = run (answer (ended c)) .run-in .kept .1 .1 .1 .1 .1 .1 .1 .0
 
 same-length-8 : tie.Need-same-length-8
-same-length-8 c = c .before .before .before .before .before .before .before .before .before .before .before .before .before .before .before .before .clear-used .kept .1 .1 .1 .1 .1 .1 .1 .0 ∙ c .before .before .before .before .before .before .before .before .before .before .before .before .before .before .before .before .before .before .before .before .before .before .before .before .before .before .before .before .before .before .before .before .before .before .before .before .before .before .before .before .before .before .before .before .before .before .before .before .before .before .before .before .before .before .before .before .before .before .before .before .before .before .before .before .before .before .before .before .before .before .before .before .before .before .before .before .before .before .before .before .before .before .before .before .before .before .before .before .run .kept .1 .1 .1 .1 .1 .1 .1 .1 .0
+same-length-8 c = answer (ended c) .answer .kept .1 .1 .1 .1 .1 .1 .1 .1 .0
 
 same-length-9 : tie.Need-same-length-9
-same-length-9 c = c .before .before .before .before .before .before .before .before .before .before .before .before .before .before .before .before .before .before .before .before .before .before .before .before .before .before .before .before .before .before .before .before .before .before .before .before .before .before .before .before .before .before .before .before .before .before .before .before .before .before .before .before .before .before .answer .kept .1 .1 .1 .1 .1 .1 .1 .1 .0
+same-length-9 c = answer (ended c) .answer .kept .1 .1 .1 .1 .1 .1 .1 .1 .1 .0
 
 same-length-10 : tie.Need-same-length-10
-same-length-10 c = c .before .before .before .before .before .before .before .before .before .before .before .before .before .before .before .before .before .before .before .before .before .before .before .before .before .before .before .before .before .before .before .before .before .before .before .before .before .before .before .before .before .before .before .before .before .before .before .before .before .before .before .before .before .before .answer .kept .1 .1 .1 .1 .1 .1 .1 .1 .1 .0
+same-length-10 c = answer (ended c) .answer .kept .1 .1 .1 .1 .1 .1 .1 .1 .1 .1 .0
 
 same-length-11 : tie.Need-same-length-11
-same-length-11 c = c .before .before .before .before .before .before .before .before .before .before .before .before .before .before .before .before .before .before .before .before .before .before .before .before .before .before .before .before .before .before .before .before .before .before .before .before .before .before .before .before .before .before .before .before .before .before .before .before .before .before .before .before .before .before .answer .kept .1 .1 .1 .1 .1 .1 .1 .1 .1 .1 .0
+same-length-11 c = answer (ended c) .answer .kept .1 .1 .1 .1 .1 .1 .1 .1 .1 .1 .1 .0
 
 same-length-12 : tie.Need-same-length-12
-same-length-12 c = c .before .before .before .before .before .before .before .before .before .before .before .before .before .before .before .before .before .before .before .before .before .before .before .before .before .before .before .before .before .before .before .before .before .before .before .before .before .before .before .before .before .before .before .before .before .before .before .before .before .before .before .before .before .before .answer .kept .1 .1 .1 .1 .1 .1 .1 .1 .1 .1 .1 .0
+same-length-12 c = answer (ended c) .answer .kept .1 .1 .1 .1 .1 .1 .1 .1 .1 .1 .1 .1 .0
 
 same-length-13 : tie.Need-same-length-13
-same-length-13 c = c .before .before .before .before .before .before .before .before .before .before .before .before .before .before .before .before .before .before .before .before .before .before .before .before .before .before .before .before .before .before .before .before .before .before .before .before .before .before .before .before .before .before .before .before .before .before .before .before .before .before .before .before .before .before .answer .kept .1 .1 .1 .1 .1 .1 .1 .1 .1 .1 .1 .1 .0
-
-same-length-14 : tie.Need-same-length-14
-same-length-14 c = c .before .before .before .before .before .before .before .before .before .before .before .before .before .before .before .before .before .before .before .before .before .before .before .before .before .before .before .before .before .before .before .before .before .before .before .before .before .before .before .before .before .before .before .before .before .before .before .before .before .before .before .before .before .before .answer .kept .1 .1 .1 .1 .1 .1 .1 .1 .1 .1 .1 .1 .1 .0
-
-same-length-15 : tie.Need-same-length-15
-same-length-15 c = c .before .before .before .before .before .before .before .before .before .before .before .before .before .before .before .before .before .before .before .before .before .before .before .before .before .before .before .before .before .before .before .before .before .before .before .before .before .before .before .before .before .before .before .before .before .before .before .before .before .before .before .before .before .before .answer .kept .1 .1 .1 .1 .1 .1 .1 .1 .1 .1 .1 .1 .1 .1 .0
-
-same-length-16 : tie.Need-same-length-16
-same-length-16 c = c .before .before .before .before .before .before .before .before .before .before .before .before .before .before .before .before .before .before .before .before .before .before .before .before .before .before .before .before .before .before .before .before .before .before .before .before .before .before .before .before .before .before .before .before .before .before .before .before .before .before .before .before .before .before .answer .kept .1 .1 .1 .1 .1 .1 .1 .1 .1 .1 .1 .1 .1 .1 .1 .0
-
-same-length-17 : tie.Need-same-length-17
-same-length-17 c = c .before .before .before .before .before .before .before .before .before .before .before .before .before .before .before .before .before .before .before .before .before .before .before .before .before .before .before .before .before .before .before .before .before .before .before .before .before .before .before .before .before .before .before .before .before .before .before .before .before .before .before .before .before .before .answer .kept .1 .1 .1 .1 .1 .1 .1 .1 .1 .1 .1 .1 .1 .1 .1 .1 .0
-
-same-length-18 : tie.Need-same-length-18
-same-length-18 c = c .before .before .before .before .before .before .before .before .before .before .before .before .before .before .before .before .before .before .before .before .before .before .before .before .before .before .before .before .before .before .before .before .before .before .before .before .before .before .before .before .before .before .before .before .before .before .before .before .before .before .before .before .before .before .answer .kept .1 .1 .1 .1 .1 .1 .1 .1 .1 .1 .1 .1 .1 .1 .1 .1 .1 .0
-
-same-length-19 : tie.Need-same-length-19
-same-length-19 c = c .before .before .before .before .before .before .before .before .before .before .before .before .before .before .before .before .before .before .before .before .before .before .before .before .before .before .before .before .before .before .before .before .before .before .before .before .before .before .before .before .before .before .before .before .before .before .before .before .before .before .before .before .before .before .answer .kept .1 .1 .1 .1 .1 .1 .1 .1 .1 .1 .1 .1 .1 .1 .1 .1 .1 .1 .0
-
-same-length-20 : tie.Need-same-length-20
-same-length-20 c = c .before .before .before .before .before .before .before .before .before .before .before .before .before .before .before .before .before .before .before .before .before .before .before .before .before .before .before .before .before .before .before .before .before .before .before .before .before .before .before .before .before .before .before .before .before .before .before .before .before .before .before .before .before .before .answer .kept .1 .1 .1 .1 .1 .1 .1 .1 .1 .1 .1 .1 .1 .1 .1 .1 .1 .1 .1 .0
+same-length-13 c = answer (ended c) .answer .kept .1 .1 .1 .1 .1 .1 .1 .1 .1 .1 .1 .1 .1 .0
 
 returns : tie.Need-returns
-returns c = (c .before .before .before .before .before .before .before .before .before .before .before .before .before .before .before .before .before .before .before .before .before .before .before .before .before .before .before .before .before .before .before .before .before .before .before .before .before .before .before .before .before .before .before .before .before .before .before .before .before .before .before .before .before .before .answer .ensures .0 .answer, left-zero _ (c .before .before .before .before .before .before .before .before .before .before .before .before .before .before .before .before .before .before .before .before .before .before .before .before .before .before .before .before .before .before .before .before .before .before .before .before .before .before .before .before .before .before .before .before .before .before .before .before .before .before .before .before .before .before .before .before .before .before .before .before .before .before .before .before .before .before .before .before .before .before .before .before .before .before .before .before .before .before .before .before .before .before .before .before .before .before .before .before .before .before .before .before .before .before .before .before .before .before .before .before .before .before .before .before .before .before .before .before .before .before .before .before .before .before .before .before .before .before .pre .1) _ _ _ _ (c .before .before .before .before .before .before .before .before .before .before .before .before .before .before .before .before .before .before .before .before .before .before .before .before .before .before .before .before .before .before .before .before .before .before .before .before .before .before .before .before .before .before .before .before .before .before .before .before .before .before .before .before .before .before .answer .ensures .0) _ _ _ _ _ _ _ _ (c .before .before .before .before .before .before .before .before .before .before .before .before .before .before .before .before .clear-used .ensures) _ _ _ _ _ _ _ _ _ _ (c .before .before .before .before .before .before .before .before .before .before .before .before .before .before .before .before .before .before .before .before .before .before .before .before .before .before .before .before .before .before .before .before .before .before .before .before .before .before .before .before .before .before .before .before .before .before .before .before .before .before .before .before .before .before .answer .ensures .1 .1))
+unfolding filled
+returns c =
+    let k = ended c in
+    let s = start (run (answer k)) in
+    let r = run (answer (ended c)) .run-in .ensures .0 in
+    let a = answer (ended c) .answer .ensures in
+    record {
+      answer = a .0 .answer;
+      slices = same (back-again (r .nodes-back) _ (ap (λ (x : Counts). 2 * x .nodes) (counted k)) _ (c .before .before .before .before .before .before .before .before .before .before .clear-words .ensures))
+          (same (part-cleared 8192 (s .args .owners .now) (zero s .1 .0) (run (answer (ended c)) .run-in .last .1 .1 .0) (answer (ended c) .answer .last .1 .1 .1 .1 .1 .0) (run (answer (ended c)) .run-in .kept .1 .1 .0) (r .owners-behind) (a .1 .0 .0))
+          (same (part-cleared 8192 (s .args .children .now) (zero s .1 .1 .0) (run (answer (ended c)) .run-in .last .1 .1 .1 .0) (answer (ended c) .answer .last .1 .1 .1 .1 .1 .1 .0) (run (answer (ended c)) .run-in .kept .1 .1 .1 .0) (r .children-behind) (a .1 .0 .1))
+          (same (back-again (r .stack-back) _ (ap (λ (x : Counts). x .deepest) (counted k)) _ (c .before .before .before .before .before .before .clear-shorts .ensures))
+          (same (back-again (r .marks-back) _ (ap (λ (x : Counts). x .most) (counted k)) _ (c .before .before .clear-shorts2 .ensures))
+          (same (a .1 .1 .0 ∙ run (answer (ended c)) .run-in .ensures .1 .0)
+          (same (run (answer (ended c)) .run-in .ensures .1 .1)
+          (same (a .1 .1 .1)
+          (same (a .1 .1 .2)
+          (same (a .1 .1 .3)
+          (same (a .1 .1 .4)
+          (same (a .0 .table-is)
+          (same (a .0 .text-is) refl))))))))))));
+    }
 
 pub read-spec : {M : Type 1} → statement M
-read-spec = tie.close (tie.spec run-requires answer-requires counts-requires clear-used-requires same-length same-length-2 same-length-3 same-length-4 same-length-5 same-length-6 same-length-7 same-length-8 same-length-9 same-length-10 same-length-11 same-length-12 same-length-13 same-length-14 same-length-15 same-length-16 same-length-17 same-length-18 same-length-19 same-length-20 returns)
+read-spec = tie.close (tie.spec run-in-requires sub-answer part-answer-start part-answer-end sub-answer-2 part-answer-start-2 part-answer-end-2 sub-answer-3 part-answer-start-3 part-answer-end-3 sub-answer-4 part-answer-start-4 part-answer-end-4 answer-requires counts-requires mul-clear-words clear-words-requires clear-shorts-requires clear-shorts-requires-2 same-length same-length-2 same-length-3 same-length-4 same-length-5 same-length-6 same-length-7 same-length-8 same-length-9 same-length-10 same-length-11 same-length-12 same-length-13 returns)

@@ -4,6 +4,7 @@ use Rattle.replay_machine.proofs.in_rooms.Statement.{statement}
 use Rattle.replay_machine.proofs.in_rooms.Tie as tie
 use Rattle.replay_machine.proofs.in_rooms.Reads as reads
 use Rattle.replay_machine.proofs.in_rooms.Lts as lts
+use native.Mathlib.Omega.{arith}
 use Rattle.machine.specs.Fresh.{fresh}
 
 slice-aggregate-show : tie.Need-slice-aggregate-show
@@ -27,11 +28,8 @@ slice-aggregate-show-6 c = search needs
 slice-aggregate-show-7 : tie.Need-slice-aggregate-show-7
 slice-aggregate-show-7 c = search needs
 
-slice-aggregate-show-8 : tie.Need-slice-aggregate-show-8
-slice-aggregate-show-8 c = search needs
-
 show-requires : tie.Need-show-requires
-show-requires c κs = fresh _ (c .before .before .before .before .before .before .before .before .before .pre)
+show-requires c κs = fresh _ 8192 8192 8192 2048 256 1024 1024 (c .before .before .before .before .before .before .before .before .pre) (omega arith) (omega arith) (omega arith) (omega arith) (omega arith) (omega arith) (omega arith)
 
 returns : tie.Need-returns
 returns c = search needs
@@ -47,6 +45,5 @@ in-rooms-spec =
     slice-aggregate-show-5
     slice-aggregate-show-6
     slice-aggregate-show-7
-    slice-aggregate-show-8
     show-requires
     returns)

@@ -4,7 +4,7 @@ use Rattle.resolve.proofs.blocked.Statement.{statement}
 use Rattle.resolve.proofs.blocked.Tie as tie
 use mathlib.Core.Path.{sym}
 use native.Mathlib.Omega.{arith}
-use Rattle.measure.specs.Steps.{held-other, held-none, held-first}
+use Rattle.resolve.specs.Blocked.{held-other, held-none, held-first}
 
 mul-first : tie.Need-mul-first
 mul-first c = search needs

@@ -2,7 +2,7 @@
 use borrow.Author.Needs.{needs}
 use Rattle.resolve.proofs.leaf_word.Statement.{statement}
 use Rattle.resolve.proofs.leaf_word.Tie as tie
-use Rattle.measure.specs.Word.{packW}
+use Rattle.resolve.specs.Word.{packW}
 
 text-len-requires : tie.Need-text-len-requires
 text-len-requires c κs = search needs

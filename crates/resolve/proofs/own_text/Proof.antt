@@ -3,7 +3,7 @@ use borrow.Author.Needs.{needs}
 use Rattle.resolve.proofs.own_text.Statement.{statement}
 use Rattle.resolve.proofs.own_text.Tie as tie
 use native.Mathlib.Omega.{arith}
-use Rattle.measure.specs.Word.{packW}
+use Rattle.resolve.specs.Word.{packW}
 use Rattle.resolve.specs.Class.{own-none, own-kept, own-new}
 
 returns : tie.Need-returns

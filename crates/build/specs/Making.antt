@@ -1,0 +1,130 @@
+-- From the measuring walk to the outputs: where nothing is due the rooms hold what `produce` asks for, and its outputs are what building comes to.
+use Prim.Native.Nat.{ℕ, _/_, _%_, _^_, _*_, _<_, _≤_}
+use mathlib.Core.Bool.{Bool, true, false, cond, not}
+use mathlib.Core.List.{List, [], _∷_}
+use mathlib.Core.Path.{_≡_, refl, sym, _∙_, ap}
+use lib.ListN.{length, getD}
+use borrow.Author.Tests.{eqb-true}
+use native.Mathlib.Omega.{arith}
+use Rattle.refusal.specs.declared.Refusal.{Refusal}
+use Rattle.refusal.specs.declared.Refusal.the-variants.{TrailingData}
+use Rattle.value.specs.Value.{Label, NoneL, BoolL, I64L, F64L, BytesL, StringL, ListL, TupleL, SetL, FrozenSetL, DictL, GlobalL, ObjectL, Forest, one, kind, size, depth, text}
+use Rattle.value.specs.Shape.{kindIn, stateIn}
+use Rattle.decoder.specs.State.{Res, ok, no, _>>=_, need}
+use Rattle.decoder.specs.Opcodes.{isObject}
+use Rattle.decoder.specs.Rooms.{first, second, partsOf, nodeIs, kidsOf, classIn}
+use Rattle.decoder.specs.RoomReads.{node-kind}
+use Rattle.builder.specs.Build.{at, tree}
+use Rattle.builder.specs.Measure.{measured, measured-within}
+use Rattle.resolve.specs.Facts.{Facts}
+use Rattle.resolve.specs.Standing.{node-is, label-is, facts}
+use Rattle.resolve.specs.Rooted.{Begins, Rooted, r-deep, r-word, Roots}
+use Rattle.resolve.specs.declared.Answer.{Answer}
+use Rattle.produce.specs.Measured.{Worded, MeasuredAs, Measured, Produces}
+use Rattle.build.specs.Building.{dueOf, Comes, Makes}
+use Rattle.build.specs.Limits.{said, Tells}
+use Rattle.build.specs.declared.Built.the-variants as built
+use Rattle.build.specs.declared.Due.{Due}
+use Rattle.build.specs.declared.Due.the-variants as due
+
+-- ---- the nodes as their words say them
+
+-- an Object's arguments and any state
+object-few : (p ws ks : List ℕ) (a b : ℕ) → kindIn a ≡ 12 → length (nodeIs p ws ks a b .kids) ≤ 2
+unfolding partsOf
+object-few p ws ks a b e = rw (node-kind p ws ks a b 12 e) (go (stateIn a))
+  where
+    go : (s : Bool) → length (b % 2 ^ 32 ∷ cond s (b / 2 ^ 32 ∷ []) []) ≤ 2
+    go true = omega arith
+    go false = omega arith
+
+is-object : (l : Label) → kind l ≡ 12 → isObject l ≡ true
+is-object NoneL e = absurd (omega arith)
+is-object (BoolL b) e = absurd (omega arith)
+is-object (I64L n) e = absurd (omega arith)
+is-object (F64L n) e = absurd (omega arith)
+is-object (BytesL s) e = absurd (omega arith)
+is-object (StringL s) e = absurd (omega arith)
+is-object ListL e = absurd (omega arith)
+is-object TupleL e = absurd (omega arith)
+is-object SetL e = absurd (omega arith)
+is-object FrozenSetL e = absurd (omega arith)
+is-object DictL e = absurd (omega arith)
+is-object (GlobalL m n) e = absurd (omega arith)
+is-object (ObjectL m n b) e = refl
+
+module _ {p ws starts children marks dues : List ℕ} {root : ℕ} (k : Begins p ws starts children marks dues root) where
+  facts-are : Facts p ws starts (k .nodes)
+  facts-are = facts p ws (k .nodes) starts children (k .stands) (k .graph) (k .beyond)
+
+  classes-are : (i : ℕ) → i < length (k .nodes) → kindIn (first ws i) ≡ 12 → (classIn (first ws i) < length (k .nodes)) × (kindIn (first ws (classIn (first ws i))) ≡ 11)
+  unfolding kindIn first classIn
+  classes-are i l e = facts-are .classes i l e
+
+  objects-few : (i : ℕ) → i < length (k .nodes) → kind (at (k .nodes) i .label) ≡ 12 → length (at (k .nodes) i .kids) ≤ 2
+  unfolding kindIn first
+  objects-few i l e =
+      let o : kindIn (first ws i) ≡ 12 = eqb-true (getD ws (2 * i) 0 % 16) 12 (sym (facts-are .objects i l) ∙ is-object (at (k .nodes) i .label) e) in
+      let o′ : kindIn (first (k .stands .rooms .nodes) i) ≡ 12 = ap (λ (x : List ℕ). kindIn (first x i)) (k .stands .words) ∙ o in
+      rw (node-is p ws (k .nodes) (k .stands) i l)
+      (object-few (k .stands .rooms .pickle) (k .stands .rooms .nodes) (kidsOf (k .stands .rooms) (k .stands .counts) i) (first (k .stands .rooms .nodes) i) (second (k .stands .rooms .nodes) i) o′)
+
+  abbrev worded : Worded p ws (k .nodes)
+  worded =
+      record {
+        beyond = k .beyond;
+        short = omega (arith, k .stands .sound .firm .lengths .pickle, ap length (k .stands .pickle));
+        words-long = facts-are .words-long;
+        labels-are = label-is p ws (k .nodes) (k .stands);
+        classes = classes-are;
+        leafless = facts-are .leafless;
+        few = objects-few;
+      }
+
+-- ---- what is due
+
+due-within : (left : Bool) (f : Forest) → dueOf left f ≡ ok tt → measured f ≡ ok tt
+unfolding dueOf _>>=_
+due-within left f e = go (measured f) refl e
+  where
+    go : (r : Res (Unit {0})) → measured f ≡ r → (r >>= λ x. need (not left) TrailingData) ≡ ok tt → measured f ≡ ok tt
+    go (ok u) q e = q
+    go (no why) q e = absurd (let z : _≡_ {A = ℕ} 0 1 = cc in omega arith)
+
+module _ (p ws starts children marks dues children′ marks′ dues′ : List ℕ) (root : ℕ) (a : Answer) (R : Roots p ws starts children marks dues children′ marks′ dues′ root a) (left : Bool) (d : Due) (T : Tells a left d) where
+  told : (k : Begins p ws starts children marks dues root) → dueOf left (one (tree (k .nodes) root)) ≡ said d
+  unfolding Roots Tells
+  told k = T (k .nodes) (k .beyond) starts dues marks′ children′ dues′ root (R k)
+
+  -- a refusal
+  pub make-refused : (why : Refusal) → d ≡ due.Refused why → (o q : List ℕ) → Makes p ws starts children marks dues root left (built.Refused why) o q o q
+  unfolding Makes Comes said
+  make-refused why e o q k = (told k ∙ ap said e, refl, refl)
+
+  -- nothing
+  module _ (e : d ≡ due.Nothing) where
+    free : (k : Begins p ws starts children marks dues root) → dueOf left (one (tree (k .nodes) root)) ≡ ok tt
+    unfolding said
+    free k = told k ∙ ap said e
+
+    measured-as : (k : Begins p ws starts children marks dues root) → MeasuredAs p ws starts children′ dues′ marks′ (k .nodes) root
+    unfolding Roots
+    measured-as k = go a (R k)
+      where
+        within : (depth (one (tree (k .nodes) root)) ≤ 64) × (size (one (tree (k .nodes) root)) ≤ 2048) × (length (text (one (tree (k .nodes) root))) ≤ 65536)
+        within = measured-within (one (tree (k .nodes) root)) (due-within left (one (tree (k .nodes) root)) (free k))
+
+        go : (a : Answer) → Rooted (k .nodes) (k .beyond) starts dues marks′ children′ dues′ root a → MeasuredAs p ws starts children′ dues′ marks′ (k .nodes) root
+        go _ (r-deep h x) = absurd (omega (arith, within .0))
+        go _ (r-word w m x h) = record {
+          limited = record { worded = worded k; before = children; graph = k .graph; below = k .below; deep = within .0; records = within .1; texts = within .2 };
+          lent = dues;
+          holds = h;
+        }
+
+    pub make-measured : Begins p ws starts children marks dues root → Measured p ws starts children′ dues′ marks′ root
+    make-measured k = record { nodes = k .nodes; are = measured-as k }
+
+    pub make-made : (o q o′ q′ : List ℕ) (n : ℕ) → Produces p ws starts children′ dues′ marks′ root o q o′ q′ n → Makes p ws starts children marks dues root left (built.Made n) o q o′ q′
+    unfolding Makes Comes
+    make-made o q o′ q′ n P k = let x = P (k .nodes) (measured-as k) in (free k, x .counted, x .table-is, x .text-is)

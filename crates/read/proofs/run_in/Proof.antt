@@ -1,0 +1,136 @@
+-- `read::run_in` meets its contract: the parts that are lent are put back, and the memo is cleared. Assumes nothing.
+use borrow.Author.Needs.{needs}
+use Prim.Native.Nat.{_*_}
+use mathlib.Core.List.{_++_}
+use mathlib.Core.Path.{_∙_, ap}
+use native.Mathlib.Omega.{arith}
+use lib.ListN.{drop}
+use lib.Seq.{length-front}
+use Rattle.decoder.specs.declared.Counts.{Counts}
+use Rattle.machine.specs.Ran.{countsOf}
+use Rattle.read.specs.Inner.{Back, Runs, back-fits, back-again, part-fits, begins, runs, keys-back, held-back}
+use Rattle.read.proofs.run_in.Statement.{statement}
+use Rattle.read.proofs.run_in.Tie as tie
+
+-- the run's end
+abbrev called : tie.After-slice-known16 → tie.After-run
+called c = c .before .before .before .before .before .before .before .before .before .before .before .before .before .before .before .before .before .before .before .before .before .before .before
+
+abbrev start : tie.After-run → tie.Start
+start c = c .before .before .before .before .before .before .before .before .before .before .before .before .before .before .before .before
+
+-- what it leaves
+ran : (c : tie.After-run)
+    → Runs (c .run .result) (start c .args .pickle .now) (start c .args .nodes .now) (start c .args .owners .now) (start c .args .children .now) (start c .args .stack .now) (start c .args .marks .now)
+    (c .run .last .1 .0 ++ drop 8192 (start c .args .nodes .now)) (c .run .last .1 .1 .0 ++ drop 8192 (start c .args .owners .now)) (c .run .last .1 .1 .1 .0 ++ drop 8192 (start c .args .children .now)) (c .run .last .1 .1 .1 .1 .0 ++ drop 2048 (start c .args .stack .now)) (c .run .last .1 .1 .1 .1 .1 .0 ++ drop 256 (start c .args .marks .now))
+ran c = let a = start c .args in let r = c .run in runs (a .pickle .now) (a .nodes .now) (a .owners .now) (a .children .now) (a .stack .now) (a .marks .now) (a .keys .now) (a .held .now) (start c .pre .1) (r .result) (r .last .1 .0) (r .last .1 .1 .0) (r .last .1 .1 .1 .0) (r .last .1 .1 .1 .1 .0) (r .last .1 .1 .1 .1 .1 .0) (r .last .1 .1 .1 .1 .1 .1 .0) (r .last .1 .1 .1 .1 .1 .1 .1 .0) (r .ensures) (r .kept .1 .0) (r .kept .1 .1 .0) (r .kept .1 .1 .1 .0) (r .kept .1 .1 .1 .1 .0) (r .kept .1 .1 .1 .1 .1 .0)
+
+keys : (c : tie.After-run) → Back (countsOf (c .run .result) .memo) (start c .args .keys .now) (c .run .last .1 .1 .1 .1 .1 .1 .0 ++ drop 2048 (start c .args .keys .now))
+keys c = let a = start c .args in let r = c .run in keys-back (a .pickle .now) (a .nodes .now) (a .owners .now) (a .children .now) (a .stack .now) (a .marks .now) (a .keys .now) (a .held .now) (start c .pre .1) (r .result) (r .last .1 .0) (r .last .1 .1 .0) (r .last .1 .1 .1 .0) (r .last .1 .1 .1 .1 .0) (r .last .1 .1 .1 .1 .1 .0) (r .last .1 .1 .1 .1 .1 .1 .0) (r .last .1 .1 .1 .1 .1 .1 .1 .0) (r .ensures) (r .kept .1 .1 .1 .1 .1 .1 .0)
+
+held : (c : tie.After-run) → Back (countsOf (c .run .result) .memo) (start c .args .held .now) (c .run .last .1 .1 .1 .1 .1 .1 .1 .0 ++ drop 1024 (start c .args .held .now))
+held c = let a = start c .args in let r = c .run in held-back (a .pickle .now) (a .nodes .now) (a .owners .now) (a .children .now) (a .stack .now) (a .marks .now) (a .keys .now) (a .held .now) (start c .pre .1) (r .result) (r .last .1 .0) (r .last .1 .1 .0) (r .last .1 .1 .1 .0) (r .last .1 .1 .1 .1 .0) (r .last .1 .1 .1 .1 .1 .0) (r .last .1 .1 .1 .1 .1 .1 .0) (r .last .1 .1 .1 .1 .1 .1 .1 .0) (r .ensures) (r .kept .1 .1 .1 .1 .1 .1 .1 .0)
+
+sub-run : tie.Need-sub-run
+sub-run c = omega arith
+
+part-run-start : tie.Need-part-run-start
+part-run-start c = omega arith
+
+part-run-end : tie.Need-part-run-end
+part-run-end c = part-fits 8192 (c .before .before .before .before .before .before .before .before .args .nodes .now) (c .before .before .before .before .before .before .before .before .pre .1 .0)
+
+sub-run-2 : tie.Need-sub-run-2
+sub-run-2 c = omega arith
+
+part-run-start-2 : tie.Need-part-run-start-2
+part-run-start-2 c = omega arith
+
+part-run-end-2 : tie.Need-part-run-end-2
+part-run-end-2 c = part-fits 8192 (c .before .before .before .before .before .before .before .before .before .args .owners .now) (c .before .before .before .before .before .before .before .before .before .pre .1 .1 .0)
+
+sub-run-3 : tie.Need-sub-run-3
+sub-run-3 c = omega arith
+
+part-run-start-3 : tie.Need-part-run-start-3
+part-run-start-3 c = omega arith
+
+part-run-end-3 : tie.Need-part-run-end-3
+part-run-end-3 c = part-fits 8192 (c .before .before .before .before .before .before .before .before .before .before .args .children .now) (c .before .before .before .before .before .before .before .before .before .before .pre .1 .1 .1 .0)
+
+sub-run-4 : tie.Need-sub-run-4
+sub-run-4 c = omega arith
+
+part-run-start-4 : tie.Need-part-run-start-4
+part-run-start-4 c = omega arith
+
+part-run-end-4 : tie.Need-part-run-end-4
+part-run-end-4 c = part-fits 2048 (c .before .before .before .before .before .before .before .before .before .before .before .args .stack .now) (c .before .before .before .before .before .before .before .before .before .before .before .pre .1 .1 .1 .1 .0)
+
+sub-run-5 : tie.Need-sub-run-5
+sub-run-5 c = omega arith
+
+part-run-start-5 : tie.Need-part-run-start-5
+part-run-start-5 c = omega arith
+
+part-run-end-5 : tie.Need-part-run-end-5
+part-run-end-5 c = part-fits 256 (c .before .before .before .before .before .before .before .before .before .before .before .before .args .marks .now) (c .before .before .before .before .before .before .before .before .before .before .before .before .pre .1 .1 .1 .1 .1 .0)
+
+sub-run-6 : tie.Need-sub-run-6
+sub-run-6 c = omega arith
+
+part-run-start-6 : tie.Need-part-run-start-6
+part-run-start-6 c = omega arith
+
+part-run-end-6 : tie.Need-part-run-end-6
+part-run-end-6 c = part-fits 2048 (c .before .before .before .before .before .before .before .before .before .before .before .before .before .args .keys .now) (c .before .before .before .before .before .before .before .before .before .before .before .before .before .pre .1 .1 .1 .1 .1 .1 .0)
+
+sub-run-7 : tie.Need-sub-run-7
+sub-run-7 c = omega arith
+
+part-run-start-7 : tie.Need-part-run-start-7
+part-run-start-7 c = omega arith
+
+part-run-end-7 : tie.Need-part-run-end-7
+part-run-end-7 c = part-fits 1024 (c .before .before .before .before .before .before .before .before .before .before .before .before .before .before .args .held .now) (c .before .before .before .before .before .before .before .before .before .before .before .before .before .before .pre .1 .1 .1 .1 .1 .1 .1 .0)
+
+run-requires : tie.Need-run-requires
+run-requires c κs = let s = c .before .before .before .before .before .before .before .before .before .before .before .before .before .before .before in let a = s .args in begins (a .pickle .now) (a .nodes .now) (a .owners .now) (a .children .now) (a .stack .now) (a .marks .now) (a .keys .now) (a .held .now) (s .pre .1) (s .pre .0)
+
+counts-requires : tie.Need-counts-requires
+counts-requires c κs = search needs
+
+clear-ints-requires : tie.Need-clear-ints-requires
+clear-ints-requires c κs = back-fits (keys (c .before .before .before .before .before .before .before .before .before .before .before .before .before .before .before .before)) _ (ap (λ (x : Counts). x .memo) (c .before .counts .ensures))
+
+clear-shorts-requires : tie.Need-clear-shorts-requires
+clear-shorts-requires c κs = back-fits (held (c .before .before .before .before .before .before .before .before .before .before .before .before .before .before .before .before .before .before .before .before)) _ (ap (λ (x : Counts). x .memo) (c .before .before .before .before .before .counts .ensures))
+
+same-length : tie.Need-same-length
+same-length c = length-front (start (called c) .args .nodes .now) (called c .run .last .1 .0) 8192 (called c .run .kept .1 .0)
+
+same-length-2 : tie.Need-same-length-2
+same-length-2 c = length-front (start (called c) .args .owners .now) (called c .run .last .1 .1 .0) 8192 (called c .run .kept .1 .1 .0)
+
+same-length-3 : tie.Need-same-length-3
+same-length-3 c = length-front (start (called c) .args .children .now) (called c .run .last .1 .1 .1 .0) 8192 (called c .run .kept .1 .1 .1 .0)
+
+same-length-4 : tie.Need-same-length-4
+same-length-4 c = length-front (start (called c) .args .stack .now) (called c .run .last .1 .1 .1 .1 .0) 2048 (called c .run .kept .1 .1 .1 .1 .0)
+
+same-length-5 : tie.Need-same-length-5
+same-length-5 c = length-front (start (called c) .args .marks .now) (called c .run .last .1 .1 .1 .1 .1 .0) 256 (called c .run .kept .1 .1 .1 .1 .1 .0)
+
+same-length-6 : tie.Need-same-length-6
+same-length-6 c = c .before .before .before .before .before .before .clear-ints .kept .0 ∙ length-front (start (called c) .args .keys .now) (called c .run .last .1 .1 .1 .1 .1 .1 .0) 2048 (called c .run .kept .1 .1 .1 .1 .1 .1 .0)
+
+same-length-7 : tie.Need-same-length-7
+same-length-7 c = c .before .before .clear-shorts .kept .0 ∙ length-front (start (called c) .args .held .now) (called c .run .last .1 .1 .1 .1 .1 .1 .1 .0) 1024 (called c .run .kept .1 .1 .1 .1 .1 .1 .1 .0)
+
+returns : tie.Need-returns
+returns c =
+    let e = ap (λ (x : Counts). x .memo) (c .before .before .before .before .before .before .before .before .counts .ensures) in
+    (ran (called c), (back-again (keys (called c)) _ e _ (c .before .before .before .before .before .before .clear-ints .ensures), back-again (held (called c)) _ e _ (c .before .before .clear-shorts .ensures)))
+
+pub run-in-spec : {M : Type 1} → statement M
+run-in-spec = tie.close (tie.spec sub-run part-run-start part-run-end sub-run-2 part-run-start-2 part-run-end-2 sub-run-3 part-run-start-3 part-run-end-3 sub-run-4 part-run-start-4 part-run-end-4 sub-run-5 part-run-start-5 part-run-end-5 sub-run-6 part-run-start-6 part-run-end-6 sub-run-7 part-run-start-7 part-run-end-7 run-requires counts-requires clear-ints-requires clear-shorts-requires same-length same-length-2 same-length-3 same-length-4 same-length-5 same-length-6 same-length-7 returns)

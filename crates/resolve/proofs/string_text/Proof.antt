@@ -1,0 +1,33 @@
+-- `resolve::string_text` meets its contract.
+use borrow.Author.Needs.{needs}
+use Rattle.resolve.proofs.string_text.Statement.{statement}
+use Rattle.resolve.proofs.string_text.Tie as tie
+use native.Mathlib.Omega.{arith}
+use Rattle.resolve.specs.Length.{plain-two, plain-len, escaped-len, unquoted-len}
+
+string-len-requires : tie.Need-string-len-requires
+string-len-requires c κs = search needs
+
+enum-told : tie.Need-enum-told
+enum-told c = search needs
+
+sub-result : tie.Need-sub-result
+sub-result c = omega (arith, plain-two _ _ (c .before .before .string-len .ensures) (c .enum-told .given .1))
+
+enum-known-n : tie.Need-enum-known-n
+enum-known-n c = search needs
+
+enum-told-2 : tie.Need-enum-told-2
+enum-told-2 c = search needs
+
+returns : tie.Need-returns
+returns c = plain-len _ _ (c .before .before .string-len .ensures) (c .enum-told .given .1)
+
+returns-2 : tie.Need-returns-2
+returns-2 c = escaped-len _ _ (c .before .before .before .string-len .ensures) _ (c .before .n .given .1)
+
+returns-3 : tie.Need-returns-3
+returns-3 c = unquoted-len _ _ (c .before .before .string-len .ensures) _ (c .enum-told2 .given .1)
+
+pub string-text-spec : {M : Type 1} → statement M
+string-text-spec = tie.close (tie.spec string-len-requires enum-told sub-result enum-known-n enum-told-2 returns returns-2 returns-3)

@@ -1,6 +1,0 @@
--- Laws that the functions' proofs share.
-pub mod Laws
-pub mod Sorts
-pub mod Gathers
-pub mod Steps
-pub mod Writes
