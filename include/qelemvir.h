@@ -1,4 +1,4 @@
-/* Qelemvir: reads, writes, orders and lists pickles of Python 2 (protocols 0 to 2), without calling anything that they name.
+/* Qelemvir: reads, writes, orders, lists and scores pickles of Python 2 (protocols 0 to 2), without calling anything that they name.
 
    The functions are those of the static library that `rt staticlib pickle` makes, an archive for x86-64 with the System V calling
    convention. Each is proved to accept all inputs, to end, and to touch nothing but what it is lent: it keeps nothing and allocates
@@ -28,7 +28,7 @@
 extern "C" {
 #endif
 
-/* What a call but compare answers. A refusal has length and count 0, and has changed no output. */
+/* What a call but compare and score answers. A refusal has length and count 0, and has changed no output. */
 struct qelemvir_answer {
     uint64_t number; /* 0, or why it refuses: enum qelemvir_refusal */
     uint64_t detail; /* 0 unless said there */
@@ -41,6 +41,14 @@ struct qelemvir_compared {
     uint64_t number; /* 0 or QELEMVIR_BAD_TABLE */
     uint64_t detail; /* of QELEMVIR_BAD_TABLE: 1 for the first table, 2 for the second */
     int64_t sign;    /* -1, 0 or 1; 0 where it refuses */
+};
+
+/* What score answers. */
+struct qelemvir_scored {
+    uint64_t number; /* 0, QELEMVIR_BAD_TABLE or QELEMVIR_SHEET_SHAPE */
+    uint64_t detail; /* 1 of QELEMVIR_BAD_TABLE, else 0 */
+    uint64_t score;  /* at most 20,000; 0 where it refuses */
+    uint64_t items;  /* how many items were answered, at most 200; 0 where it refuses */
 };
 
 /* Why a call refuses. The readings test 1, then 2, then go opcode by opcode; 17, 18, 19 and then 11 come after STOP. */
@@ -67,6 +75,7 @@ enum qelemvir_refusal {
     QELEMVIR_FLOAT_OUTSIDE = 20,       /* inf, nan, or a FLOAT, not zero, with digits above 2^53 or a power of ten outside -22 to 22 */
     QELEMVIR_BAD_TABLE = 21,           /* a table is not well formed; detail: 1, or 2 for the second table of compare */
     QELEMVIR_OUTPUT_FULL = 22,         /* what is to be written is longer than the lent output */
+    QELEMVIR_SHEET_SHAPE = 24,         /* a value is no sheet (qelemvir_score) */
     QELEMVIR_UNWRITABLE_NAME = 25      /* to_bytes of a Global, or an Object's class, whose module or name has a newline or ends with CR */
 };
 
@@ -187,6 +196,11 @@ struct qelemvir_compared qelemvir_compare(const uint64_t *first, size_t first_le
                                           const uint8_t *first_text, size_t first_text_len,
                                           const uint64_t *second, size_t second_len, size_t second_count,
                                           const uint8_t *second_text, size_t second_text_len);
+
+/* The score of a sheet: a Dict with the Bytes keys `answers` (Dict, I64 item number 1 to 200 to I64 answer 0 to max), `reverse` (Set of
+   answered item numbers), `max` (I64, 1 to 100) and `flipped` (Bool); other keys do not matter. BAD_TABLE, then SHEET_SHAPE exactly where
+   the value is none. The score is the sum of the answers if `flipped` is true; else each reversed item counts max less its answer. */
+struct qelemvir_scored qelemvir_score(const uint64_t *words, size_t words_len, size_t count, const uint8_t *text, size_t text_len);
 
 /* The working rooms at their stated lengths: make one, use it for any number of readings, one at a time. */
 /* from rooms.txt, by tests/rooms: struct */

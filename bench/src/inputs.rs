@@ -1,6 +1,8 @@
 //! The texts and values, the same in every run: characters and numbers drawn from a seeded sequence, so that no branch of
 //! either side can be foretold from a short pattern.
 
+use std::collections::{BTreeMap, BTreeSet};
+
 use crate::pickle::Value;
 
 /// How many bytes of the pickle a long text takes.
@@ -157,6 +159,28 @@ pub fn strings() -> Value {
     Value::List(text.chunks(40)
         .flat_map(|text| [Value::String(String::from_utf8(text.to_vec()).unwrap()), draw.integer()])
         .collect())
+}
+
+/// A sheet of 200 answers from 0 to 10, a third of them reversed and not flipped before; and its score.
+pub fn answered() -> (Value, u64) {
+    let mut draw = Draw(20);
+    let (mut answers, mut reverse, mut score) = (BTreeMap::new(), BTreeSet::new(), 0);
+    for item in 1..=200 {
+        let answer = draw.below(11);
+        let reversed = draw.below(3) == 0;
+        answers.insert(Value::I64(item), Value::I64(answer as i64));
+        if reversed {
+            reverse.insert(Value::I64(item));
+        }
+        score += if reversed { 10 - answer } else { answer } as u64;
+    }
+    let fields = [
+        ("answers", Value::Dict(answers)),
+        ("flipped", Value::Bool(false)),
+        ("max", Value::I64(10)),
+        ("reverse", Value::Set(reverse)),
+    ];
+    (Value::Dict(fields.into_iter().map(|(name, value)| (Value::Bytes(name.into()), value)).collect()), score)
 }
 
 /// A pickle with how many opcodes it has.

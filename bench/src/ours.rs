@@ -51,6 +51,11 @@ pub fn to_bytes(table: &Table, output: &mut [u8]) -> Result<usize, Error> {
     calls::to_bytes(&table.words, &table.text, output)
 }
 
+/// The score of a table's value and how many items were answered, if the table is well formed and the value a sheet.
+pub fn score(table: &Table) -> Result<(u64, u64), Error> {
+    calls::score(&table.words, &table.text)
+}
+
 /// The value at the start of a pickle, put at the start of the rooms' table and text.
 pub fn from_bytes_prefix(pickle: &[u8], rooms: &mut Rooms) -> Answer {
     rooms.lend(qelemvir_from_bytes_prefix, pickle)

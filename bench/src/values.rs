@@ -1,4 +1,4 @@
-//! Benchmark `values`: the order of two values, and the listing of one.
+//! Benchmark `values`: the order of two values, the listing of one, and the score of a sheet.
 
 use std::cmp::Ordering;
 use std::fmt::Write;
@@ -9,10 +9,11 @@ use crate::pickle::Value;
 use crate::table::{self, Table};
 use crate::{inputs, ours};
 
-pub const ABOUT: &str = "the order of two values of 2,048 records, each in its own memory, and the listing of one.
+pub const ABOUT: &str = "the order of two values of 2,048 records, each in its own memory, the listing of one, and the score of a sheet.
 Ours (qelemvir_compare) has value tables, and on each call it first checks that both are well formed, which the Rust's types
 make needless: Ord::cmp of two Values only compares. The making of tables and Values is not timed.
-List (qelemvir_list) is ours alone, for the Rust has no such call; it too checks its table on each call.";
+List (qelemvir_list) and score (qelemvir_score) are ours alone, for the Rust has no such calls; they too check their table on
+each call.";
 
 /// What the listing program lends.
 const OUTPUT: usize = 65_536;
@@ -23,6 +24,7 @@ pub fn cases() -> Vec<Case> {
         compare("compare, dicts, the last differs", inputs::dicts(), inputs::dicts_and_more()),
         compare("compare, tuple of ints, equal", inputs::flat(), inputs::flat()),
         list("list, 40,000 bytes of text", inputs::strings()),
+        score("score, 200 answers", inputs::answered()),
     ]
 }
 
@@ -72,6 +74,29 @@ fn listed(table: &Table, output: &mut [u8], wanted: &str) -> Result<(), String> 
     let length = ours::list(table, output).map_err(|why| format!("ours refuses: {why}"))?;
     if &output[..length] != wanted.as_bytes() {
         return Err(format!("ours lists {length} bytes, not the {} that it should", wanted.len()));
+    }
+    Ok(())
+}
+
+fn score(name: &'static str, (value, due): (Value, u64)) -> Case {
+    let table = table_of(&value);
+    let agree = scored(&table, due);
+    Case {
+        name,
+        bytes: None,
+        agree,
+        ours: side(move || {
+            let _ = black_box(ours::score(black_box(&table)));
+        }),
+        rust: None,
+        cpython: None,
+    }
+}
+
+fn scored(table: &Table, due: u64) -> Result<(), String> {
+    let (score, items) = ours::score(table).map_err(|why| format!("ours refuses: {why}"))?;
+    if (score, items) != (due, 200) {
+        return Err(format!("ours gives {score} of {items} items; due is {due} of 200"));
     }
     Ok(())
 }

@@ -15,14 +15,14 @@
 
 #include "qelemvir.h"
 
-enum call { VALUE, PREFIX, WHOLE, WRITE, LIST, COMPARE, LAWS, CALLS };
-static const char *const names[CALLS] = {"value", "from_bytes_prefix", "from_bytes", "to_bytes", "list", "compare", "compare's laws"};
+enum call { VALUE, PREFIX, WHOLE, WRITE, LIST, COMPARE, LAWS, SCORE, CALLS };
+static const char *const names[CALLS] = {"value", "from_bytes_prefix", "from_bytes", "to_bytes", "list", "compare", "compare's laws", "score"};
 
 /* A request; words and bytes follow it, filled up to a whole number of words. */
 struct request {
     uint64_t call, tag, seed;        /* the seed chooses the noise and how much longer than stated slices are */
-    uint64_t number, detail, length; /* the answer due; of compare `length` is the sign */
-    uint64_t which, size;            /* a reading: a slice and how much longer it is; VALUE: words lent, count; COMPARE: slots */
+    uint64_t number, detail, length; /* the answer due; of compare `length` is the sign, of score the score */
+    uint64_t which, size;            /* a reading: a slice and how much longer it is; VALUE: words lent, count; COMPARE: slots; SCORE: -, items */
     uint64_t words, bytes;
 };
 
@@ -348,6 +348,17 @@ static void check_laws(const struct request *r)
         }
 }
 
+static void check_score(const struct request *r)
+{
+    const struct value *v = given(0);
+    struct qelemvir_scored got = qelemvir_score((uint64_t *)v->words.at, v->words_len, v->count, v->text.at, v->text_len);
+    if (got.number != r->number || got.detail != r->detail || got.score != r->length || got.items != r->size)
+        differs(r, "number %llu detail %llu score %llu items %llu, due is %llu %llu %llu %llu", (unsigned long long)got.number,
+                (unsigned long long)got.detail, (unsigned long long)got.score, (unsigned long long)got.items,
+                (unsigned long long)r->number, (unsigned long long)r->detail, (unsigned long long)r->length,
+                (unsigned long long)r->size);
+}
+
 static const struct request *at_work;
 
 static void died(int signal)
@@ -378,6 +389,9 @@ static void answer_request(const struct request *r, const uint8_t *data)
         break;
     case LAWS:
         check_laws(r);
+        break;
+    case SCORE:
+        check_score(r);
         break;
     default:
         fail("no such call");

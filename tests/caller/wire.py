@@ -8,8 +8,8 @@ HERE = os.path.dirname(os.path.abspath(__file__))
 sys.path.insert(0, os.path.join(HERE, ".."))
 import stated  # noqa: E402
 
-VALUE, PREFIX, WHOLE, WRITE, LIST, COMPARE, LAWS = range(7)
-CALLS = ["value", "from_bytes_prefix", "from_bytes", "to_bytes", "list", "compare", "compare's laws"]
+VALUE, PREFIX, WHOLE, WRITE, LIST, COMPARE, LAWS, SCORE = range(8)
+CALLS = ["value", "from_bytes_prefix", "from_bytes", "to_bytes", "list", "compare", "compare's laws", "score"]
 STATED = [slice.length for slice in stated.SLICES]
 TABLE = stated.TABLE.length
 CURRENT, PREVIOUS = 0, 1    # the value last given, and the one before it
@@ -50,6 +50,11 @@ def comparison(tag, seed, sign, first, second):
 def laws(tag, seed):
     """The laws of compare on the three values last given."""
     return request(LAWS, tag, seed)
+
+
+def scoring(tag, seed, number, detail, score, items):
+    """The score of the current value."""
+    return request(SCORE, tag, seed, (number, detail, score), size=items)
 
 
 def bad(tag, seed):

@@ -13,6 +13,17 @@ SAMPLE = [{b"answers": {1: 3, 2: 0}, b"max": 4, b"record": RECORD},
           {b"answers": {1: 2, 2: 1}, b"max": 4, b"record": RECORD}]
 
 
+# Two sheets that share one record, their answers and reversed items, through the memo: one was flipped before, the other was not. The one
+# that is scored holds the other, where the record stands first, and has it at a later place itself.
+ANSWERS, REVERSED = {1: 3, 2: 0}, Set([2])
+
+
+def scored(flipped):
+    """The sheet with this mark."""
+    both = {mark: {b"answers": ANSWERS, b"flipped": mark, b"max": 4, b"reverse": REVERSED} for mark in (False, True)}
+    return {b"before": both[not flipped], **both[flipped]}
+
+
 def answers(d, items, top):
     """Item numbers to answers, now and then out of range or of another kind."""
     table = {}

@@ -9,7 +9,7 @@ sys.path.insert(0, os.path.join(ROOT, "tests", "cases"))
 import tables  # noqa: E402
 from ask import ORACLE  # noqa: E402
 
-COMPARE, LIST, WRITE = 1, 2, 3
+COMPARE, LIST, WRITE, SCORE = 1, 2, 3, 4
 
 
 def lent(words, text):
@@ -23,6 +23,10 @@ def request(call, words, count, text, words2=(), count2=0, text2=b"", output=0):
 
 def compared(sign):
     return b"0\t0\t%d\n" % sign
+
+
+def scored(due):
+    return b"%d\t%d\t%d\t%d\n" % due
 
 
 def bad(call, detail):

@@ -38,6 +38,10 @@ class Compared(ctypes.Structure):
     _fields_ = [("number", c_uint64), ("detail", c_uint64), ("sign", c_int64)]
 
 
+class Scored(ctypes.Structure):
+    _fields_ = [("number", c_uint64), ("detail", c_uint64), ("score", c_uint64), ("items", c_uint64)]
+
+
 def load():
     """libqelemvir.so, from the folder QELEMVIR_LIB or else from the repository's target/staticlib."""
     root = os.path.abspath(os.path.join(os.path.dirname(__file__), "..", "..", ".."))
@@ -69,6 +73,7 @@ from_bytes = declared("qelemvir_from_bytes", Answer, *READING)
 compare = declared("qelemvir_compare", Compared, WORDS, COUNT, BYTES, WORDS, COUNT, BYTES)
 list_table = declared("qelemvir_list", Answer, WORDS, COUNT, BYTES, OUTPUT)
 to_bytes = declared("qelemvir_to_bytes", Answer, WORDS, COUNT, BYTES, OUTPUT)
+score = declared("qelemvir_score", Scored, WORDS, COUNT, BYTES)
 text_len = declared("qelemvir_text_len", c_size_t, WORDS, COUNT)
 
 

@@ -70,6 +70,11 @@ class Table:
         digits. Two tables with the same listing are the same value."""
         return self._written(library.list_table, library.LONGEST_LISTING).decode("ascii")
 
+    def score(self):
+        """The score of the sheet that the value is, and how many items were answered. Refused with SheetShape if it is none."""
+        scored = library.accepted(library.score(*self._lent()))
+        return scored.score, scored.items
+
     def records(self):
         """The records in the table's order, which is preorder."""
         words, ends = self.words, []

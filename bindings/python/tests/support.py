@@ -11,8 +11,10 @@ sys.path[:0] = [os.path.join(HERE, ".."), os.path.join(ROOT, "tests", "cases")]
 
 import kinds  # noqa: E402
 import qelemvir  # noqa: E402
+import scores  # noqa: E402
 import stored  # noqa: E402
 import tables  # noqa: E402
+from draw import Draw  # noqa: E402
 
 
 def table(described):

@@ -3,7 +3,7 @@
 import itertools
 import unittest
 
-from support import qelemvir, stored_values, table, tables
+from support import Draw, qelemvir, scores, stored_values, table, tables
 
 NAMED = ("global", "object")
 
@@ -26,6 +26,18 @@ class Made(unittest.TestCase):
             with self.subTest(what), self.assertRaises(qelemvir.Refused) as caught:
                 qelemvir.Table(words, text)
             self.assertEqual((caught.exception.number, caught.exception.detail), (21, 1))
+
+    def test_scores(self):
+        for n in range(300):
+            value = scores.value(Draw(2, 97, n))
+            number, detail, *due = scores.score(value)
+            made = qelemvir.Table(*tables.table(value))
+            if number == 0:
+                self.assertEqual(made.score(), tuple(due))
+            else:
+                with self.assertRaises(qelemvir.Refused) as caught:
+                    made.score()
+                self.assertEqual((caught.exception.number, caught.exception.name), (24, "SheetShape"))
 
     def test_words_that_are_none(self):
         for words in ([-1, 0, 0, 0], [1 << 64, 0, 0, 0]):

@@ -17,6 +17,14 @@ struct Compared {
     sign: i64,
 }
 
+#[repr(C)]
+struct Scored {
+    number: u64,
+    detail: u64,
+    score: u64,
+    items: u64,
+}
+
 extern "C" {
     fn qelemvir_compare(
         first: *const u64, first_len: usize, first_count: usize, first_text: *const u8, first_text_len: usize,
@@ -32,6 +40,8 @@ extern "C" {
         words: *const u64, words_len: usize, count: usize, text: *const u8, text_len: usize,
         output: *mut u8, output_len: usize,
     ) -> Answer;
+
+    fn qelemvir_score(words: *const u64, words_len: usize, count: usize, text: *const u8, text_len: usize) -> Scored;
 
     fn qelemvir_text_len(words: *const u64, words_len: usize, count: usize) -> usize;
 }
@@ -89,6 +99,16 @@ pub fn to_bytes(words: &[u64], text: &[u8], output: &mut [u8]) -> Result<usize, 
         )
     };
     answer.accepted().map(|answer| answer.length as usize)
+}
+
+/// The score of a sheet, and how many items were answered.
+pub fn score(words: &[u64], text: &[u8]) -> Result<(u64, u64), Error> {
+    // SAFETY: as for compare.
+    let scored = unsafe { qelemvir_score(words.as_ptr(), words.len(), count(words), text.as_ptr(), text.len()) };
+    match scored.number {
+        0 => Ok((scored.score, scored.items)),
+        number => Err(Error::of(number, scored.detail)),
+    }
 }
 
 /// How many bytes of text the records have, which a reading does not say.

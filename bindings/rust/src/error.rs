@@ -49,6 +49,7 @@ pub enum Error {
     FloatOutside,
     BadTable(Which),
     OutputFull,
+    SheetShape,
     /// A module or a name has a newline or ends with CR, and is not written.
     UnwritableName,
     /// A refusal of a later edition of the library, which this crate does not know.
@@ -88,6 +89,7 @@ impl Error {
             (21, 1) => Error::BadTable(Which::First),
             (21, 2) => Error::BadTable(Which::Second),
             (22, 0) => Error::OutputFull,
+            (24, 0) => Error::SheetShape,
             (25, 0) => Error::UnwritableName,
             _ => Error::Other { number, detail },
         }
@@ -117,6 +119,7 @@ impl Error {
             Error::FloatOutside => 20,
             Error::BadTable(_) => 21,
             Error::OutputFull => 22,
+            Error::SheetShape => 24,
             Error::UnwritableName => 25,
             Error::Other { number, .. } => number,
         }
@@ -167,6 +170,7 @@ impl fmt::Display for Error {
             Error::BadTable(Which::First) => "the table is not well formed",
             Error::BadTable(Which::Second) => "the second table is not well formed",
             Error::OutputFull => "the lent output is too short",
+            Error::SheetShape => "the value is no sheet",
             Error::UnwritableName => "a module or a name has a newline or ends with CR, and could not be read back",
         };
         f.write_str(words)

@@ -65,6 +65,11 @@ impl Value {
         let length = calls::list(&self.words, &self.text, &mut output)?;
         Ok(output[..length].iter().copied().map(char::from).collect())
     }
+
+    /// The score of the sheet that this value is, and how many items were answered. [`Error::SheetShape`] if it is none.
+    pub fn score(&self) -> Result<(u64, u64), Error> {
+        calls::score(&self.words, &self.text)
+    }
 }
 
 impl Ord for Value {

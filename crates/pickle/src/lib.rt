@@ -4,6 +4,7 @@ use list::Listed;
 use refusal::Answer;
 use refusal::Refusal;
 use refusal::Which;
+use scorer::Scored;
 use table::Compared;
 ghost use mathlib.Core.List.{[], _∷_};
 ghost use mathlib.Core.Path.{_≡_};
@@ -12,6 +13,7 @@ ghost use Rattle.table.specs.Compare.{Compares};
 ghost use Rattle.table.specs.Length.{textLength};
 ghost use Rattle.de.specs.Call.{ReadCall};
 ghost use Rattle.ser.specs.Call.{WriteCall};
+ghost use Rattle.scorer.specs.Call.{Scores};
 ghost use Rattle.pickle.specs.List.{ListCall};
 
 // The value at the start of the data: the bytes read, the records, and its table and text.
@@ -176,4 +178,12 @@ pub extern "C" fn qelemvir_text_len(words: &[u64], count: usize) -> usize
     ensures { λ r. ⌜ r ≡ textLength (now (words .entry)) count ⌝ }
 {
     table::text_len(words, count)
+}
+
+// The score of the sheet that a value is: BadTable, then SheetShape, else its score and how many items were answered.
+#[no_mangle]
+pub extern "C" fn qelemvir_score(words: &[u64], count: usize, text: &[u8]) -> Scored
+    ensures { λ r. ⌜ Scores (now (words .entry)) count (now (text .entry)) r ⌝ }
+{
+    scorer::score(words, count, text)
 }

@@ -1,4 +1,4 @@
-// Replays the calls on tables. Standard input has requests: eight numbers of four bytes, low byte first (1 compare, 2 list or 3 write; words,
+// Replays the calls on tables. Standard input has requests: eight numbers of four bytes, low byte first (1 compare, 2 list, 3 write or 4 score; words,
 // count and text length of one table; the same of another; the output's length), then the tables' words, high byte first, and
 // texts. For each a line has the answer, of list and write with the number of bytes changed behind its length;
 // after one of these that succeeds its output follows.
@@ -89,6 +89,18 @@ fn show_list(call: usize, words: &[u64], count: usize, text: &[u8], output: &mut
     }
 }
 
+fn show_score(words: &[u64], count: usize, text: &[u8]) {
+    let r = pickle::qelemvir_score(words, count, text);
+    io::print_decimal(1, r.number);
+    tab();
+    io::print_decimal(1, r.detail);
+    tab();
+    io::print_decimal(1, r.score);
+    tab();
+    io::print_decimal(1, r.items);
+    io::write_all(1, b"\n");
+}
+
 // What a request says: which call, and the sizes.
 struct Request {
     call: usize,
@@ -142,6 +154,10 @@ fn list_one(r: Request, bytes: &[u8], first: &mut [u64], output: &mut [u8]) {
         return;
     }
     fill(first, bytes);
+    if r.call == 4 {
+        show_score(&first[0..words], r.count, &bytes[from..end]);
+        return;
+    }
     show_list(
         r.call,
         &first[0..words],

@@ -22,6 +22,7 @@ extern "C" fn main() -> i32 {
     listings(&values);
     orders(&values);
     known_pickle();
+    scores();
     every_kind();
     tables_of_our_own();
     errors();
@@ -179,6 +180,14 @@ fn known_pickle() {
     assert_eq!(value.to_bytes().unwrap(), b"\x80\x02]K\x05a]K\x05a\x86.");
     assert_eq!(value.clone(), value);
     assert_eq!(format!("{value:?}"), "[(0, Tuple(2)), (1, List(1)), (2, Int(5)), (1, List(1)), (2, Int(5))]");
+}
+
+/// A sheet whose reversed item counts 4 less its answer, and what is none.
+fn scores() {
+    let sheet = b"}(U\x07answers}(K\x01K\x03K\x02K\x00uU\x07flipped\x89U\x03maxK\x04U\x07reversec__builtin__\nset\n(]K\x02atRu.";
+    assert_eq!(Reader::new().from_bytes(sheet).unwrap().score(), Ok((7, 2)));
+    assert_eq!(Reader::new().from_bytes(b"N.").unwrap().score(), Err(Error::SheetShape));
+    assert_eq!((Error::SheetShape.number(), Error::of(24, 0)), (24, Error::SheetShape));
 }
 
 /// A list of one record of each kind, read from a table.

@@ -1,0 +1,93 @@
+-- Reading and then scoring: demand 3 of document 01 with Ask 3 of document 02. A sheet whose parts are shared in the pickle scores as the
+-- one that is written out plainly, afresh at every reference.
+use Prim.Native.Nat.{ℕ, _*_, _<_, _≤_}
+use mathlib.Core.Bool.{Bool, true, false}
+use mathlib.Core.List.{List, [], _∷_, _++_}
+use mathlib.Core.Path.{_≡_, refl, sym, _∙_, ap, subst}
+use lib.ListN.{length, take, drop}
+use lib.Seq.{take-append-seam, take-append-le}
+use Rattle.refusal.specs.declared.Refusal.{Refusal}
+use Rattle.refusal.specs.declared.Refusal.the-variants.{TrailingData}
+use Rattle.refusal.specs.declared.Answer.{Answer}
+use Rattle.input.specs.Bytes.{Bytes}
+use Rattle.value.specs.Value.{Forest, one, size, table, text}
+use Rattle.value.specs.WellFormed.{WellFormed}
+use Rattle.table.specs.Length.{textLength, text-length}
+use Rattle.decoder.specs.State.{State, Res, ok, no, last}
+use Rattle.decoder.specs.Run.{run}
+use Rattle.builder.specs.Measure.{measured}
+use Rattle.builder.specs.Settle.{settle}
+use Rattle.builder.specs.Unfold.{WritesOut, NothingContainsItself}
+use Rattle.builder.specs.Reading.{Reading, refuses, reads, told, consumed, prefix, whole, leaves, whole-trailing, whole-prefix, pickleLimit, told-fits, sharing-never-shows}
+use Rattle.builder.specs.Success.{Formed, refusal-number, prefix-well-formed}
+use Rattle.rooms.specs.Stated.{Slices, tableOf, textOf, begun}
+use Rattle.de.specs.Call.{reading, ReadCall}
+use Rattle.de.specs.Theorems.{call-never-shows-sharing, call-answer, call-table, call-text, call-long-enough, prefix-call-formed}
+use Rattle.scorer.specs.Call.{Scores}
+use Rattle.scorer.specs.Flip.{own-table}
+use Rattle.scorer.specs.Theorems.{words-behind}
+use Rattle.scorer.specs.declared.Scored.{Scored}
+
+-- the score call, lent the records and the text that a reading with the answer a left, answers r
+abbrev pub ScoresLeft : Slices → Answer → Scored → Type 0
+ScoresLeft l a r = Scores (tableOf l) (a .count) (take (textLength (tableOf l) (a .count)) (textOf l)) r
+
+-- the score call, lent the table of the values f put in order, answers q
+abbrev pub ScoresPlain : Forest → Scored → Type 0
+ScoresPlain f q = Scores (table (settle f) 0) (size (settle f)) (text (settle f)) q
+
+-- the same records say the same length of the text
+same-length : {w u : List ℕ} {n m : ℕ} {t s : List ℕ} → WellFormed w n t → WellFormed u m s → n ≡ m → take (4 * n) w ≡ take (4 * m) u → length t ≡ length s
+same-length {w} {u} {n} {m} {t} {s} f g c e =
+    let x = own-table f in
+    let y = own-table g in
+    let same : table (one (f .value)) 0 ≡ table (one (g .value)) 0 = sym (f .records) ∙ e ∙ g .records in
+    let k = text-length (table (one (f .value)) 0) n (text (one (f .value))) x in
+    let j = text-length (table (one (g .value)) 0) m (text (one (g .value))) y in
+    ap length (f .texts) ∙ sym k ∙ rw (same, c) j ∙ sym (ap length (g .texts))
+
+-- so the text that a reading left, as long as its records say, is the one of that length that it filled
+text-left : {w u : List ℕ} {n m : ℕ} {t s : List ℕ} (x : List ℕ) → WellFormed w n (take (textLength w n) t) → WellFormed u m s → n ≡ m → take (4 * n) w ≡ take (4 * m) u → t ≡ s ++ x → take (textLength w n) t ≡ s
+text-left {w} {u} {n} {m} {t} {s} x f g c e q =
+    let k : textLength w n ≡ length s = text-length w n (take (textLength w n) t) f ∙ same-length f g c e in
+    rw (k, q) (take-append-seam s x)
+
+-- a reading that succeeds is no refusal
+not-refused : (x : Reading) (l l′ : Slices) (a : Answer) (why : Refusal) → ReadCall x l l′ a → a .number ≡ 0 → x ≡ refuses why → ⊥
+not-refused x l l′ a why c z e =
+    let o = call-answer x l l′ a c (call-long-enough x l l′ a c z) in
+    refusal-number why (ap (λ (y : Reading). y .answer .number) (sym e) ∙ ap (λ (y : Answer). y .number) (sym o) ∙ z)
+
+-- Bytes that are read to STOP with a value left, nothing reachable from which contains itself, and whose plain write-out is f.
+module _ (p : List ℕ) (b : Bytes p) (s : State) (fits : length p ≤ pickleLimit) (stops : run p ≡ ok s) (left : 0 < length (s .stack)) (apart : NothingContainsItself (s .nodes) (last (s .stack))) (f : Forest) (w : WritesOut (s .nodes) (last (s .stack) ∷ []) f) (l l′ : Slices) (a : Answer) (z : a .number ≡ 0) where
+  -- what the prefix reading left scores as the write-out does
+  pub shared-scores : {r q : Scored} → ReadCall (prefix p) l l′ a → ScoresLeft l′ a r → ScoresPlain f q → r ≡ q
+  unfolding told Formed
+  shared-scores {r} {q} c scored plain = go (measured f) refl
+    where
+      call : ReadCall (told (consumed p s) f) l l′ a
+      call = call-never-shows-sharing p s fits stops left apart f w l l′ a c
+
+      go : (m : Res (Unit {0})) → measured f ≡ m → r ≡ q
+      go (no why) e = absurd (not-refused (told (consumed p s) f) l l′ a why call z (rw (e, told)))
+      go (ok u) e =
+          let g = settle f in
+          let more = drop (length (table g 0)) (tableOf l) in
+          let x : told (consumed p s) f ≡ reads (consumed p s) g = told-fits (consumed p s) f e .0 in
+          let long = call-long-enough (told (consumed p s) f) l l′ a call z in
+          let formed : WellFormed (table g 0) (size g) (text g) = subst Formed (sharing-never-shows p s fits stops left f apart w ∙ x) (prefix-well-formed p b) refl in
+          let words : tableOf l′ ≡ table g 0 ++ more = call-table (told (consumed p s) f) l l′ a call long ∙ ap (λ (y : Reading). begun (y .words) (tableOf l)) x in
+          let bytes : textOf l′ ≡ begun (text g) (textOf l) = call-text (told (consumed p s) f) l l′ a call long ∙ ap (λ (y : Reading). begun (y .bytes) (textOf l)) x in
+          let counted : a .count ≡ size g = ap (λ (y : Answer). y .count) (call-answer (told (consumed p s) f) l l′ a call long ∙ ap (λ (y : Reading). y .answer) x) in
+          let left-formed = prefix-call-formed p b l l′ a z c in
+          let same-words : take (4 * a .count) (tableOf l′) ≡ take (4 * size g) (table g 0) = rw (words, counted) (take-append-le (4 * size g) (table g 0) more (formed .lent)) in
+          let same-text : take (textLength (tableOf l′) (a .count)) (textOf l′) ≡ text g = text-left (drop (length (text g)) (textOf l)) left-formed formed counted same-words bytes in
+          words-behind left-formed formed same-words same-text scored plain
+
+  -- and what the whole reading left
+  pub whole-shared-scores : {r q : Scored} → ReadCall (whole p) l l′ a → ScoresLeft l′ a r → ScoresPlain f q → r ≡ q
+  whole-shared-scores {r} {q} c scored plain = go (leaves p (prefix p)) refl
+    where
+      go : (x : Bool) → leaves p (prefix p) ≡ x → r ≡ q
+      go true e = absurd (not-refused (whole p) l l′ a TrailingData c z (whole-trailing p e))
+      go false e = shared-scores (c ∙ ap (λ (x : Reading). reading x l) (whole-prefix p e)) scored plain
