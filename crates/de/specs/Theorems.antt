@@ -70,8 +70,8 @@ contained-placed j i _ _ (there m) r (afresh w x) = let p = contained-placed j i
 contained-placed j i _ _ here (direct k) (afresh w x) = let p = listed-placed i _ _ k w in (p .0, shown-inside (p .1))
 contained-placed j i _ _ here (through k r) (afresh w x) = let p = contained-placed _ i _ _ k r w in (p .0, shown-inside (p .1))
 
--- What the call fills is a write-out in which each node that the value left reaches has a place, and at every place of a node stand all
--- the contents that it has at STOP, whenever an opcode added them and wherever the node had been placed before.
+-- The call is that of a write-out in which each node that the value left reaches has a place, and at every place of a node stand all the
+-- contents that it has at STOP, whenever an opcode added them and wherever the node had been placed before. It fills the write-out in order.
 pub record LateItems (p : List ℕ) (s : State) (l l′ : Slices) (a : Answer) : Type 0 where
   pub forest : Forest
   pub written : WritesOut (s .nodes) (last (s .stack) ∷ []) forest

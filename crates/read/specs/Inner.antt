@@ -56,14 +56,14 @@ module _ (n : ℕ) (s : List ℕ) (z : take n s ≡ replicate n 0) where
 
   -- as e
   module _ (e : List ℕ) (h : length e ≡ length (take n s)) where
-    pub part-is : take n (e ++ drop n s) ≡ e
+    part-is : take n (e ++ drop n s) ≡ e
     part-is = take-at e (drop n s) n (h ∙ part-length)
 
-    pub part-behind : drop n (e ++ drop n s) ≡ drop n s
+    part-behind : drop n (e ++ drop n s) ≡ drop n s
     part-behind = drop-at e (drop n s) n (h ∙ part-length)
 
     -- of which the first k were used
-    pub part-used : (k : ℕ) → UsedTo k e → Back k s (e ++ drop n s)
+    part-used : (k : ℕ) → UsedTo k e → Back k s (e ++ drop n s)
     unfolding cleared zeroed
     part-used k u = record {
       fits = rw length-append (let x = u .room in omega arith);

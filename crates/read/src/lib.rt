@@ -62,6 +62,7 @@ fn run_in(
     outcome
 }
 
+// The reading: every slice as it came, but what table and text begin with.
 pub fn read(
     whole: bool,
     pickle: &[u8],

@@ -24,7 +24,7 @@ ghost use Rattle.resolve.specs.Ends.{Opens, Walks};
 ghost use Rattle.resolve.specs.Rooted.{Begins, Roots};
 
 // A mark: 0 for a fresh node, 1 for one taken out, 3 for an Object that is None for good, else a word: depth + 128 * values + 2^19 * text,
-// values capped at 2,049 and text at 65,537. A leaf's word is stored when the walk comes to it.
+// values capped at 2,049 and text at 65,537. The word of a leaf with a text is stored when the walk comes to it.
 
 // A Global measured for an Object of its class, where the walk has not come to the Global itself.
 const AHEAD: u64 = 0x200_0000_0000;

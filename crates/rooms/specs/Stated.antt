@@ -4,7 +4,7 @@ use Prim.Native.Nat.{ℕ, _+_, _≤_}
 use mathlib.Core.Bool.{Bool, true, false, cond, _||_, or-false, or-assoc}
 use mathlib.Core.List.{List, [], _∷_, _++_}
 use mathlib.Core.Path.{_≡_, refl, sym, _∙_, ap, ap₂, subst}
-use lib.ListN.{length, getD, set, take, drop, replicate, length-append, length-drop, length-replicate, length-set, take-append-drop}
+use lib.ListN.{length, getD, set, take, drop, replicate, length-append, length-drop, length-replicate, length-set}
 use lib.Seq.{take-at, drop-at, getD-drop, getD-set-same, getD-set-other, set-getD}
 use lib.Dec.{ltb}
 use borrow.Author.Tests.{ltb-false, le-ltb}
@@ -110,7 +110,7 @@ short-from false (n ∷ ns) [] = refl
 short-from true (n ∷ ns) [] = refl
 short-from b (n ∷ ns) (s ∷ l) = short-from (b || ltb (length s) n) ns l ∙ or-assoc b (ltb (length s) n) (short ns l)
 
--- ---- a room made zero, or lent in part
+-- ---- a room made zero
 
 module _ (n : ℕ) (s : List ℕ) where
   zero-part : take n (cleared n s) ≡ replicate n 0
@@ -121,13 +121,9 @@ module _ (n : ℕ) (s : List ℕ) where
   unfolding cleared
   cleared-again = ap (λ (x : List ℕ). replicate n 0 ++ x) (drop-at (replicate n 0) (drop n s) n (length-replicate n 0))
 
-  pub cleared-length : n ≤ length s → length (cleared n s) ≡ length s
+  cleared-length : n ≤ length s → length (cleared n s) ≡ length s
   unfolding cleared
   cleared-length h = rw (length-append, length-replicate, length-drop) (omega arith)
-
-  -- a part that comes back zero was so before
-  pub zero-back : take n s ≡ replicate n 0 → (e : List ℕ) → e ≡ replicate n 0 → e ++ drop n s ≡ s
-  zero-back z e q = rw (q, ← z) (take-append-drop n s)
 
 -- ---- all of them made zero
 

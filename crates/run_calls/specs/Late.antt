@@ -1,5 +1,5 @@
 -- Items added late, carried through the run: what an opcode adds to a list or dict at any step stands, at its place in that node, at each
--- place of the node in what the prefix call fills.
+-- place of the node in the write-out that the prefix call fills in order.
 use Prim.Native.Nat.{ℕ, _<_, _≤_}
 use mathlib.Core.List.{List, [], _∷_}
 use mathlib.Core.Path.{_≡_}
@@ -29,6 +29,6 @@ module _ (p : List ℕ) (z : State) (fits : length p ≤ pickleLimit) (stop : ru
   pub prefix-late-items : (f : Forest) × (w : WritesOut (z .nodes) (last (z .stack) ∷ []) f) × (prefix p ≡ told (consumed p z) f) × EachItem p z f w
   prefix-late-items = let o = written-out p z fits stop left apart in (o .0, o .1, o .2, λ x i j h c q. at-each-place p z stop x i j h c q)
 
-  -- and in what the call fills, where every node that the value left reaches has a place
+  -- and in that of the call, in which every node that the value left reaches has a place
   pub call-late-items : (l l′ : Slices) (a : Answer) → ReadCall (prefix p) l l′ a → (late : LateItems p z l l′ a) × EachItem p z (late .forest) (late .written)
   call-late-items l l′ a c = (late-items-show p z fits stop left apart l l′ a c, λ x i j h c q. at-each-place p z stop x i j h c q)

@@ -1,12 +1,13 @@
 -- The clinic's case: two sheets that share one record, their answers and reversed items, through the memo; of one the reversed item was
 -- flipped before, of the other it was not. In each of the two pickles (samples/unflipped.pickle and samples/flipped.pickle) one of them is
--- scored: it has the record at the later place, and holds the other, where the record stands first.
+-- scored: it has the record at the later place in the pickle, and holds the other, where the record stands first.
 use Prim.Native.Nat.{ℕ, suc, zero, _<_, _≤_}
 use mathlib.Core.Bool.{Bool, true, false, not, _&&_}
 use mathlib.Core.List.{List, [], _∷_}
 use mathlib.Core.Path.{_≡_, refl, sym, _∙_, ap}
 use lib.ListN.{length}
 use lib.Dec.{T, ltb, ltb→lt}
+use borrow.Author.Tests.{le-ltb}
 use native.Mathlib.Omega.{arith}
 use Rattle.refusal.specs.declared.Answer.{Answer}
 use Rattle.op.specs.Table as Table
@@ -28,7 +29,7 @@ use Rattle.builder.specs.Measure.{measured}
 use Rattle.builder.specs.Settle as Settle
 use Rattle.builder.specs.Settle.{settle}
 use Rattle.builder.specs.Unfold.{WritesOut, nothing, afresh, NothingContainsItself}
-use Rattle.builder.specs.Reading.{Reading, told as readingOf, consumed, prefix, pickleLimit, told-fits}
+use Rattle.builder.specs.Reading.{Reading, reads, told as readingOf, consumed, prefix, whole, leaves, whole-prefix, pickleLimit, told-fits, sharing-never-shows}
 use Rattle.outback.specs.WriteOut.{written-nothing-itself}
 use Rattle.rooms.specs.Stated.{Slices, stated, short}
 use Rattle.de.specs.Call.{ReadCall}
@@ -120,11 +121,12 @@ record Stops (mark : Bool) : Type 0 where
   runs : run (sheet mark) ≡ ok state
   made : state .nodes ≡ nodes mark
   root : state .stack ≡ 0 ∷ []
+  whole : state .input ≡ []
 
 stops : (mark : Bool) → Stops mark
 unfolding running
-stops true = record { state = _; runs = refl; made = refl; root = refl }
-stops false = record { state = _; runs = refl; made = refl; root = refl }
+stops true = record { state = _; runs = refl; made = refl; root = refl; whole = refl }
+stops false = record { state = _; runs = refl; made = refl; root = refl; whole = refl }
 
 -- ---- its plain write-out
 
@@ -228,14 +230,17 @@ unfolding bytes
 sheet-bytes true = every-byte (sheet true) tt
 sheet-bytes false = every-byte (sheet false) tt
 
--- the reading of a pickle into slices that are long enough succeeds, and the score call answers this of what it left
+-- the reading of a pickle into slices that are long enough succeeds, and the score call answers this of what it left; nothing is left of the
+-- pickle, so it is the whole reading too
 pub record Reads (p : List ℕ) (due : Scored) : Type 0 where
   pub accepted : (l l′ : Slices) (a : Answer) → short stated l ≡ false → ReadCall (prefix p) l l′ a → a .number ≡ 0
   pub scores : (l l′ : Slices) (a : Answer) (r : Scored) → short stated l ≡ false → ReadCall (prefix p) l l′ a → ScoresLeft l′ a r → r ≡ due
+  pub both : whole p ≡ prefix p
 
 -- each of the two sheets is scored right: 3 of two items where the mark is set, and 7 where it is not
 pub each-right : (mark : Bool) → Reads (sheet mark) (scored (due mark) 2)
-each-right mark = record { accepted = λ l l′ a long c. read l l′ a long c; scores = λ l l′ a r long c q. shared-scores p (sheet-bytes mark) s fits (e .runs) left apart f w l l′ a (read l l′ a long c) c q (plainly-scored mark) }
+unfolding leaves
+each-right mark = record { accepted = λ l l′ a long c. read l l′ a long c; scores = λ l l′ a r long c q. shared-scores p (sheet-bytes mark) s fits (e .runs) left apart f w l l′ a (read l l′ a long c) c q (plainly-scored mark); both = whole-prefix p ends }
   where
     p : List ℕ
     p = sheet mark
@@ -265,3 +270,8 @@ each-right mark = record { accepted = λ l l′ a long c. read l l′ a long c; 
     read l l′ a long c =
         let call = call-never-shows-sharing p s fits (e .runs) left apart f w l l′ a c in
         ap (λ (y : Answer). y .number) (call-answer (readingOf (consumed p s) f) l l′ a call long) ∙ ap (λ (y : Reading). y .answer .number) (told-fits (consumed p s) f (within mark) .0)
+
+    ends : leaves p (prefix p) ≡ false
+    ends =
+        let x : prefix p ≡ reads (consumed p s) (settle f) = sharing-never-shows p s fits (e .runs) left f apart w ∙ told-fits (consumed p s) f (within mark) .0 in
+        rw (x, e .whole) (le-ltb (length p) (length p) (omega arith))
