@@ -2,10 +2,8 @@
 use Prim.Native.Nat.{ℕ, _+_, _-_, _<_, _≤_}
 use mathlib.Core.List.{List}
 use mathlib.Core.Path.{_≡_, _∙_, ap}
-use mathlib.Core.Logic.{_≢_}
 use lib.ListN.{length, getD, take, drop}
 use lib.Seq.{drop-cons}
-use native.Mathlib.Decide.{ℕ-discrete}
 use native.Mathlib.Omega.{arith}
 use Rattle.refusal.specs.Read.{got, refused}
 use Rattle.refusal.specs.declared.Refusal.{Refusal}
@@ -98,18 +96,6 @@ module _ (f : State → Res (ℕ × State)) (does : ℕ → State → Res State)
         key-went f does op is r c a m e h ((rw d at n) r (sound-read r c a s (h .1) (h .2)) (rest r q))
 
 -- ---- the memo
-
-pub absent-none : (keys : List ℕ) (k : ℕ) → Absent keys 0 k
-unfolding Absent
-absent-none keys k i h = absurd (omega arith)
-
-pub absent-more : (keys : List ℕ) (n k : ℕ) → Absent keys n k → getD keys n 0 ≢ k → Absent keys (n + 1) k
-unfolding Absent
-absent-more keys n k a d i h = go (ℕ-discrete i n)
-  where
-    go : Dec (i ≡ n) → getD keys i 0 ≢ k
-    go (yes e) = rw e d
-    go (no z) = a i (omega arith)
 
 module _ (r : Rooms) (c : Counts) (s : Sound r c) (key : MemoKey) where
   pub memo-rooms : (c .memo ≤ length (r .keys)) × (c .memo ≤ length (r .held))

@@ -21,7 +21,7 @@ use text::Quoted;
 use text::string_len;
 use text::unicode_len;
 ghost use mathlib.Core.Path.{_≡_};
-ghost use Prim.Native.Nat.{_+_, _-_, _*_, _^_, _/_, _<_, _≤_};
+ghost use Prim.Native.Nat.{ℕ, _+_, _-_, _*_, _^_, _/_, _<_, _≤_};
 ghost use lib.ListN.{length, getD, take, drop};
 ghost use Rattle.decoder.specs.State.{get, put};
 ghost use Rattle.decoder.specs.Opcodes.{proto, popOne, popToMark, dup, int, binint, binint1, binint2, long, longN, float, binfloat, string, binstring, shortBinstring, unicode, binunicode, global, list, tuple, tupleN, dict, append, appends, setitem, setitems, getLine, getBytes, putLine, putBytes, lowBytes, reduce, newobj, build};
@@ -622,18 +622,19 @@ enum KeyRead {
     At(usize, MemoKey),
 }
 
-// The place of a memo number among the first `memo`, or `memo`, by a search, oldest first.
+// The place of a memo number among the first `memo`, which are different ones, or `memo`: by a search, newest first.
 fn search(keys: &[u32], memo: usize, key: MemoKey) -> usize
     requires { ⌜ memo ≤ length (now keys) ⌝ }
+    requires { ⌜ ((i : ℕ) → i < memo → Absent (now keys) i (getD (now keys) i 0)) ⌝ }
     ensures { λ r. ⌜ (r ≤ memo) × Absent (now (keys .entry)) r (key .0) × (r < memo → getD (now (keys .entry)) r 0 ≡ key .0) ⌝ }
 {
     let k = key.0;
-    let mut i = 0;
-    while i < memo {
+    let mut i = memo;
+    while 0 < i {
+        i -= 1;
         if keys[i] == k {
             return i;
         }
-        i += 1;
     }
     memo
 }
