@@ -28,6 +28,9 @@ find_kit() {
     emulator=$tools/bin/qemu-x86_64
     runner=("$emulator" "$tools/lib/ld-linux-x86-64.so.2" --library-path "$tools/lib")
     [ -x "$emulator" ] || { say "the kit has no emulator for this processor ($machine)"; return 1; }
+    # A processor on which the C library fills and copies with vectors: the string instructions of later ones are emulated byte by byte,
+    # which takes fifty times as long.
+    export QEMU_CPU=Nehalem
 }
 
 as_root() { if [ "$(id -u)" = 0 ]; then "$@"; else sudo -n "$@"; fi; }
