@@ -4,7 +4,7 @@ use std::hint::black_box;
 
 use crate::measure::{side, Case};
 use crate::pickle::from_bytes_prefix;
-use crate::{inputs, ours};
+use crate::{hostile, inputs, ours};
 
 pub const ABOUT: &str = "the opcodes of a pickle up to STOP.
 Ours (probe_machine) runs the machine alone, in rooms that it makes zero on each call: it leaves a node table, of
@@ -13,7 +13,16 @@ which no value is built. The Rust (from_bytes_prefix) does its whole reading: it
 pub fn cases() -> Vec<Case> {
     let sheet = inputs::sheet();
     println!("The sheet has {} opcodes in {} bytes.\n", sheet.opcodes, sheet.pickle.len());
-    vec![case("a sheet of 2,000 values", sheet.pickle), case("None", b"N.".to_vec())]
+    let mut cases = vec![
+        case("a sheet of 2,000 values", sheet.pickle),
+        case("a sheet of recent GETs", inputs::recent_sheet().pickle),
+        case("the same, optimized", inputs::optimized_sheet().pickle),
+        case("None", b"N.".to_vec()),
+    ];
+    // Where the memo's search goes through every number.
+    let searched = hostile::pickles().into_iter().filter(|input| input.name.contains("full memo, "));
+    cases.extend(searched.map(|input| case(input.name, input.pickle)));
+    cases
 }
 
 fn case(name: &'static str, pickle: Vec<u8>) -> Case {
