@@ -6,11 +6,11 @@ use mathlib.Core.Path.{_≡_, refl, _∙_, ap}
 use lib.ListN.{length}
 use native.Mathlib.Omega.{arith}
 use Rattle.value.specs.Value.{Label, Forest, Value, one, nil, node, count, size, depth, NoneL, BoolL, I64L, F64L, BytesL, StringL, ListL, TupleL, SetL, FrozenSetL, DictL, GlobalL, ObjectL}
-use Rattle.decoder.specs.State.{Node}
-use Rattle.decoder.specs.Opcodes.{isList, isTuple, isDict}
-use Rattle.builder.specs.Build.{Marks, at, tree}
-use Rattle.builder.specs.Settle.{items}
-use Rattle.builder.specs.Unfold.{In, here, there}
+use Rattle.steps.specs.State.{Node}
+use Rattle.steps.specs.Opcodes.{isList, isTuple, isDict}
+use Rattle.reading.specs.Build.{Marks, at, tree}
+use Rattle.reading.specs.Settle.{items}
+use Rattle.reading.specs.Unfold.{In, here, there}
 use Rattle.resolved.specs.Resolved.{stand-label, stand-in}
 use Rattle.resolved.specs.Walk.{State, start, walk-build}
 use Rattle.resolved.specs.Resolves.{Resolves, childless}

@@ -8,7 +8,7 @@ use lib.ListN.{getD, List·getD-eq-default}
 use borrow.Author.Tests.{ne-eqb}
 use native.Mathlib.Omega.{arith}
 use Rattle.value.specs.Value.{NoneL}
-use Rattle.decoder.specs.Opcodes.{isList, isTuple}
+use Rattle.steps.specs.Opcodes.{isList, isTuple}
 use Rattle.resolved.specs.Dues.{isDue}
 use Rattle.resolved.specs.Shown.{labels, isSorted}
 

@@ -9,14 +9,14 @@ use native.Mathlib.Omega.{arith}
 use Rattle.refusal.specs.declared.Refusal.the-variants.{TrailingData}
 use Rattle.value.specs.Value.{Forest, one, size, text, table}
 use Rattle.rooms.specs.Cleared.{cleared}
-use Rattle.decoder.specs.State.{Res, ok, no, _>>=_, need}
+use Rattle.steps.specs.State.{Res, ok, no, _>>=_, need}
 use Rattle.decoder.specs.declared.Counts.{Counts}
 use Rattle.decoder.specs.Rooms.{Rooms, stateOf}
 use Rattle.decoder.specs.RoomReads.{nodes-length}
-use Rattle.builder.specs.Build.{tree}
-use Rattle.builder.specs.Graph.{Stands}
-use Rattle.builder.specs.Measure.{measured}
-use Rattle.builder.specs.Settle.{settle}
+use Rattle.reading.specs.Build.{tree}
+use Rattle.resolve.specs.Standing.{Stands}
+use Rattle.reading.specs.Measure.{measured}
+use Rattle.reading.specs.Settle.{settle}
 use Rattle.children.specs.Children.{Ended, Stopped, SideBySide}
 use Rattle.resolve.specs.Rooted.{Begins}
 use Rattle.machine.specs.Clear.{UsedTo, zeroed, owners-used, children-used}

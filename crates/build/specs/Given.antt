@@ -1,6 +1,6 @@
 -- What a reading in code gives: the definition's answer, and outputs that begin with what it fills.
 use Prim.Native.Nat.{ℕ, _-_, _*_, _<_, _≤_}
-use mathlib.Core.Bool.{Bool, true, false, cond, not, _&&_}
+use mathlib.Core.Bool.{Bool, true, false, cond, _&&_}
 use mathlib.Core.List.{List, _++_}
 use mathlib.Core.Path.{_≡_, refl, sym, _∙_, ap₂}
 use lib.ListN.{length, length-drop, getD, drop}
@@ -13,23 +13,23 @@ use Rattle.refusal.specs.declared.Refusal.the-variants.{StackUnderflow, Trailin
 use Rattle.refusal.specs.declared.Answer.{Answer}
 use Rattle.refusal.specs.Numbers.{numberOf, refusedAnswer}
 use Rattle.value.specs.Value.{Forest, one, size, text, table, table-length}
-use Rattle.decoder.specs.State.{Res, ok, no, _>>=_, need, last}
+use Rattle.steps.specs.State.{Res, ok, no, _>>=_, need, last}
 use Rattle.decoder.specs.declared.Counts.{Counts}
-use Rattle.decoder.specs.Run.{run}
+use Rattle.steps.specs.Run.{run}
 use Rattle.decoder.specs.Rooms.{Rooms, stateOf}
 use Rattle.decoder.specs.Effects.{Firm}
-use Rattle.decoder.specs.Out.{every-at}
+use Rattle.steps.specs.Out.{every-at}
 use Rattle.decoder.specs.RoomReads.{input-of, stack-of, stack-length, nodes-length}
 use Rattle.machine.specs.Lent.{roomsOf}
 use Rattle.machine.specs.Clear.{UsedTo, owners-used, children-used}
 use Rattle.machine.specs.Ran.{Ran, ended, countsOf}
 use Rattle.machine.specs.declared.Outcome.{Outcome}
 use Rattle.machine.specs.declared.Outcome.the-variants as outcome
-use Rattle.builder.specs.Build.{tree}
-use Rattle.builder.specs.Settle.{settle}
-use Rattle.builder.specs.Measure.{measured}
-use Rattle.builder.specs.Reading.{Reading, refuses, reads, told, consumed, leaves, prefix, whole, pickleLimit, stopped-refused, stopped-empty, stopped-with, prefix-refused, prefix-told}
-use Rattle.builder.specs.Success.{refusal-number}
+use Rattle.reading.specs.Build.{tree}
+use Rattle.reading.specs.Settle.{settle}
+use Rattle.reading.specs.Measure.{measured}
+use Rattle.reading.specs.Reading.{Reading, refuses, reads, told, consumed, leaves, prefix, whole, pickleLimit, stopped-refused, stopped-empty, stopped-with, prefix-refused, prefix-told}
+use Rattle.reading.specs.Success.{refusal-number}
 use Rattle.build.specs.Building.{At, Ready, dueOf, Comes, Builds}
 use Rattle.build.specs.declared.Built.{Built}
 use Rattle.build.specs.declared.Built.the-variants as built

@@ -7,9 +7,9 @@ use lib.ListN.{length}
 use native.Mathlib.Omega.{arith}
 use Rattle.refusal.specs.declared.Refusal.the-variants.{TrailingData, TooDeep, TooManyValues, TextFull}
 use Rattle.value.specs.Value.{Value, one, size, depth, text}
-use Rattle.decoder.specs.State.{Node, Res, ok, no, _>>=_, need}
-use Rattle.builder.specs.Build.{tree}
-use Rattle.builder.specs.Measure.{measured, too-deep, too-many-values, text-full, within-limits}
+use Rattle.steps.specs.State.{Node, Res, ok, no, _>>=_, need}
+use Rattle.reading.specs.Build.{tree}
+use Rattle.reading.specs.Measure.{measured, too-deep, too-many-values, text-full, within-limits}
 use Rattle.resolve.specs.Word.{valuesW, textsW, values-pack, texts-pack}
 use Rattle.resolve.specs.Rooted.{Measured, Rooted, r-deep, r-word}
 use Rattle.resolve.specs.declared.Answer.{Answer}

@@ -10,12 +10,12 @@ use Rattle.refusal.specs.declared.Refusal.{Refusal}
 use Rattle.refusal.specs.declared.Refusal.the-variants.{TrailingData}
 use Rattle.value.specs.Value.{Label, NoneL, BoolL, I64L, F64L, BytesL, StringL, ListL, TupleL, SetL, FrozenSetL, DictL, GlobalL, ObjectL, Forest, one, kind, size, depth, text}
 use Rattle.value.specs.Shape.{kindIn, stateIn}
-use Rattle.decoder.specs.State.{Res, ok, no, _>>=_, need}
-use Rattle.decoder.specs.Opcodes.{isObject}
-use Rattle.decoder.specs.Rooms.{first, second, partsOf, nodeIs, kidsOf, classIn}
-use Rattle.decoder.specs.RoomReads.{node-kind}
-use Rattle.builder.specs.Build.{at, tree}
-use Rattle.builder.specs.Measure.{measured, measured-within}
+use Rattle.steps.specs.State.{Res, ok, no, _>>=_, need}
+use Rattle.steps.specs.Opcodes.{isObject}
+use Rattle.decoder.specs.Rooms.{kidsOf}
+use Rattle.steps.specs.NodeWords.{first, second, partsOf, nodeIs, classIn, node-kind}
+use Rattle.reading.specs.Build.{at, tree}
+use Rattle.reading.specs.Measure.{measured, measured-within}
 use Rattle.resolve.specs.Facts.{Facts}
 use Rattle.resolve.specs.Standing.{node-is, label-is, facts}
 use Rattle.resolve.specs.Rooted.{Begins, Rooted, r-deep, r-word, Roots}

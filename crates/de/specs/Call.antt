@@ -9,7 +9,7 @@ use Rattle.refusal.specs.declared.Answer.{Answer}
 use Rattle.refusal.specs.Numbers.{refusedAnswer}
 use Rattle.rooms.specs.Cleared.{cleared}
 use Rattle.rooms.specs.Stated.{Slices, roomLengths, stated, short, blank, filled, filled-none}
-use Rattle.builder.specs.Reading.{Reading, refuses, pickleLimit, stopped-long, prefix-refused}
+use Rattle.reading.specs.Reading.{Reading, refuses, pickleLimit, stopped-long, prefix-refused}
 use Rattle.build.specs.Given.{due, due-refused}
 
 -- what a call answers, and what it leaves of what it was lent

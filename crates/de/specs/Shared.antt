@@ -11,14 +11,14 @@ use Rattle.rooms.specs.Stated.{Slices}
 use Rattle.op.specs.Table.{rowIn, rowOf, knownName, opcodeOf}
 use Rattle.input.specs.Bytes.{lowFirst}
 use Rattle.value.specs.Value.{Label, Forest, I64L, ListL, TupleL, nil, node}
-use Rattle.decoder.specs.State.{Node, State, ok, _>>=_, need, bytes, byte, pop, top, popMany, pushId, pushNode, push, link, extend, find, has, insert, get, put}
-use Rattle.decoder.specs.Out.{Every}
-use Rattle.decoder.specs.Opcodes.{proto, lowBytes, binint1, made, tupleN, added, append, getBytes, putBytes}
-use Rattle.decoder.specs.Run.{going, does, decide, step, runs, start, run}
-use Rattle.builder.specs.Build.{at}
-use Rattle.builder.specs.Unfold.{WritesOut, nothing, afresh, In, here, there, Contains, direct, through, Reachable, NothingContainsItself}
-use Rattle.builder.specs.Reading.{Reading, told, consumed, prefix}
-use Rattle.builder.specs.Bench.{Line, Holds, bench, bench-holds}
+use Rattle.steps.specs.State.{Node, State, ok, _>>=_, need, bytes, byte, pop, top, popMany, pushId, pushNode, push, link, extend, find, has, insert, get, put}
+use Rattle.steps.specs.Out.{Every}
+use Rattle.steps.specs.Opcodes.{proto, lowBytes, binint1, made, tupleN, added, append, getBytes, putBytes}
+use Rattle.steps.specs.Run.{going, does, decide, step, runs, start, run}
+use Rattle.reading.specs.Build.{at}
+use Rattle.reading.specs.Unfold.{WritesOut, nothing, afresh, In, here, there, Contains, direct, through, Reachable, NothingContainsItself}
+use Rattle.reading.specs.Reading.{Reading, told, consumed, prefix}
+use Rattle.reading.specs.Bench.{Line, Holds, bench, bench-holds}
 use Rattle.de.specs.Call.{reading, ReadCall}
 use Rattle.de.specs.Theorems.{Place, shown-here, shown-inside, shown-after, call-never-shows-sharing}
 

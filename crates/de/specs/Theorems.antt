@@ -19,14 +19,14 @@ use Rattle.input.specs.Bytes.{Bytes}
 use Rattle.value.specs.Value.{Forest, node, one}
 use Rattle.value.specs.WellFormed.{WellFormed}
 use Rattle.table.specs.Length.{textLength, text-length}
-use Rattle.decoder.specs.State.{Node, State, Res, ok, no, last}
-use Rattle.decoder.specs.Run.{run}
-use Rattle.builder.specs.Build.{at, tree}
-use Rattle.builder.specs.Measure.{measured}
-use Rattle.builder.specs.Settle.{settle}
-use Rattle.builder.specs.Unfold.{WritesOut, afresh, In, here, there, Contains, direct, through, Reachable, NothingContainsItself, write-out-unique, write-out}
-use Rattle.builder.specs.Reading.{Reading, refuses, reads, told, consumed, consumed-rest, prefix, whole, leaves, whole-trailing, whole-prefix, pickleLimit, stopped-long, stopped-refused, stopped-empty, stopped-with, prefix-refused, prefix-told, told-fits, sharing-never-shows}
-use Rattle.builder.specs.Success.{Formed, refusal-number, prefix-well-formed, whole-well-formed}
+use Rattle.steps.specs.State.{Node, State, Res, ok, no, last}
+use Rattle.steps.specs.Run.{run}
+use Rattle.reading.specs.Build.{at, tree}
+use Rattle.reading.specs.Measure.{measured}
+use Rattle.reading.specs.Settle.{settle}
+use Rattle.reading.specs.Unfold.{WritesOut, afresh, In, here, there, Contains, direct, through, Reachable, NothingContainsItself, write-out-unique, write-out}
+use Rattle.reading.specs.Reading.{Reading, refuses, reads, told, consumed, consumed-rest, prefix, whole, leaves, whole-trailing, whole-prefix, pickleLimit, stopped-long, stopped-refused, stopped-empty, stopped-with, prefix-refused, prefix-told, told-fits, sharing-never-shows}
+use Rattle.reading.specs.Success.{Formed, refusal-number, prefix-well-formed, whole-well-formed}
 use Rattle.de.specs.Call.{Left, reading, ReadCall}
 
 -- ---- 1. sharing never shows

@@ -21,11 +21,10 @@ use Rattle.decoder.specs.declared.NodeId.{NodeId}
 use Rattle.decoder.specs.declared.CallRead.{CallRead}
 use Rattle.decoder.specs.declared.Effect.the-variants.{Push, Build}
 use Rattle.decoder.specs.declared.CallRead.the-variants.{None, Of}
-use Rattle.decoder.specs.Opcodes.{builtin, setName, frozensetName, object, setOf, reduced, called, build}
-use Rattle.decoder.specs.Run.{going}
-use Rattle.decoder.specs.Rooms.{Rooms, Counts, first, second, within, moduleOf, nameOf, nodeIs, kidsOf, stateOf, Holds, aList, aTuple, aDict, Counted, Together, Placed}
-use Rattle.decoder.specs.RoomLists.{holds-below}
-use Rattle.decoder.specs.RoomReads.{objectWord, object-made, object-node}
+use Rattle.steps.specs.Opcodes.{builtin, setName, frozensetName, object, setOf, reduced, called, build}
+use Rattle.steps.specs.Run.{going}
+use Rattle.decoder.specs.Rooms.{Rooms, Counts, kidsOf, stateOf, Counted, Together, Placed}
+use Rattle.steps.specs.NodeWords.{first, second, within, moduleOf, nameOf, nodeIs, Holds, aList, aTuple, aDict, holds-below, objectWord, object-made, object-node}
 use Rattle.decoder.specs.RoomKeeps.{class-none, class-made}
 use Rattle.decoder.specs.Effects.{Firm, Sound, Lent, Says, Fits, enacted, refusing, says-refused}
 use Rattle.decoder.specs.Reads.{cutTo, firm-cut}

@@ -17,15 +17,14 @@ use Rattle.decoder.specs.declared.KeyRead.{KeyRead}
 use Rattle.decoder.specs.declared.KeyRead.the-variants.{None, At}
 use Rattle.decoder.specs.declared.Effect.{Effect}
 use Rattle.decoder.specs.declared.Effect.the-variants.{Share, Remember}
-use Rattle.decoder.specs.State.{State, Res, ok, _>>=_, leaf, find, get, put}
-use Rattle.decoder.specs.State as state
-use Rattle.decoder.specs.Opcodes.{lowBytes}
-use Rattle.decoder.specs.Run.{going}
+use Rattle.steps.specs.State.{State, Res, ok, _>>=_, leaf, find, get, put}
+use Rattle.steps.specs.Opcodes.{lowBytes}
+use Rattle.steps.specs.Run.{going}
 use Rattle.decoder.specs.Rooms.{Rooms, Counts, stateOf, Absent, Numbered}
 use Rattle.decoder.specs.RoomMemo.{find-absent, find-present}
 use Rattle.decoder.specs.RoomReads.{memo-of, nodes-length}
-use Rattle.decoder.specs.Effect.{kept}
-use Rattle.decoder.specs.Range.{known-below}
+use Rattle.steps.specs.Effect.{kept}
+use Rattle.steps.specs.Range.{known-below}
 use Rattle.decoder.specs.Effects.{Sound, Says, Fits, Lent, Decides, enacted, put-is, refusing, says-refused}
 use Rattle.decoder.specs.Reads.{cutTo, bytes-short, bytes-got, line-none, line-got, top-none, top-got}
 use Rattle.decoder.specs.ReadsMemo.{keyLine, keyed, Key, ReadsKey, sound-read}

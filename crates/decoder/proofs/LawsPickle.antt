@@ -37,9 +37,9 @@ use Rattle.text.specs.declared.Quoted.{Quoted}
 use Rattle.text.specs.declared.Quoted.the-variants as quoted
 use Rattle.value.specs.Value.{Label, BoolL, I64L, F64L, BytesL, StringL, GlobalL}
 use Rattle.decoder.specs.declared.Effect.the-variants.{Push, Go}
-use Rattle.decoder.specs.State.{ok, no, _>>=_, need, byte, bytes, push}
-use Rattle.decoder.specs.Opcodes.{intLabel, signedLength, proto, binstring, global}
-use Rattle.decoder.specs.Run.{going}
+use Rattle.steps.specs.State.{ok, no, _>>=_, need, byte, bytes, push}
+use Rattle.steps.specs.Opcodes.{intLabel, signedLength, proto, binstring, global}
+use Rattle.steps.specs.Run.{going}
 use Rattle.decoder.specs.Rooms.{Rooms, Counts, stateOf, atTo}
 use Rattle.decoder.specs.Effects.{Sound, Decides, refusing}
 use Rattle.decoder.specs.Reads.{cutTo, bytes-short, bytes-got, line-none, line-got}

@@ -6,17 +6,18 @@ use mathlib.Core.List.{List, [], _∷_}
 use mathlib.Core.Path.{_≡_, refl, sym}
 use mathlib.Core.Logic.{_≢_}
 use lib.ListN.{length, getD, take, drop, set}
-use lib.Dec.{leb, ltb}
+use lib.Dec.{ltb}
 use Rattle.refusal.specs.declared.Refusal.{Refusal}
 use Rattle.refusal.specs.declared.Refusal.the-variants.{MemoFull}
 use Rattle.value.specs.Shape.{kindIn}
 use Rattle.decoder.specs.declared.Effect.{Effect}
 use Rattle.decoder.specs.declared.Effect.the-variants.{Push, Share, Mark, Go, Make, Extend, Remember, Build, Stop, Refused}
-use Rattle.decoder.specs.State.{State, Res, ok, no, _>>=_, need, memoLimit, nodesLimit, linksLimit, stackLimit, marksLimit, withNodes, withMemo, top, pushId, pushNode, link, nodeAt, extend, has, insert, put}
-use Rattle.decoder.specs.Opcodes.{mark, made}
-use Rattle.decoder.specs.Run.{Next, goes, stops, going}
-use Rattle.decoder.specs.Range.{InRange}
-use Rattle.decoder.specs.Rooms.{Rooms, Counts, first, nodeIs, stateOf, Holds, Class, Numbered, Kept}
+use Rattle.steps.specs.State.{State, Res, ok, no, _>>=_, need, memoLimit, nodesLimit, linksLimit, stackLimit, marksLimit, withNodes, withMemo, top, pushId, pushNode, link, nodeAt, extend, has, insert, put}
+use Rattle.steps.specs.Opcodes.{mark, made}
+use Rattle.steps.specs.Run.{Next, goes, stops, going}
+use Rattle.steps.specs.Range.{InRange}
+use Rattle.decoder.specs.Rooms.{Rooms, Counts, stateOf, Class, Numbered, Kept}
+use Rattle.steps.specs.NodeWords.{first, nodeIs, Holds}
 
 -- ---- the parts of a step that follow what it read and took
 

@@ -1,26 +1,20 @@
 -- Items that an opcode takes off the stack for a container: what its code answers.
-use Prim.Native.Nat.{ℕ, suc, _-_, _*_, _%_, _<_, _≤_}
-use mathlib.Core.Bool.{Bool, true, false, cond}
-use mathlib.Core.List.{List, [], _∷_}
-use mathlib.Core.Path.{_≡_, refl, _∙_, ap}
-use mathlib.Core.Logic.{_≢_}
-use lib.ListN.{length, getD, take, drop}
-use lib.Seq.{drop-cons, getD-take, length-take-le}
+use Prim.Native.Nat.{ℕ, _-_, _<_, _≤_}
+use mathlib.Core.Bool.{Bool, cond}
+use mathlib.Core.List.{List}
+use mathlib.Core.Path.{_≡_}
 use lib.Dec.{eqb}
-use borrow.Author.Tests.{eq-eqb, ne-eqb}
-use native.Mathlib.Omega.{arith}
 use Rattle.refusal.specs.declared.Refusal.the-variants.{Invalid, StackUnderflow}
 use Rattle.refusal.specs.declared.Wanted.{Wanted}
 use Rattle.value.specs.Value.{Label}
-use Rattle.value.specs.Shape.{kindIn}
 use Rattle.decoder.specs.declared.Taken.{Taken}
 use Rattle.decoder.specs.declared.Taken.the-variants.{Short, From}
 use Rattle.decoder.specs.declared.Effect.{Effect}
-use Rattle.decoder.specs.State.{State, ok, no, _>>=_, need, popMark}
-use Rattle.decoder.specs.Opcodes.{isList, isDict, added}
-use Rattle.decoder.specs.Run.{going}
+use Rattle.steps.specs.State.{ok, no, popMark}
+use Rattle.steps.specs.Opcodes.{isList, isDict, added}
+use Rattle.steps.specs.Run.{going}
 use Rattle.decoder.specs.Rooms.{Rooms, Counts, stateOf}
-use Rattle.decoder.specs.Effects.{Firm, Sound, Says, above}
+use Rattle.decoder.specs.Effects.{Sound, Says, above}
 use Rattle.decoder.specs.Reads.{cutTo}
 
 -- what was found above the last mark

@@ -1,22 +1,21 @@
 -- The parts of an opcode over rooms and counts: what it reads of the pickle and takes off the stack, case by case as the code tests them.
-use Prim.Native.Nat.{ℕ, suc, zero, _+_, _-_, _*_, _<_, _≤_}
+use Prim.Native.Nat.{ℕ, suc, _+_, _-_, _<_, _≤_}
 use mathlib.Core.Bool.{Bool, true, false, cond}
 use mathlib.Core.List.{List, [], _∷_}
-use mathlib.Core.Path.{_≡_, refl, sym, _∙_, ap, ap₂}
+use mathlib.Core.Path.{_≡_, refl, _∙_, ap, ap₂}
 use lib.ListN.{length, getD, take, drop, length-drop}
-use lib.Seq.{drop-drop, take-take, getD-take, length-take-le}
-use lib.Dec.{eqb, leb, ltb}
-use borrow.Author.Tests.{le-leb, lt-leb, lt-ltb, le-ltb}
+use lib.Seq.{drop-drop, getD-take, length-take-le}
+use lib.Dec.{eqb, ltb}
+use borrow.Author.Tests.{le-leb, lt-leb, lt-ltb}
 use native.Mathlib.Omega.{arith}
-use Rattle.refusal.specs.Read.{Read, got, refused}
-use Rattle.refusal.specs.declared.Refusal.{Refusal}
+use Rattle.refusal.specs.Read.{got, refused}
 use Rattle.refusal.specs.declared.Refusal.the-variants.{EndOfInput, StackUnderflow}
 use Rattle.input.specs.Line.{firstFrom, newlineOf, lessCr, lineOf}
-use Rattle.decoder.specs.State.{State, ok, no, _>>=_, need, leaf, withInput, withStack, withMarks, last, bytes, line, pop, top, popMark, popMany}
-use Rattle.decoder.specs.Rooms.{Rooms, Counts, stateOf, atTo, stackTo, marksTo}
+use Rattle.steps.specs.State.{ok, no, _>>=_, need, leaf, withInput, withStack, withMarks, last, bytes, line, pop, top, popMark, popMany}
+use Rattle.decoder.specs.Rooms.{Rooms, Counts, stateOf, atTo, stackTo}
 use Rattle.decoder.specs.RoomLaws.{read-more, stack-cut, marks-cut}
 use Rattle.decoder.specs.RoomReads.{stack-length, marks-length, input-of, stack-of, marks-of}
-use Rattle.decoder.specs.Effects.{Lengths, Clean, Firm, above}
+use Rattle.decoder.specs.Effects.{Firm, above}
 
 -- place, stack and marks moved
 abbrev pub cutTo : Counts → ℕ → ℕ → ℕ → Counts

@@ -1,10 +1,10 @@
 -- What REDUCE, NEWOBJ and BUILD take off the stack, over rooms and counts, and what REDUCE makes of a class by its name.
-use Prim.Native.Nat.{ℕ, suc, zero, _+_, _-_, _<_, _≤_}
+use Prim.Native.Nat.{ℕ, suc, zero, _-_, _<_, _≤_}
 use mathlib.Core.Bool.{Bool, true, false, cond, _&&_}
 use mathlib.Core.List.{List, [], _∷_, _++_, map, flatten}
 use mathlib.Core.Path.{_≡_, refl, sym, _∙_, ap}
 use mathlib.Core.Logic.{_≢_}
-use lib.ListN.{length, length-append, getD, take}
+use lib.ListN.{length, getD}
 use lib.Dec.{leb, ltb}
 use borrow.Author.Tests.{eq-eqb, ne-eqb}
 use native.Mathlib.Omega.{arith}
@@ -18,10 +18,11 @@ use Rattle.value.specs.Value.{SetL, FrozenSetL}
 use Rattle.value.specs.Shape.{kindIn}
 use Rattle.decoder.specs.declared.CallRead.{CallRead}
 use Rattle.decoder.specs.declared.CallRead.the-variants.{None, Of}
-use Rattle.decoder.specs.State.{Node, ok, no, _>>=_, need, pop, top, pushNode}
-use Rattle.decoder.specs.Opcodes.{isTuple, isObject, classOf, builtin, setName, frozensetName, object, setOf, reduced, called, build}
-use Rattle.decoder.specs.Rooms.{Rooms, Counts, first, second, moduleOf, nameOf, nodeIs, kidsOf, nodeOf, stateOf}
-use Rattle.decoder.specs.RoomReads.{node-at, tuple-kind, object-kind, class-kind}
+use Rattle.steps.specs.State.{Node, ok, no, _>>=_, need, pop, top, pushNode}
+use Rattle.steps.specs.Opcodes.{isTuple, isObject, classOf, builtin, setName, frozensetName, object, setOf, reduced, called, build}
+use Rattle.decoder.specs.Rooms.{Rooms, Counts, kidsOf, nodeOf, stateOf}
+use Rattle.steps.specs.NodeWords.{first, second, moduleOf, nameOf, nodeIs, tuple-kind, object-kind, class-kind}
+use Rattle.decoder.specs.RoomReads.{node-at}
 use Rattle.decoder.specs.Effects.{Firm, Sound, state}
 use Rattle.decoder.specs.Reads.{cutTo, firm-cut, pop-none, pop-got, top-none, top-got}
 use Rattle.decoder.specs.StackSteps.{on-stack}

@@ -7,10 +7,10 @@ use native.Mathlib.Omega.{arith}
 use Rattle.number.specs.Number.{parseU32}
 use Rattle.decoder.specs.declared.KeyRead.{KeyRead}
 use Rattle.decoder.specs.declared.KeyRead.the-variants.{None, At}
-use Rattle.decoder.specs.State.{State, Res, ok, no, _>>=_, leaf, line, get, put}
-use Rattle.decoder.specs.Opcodes.{lowBytes, getLine, getBytes, putLine, putBytes}
+use Rattle.steps.specs.State.{State, Res, ok, no, _>>=_, leaf, line, get, put}
+use Rattle.steps.specs.Opcodes.{lowBytes, getLine, getBytes, putLine, putBytes}
 use Rattle.decoder.specs.Rooms.{Rooms, Counts, stateOf}
-use Rattle.decoder.specs.Range.{range-reads}
+use Rattle.steps.specs.Range.{range-reads}
 use Rattle.decoder.specs.Effects.{Sound}
 use Rattle.decoder.specs.Reads.{cutTo, firm-cut}
 

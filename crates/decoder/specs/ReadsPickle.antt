@@ -25,12 +25,11 @@ use Rattle.decoder.specs.declared.Effect.{Effect}
 use Rattle.decoder.specs.declared.Part.{Part}
 use Rattle.decoder.specs.declared.Part.the-variants.{Short, At}
 use Rattle.decoder.specs.declared.Effect.the-variants.{Push, Go}
-use Rattle.decoder.specs.State.{State, Res, ok, no, _>>=_, leaf, plain, bytes, line, push}
-use Rattle.decoder.specs.Opcodes.{lowBytes}
-use Rattle.decoder.specs.Run.{going}
-use Rattle.decoder.specs.Rooms.{Rooms, Counts, moduleOf, nameOf, nodeIs, stateOf, atTo, Holds, aList, aTuple, aDict}
-use Rattle.decoder.specs.RoomLists.{within-at}
-use Rattle.decoder.specs.RoomReads.{node-kind, kind-made, rest-made}
+use Rattle.steps.specs.State.{State, Res, ok, no, _>>=_, leaf, plain, bytes, line, push}
+use Rattle.steps.specs.Opcodes.{lowBytes}
+use Rattle.steps.specs.Run.{going}
+use Rattle.decoder.specs.Rooms.{Rooms, Counts, stateOf, atTo}
+use Rattle.steps.specs.NodeWords.{moduleOf, nameOf, nodeIs, Holds, aList, aTuple, aDict, within-at, node-kind, kind-made, rest-made}
 use Rattle.decoder.specs.RoomKeeps.{class-none}
 use Rattle.decoder.specs.Effects.{Firm, Sound, Says, Fits, Lent, Decides, enacted, refusing, says-refused}
 use Rattle.decoder.specs.Reads.{cutTo, firm-cut, bytes-short, bytes-got, line-none, line-got}

@@ -8,10 +8,11 @@ use Rattle.text.specs.Pieces.{bytesOf}
 use Rattle.text.specs.Examples.{evaluates as text-evaluates}
 use Rattle.value.specs.Value.{BytesL, StringL, TupleL, DictL, GlobalL, ObjectL}
 use Rattle.value.specs.Shape.{kindIn, newIn, stateIn}
-use Rattle.decoder.specs.State.{ok, plain}
-use Rattle.decoder.specs.Run.{run}
-use Rattle.decoder.specs.Examples.{shared}
-use Rattle.decoder.specs.Rooms.{Rooms, Counts, tab, items, entries, first, second, within, classIn, moduleOf, nameOf, partsOf, nodeIs, stateOf}
+use Rattle.steps.specs.State.{ok, plain}
+use Rattle.steps.specs.Run.{run}
+use Rattle.steps.specs.Examples.{shared}
+use Rattle.decoder.specs.Rooms.{Rooms, Counts, tab, items, entries, stateOf}
+use Rattle.steps.specs.NodeWords.{first, second, within, classIn, moduleOf, nameOf, partsOf, nodeIs}
 
 -- opens what the examples compute with
 unfoldable evaluates : Unit {0}

@@ -4,15 +4,16 @@ use mathlib.Core.List.{List, [], _∷_, _++_}
 use mathlib.Core.Path.{_≡_, sym, _∙_, ap, ap₂}
 use mathlib.Core.Logic.{_≢_}
 use lib.ListN.{length, getD, take, drop, set}
-use lib.Seq.{drop-drop, take-suc-set, take-take, getD-set-other}
+use lib.Seq.{drop-drop, take-suc-set, take-take}
 use native.Mathlib.Decide.{ℕ-discrete}
 use native.Mathlib.Omega.{arith}
 use Rattle.value.specs.Value.{NoneL}
 use Rattle.value.specs.Shape.{kindIn}
-use Rattle.decoder.specs.State.{Node, plain, withInput, withNodes, withStack, withMarks, withMemo, withLinks, nodeAt, extend, insert}
-use Rattle.decoder.specs.RoomLists.{getD-tab, tab-same, tab-set, items-own, items-other, items-new, first-other, second-other, first-set, second-set, words-second, holds-below}
+use Rattle.steps.specs.State.{Node, plain, withInput, withNodes, withStack, withMarks, withMemo, withLinks, nodeAt, extend, insert}
+use Rattle.decoder.specs.RoomLists.{getD-tab, tab-same, tab-set, items-own, items-other, items-new}
+use Rattle.steps.specs.NodeWords.{first-other, second-other, first-set, second-set, words-second, holds-below, first, second, wordsSet, classIn, nodeIs, Holds, Built, node-grown, node-count, node-built, node-words, words-other}
 use Rattle.decoder.specs.RoomMemo.{insert-absent, insert-present}
-use Rattle.decoder.specs.Rooms.{Rooms, Counts, tab, first, second, wordsSet, classIn, partsOf, choices, nodeIs, kidsOf, nodeOf, nodesOf, stateOf, wordsIn, logIn, stackIn, marksIn, memoIn, atTo, nodesTo, linksTo, stackTo, marksTo, memoTo, Holds, Owned, Class, Classed, Absent, Built, aList, aTuple, aDict}
+use Rattle.decoder.specs.Rooms.{Rooms, Counts, tab, kidsOf, nodeOf, nodesOf, stateOf, wordsIn, logIn, stackIn, marksIn, memoIn, atTo, nodesTo, linksTo, stackTo, marksTo, memoTo, Owned, Class, Classed, Absent}
 
 -- ---- the pickle, the stack and the marks
 
@@ -39,44 +40,6 @@ module _ (r : Rooms) (c : Counts) where
   pub marks-cut : (m : ℕ) → m ≤ c .marks → stateOf r (marksTo c m) ≡ withMarks (stateOf r c) (take m (stateOf r c .marks))
   unfolding stateOf
   marks-cut m h = ap (withMarks (stateOf r c)) (sym (take-take m (c .marks) (r .marks) h))
-
--- ---- one node
-
-module _ (p : List ℕ) (a b : ℕ) where
-  -- of the other nodes, only an Object's class counts
-  pub node-words : (ks ws ws′ : List ℕ) → (kindIn a ≡ 12 → (first ws′ (classIn a) ≡ first ws (classIn a)) × (second ws′ (classIn a) ≡ second ws (classIn a))) → nodeIs p ws′ ks a b ≡ nodeIs p ws ks a b
-  unfolding nodeIs
-  node-words ks ws ws′ h = go (ℕ-discrete (kindIn a) 12)
-    where
-      go : Dec (kindIn a ≡ 12) → getD (choices p ws′ ks a b) (kindIn a) (plain NoneL) ≡ getD (choices p ws ks a b) (kindIn a) (plain NoneL)
-      go (yes e) = rw (h e .0, h e .1)
-      go (no d) = getD-set-other (choices p ws ks a b) 12 (kindIn a) (getD (choices p ws′ ks a b) 12 (plain NoneL)) (plain NoneL) d
-
-  -- a List, Tuple or Dict with a child more
-  pub node-grown : (ks ws : List ℕ) (k : ℕ) → Holds a → nodeIs p ws (ks ++ (k ∷ [])) a b ≡ record { label = nodeIs p ws ks a b .label; kids = nodeIs p ws ks a b .kids ++ (k ∷ []) }
-  unfolding nodeIs
-  node-grown ks ws k (aList e) = rw e
-  node-grown ks ws k (aTuple e) = rw e
-  node-grown ks ws k (aDict e) = rw e
-
-  -- its second word does not count
-  pub node-count : (ks ws : List ℕ) (b′ : ℕ) → Holds a → nodeIs p ws ks a b′ ≡ nodeIs p ws ks a b
-  unfolding nodeIs
-  node-count ks ws b′ (aList e) = rw e
-  node-count ks ws b′ (aTuple e) = rw e
-  node-count ks ws b′ (aDict e) = rw e
-
-  -- an Object with a state
-  pub node-built : (ks ws : List ℕ) (a′ b′ i : ℕ) → kindIn a ≡ 12 → Built a b a′ b′ i → nodeIs p ws ks a′ b′ ≡ record { label = nodeIs p ws ks a b .label; kids = getD (nodeIs p ws ks a b .kids) 0 0 ∷ i ∷ [] }
-  unfolding nodeIs partsOf
-  node-built ks ws a′ b′ i k h = rw (k, h .kind, h .new, h .state, h .class, h .arguments, h .item)
-
--- words set for node n leave a node whose class is not n
-words-other : (p ks ws : List ℕ) (n a b i : ℕ) → i ≢ n → (kindIn (first ws i) ≡ 12 → classIn (first ws i) ≢ n)
-    → nodeIs p (wordsSet ws n a b) ks (first (wordsSet ws n a b) i) (second (wordsSet ws n a b) i) ≡ nodeIs p ws ks (first ws i) (second ws i)
-words-other p ks ws n a b i d h =
-    rw (first-other ws n a b i d, second-other ws n a b i d)
-    (node-words p (first ws i) (second ws i) ks ws (wordsSet ws n a b) (λ e. (first-other ws n a b (classIn (first ws i)) (h e), second-other ws n a b (classIn (first ws i)) (h e))))
 
 -- ---- a link more
 

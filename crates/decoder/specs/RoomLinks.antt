@@ -5,8 +5,9 @@ use mathlib.Core.Path.{_≡_, _∙_, ap}
 use lib.ListN.{length, length-set, set}
 use lib.Seq.{set-set, set-getD, set-append-seam, getD-append-seam, getD-set-same}
 use Rattle.value.specs.Value.{Label, NoneL}
-use Rattle.decoder.specs.State.{Node, State, plain, withNodes, withLinks, nodeAt, extend}
-use Rattle.decoder.specs.Rooms.{Rooms, Counts, first, stateOf, wordsIn, logIn, linksTo, Holds, Classed}
+use Rattle.steps.specs.State.{Node, State, plain, withNodes, withLinks, nodeAt, extend}
+use Rattle.decoder.specs.Rooms.{Rooms, Counts, stateOf, wordsIn, logIn, linksTo, Classed}
+use Rattle.steps.specs.NodeWords.{first, Holds}
 use Rattle.decoder.specs.RoomLaws.{link-more, count-set}
 
 -- ---- items one after the other

@@ -1,18 +1,16 @@
--- Laws of the lists that are read off rooms: tables, the log of links, the words of nodes, texts.
-use Prim.Native.Nat.{ℕ, suc, zero, _+_, _*_, _^_, _<_, _≤_}
+-- Laws of the lists that are read off rooms: tables and the log of links.
+use Prim.Native.Nat.{ℕ, suc, zero, _<_, _≤_}
 use mathlib.Core.Bool.{Bool, true, false, cond}
 use mathlib.Core.List.{List, [], _∷_, _++_, append-nil}
 use mathlib.Core.Path.{_≡_, refl, sym, _∙_, ap}
 use mathlib.Core.Logic.{_≢_}
-use lib.ListN.{length, length-append, length-set, getD, take, drop, set, List·getD-append}
-use lib.Seq.{take-suc-set, length-take-le, getD-take, getD-set-same, getD-set-other, getD-at, ext-getD, set-getD}
-use lib.Pow.{high, low}
+use lib.ListN.{length, length-append, length-set, getD, take, set, List·getD-append}
+use lib.Seq.{take-suc-set, length-take-le, getD-take, getD-set-same, getD-set-other, getD-at, ext-getD}
 use lib.Dec.{eqb}
 use borrow.Author.Tests.{eq-eqb, ne-eqb}
 use native.Mathlib.Decide.{decLt, ℕ-discrete}
 use native.Mathlib.Omega.{arith}
-use Rattle.value.specs.Shape.{kindIn}
-use Rattle.decoder.specs.Rooms.{tab, items, first, second, wordsSet, within, Holds, aList, aTuple, aDict}
+use Rattle.decoder.specs.Rooms.{tab, items}
 
 -- ---- tables
 
@@ -80,41 +78,3 @@ items-none (w ∷ ws) (c ∷ cs) o h = rw (ne-eqb w o (h 0 (omega arith))) (item
 
 pub items-new : (owners children : List ℕ) (n o : ℕ) → ((k : ℕ) → k < n → getD owners k 0 ≢ o) → n ≤ length owners → items (take n owners) (take n children) o ≡ []
 items-new owners children n o h l = items-none (take n owners) (take n children) o (λ k m. let u : k < n = rw (length-take-le n owners l) at m in rw (getD-take n owners k 0 u) (h k u))
-
--- ---- the words of nodes
-
-module _ (ws : List ℕ) (n a b : ℕ) where
-  pub first-other : (i : ℕ) → i ≢ n → first (wordsSet ws n a b) i ≡ first ws i
-  unfolding first wordsSet
-  first-other i d = getD-set-other (set ws (2 * n) a) (suc (2 * n)) (2 * i) b 0 (λ e. omega arith) ∙ getD-set-other ws (2 * n) (2 * i) a 0 (λ e. d (omega arith))
-
-  pub second-other : (i : ℕ) → i ≢ n → second (wordsSet ws n a b) i ≡ second ws i
-  unfolding second wordsSet
-  second-other i d = getD-set-other (set ws (2 * n) a) (suc (2 * n)) (suc (2 * i)) b 0 (λ e. d (omega arith)) ∙ getD-set-other ws (2 * n) (suc (2 * i)) a 0 (λ e. omega arith)
-
-  module _ (room : suc (2 * n) < length ws) where
-    pub first-set : first (wordsSet ws n a b) n ≡ a
-    unfolding first wordsSet
-    first-set = getD-set-other (set ws (2 * n) a) (suc (2 * n)) (2 * n) b 0 (λ e. omega arith) ∙ getD-set-same ws (2 * n) a 0 (omega arith)
-
-    pub second-set : second (wordsSet ws n a b) n ≡ b
-    unfolding second wordsSet
-    second-set = getD-set-same (set ws (2 * n) a) (suc (2 * n)) b 0 (rw length-set room)
-
--- the second word alone
-pub words-second : (ws : List ℕ) (n b : ℕ) → wordsSet ws n (first ws n) b ≡ set ws (suc (2 * n)) b
-unfolding wordsSet first
-words-second ws n b = rw (set-getD ws (2 * n) 0)
-
--- a container is neither Global nor Object nor a line: those kinds are above 10
-pub holds-below : (a : ℕ) → Holds a → kindIn a ≤ 10
-holds-below a (aList e) = omega arith
-holds-below a (aTuple e) = omega arith
-holds-below a (aDict e) = omega arith
-
--- ---- texts
-
--- a number made of a length and a place says the text of that length there
-pub within-at : (k place n : ℕ) (t : List ℕ) → place < 2 ^ k → within k (n * 2 ^ k + place) t ≡ take n (drop place t)
-unfolding within
-within-at k place n t h = rw (high n k h, low n k h)

@@ -3,7 +3,6 @@ use Prim.Native.Nat.{ℕ, suc, zero, _+_, _<_, _≤_, max}
 use mathlib.Core.Bool.{Bool, true, false, cond}
 use mathlib.Core.List.{List, [], _∷_, _++_}
 use mathlib.Core.Path.{_≡_, refl, sym, _∙_, ap}
-use mathlib.Core.Logic.{_≢_}
 use lib.ListN.{length, getD, take, set}
 use lib.Seq.{take-set-lt, take-suc-set, length-take-le, getD-take, getD-set-same, getD-set-other}
 use lib.Dec.{eqb}
@@ -11,9 +10,9 @@ use borrow.Author.Tests.{eq-eqb, ne-eqb}
 use native.Mathlib.Decide.{ℕ-discrete}
 use native.Mathlib.Omega.{arith}
 use Rattle.refusal.specs.declared.Refusal.the-variants.{MissingMemo}
-use Rattle.decoder.specs.State.{ok, find, has, insert}
-use Rattle.decoder.specs.State as state
-use Rattle.decoder.specs.Memo.{find-missing}
+use Rattle.steps.specs.State.{ok, find, has, insert}
+use Rattle.steps.specs.State as state
+use Rattle.steps.specs.Memo.{find-missing}
 use Rattle.decoder.specs.Rooms.{entries, Absent, Numbered}
 
 entries-append : (ks hs : List ℕ) (k h : ℕ) → length ks ≡ length hs → entries (ks ++ (k ∷ [])) (hs ++ (h ∷ [])) ≡ entries ks hs ++ ((k, h) ∷ [])

@@ -1,17 +1,14 @@
 -- The machine's state as the code keeps it, in lent rooms with counts of what is used: one function from their contents to a State.
-use Prim.Native.Nat.{ℕ, suc, zero, _+_, _*_, _^_, _/_, _%_, _<_, _≤_}
-use mathlib.Core.Bool.{true, cond}
+use Prim.Native.Nat.{ℕ, suc, zero, _+_, _^_, _/_, _%_, _<_, _≤_}
+use mathlib.Core.Bool.{cond}
 use mathlib.Core.List.{List, [], _∷_, _++_}
 use mathlib.Core.Path.{_≡_}
 use mathlib.Core.Logic.{_≢_}
-use lib.ListN.{length, getD, take, drop, set}
+use lib.ListN.{length, getD, take, drop}
 use lib.Dec.{eqb}
-use Rattle.utf8.specs.Utf8.{repair}
-use Rattle.text.specs.Pieces.{bytesOf}
-use Rattle.text.specs.Text.{unescapeString, unescapeUnicode}
-use Rattle.value.specs.Value.{NoneL, BoolL, I64L, F64L, BytesL, StringL, ListL, TupleL, SetL, FrozenSetL, DictL, GlobalL, ObjectL}
-use Rattle.value.specs.Shape.{kindIn, newIn, stateIn}
-use Rattle.decoder.specs.State.{Node, State, plain}
+use Rattle.value.specs.Shape.{kindIn}
+use Rattle.steps.specs.State.{Node, State}
+use Rattle.steps.specs.NodeWords.{first, second, classIn, nodeIs, Holds}
 pub use Rattle.decoder.specs.declared.Counts.{Counts}
 
 -- the rooms: the pickle, two words a node, the log of links (owner, child), stack, marks, the memo (number, node)
@@ -43,64 +40,6 @@ unfoldable pub entries : List ℕ → List ℕ → List (ℕ × ℕ)
 entries [] hs = []
 entries (k ∷ ks) [] = []
 entries (k ∷ ks) (h ∷ hs) = (k, h) ∷ entries ks hs
-
--- ---- a node's two words
-
--- the first word of node i
-unfoldable pub first : List ℕ → ℕ → ℕ
-first ws i = getD ws (2 * i) 0
-
--- its second
-unfoldable pub second : List ℕ → ℕ → ℕ
-second ws i = getD ws (suc (2 * i)) 0
-
--- both set
-unfoldable pub wordsSet : List ℕ → ℕ → ℕ → ℕ → List ℕ
-wordsSet ws i a b = set (set ws (2 * i) a) (suc (2 * i)) b
-
--- the text that a number says: its low k bits are the place, those above them the length
-unfoldable pub within : ℕ → ℕ → List ℕ → List ℕ
-within k w t = take (w / 2 ^ k) (drop (w % 2 ^ k) t)
-
--- the node of an Object's class
-unfoldable pub classIn : ℕ → ℕ
-classIn a = a / 64
-
--- the module and the name of a Global with the words a and b, of the pickle p
-unfoldable pub moduleOf : List ℕ → ℕ → List ℕ
-moduleOf p a = repair (within 24 (a / 16) p)
-
-unfoldable pub nameOf : List ℕ → ℕ → List ℕ
-nameOf p b = repair (within 32 b p)
-
--- an Object's arguments and any state
-unfoldable pub partsOf : ℕ → ℕ → List ℕ
-partsOf a b = b % 2 ^ 32 ∷ cond (stateIn a) (b / 2 ^ 32 ∷ []) []
-
--- the nodes that the words a and b say for the kinds 0 to 14: p is the pickle, ws the words of all nodes, ks the children of the node's
--- links. 13 are Bytes of a STRING with an escape and 14 a String of UNICODE, both as their lines
-abbrev pub choices : List ℕ → List ℕ → List ℕ → ℕ → ℕ → List Node
-choices p ws ks a b =
-    plain NoneL
-    ∷ plain (BoolL (eqb b 1))
-    ∷ plain (I64L b)
-    ∷ plain (F64L b)
-    ∷ plain (BytesL (within 32 b p))
-    ∷ plain (StringL (repair (within 32 b p)))
-    ∷ record { label = ListL; kids = ks }
-    ∷ record { label = TupleL; kids = ks }
-    ∷ record { label = SetL; kids = b ∷ [] }
-    ∷ record { label = FrozenSetL; kids = b ∷ [] }
-    ∷ record { label = DictL; kids = ks }
-    ∷ plain (GlobalL (moduleOf p a) (nameOf p b))
-    ∷ record { label = ObjectL (moduleOf p (first ws (classIn a))) (nameOf p (second ws (classIn a))) (newIn a); kids = partsOf a b }
-    ∷ plain (BytesL (bytesOf (unescapeString (within 32 b p))))
-    ∷ plain (StringL (bytesOf (unescapeUnicode (within 32 b p))))
-    ∷ []
-
--- the one of the kind that a says
-unfoldable pub nodeIs : List ℕ → List ℕ → List ℕ → ℕ → ℕ → Node
-nodeIs p ws ks a b = getD (choices p ws ks a b) (kindIn a) (plain NoneL)
 
 -- ---- the state
 
@@ -169,12 +108,6 @@ memoTo c n = record { at = c .at; nodes = c .nodes; links = c .links; stack = c 
 
 -- ---- what the code keeps
 
--- the first word of a node that holds links
-pub data Holds (a : ℕ) : Type 0 where
-  aList : kindIn a ≡ 6 → Holds a
-  aTuple : kindIn a ≡ 7 → Holds a
-  aDict : kindIn a ≡ 10 → Holds a
-
 -- every link has an owner among the n nodes
 unfoldable pub Owned : List ℕ → ℕ → ℕ → Type 0
 Owned owners links n = (k : ℕ) → k < links → getD owners k 0 < n
@@ -195,15 +128,6 @@ Absent keys n k = (i : ℕ) → i < n → getD keys i 0 ≢ k
 pub record Numbered (keys : List ℕ) (n m : ℕ) : Type 0 where
   pub once : (i : ℕ) → i < n → Absent keys i (getD keys i 0)
   pub below : (i : ℕ) → i < n → getD keys i 0 < m
-
--- the words a′ and b′ are those of an Object with a and b, but that its state is i
-pub record Built (a b a′ b′ i : ℕ) : Type 0 where
-  pub kind : kindIn a′ ≡ 12
-  pub new : newIn a′ ≡ newIn a
-  pub state : stateIn a′ ≡ true
-  pub class : classIn a′ ≡ classIn a
-  pub arguments : b′ % 2 ^ 32 ≡ b % 2 ^ 32
-  pub item : b′ / 2 ^ 32 ≡ i
 
 -- the low half of a container's second word is the number of its items
 unfoldable pub Counted : List ℕ → List ℕ → List ℕ → ℕ → ℕ → Type 0

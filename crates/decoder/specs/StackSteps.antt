@@ -1,6 +1,6 @@
 -- The opcodes of marks, stack and containers over rooms and counts: one law for each way in which their code answers.
-use Prim.Native.Nat.{ℕ, suc, zero, _+_, _-_, _*_, _%_, _<_, _≤_}
-use mathlib.Core.Bool.{Bool, true, false, cond}
+use Prim.Native.Nat.{ℕ, suc, zero, _-_, _*_, _%_, _<_, _≤_}
+use mathlib.Core.Bool.{cond}
 use mathlib.Core.List.{List, [], _∷_}
 use mathlib.Core.Path.{_≡_, refl, sym, _∙_, ap, ap₂}
 use mathlib.Core.Logic.{_≢_}
@@ -9,21 +9,19 @@ use lib.Seq.{drop-cons, getD-take, length-take-le}
 use lib.Dec.{eqb}
 use borrow.Author.Tests.{eq-eqb, ne-eqb}
 use native.Mathlib.Omega.{arith}
-use Rattle.refusal.specs.declared.Refusal.{Refusal}
 use Rattle.refusal.specs.declared.Refusal.the-variants.{Invalid, StackUnderflow}
 use Rattle.refusal.specs.declared.Wanted.{Wanted}
 use Rattle.refusal.specs.declared.Wanted.the-variants.{DictItems, List as AList, Dict as ADict}
-use Rattle.value.specs.Value.{Label}
 use Rattle.value.specs.Shape.{kindIn}
 use Rattle.decoder.specs.declared.Taken.the-variants.{Short, From}
-use Rattle.decoder.specs.declared.NodeId.{NodeId}
 use Rattle.decoder.specs.declared.Effect.the-variants.{Share, Go, Make, Extend}
-use Rattle.decoder.specs.State.{State, Res, ok, no, _>>=_, need, nodeAt, pop, top}
-use Rattle.decoder.specs.Opcodes.{popOne, popToMark, dup, list, tuple, tupleN, pairs, dict, isList, isDict, added, append, appends, setitem, setitems}
-use Rattle.decoder.specs.Run.{Next, going}
-use Rattle.decoder.specs.Out.{every-at}
-use Rattle.decoder.specs.Rooms.{Rooms, Counts, first, second, nodeIs, kidsOf, stateOf, stackTo, Holds, aList, aTuple, aDict}
-use Rattle.decoder.specs.RoomReads.{stack-of, stack-length, nodes-length, node-at, list-kind, dict-kind}
+use Rattle.steps.specs.State.{State, no, _>>=_, need, nodeAt}
+use Rattle.steps.specs.Opcodes.{popOne, popToMark, dup, list, tuple, tupleN, pairs, dict, isList, isDict, added, append, appends, setitem, setitems}
+use Rattle.steps.specs.Run.{going}
+use Rattle.steps.specs.Out.{every-at}
+use Rattle.decoder.specs.Rooms.{Rooms, Counts, kidsOf, stateOf, stackTo}
+use Rattle.steps.specs.NodeWords.{first, second, nodeIs, Holds, aList, aTuple, aDict, list-kind, dict-kind}
+use Rattle.decoder.specs.RoomReads.{stack-of, stack-length, nodes-length, node-at}
 use Rattle.decoder.specs.Effects.{Firm, Sound, Lent, Fits, Says, refusing, says-refused, enacted, container, grow, above}
 use Rattle.decoder.specs.Reads.{cutTo, firm-cut, mark-none, mark-above, mark-got, top-none, top-got, pop-none, pop-got, many-none, many-got}
 use Rattle.decoder.specs.Items.{Took, TakesMark, Grows, lists, dicts, isGrown}

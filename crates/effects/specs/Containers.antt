@@ -1,34 +1,28 @@
 -- A container made of its items, and one that grows.
-use Prim.Native.Nat.{ℕ, suc, _+_, _-_, _*_, _^_, _/_, _%_, _<_, _≤_, max}
-use mathlib.Core.Bool.{true, false}
+use Prim.Native.Nat.{ℕ, _+_, _-_, _*_, _^_, _/_, _%_, _<_, _≤_}
 use mathlib.Core.List.{List, [], _∷_, _++_}
 use mathlib.Core.Path.{_≡_, refl, sym, _∙_, ap}
-use lib.ListN.{length, length-set, length-drop, getD, take, drop, set}
+use lib.ListN.{length, length-drop, set}
 use lib.Seq.{length-take-le}
-use lib.Dec.{leb}
 use borrow.Author.Tests.{le-leb, lt-leb, lt-ltb, le-ltb}
-use native.Mathlib.Numerals.{add-one}
 use native.Mathlib.Omega.{arith}
 use Rattle.refusal.specs.declared.Refusal.the-variants.{LinksFull, NodesFull, StackFull}
 use Rattle.value.specs.Value.{Label}
-use Rattle.value.specs.Shape.{kindIn}
 use Rattle.decoder.specs.declared.Counts.{Counts}
-use Rattle.decoder.specs.declared.NodeId.{NodeId}
 use Rattle.decoder.specs.declared.Effect.the-variants.{Make, Extend}
-use Rattle.decoder.specs.State.{State, Node, Res, plain, ok, no, _>>=_, need, nodesLimit, stackLimit, linksLimit, withNodes, withLinks, pushId, pushNode, link, extend}
-use Rattle.decoder.specs.Opcodes.{made}
-use Rattle.decoder.specs.Run.{goes, going}
-use Rattle.decoder.specs.Rooms.{Rooms, first, nodeIs, wordsSet, stateOf, wordsIn, logIn, stackIn, linksTo, nodesTo, Class, Holds, aList, aTuple, aDict}
+use Rattle.steps.specs.State.{State, Node, plain, ok, no, _>>=_, need, nodesLimit, stackLimit, linksLimit, withNodes, withLinks, pushId, pushNode, link, extend}
+use Rattle.steps.specs.Opcodes.{made}
+use Rattle.steps.specs.Run.{going}
+use Rattle.decoder.specs.Rooms.{Rooms, stateOf, stackIn, linksTo, Class}
+use Rattle.steps.specs.NodeWords.{nodeIs, wordsSet, Holds, aList, aTuple, aDict, first-set, second-set, holds-below, node-count}
 use Rattle.decoder.specs.RoomReads.{nodes-length, stack-length, links-of}
-use Rattle.decoder.specs.RoomLists.{first-set, second-set, holds-below}
 use Rattle.decoder.specs.RoomKeeps.{Empty, class-none}
-use Rattle.decoder.specs.RoomLaws.{node-count}
 use Rattle.decoder.specs.RoomLinks.{extend-new}
 use Rattle.decoder.specs.Effects.{Firm, Fits, enacted, container, grow, above}
 use Rattle.effects.specs.declared.Step.{Step}
 use Rattle.effects.specs.declared.Step.the-variants as step
 use Rattle.effects.specs.Done.{meant, Stays, Done, done-refused, pushedTo, words-plus}
-use Rattle.effects.specs.Push.{withNode, oneNode, node-pushed, node-firm, id-full, id-pushed, id-firm}
+use Rattle.effects.specs.Push.{withNode, oneNode, node-pushed, node-firm, id-pushed, id-firm}
 use Rattle.effects.specs.Links.{linkedIn, Linked, Linkable, LinkAll}
 
 -- ---- the functions' promises

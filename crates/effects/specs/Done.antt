@@ -1,17 +1,17 @@
 -- What a step comes to in the rooms: its meaning for the machine, and what is kept.
-use Prim.Native.Nat.{ℕ, suc, _+_, _*_, _<_, _≤_, max}
+use Prim.Native.Nat.{ℕ, _+_, _*_, _<_, _≤_, max}
 use mathlib.Core.List.{List}
-use mathlib.Core.Path.{_≡_, refl, sym, _∙_, ap}
-use mathlib.Core.Logic.{_≢_}
-use lib.ListN.{length, getD, set}
+use mathlib.Core.Path.{_≡_, refl, sym, _∙_}
+use lib.ListN.{set}
 use lib.Seq.{getD-set-other}
 use native.Mathlib.Numerals.{add-one}
 use native.Mathlib.Omega.{arith}
 use Rattle.refusal.specs.declared.Refusal.{Refusal}
 use Rattle.decoder.specs.declared.Counts.{Counts}
-use Rattle.decoder.specs.State.{Res, ok, no}
-use Rattle.decoder.specs.Run.{Next, goes, stops}
-use Rattle.decoder.specs.Rooms.{Rooms, stateOf, wordsSet}
+use Rattle.steps.specs.State.{Res, ok, no}
+use Rattle.steps.specs.Run.{Next, goes, stops}
+use Rattle.decoder.specs.Rooms.{Rooms, stateOf}
+use Rattle.steps.specs.NodeWords.{wordsSet}
 use Rattle.decoder.specs.Effects.{Firm, Blank}
 use Rattle.effects.specs.declared.Step.{Step}
 use Rattle.effects.specs.declared.Step.the-variants as step

@@ -1,33 +1,23 @@
 -- Links to the items of a container, one after the other.
-use Prim.Native.Nat.{ℕ, suc, zero, _+_, _-_, _*_, _^_, _/_, _%_, _<_, _≤_, max}
+use Prim.Native.Nat.{ℕ, suc, zero, _+_, _-_, _*_, _^_, _/_, _%_, _<_, _≤_}
 use mathlib.Core.Bool.{Bool, true, false, cond}
 use mathlib.Core.List.{List, [], _∷_, _++_}
 use mathlib.Core.Path.{_≡_, refl, sym, _∙_, ap}
-use lib.ListN.{length, length-set, length-take, length-drop, getD, take, drop, set, drop-of-length-le}
+use lib.ListN.{length, length-set, length-take, getD, take, set, drop-of-length-le}
 use lib.Seq.{take-suc, drop-append-le, length-take-le, getD-set-same, getD-set-other, set-set, set-getD}
-use lib.Dec.{leb, eqb}
-use borrow.Author.Tests.{le-leb, lt-leb}
+use lib.Dec.{eqb}
 use native.Mathlib.Numerals.{add-one}
 use native.Mathlib.Omega.{arith}
-use Rattle.refusal.specs.declared.Refusal.the-variants.{LinksFull, NodesFull, StackFull}
 use Rattle.value.specs.Shape.{kindIn}
 use Rattle.decoder.specs.declared.Counts.{Counts}
-use Rattle.decoder.specs.declared.NodeId.{NodeId}
-use Rattle.decoder.specs.declared.Effect.the-variants.{Make, Extend}
-use Rattle.decoder.specs.State.{State, Node, plain, ok, no, _>>=_, need, nodesLimit, stackLimit, linksLimit, withNodes, withLinks, pushId, pushNode, link, extend}
-use Rattle.decoder.specs.Opcodes.{made}
-use Rattle.decoder.specs.Run.{goes, going}
-use Rattle.decoder.specs.Rooms.{Rooms, items, first, second, nodeIs, stateOf, wordsIn, logIn, stackIn, linksTo, nodesTo, Counted, Holds, aList, aTuple, aDict}
-use Rattle.decoder.specs.RoomReads.{nodes-length, links-of}
-use Rattle.decoder.specs.RoomLists.{words-second, first-set}
+use Rattle.steps.specs.State.{_>>=_, linksLimit, withLinks, extend}
+use Rattle.decoder.specs.Rooms.{Rooms, items, stateOf, wordsIn, logIn, linksTo, Counted}
+use Rattle.steps.specs.NodeWords.{first, second, Holds}
+use Rattle.decoder.specs.RoomReads.{nodes-length}
 use Rattle.decoder.specs.RoomKeeps.{kept-link, suc-low, suc-high}
-use Rattle.decoder.specs.RoomLists.{holds-below}
-use Rattle.decoder.specs.RoomLinks.{extend-none, extend-new, link-next, link-counted}
-use Rattle.decoder.specs.Effects.{Lengths, Clean, Firm, Fits, enacted, container, grow, above}
-use Rattle.effects.specs.declared.Step.{Step}
-use Rattle.effects.specs.declared.Step.the-variants as step
-use Rattle.effects.specs.Done.{meant, Stays, Done, done-refused, pushedTo, blank-set}
-use Rattle.effects.specs.Push.{withNode, oneNode, node-pushed, node-firm, id-full, id-pushed, id-firm}
+use Rattle.decoder.specs.RoomLinks.{extend-none, link-next, link-counted}
+use Rattle.decoder.specs.Effects.{Firm, above}
+use Rattle.effects.specs.Done.{blank-set}
 
 -- ---- one link after the other
 

@@ -1,28 +1,26 @@
 -- A node or a number pushed, and a mark.
 use Prim.Native.Nat.{ℕ, suc, _+_, _*_, _<_, _≤_, max}
-use mathlib.Core.Bool.{true, false}
 use mathlib.Core.List.{List, [], _∷_, _++_}
-use mathlib.Core.Path.{_≡_, refl, sym, _∙_, ap}
-use lib.ListN.{length, length-set, getD, take, set}
-use lib.Dec.{ltb}
+use mathlib.Core.Path.{_≡_, _∙_, ap}
+use lib.ListN.{length, length-set, take, set}
 use borrow.Author.Tests.{lt-ltb, le-ltb}
 use native.Mathlib.Numerals.{add-one}
 use native.Mathlib.Omega.{arith}
 use Rattle.refusal.specs.declared.Refusal.the-variants.{NodesFull, StackFull, MarksFull}
 use Rattle.decoder.specs.declared.Counts.{Counts}
-use Rattle.decoder.specs.declared.NodeId.{NodeId}
 use Rattle.decoder.specs.declared.Effect.the-variants.{Push, Share, Mark}
-use Rattle.decoder.specs.State.{State, Node, ok, no, _>>=_, need, nodesLimit, stackLimit, marksLimit, withNodes, withStack, withMarks, pushId, pushNode}
-use Rattle.decoder.specs.Opcodes.{mark}
-use Rattle.decoder.specs.Run.{goes, going}
-use Rattle.decoder.specs.Rooms.{Rooms, nodeIs, wordsSet, stateOf, wordsIn, stackIn, marksIn, nodesTo, stackTo, deepestTo, marksTo, mostTo, Class}
+use Rattle.steps.specs.State.{Node, ok, no, _>>=_, need, nodesLimit, stackLimit, marksLimit, withNodes, withStack, withMarks, pushId, pushNode}
+use Rattle.steps.specs.Opcodes.{mark}
+use Rattle.steps.specs.Run.{going}
+use Rattle.decoder.specs.Rooms.{Rooms, stateOf, wordsIn, stackIn, marksIn, nodesTo, stackTo, marksTo, Class}
+use Rattle.steps.specs.NodeWords.{nodeIs, wordsSet}
 use Rattle.decoder.specs.RoomLaws.{node-more, stack-more, marks-more}
 use Rattle.decoder.specs.RoomReads.{nodes-length, stack-length, marks-length}
 use Rattle.decoder.specs.RoomKeeps.{Empty, empty-zero, kept-node}
-use Rattle.decoder.specs.Effects.{Lengths, Clean, Firm, Fits, enacted, Blank}
+use Rattle.decoder.specs.Effects.{Firm, Fits, enacted}
 use Rattle.effects.specs.declared.Step.{Step}
 use Rattle.effects.specs.declared.Step.the-variants as step
-use Rattle.effects.specs.Done.{meant, Stays, Done, done-refused, pushedTo, blank-more, blank-set}
+use Rattle.effects.specs.Done.{meant, Stays, Done, done-refused, pushedTo, blank-set}
 
 -- ---- the functions' promises
 

@@ -8,13 +8,12 @@ use native.Mathlib.Numerals.{add-one}
 use native.Mathlib.Omega.{arith}
 use Rattle.value.specs.Shape.{stateIn}
 use Rattle.decoder.specs.declared.Counts.{Counts}
-use Rattle.decoder.specs.declared.NodeId.{NodeId}
 use Rattle.decoder.specs.declared.Effect.the-variants.{Build}
-use Rattle.decoder.specs.State.{State, ok}
-use Rattle.decoder.specs.Run.{goes}
-use Rattle.decoder.specs.Rooms.{Rooms, first, second, wordsSet, classIn, wordsIn, Class, Classed}
+use Rattle.steps.specs.State.{State, ok}
+use Rattle.steps.specs.Run.{goes}
+use Rattle.decoder.specs.Rooms.{Rooms, wordsIn, Class, Classed}
+use Rattle.steps.specs.NodeWords.{first, second, wordsSet, classIn, state-set}
 use Rattle.decoder.specs.RoomLaws.{build-set}
-use Rattle.decoder.specs.RoomReads.{state-set}
 use Rattle.decoder.specs.RoomKeeps.{kept-build}
 use Rattle.decoder.specs.Effects.{Fits, enacted, state}
 use Rattle.effects.specs.declared.Step.{Step}

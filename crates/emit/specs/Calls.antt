@@ -11,9 +11,9 @@ use native.Mathlib.Decide.{decLt}
 use native.Mathlib.Omega.{arith}
 use Rattle.value.specs.Value.{Forest, Value, one, nil, NoneL, kind, textOf, text, size, depth, recordOf, record-length, table as tableOf, table-length}
 use Rattle.value.specs.Shape.{kindIn, newIn}
-use Rattle.decoder.specs.State.{Node}
-use Rattle.decoder.specs.Rooms.{first}
-use Rattle.builder.specs.Build.{at}
+use Rattle.steps.specs.State.{Node}
+use Rattle.steps.specs.NodeWords.{first}
+use Rattle.reading.specs.Build.{at}
 use Rattle.resolved.specs.Resolved.{Kids, sNil, sNode, StandsFor, value-unique, stand-label}
 use Rattle.resolved.specs.Ordered.{Final}
 use Rattle.resolved.specs.Noted.{isContainer, leafOf}

@@ -9,10 +9,10 @@ use lib.ListN.{length, getD, replicate, length-replicate}
 use native.Mathlib.Omega.{arith}
 use Rattle.value.specs.Value.{Value, one, nil, node, kind, ListL, text, size, count, depth, table}
 use Rattle.value.specs.Shape.{kindIn}
-use Rattle.decoder.specs.State.{Node}
-use Rattle.decoder.specs.Rooms.{first, second}
-use Rattle.builder.specs.Build.{at}
-use Rattle.builder.specs.Unfold.{In, here, there}
+use Rattle.steps.specs.State.{Node}
+use Rattle.steps.specs.NodeWords.{first, second}
+use Rattle.reading.specs.Build.{at}
+use Rattle.reading.specs.Unfold.{In, here, there}
 use Rattle.resolved.specs.Resolved.{Kids, sNil, sNode}
 use Rattle.resolved.specs.Ordered.{Final}
 use Rattle.resolved.specs.Noted.{isContainer}

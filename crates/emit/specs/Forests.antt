@@ -6,8 +6,8 @@ use lib.ListN.{length, length-append}
 use native.Mathlib.Omega.{arith}
 use Rattle.value.specs.Value.{Forest, Value, one, nil, node, textOf, text, count, size, depth, recordOf, table, table-length}
 use Rattle.value.specs.Stands.{_⊕_}
-use Rattle.decoder.specs.State.{Node}
-use Rattle.builder.specs.Build.{before}
+use Rattle.steps.specs.State.{Node}
+use Rattle.reading.specs.Build.{before}
 use Rattle.resolved.specs.Resolved.{Kids, Stand, sNil, sNode}
 use Rattle.resolved.specs.Written.{part-join, Written}
 

@@ -11,7 +11,7 @@ use native.Mathlib.Omega.{arith}
 use native.Mathlib.Numerals.{add-one}
 use Rattle.value.specs.Value.{Label, kind, textOf, recordOf}
 use Rattle.value.specs.Shape.{newIn}
-use Rattle.decoder.specs.Rooms.{first, second}
+use Rattle.steps.specs.NodeWords.{first, second}
 use Rattle.resolved.specs.Moved.{moves}
 use Rattle.resolved.specs.Shown.{labelOf, hasText, leading, trailing, leadText, trailText, Spelled}
 use Rattle.texts.specs.Readable.{Readable}

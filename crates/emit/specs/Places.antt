@@ -7,7 +7,7 @@ use lib.ListN.{length, length-append, getD, drop}
 use lib.Seq.{getD-take, getD-drop}
 use native.Mathlib.Omega.{arith}
 use Rattle.value.specs.Value.{Label, Forest, textOf, text, count, size, recordOf, table, table-length, NoneL, BoolL, I64L, F64L, BytesL, StringL, ListL, TupleL, SetL, FrozenSetL, DictL, GlobalL, ObjectL, nil, node}
-use Rattle.decoder.specs.State.{Node}
+use Rattle.steps.specs.State.{Node}
 use Rattle.resolved.specs.Resolved.{Kids}
 use Rattle.resolved.specs.Moved.{placed}
 use Rattle.resolved.specs.Written.{Written}

@@ -8,8 +8,8 @@ use lib.ListN.{length, length-drop, getD, take, drop, take-append-drop}
 use lib.Seq.{getD-drop, ext-getD}
 use native.Mathlib.Omega.{arith}
 use Rattle.value.specs.Value.{Value, one, text, size, depth, table as tableOf, table-length}
-use Rattle.decoder.specs.State.{Node}
-use Rattle.builder.specs.Build.{at}
+use Rattle.steps.specs.State.{Node}
+use Rattle.reading.specs.Build.{at}
 use Rattle.resolved.specs.Resolved.{Kids, StandsFor}
 use Rattle.resolved.specs.Ordered.{Final}
 use Rattle.resolved.specs.Noted.{isContainer}

@@ -9,8 +9,8 @@ use lib.Seq.{getD-set-same, getD-set-other}
 use native.Mathlib.Decide.{ℕ-discrete}
 use native.Mathlib.Omega.{arith}
 use Rattle.value.specs.Value.{Value, one, size, text, table}
-use Rattle.decoder.specs.State.{Node}
-use Rattle.builder.specs.Build.{at}
+use Rattle.steps.specs.State.{Node}
+use Rattle.reading.specs.Build.{at}
 use Rattle.resolved.specs.Resolved.{Kids}
 use Rattle.resolved.specs.Noted.{isContainer}
 use Rattle.resolved.specs.Written.{Written, written-stays}

@@ -12,10 +12,10 @@ use native.Mathlib.Numerals.{add-one}
 use native.Mathlib.Omega.{arith}
 use Rattle.value.specs.Value.{Forest, Value, one, nil, node, kind, textOf, text, size, depth, recordOf, record-length, table as tableOf}
 use Rattle.value.specs.Stands.{_⊕_, size-append}
-use Rattle.decoder.specs.State.{Node}
-use Rattle.decoder.specs.Rooms.{first}
-use Rattle.builder.specs.Build.{at, before}
-use Rattle.builder.specs.Unfold.{In, here, there}
+use Rattle.steps.specs.State.{Node}
+use Rattle.steps.specs.NodeWords.{first}
+use Rattle.reading.specs.Build.{at, before}
+use Rattle.reading.specs.Unfold.{In, here, there}
 use Rattle.resolved.specs.Resolved.{Kids, Stand, sNil, sNode, StandsFor, stand-label, stand-in}
 use Rattle.resolved.specs.Ordered.{Final}
 use Rattle.resolved.specs.Moved.{text-before}

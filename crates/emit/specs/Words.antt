@@ -11,7 +11,8 @@ use native.Mathlib.Decide.{decLt, ℕ-discrete}
 use native.Mathlib.Omega.{arith}
 use Rattle.value.specs.Value.{Label, bit, half, kind, textOf, recordOf, NoneL, BoolL, I64L, F64L, BytesL, StringL, ListL, TupleL, SetL, FrozenSetL, DictL, GlobalL, ObjectL}
 use Rattle.value.specs.Shape.{kindIn, newIn}
-use Rattle.decoder.specs.Rooms.{tab, first, second}
+use Rattle.decoder.specs.Rooms.{tab}
+use Rattle.steps.specs.NodeWords.{first, second}
 use Rattle.decoder.specs.RoomLists.{getD-tab}
 use Rattle.resolved.specs.Noted.{isContainer}
 use Rattle.resolved.specs.Shown.{labels, labelOf, hasText, leading, trailing}

@@ -1,18 +1,18 @@
 -- What a call that looks for node i's list asks of the rooms and what it says of them; the list itself, number by number.
-use Prim.Native.Nat.{ℕ, suc, _+_, _-_, _*_, _^_, _/_, _%_, _<_, _≤_}
+use Prim.Native.Nat.{ℕ, suc, _+_, _*_, _^_, _/_, _%_, _<_, _≤_}
 use mathlib.Core.Bool.{Bool, true, false, cond, _||_}
 use mathlib.Core.List.{List}
 use mathlib.Core.Path.{_≡_, refl, _∙_}
 use mathlib.Core.Logic.{_≢_}
-use lib.ListN.{length, length-take, length-drop, getD, take, drop}
+use lib.ListN.{length, length-take, length-drop, getD, drop}
 use lib.Seq.{getD-take, getD-drop}
 use lib.Dec.{eqb, ltb}
 use borrow.Author.Tests.{ne-eqb, le-ltb}
 use native.Mathlib.Decide.{ℕ-discrete}
 use native.Mathlib.Omega.{arith}
 use Rattle.value.specs.Shape.{kindIn}
-use Rattle.decoder.specs.State.{Node}
-use Rattle.decoder.specs.Rooms.{first}
+use Rattle.steps.specs.State.{Node}
+use Rattle.steps.specs.NodeWords.{first}
 use Rattle.resolved.specs.Resolved.{Kids}
 use Rattle.resolved.specs.Shown.{Shown, isSorted, fromIn, manyIn, roomOf, listOf, Inside}
 use Rattle.lists.specs.declared.Range.{Range}

@@ -7,7 +7,7 @@ use Rattle.decoder.specs.Rooms.{Rooms}
 use Rattle.decoder.specs.RoomReads.{start-of}
 use Rattle.decoder.specs.RoomKeeps.{kept-start}
 use Rattle.decoder.specs.RoomMemo.{numbered-none}
-use Rattle.decoder.specs.Range.{start-range}
+use Rattle.steps.specs.Range.{start-range}
 use Rattle.decoder.specs.Effects.{Sound, Lengths, Clean, Blank}
 use Rattle.machine.specs.Lent.{roomsOf}
 use Rattle.machine.specs.Clear.{zeros}

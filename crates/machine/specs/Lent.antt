@@ -1,11 +1,11 @@
 -- The rooms that are lent, as one; and the opcode that is read of them.
 use Prim.Native.Nat.{ℕ, suc, zero, _+_, _-_, _≤_, _<_}
-use mathlib.Core.Bool.{Bool, true, false}
+use mathlib.Core.Bool.{true, false}
 use mathlib.Core.List.{List, [], _∷_}
 use mathlib.Core.Option.{Option, none, some}
 use mathlib.Core.Path.{_≡_, refl, sym, _∙_, ap}
 use mathlib.Core.Logic.{_≢_}
-use lib.ListN.{length, getD, take, drop}
+use lib.ListN.{length, getD, drop}
 use lib.Seq.{getD-take, getD-drop}
 use native.Mathlib.Decide.{ℕ-discrete}
 use native.Mathlib.Omega.{arith}
@@ -19,13 +19,14 @@ use Rattle.decoder.specs.declared.Effect.{Effect}
 use Rattle.decoder.specs.declared.Effect.the-variants.{Push, Mark, Stop}
 use Rattle.value.specs.Value.{Label, NoneL, BoolL, ListL, TupleL, DictL}
 use Rattle.value.specs.Shape.{kindIn}
-use Rattle.decoder.specs.State.{State, Res, ok, _>>=_, byte, bytes, plain, push}
-use Rattle.decoder.specs.Opcodes.{tupleN}
-use Rattle.decoder.specs.Run.{Next, goes, stops, going, does, decide, step}
-use Rattle.decoder.specs.Rooms.{Rooms, nodeIs, stateOf, Holds, aList, aTuple, aDict}
+use Rattle.steps.specs.State.{State, _>>=_, byte, plain, push}
+use Rattle.steps.specs.Opcodes.{tupleN}
+use Rattle.steps.specs.Run.{going, does, decide, step}
+use Rattle.decoder.specs.Rooms.{Rooms, stateOf}
+use Rattle.steps.specs.NodeWords.{nodeIs, Holds, aList, aTuple, aDict}
 use Rattle.decoder.specs.RoomKeeps.{class-none}
-use Rattle.decoder.specs.Pickletools.{decided}
-use Rattle.decoder.specs.Effects.{Firm, Sound, Lent, Decides, Says, Fits, enacted, refusing}
+use Rattle.steps.specs.Pickletools.{decided}
+use Rattle.decoder.specs.Effects.{Sound, Lent, Decides, Fits, enacted, refusing}
 use Rattle.decoder.specs.Reads.{cutTo, bytes-short, bytes-got}
 use Rattle.decoder.specs.ReadsMemo.{sound-read}
 

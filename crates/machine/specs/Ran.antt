@@ -1,22 +1,21 @@
 -- The run to STOP in the rooms: what an outcome means, and the run step by step.
-use Prim.Native.Nat.{ℕ, zero, suc, _+_, _-_, _*_, _<_, _≤_}
-use mathlib.Core.List.{List, []}
+use Prim.Native.Nat.{ℕ, zero, suc, _-_, _<_}
+use mathlib.Core.List.{List}
 use mathlib.Core.Path.{_≡_, refl, sym, _∙_, ap}
-use lib.ListN.{length, getD, drop, length-drop}
+use lib.ListN.{length, length-drop}
 use native.Mathlib.Omega.{arith}
 use Rattle.refusal.specs.declared.Refusal.{Refusal}
 use Rattle.decoder.specs.declared.Counts.{Counts}
-use Rattle.decoder.specs.State.{State, Res, ok, no, _>>=_}
-use Rattle.decoder.specs.Run.{Next, goes, stops, step, run, start as begin}
-use Rattle.decoder.specs.Out.{Out, of-out}
-use Rattle.decoder.specs.Keeps.{after}
-use Rattle.decoder.specs.Shrinks.{step-less}
-use Rattle.decoder.specs.Fuel.{finish, run-finish, finish-refused, finish-stops, finish-goes}
-use Rattle.decoder.specs.Range.{InRange, step-range}
+use Rattle.steps.specs.State.{State, Res, ok, no, _>>=_}
+use Rattle.steps.specs.Run.{Next, goes, stops, step, run, start as begin}
+use Rattle.steps.specs.Out.{of-out}
+use Rattle.steps.specs.Keeps.{after}
+use Rattle.steps.specs.Shrinks.{step-less}
+use Rattle.steps.specs.Fuel.{finish, run-finish, finish-refused, finish-stops, finish-goes}
+use Rattle.steps.specs.Range.{InRange, step-range}
 use Rattle.decoder.specs.Rooms.{Rooms, stateOf}
 use Rattle.decoder.specs.RoomReads.{start-of, input-of}
 use Rattle.decoder.specs.Effects.{Sound}
-use Rattle.effects.specs.declared.Step.{Step}
 use Rattle.effects.specs.declared.Step.the-variants as step-of
 use Rattle.effects.specs.Done.{meant, Stays, Done}
 use Rattle.machine.specs.declared.Outcome.{Outcome}

@@ -16,7 +16,7 @@ use effects::push_node;
 use effects::put_mark;
 use effects::remember;
 use refusal::Refusal;
-ghost use Rattle.decoder.specs.Run.{step};
+ghost use Rattle.steps.specs.Run.{step};
 ghost use Rattle.decoder.specs.Rooms.{stateOf};
 ghost use Rattle.decoder.specs.Effects.{Lent, Decides, Sound};
 ghost use Rattle.effects.specs.Done.{Done};

@@ -15,10 +15,10 @@ use Rattle.op.specs.declared.Opcode.{Opcode}
 use Rattle.op.specs.declared.Opcode.the-variants.{MARK, APPEND, APPENDS, SETITEM, SETITEMS}
 use Rattle.value.specs.Value.{Label, Forest, ListL, DictL, count}
 use Rattle.value.specs.Stands.{_⊕_}
-use Rattle.decoder.specs.State.{Node, State, _>>=_, need, withInput, withNodes, withStack, withMarks, withLinks, extend}
-use Rattle.decoder.specs.Opcodes.{mark, added, append, appends, setitem, setitems, pairs, isList, isDict}
-use Rattle.decoder.specs.Run.{going, does}
-use Rattle.builder.specs.Build.{at}
+use Rattle.steps.specs.State.{Node, State, _>>=_, need, withInput, withNodes, withStack, withMarks, withLinks, extend}
+use Rattle.steps.specs.Opcodes.{mark, added, append, appends, setitem, setitems, pairs, isList, isDict}
+use Rattle.steps.specs.Run.{going, does}
+use Rattle.reading.specs.Build.{at}
 use Rattle.outback.specs.WriteOut.{writes-count}
 use Rattle.outback.specs.Outcome.{Outcome, onward, OneMore, ManyMore, many-added}
 use Rattle.outback.specs.Steps.{After, by-op, after-mark, after-link, pop-ok, top-ok, popMark-ok}

@@ -11,7 +11,7 @@ use Rattle.op.specs.Table.{numberOf}
 use Rattle.op.specs.declared.Opcode.the-variants.{MARK, APPEND, APPENDS, SETITEM, SETITEMS}
 use Rattle.value.specs.Value.{Label, Forest, count, ListL, DictL, nil, node}
 use Rattle.value.specs.Stands.{_⊕_}
-use Rattle.decoder.specs.State.{State}
+use Rattle.steps.specs.State.{State}
 use Rattle.ser.specs.Image.{opening, contents, images, joined, listBatch, dictBatch, batch, batchSize, batchesUpTo, batches, appends}
 use Rattle.ser.specs.Parts.{images-length, size-some}
 use Rattle.outback.specs.WriteOut.{append-nothing}

@@ -23,9 +23,9 @@ use Rattle.list.specs.Decimal.{signedText, signed-back, either}
 use Rattle.list.specs.Parse.{parse-back}
 use Rattle.list.specs.Listing.{newline}
 use Rattle.value.specs.Value.{Label, NoneL, BoolL, I64L, F64L, BytesL, StringL, ListL, TupleL, DictL, GlobalL, nil}
-use Rattle.decoder.specs.State.{State, _>>=_, leaf, withInput, push, plain}
-use Rattle.decoder.specs.Opcodes.{lowBytes, binint, binint1, binint2, int, intLabel, binfloat, signedLength, binstring, shortBinstring, binunicode, global}
-use Rattle.decoder.specs.Run.{going, does}
+use Rattle.steps.specs.State.{State, _>>=_, leaf, withInput, push, plain}
+use Rattle.steps.specs.Opcodes.{lowBytes, binint, binint1, binint2, int, intLabel, binfloat, signedLength, binstring, shortBinstring, binunicode, global}
+use Rattle.steps.specs.Run.{going, does}
 use Rattle.ser.specs.Image.{low, high, inI32, int as intImage, float, bytes, string, global as globalImage, bool, opening}
 use Rattle.ser.specs.Back.{low-back, high-back}
 use Rattle.ser.specs.Short.{high-length}

@@ -15,7 +15,7 @@ use Rattle.input.specs.Line.{firstFrom, newlineOf, lessCr, lineOf}
 use Rattle.number.specs.Number.{digits}
 use Rattle.list.specs.Decimal.{decimalText, signedText, decimal-digits, either-way}
 use Rattle.list.specs.Listing.{newline}
-use Rattle.decoder.specs.State.{State, ok, _>>=_, leaf, withInput, line}
+use Rattle.steps.specs.State.{State, ok, _>>=_, leaf, withInput, line}
 use Rattle.ser.specs.Writable.{hasNewline, endsCr, writable}
 
 -- what `writable` asks: no newline, and no CR at the end

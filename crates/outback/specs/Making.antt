@@ -11,10 +11,10 @@ use Rattle.op.specs.declared.Opcode.{Opcode}
 use Rattle.op.specs.declared.Opcode.the-variants.{TUPLE, BUILD}
 use Rattle.value.specs.Value.{Label, Forest, count, TupleL, GlobalL, ObjectL, nil, node}
 use Rattle.value.specs.Stands.{_⊕_}
-use Rattle.decoder.specs.State.{Node, State, ok, _>>=_, need, withInput, withNodes, withStack, withMarks}
-use Rattle.decoder.specs.Opcodes.{tuple, tupleN, made, called, reduced, object, build}
-use Rattle.decoder.specs.Run.{going, does}
-use Rattle.builder.specs.Build.{at}
+use Rattle.steps.specs.State.{Node, State, ok, _>>=_, need, withInput, withNodes, withStack, withMarks}
+use Rattle.steps.specs.Opcodes.{tuple, tupleN, made, called, reduced, object, build}
+use Rattle.steps.specs.Run.{going, does}
+use Rattle.reading.specs.Build.{at}
 use Rattle.outback.specs.WriteOut.{WritesIn, none, more, writes-moved, writes-count}
 use Rattle.outback.specs.Outcome.{Outcome, Between, OneMore, ManyMore, node-more, many-added}
 use Rattle.outback.specs.Steps.{After, by-op, after-made, after-push, pop-ok, top-ok, popMark-ok, popMany-ok}

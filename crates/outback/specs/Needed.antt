@@ -18,15 +18,15 @@ use Rattle.value.specs.Value.{Value, one, text, count, size, depth, table, None
 use Rattle.value.specs.Order as Order
 use Rattle.value.specs.Shape.{shaped, and-l, and-r}
 use Rattle.value.specs.WellFormed.{ascending, keys, settled}
-use Rattle.decoder.specs.State as State
-use Rattle.decoder.specs.State.{_>>=_}
-use Rattle.decoder.specs.Opcodes as Opcodes
-use Rattle.decoder.specs.Opcodes.{builtin, setName}
-use Rattle.decoder.specs.Run as Run
-use Rattle.builder.specs.Build as Build
-use Rattle.builder.specs.Measure.{measured}
-use Rattle.builder.specs.Settle as Settle
-use Rattle.builder.specs.Reading.{refuses, reads, told, stopped, prefix, pickleLimit, stopped-long, prefix-refused}
+use Rattle.steps.specs.State as State
+use Rattle.steps.specs.State.{_>>=_}
+use Rattle.steps.specs.Opcodes as Opcodes
+use Rattle.steps.specs.Opcodes.{builtin, setName}
+use Rattle.steps.specs.Run as Run
+use Rattle.reading.specs.Build as Build
+use Rattle.reading.specs.Measure.{measured}
+use Rattle.reading.specs.Settle as Settle
+use Rattle.reading.specs.Reading.{refuses, reads, told, stopped, prefix, pickleLimit, stopped-long, prefix-refused}
 use Rattle.ser.specs.Image as Image
 use Rattle.ser.specs.Image.{pickled}
 use Rattle.ser.specs.Writable as Writable

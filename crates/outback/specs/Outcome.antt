@@ -11,9 +11,9 @@ use native.Mathlib.Omega.{arith}
 use Rattle.refusal.specs.declared.Refusal.{Refusal}
 use Rattle.value.specs.Value.{Label, Forest, NoneL, nil, node}
 use Rattle.value.specs.Stands.{_⊕_}
-use Rattle.decoder.specs.State.{Node, State, no, plain}
-use Rattle.decoder.specs.Fuel.{finish}
-use Rattle.builder.specs.Build.{at}
+use Rattle.steps.specs.State.{Node, State, no, plain}
+use Rattle.steps.specs.Fuel.{finish}
+use Rattle.reading.specs.Build.{at}
 use Rattle.outback.specs.Added.{addedRefusal}
 use Rattle.outback.specs.WriteOut.{WritesIn, none, more, writes-moved, writes-append}
 

@@ -14,12 +14,12 @@ use Rattle.op.specs.declared.Opcode.the-variants.{PROTO, STOP}
 use Rattle.input.specs.Bytes.{lt-or-le}
 use Rattle.value.specs.Value.{Forest, Value, one, depth, size, text}
 use Rattle.value.specs.WellFormed.{settled}
-use Rattle.decoder.specs.State.{State, Res, ok, no, _>>=_, need, withInput, byte, last}
-use Rattle.decoder.specs.Opcodes.{proto}
-use Rattle.decoder.specs.Run.{does, start, run}
-use Rattle.decoder.specs.Fuel.{finish, run-finish, finish-stops}
-use Rattle.builder.specs.Measure.{measured, depthLimit, valuesLimit, textLimit}
-use Rattle.builder.specs.Reading.{Reading, refuses, reads, told, prefix, pickleLimit, consumed, stopped-long, stopped-refused, prefix-refused, sharing-never-shows}
+use Rattle.steps.specs.State.{State, Res, ok, no, _>>=_, need, withInput, byte, last}
+use Rattle.steps.specs.Opcodes.{proto}
+use Rattle.steps.specs.Run.{does, start, run}
+use Rattle.steps.specs.Fuel.{finish, run-finish, finish-stops}
+use Rattle.reading.specs.Measure.{measured, depthLimit, valuesLimit, textLimit}
+use Rattle.reading.specs.Reading.{Reading, refuses, reads, told, prefix, pickleLimit, consumed, stopped-long, stopped-refused, prefix-refused, sharing-never-shows}
 use Rattle.ser.specs.Image.{images, joined, framed, pickled}
 use Rattle.outback.specs.WriteOut.{WritesIn, none, more, writes-moved, writes-out, written-nothing-itself}
 use Rattle.outback.specs.Added.{added, addedRefusal}

@@ -10,7 +10,7 @@ use native.Mathlib.Omega.{arith}
 use borrow.Author.Tests.{lt-leb}
 use Rattle.number.specs.Space.{same}
 use Rattle.value.specs.Value.{Label, Forest, count, NoneL, BoolL, I64L, F64L, BytesL, StringL, ListL, TupleL, SetL, FrozenSetL, DictL, GlobalL, ObjectL, nil, node}
-use Rattle.decoder.specs.Opcodes.{reduced, object, builtin, setName, frozensetName}
+use Rattle.steps.specs.Opcodes.{reduced, object, builtin, setName, frozensetName}
 
 -- `__builtin__` `set` or `frozenset`
 unfoldable pub setClass : List ℕ → List ℕ → Bool

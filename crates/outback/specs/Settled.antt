@@ -9,8 +9,8 @@ use Rattle.value.specs.Value.{Label, Forest, Value, count, NoneL, BoolL, I64L, 
 use Rattle.value.specs.Order.{order}
 use Rattle.value.specs.Shape.{and-l, and-r}
 use Rattle.value.specs.WellFormed.{less, ascending, keys, proper, settled}
-use Rattle.builder.specs.Build.{before}
-use Rattle.builder.specs.Settle.{by, insert, asSet, enter, asDict, items, arrange, settle}
+use Rattle.reading.specs.Build.{before}
+use Rattle.reading.specs.Settle.{by, insert, asSet, enter, asDict, items, arrange, settle}
 use Rattle.outback.specs.Returnable.{Returnable, AllReturnable}
 
 -- ---- a set holds its argument, a List of its items

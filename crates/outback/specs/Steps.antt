@@ -15,10 +15,10 @@ use Rattle.op.specs.Table.{numberOf}
 use Rattle.op.specs.Named.{named}
 use Rattle.op.specs.declared.Opcode.{Opcode}
 use Rattle.value.specs.Value.{Label}
-use Rattle.decoder.specs.State.{Node, State, Res, ok, no, _>>=_, need, withInput, withNodes, withStack, withMarks, withLinks, linksLimit, bytes, byte, pop, top, popMark, popMany, pushId, pushNode, link}
-use Rattle.decoder.specs.Opcodes.{mark, made}
-use Rattle.decoder.specs.Run.{going, does, decide, step}
-use Rattle.decoder.specs.Fuel.{finish-goes, finish-refused}
+use Rattle.steps.specs.State.{Node, State, Res, ok, no, _>>=_, need, withInput, withNodes, withStack, withMarks, withLinks, linksLimit, bytes, byte, pop, top, popMark, popMany, pushId, pushNode, link}
+use Rattle.steps.specs.Opcodes.{mark, made}
+use Rattle.steps.specs.Run.{going, does, decide, step}
+use Rattle.steps.specs.Fuel.{finish-goes, finish-refused}
 use Rattle.outback.specs.Added.{addedRefusal}
 use Rattle.outback.specs.Outcome.{Outcome, stops, comes}
 

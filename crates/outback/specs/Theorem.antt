@@ -11,8 +11,8 @@ use Rattle.value.specs.Value.{one, count}
 use Rattle.value.specs.Tabled.{table-one}
 use Rattle.value.specs.WellFormed.{WellFormed}
 use Rattle.table.specs.CompareLaws.{Identical}
-use Rattle.builder.specs.Reading as Readings
-use Rattle.builder.specs.Reading.{prefix}
+use Rattle.reading.specs.Reading as Readings
+use Rattle.reading.specs.Reading.{prefix}
 use Rattle.ser.specs.Image.{pickled}
 use Rattle.ser.specs.Writable.{writableIn}
 use Rattle.outback.specs.SetCalls.{twoArgumentsIn}

@@ -14,9 +14,9 @@ use Rattle.input.specs.Bytes.{lastByte}
 use Rattle.number.specs.Space.{same}
 use Rattle.value.specs.Value.{Label, Forest, count, NoneL, BoolL, I64L, F64L, BytesL, StringL, ListL, TupleL, SetL, FrozenSetL, DictL, GlobalL, ObjectL, nil, node}
 use Rattle.value.specs.Stands.{_⊕_}
-use Rattle.decoder.specs.State.{State}
-use Rattle.decoder.specs.Opcodes.{reduce, newobj, reduced, object, builtin, setName, frozensetName}
-use Rattle.decoder.specs.Run.{does}
+use Rattle.steps.specs.State.{State}
+use Rattle.steps.specs.Opcodes.{reduce, newobj, reduced, object, builtin, setName, frozensetName}
+use Rattle.steps.specs.Run.{does}
 use Rattle.ser.specs.Image.{opening, contents, batches, images, joined, appends, tuple, tupleMark, tupleOpcode, setOpening, object as objectImage, objectOpcode, built}
 use Rattle.ser.specs.Writable.{hasNewline, endsCr, writable}
 use Rattle.outback.specs.WriteOut.{append-nothing, writes-count}

@@ -1,4 +1,4 @@
--- The plain write-out of demand 3 (`WritesOut` of crate builder) with a property of every node in it: it stays as long as those nodes do.
+-- The plain write-out of demand 3 (`WritesOut` of crate reading) with a property of every node in it: it stays as long as those nodes do.
 -- And a node that has a write-out, which is finite, does not contain itself.
 use Prim.Native.Nat.{ℕ, suc, _≤_, _<_}
 use mathlib.Core.List.{List, [], _∷_, _++_}
@@ -8,9 +8,9 @@ use lib.ListN.{length}
 use native.Mathlib.Omega.{arith}
 use Rattle.value.specs.Value.{Label, Forest, count, size, nil, node}
 use Rattle.value.specs.Stands.{_⊕_}
-use Rattle.decoder.specs.State.{Node}
-use Rattle.builder.specs.Build.{at}
-use Rattle.builder.specs.Unfold.{WritesOut, nothing, afresh, In, here, there, Contains, direct, through, Reachable, NothingContainsItself, write-out-unique}
+use Rattle.steps.specs.State.{Node}
+use Rattle.reading.specs.Build.{at}
+use Rattle.reading.specs.Unfold.{WritesOut, nothing, afresh, In, here, there, Contains, direct, through, Reachable, NothingContainsItself, write-out-unique}
 
 pub data WritesIn (t : List Node) (P : ℕ → Type 0) : List ℕ → Forest → Type 0 where
   none : WritesIn t P [] nil

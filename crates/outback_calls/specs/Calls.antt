@@ -21,7 +21,7 @@ use Rattle.value.specs.WellFormed.{WellFormed}
 use Rattle.table.specs.Compare.{decided}
 use Rattle.table.specs.CompareLaws.{Identical}
 use Rattle.table.specs.Call.{told, done, answered, answered-all}
-use Rattle.builder.specs.Reading.{Reading, prefix}
+use Rattle.reading.specs.Reading.{Reading, prefix}
 use Rattle.ser.specs.Image.{pickled}
 use Rattle.ser.specs.Writable.{writableIn}
 use Rattle.ser.specs.Call.{written, WriteCall}

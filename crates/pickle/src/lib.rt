@@ -8,7 +8,7 @@ use scorer::Scored;
 use table::Compared;
 ghost use mathlib.Core.List.{[], _∷_};
 ghost use mathlib.Core.Path.{_≡_};
-ghost use Rattle.builder.specs.Reading.{prefix, whole};
+ghost use Rattle.reading.specs.Reading.{prefix, whole};
 ghost use Rattle.table.specs.Compare.{Compares};
 ghost use Rattle.table.specs.Length.{textLength};
 ghost use Rattle.de.specs.Call.{ReadCall};

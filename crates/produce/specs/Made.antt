@@ -8,11 +8,11 @@ use lib.ListN.{length, getD, drop, replicate}
 use native.Mathlib.Decide.{decLt}
 use native.Mathlib.Omega.{arith}
 use Rattle.value.specs.Value.{Label, Value, one, kind, size, depth, text, NoneL, BoolL, I64L, F64L, BytesL, StringL, ListL, TupleL, SetL, FrozenSetL, DictL, GlobalL, ObjectL}
-use Rattle.decoder.specs.State.{Node}
-use Rattle.builder.specs.Build.{at, tree}
-use Rattle.builder.specs.Settle.{arrange, settle}
-use Rattle.builder.specs.Smaller.{settle-smaller}
-use Rattle.builder.specs.Unfold.{In}
+use Rattle.steps.specs.State.{Node}
+use Rattle.reading.specs.Build.{at, tree}
+use Rattle.reading.specs.Settle.{arrange, settle}
+use Rattle.reading.specs.Smaller.{settle-smaller}
+use Rattle.reading.specs.Unfold.{In}
 use Rattle.resolved.specs.Resolved.{StandsFor}
 use Rattle.resolved.specs.Ordered.{Final}
 use Rattle.resolved.specs.Walk.{State}

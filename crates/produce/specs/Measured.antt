@@ -7,11 +7,11 @@ use mathlib.Core.Path.{_≡_}
 use lib.ListN.{length, drop}
 use Rattle.value.specs.Value.{Forest, one, kind, size, depth, text, table as tableOf}
 use Rattle.value.specs.Shape.{kindIn}
-use Rattle.decoder.specs.State.{Node}
-use Rattle.decoder.specs.Rooms.{first, classIn}
-use Rattle.builder.specs.Build.{at, tree}
-use Rattle.builder.specs.Graph.{Graph}
-use Rattle.builder.specs.Settle.{settle}
+use Rattle.steps.specs.State.{Node}
+use Rattle.steps.specs.NodeWords.{first, classIn}
+use Rattle.reading.specs.Build.{at, tree}
+use Rattle.reading.specs.Graph.{Graph}
+use Rattle.reading.specs.Settle.{settle}
 use Rattle.resolved.specs.Noted.{isContainer}
 use Rattle.resolved.specs.Shown.{labelOf}
 use Rattle.resolved.specs.Tree.{walked}

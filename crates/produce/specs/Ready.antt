@@ -11,9 +11,9 @@ use borrow.Author.Tests.{le-leb, lt-ltb}
 use native.Mathlib.Decide.{decLt}
 use native.Mathlib.Omega.{arith}
 use Rattle.value.specs.Value.{Label, Value, one, size, NoneL, BoolL, I64L, F64L, BytesL, StringL, ListL, TupleL, SetL, FrozenSetL, DictL, GlobalL, ObjectL}
-use Rattle.decoder.specs.State.{Node}
-use Rattle.builder.specs.Build.{at, tree}
-use Rattle.builder.specs.Unfold.{In, outside}
+use Rattle.steps.specs.State.{Node}
+use Rattle.reading.specs.Build.{at, tree}
+use Rattle.reading.specs.Unfold.{In, outside}
 use Rattle.resolved.specs.Ordered.{Final}
 use Rattle.resolved.specs.Walk.{State, start, walk-build}
 use Rattle.resolved.specs.Resolves.{resolves-empty}

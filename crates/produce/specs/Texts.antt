@@ -8,8 +8,8 @@ use lib.ListN.{length, length-append, getD}
 use lib.Dec.{ltb, leb}
 use native.Mathlib.Omega.{arith}
 use Rattle.value.specs.Value.{Label, textOf, NoneL, BoolL, I64L, F64L, BytesL, StringL, ListL, TupleL, SetL, FrozenSetL, DictL, GlobalL, ObjectL}
-use Rattle.decoder.specs.State.{Node}
-use Rattle.builder.specs.Build.{at}
+use Rattle.steps.specs.State.{Node}
+use Rattle.reading.specs.Build.{at}
 use Rattle.resolved.specs.Noted.{isContainer, ahead}
 use Rattle.resolved.specs.Shown.{leading, trailing, hasText}
 use Rattle.resolved.specs.Reached.{textIf}

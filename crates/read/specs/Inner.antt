@@ -7,14 +7,14 @@ use lib.Seq.{take-at, drop-at, length-take-le, drop-append-le}
 use native.Mathlib.Omega.{arith}
 use Rattle.refusal.specs.declared.Answer.{Answer}
 use Rattle.rooms.specs.Cleared.{cleared}
-use Rattle.rooms.specs.Stated.{Slices, machineLengths, stated, Long, AllZero, Ready, filled, long, rooms-zero}
+use Rattle.rooms.specs.Stated.{Slices, machineLengths, stated, AllZero, Ready, filled, long, rooms-zero}
 use Rattle.decoder.specs.Effects.{Sound, Firm}
 use Rattle.machine.specs.Lent.{roomsOf}
 use Rattle.machine.specs.Ran.{Ran, start, countsOf}
 use Rattle.machine.specs.Fresh.{fresh}
 use Rattle.machine.specs.Clear.{UsedTo, zeroed, used-cleared, nodes-used, stack-used, marks-used, keys-used, held-used}
 use Rattle.machine.specs.declared.Outcome.{Outcome}
-use Rattle.builder.specs.Reading.{Reading}
+use Rattle.reading.specs.Reading.{Reading}
 use Rattle.produce.specs.Rooms.{zeros-long}
 use Rattle.build.specs.Building.{Working}
 use Rattle.build.specs.Given.{RanIn}

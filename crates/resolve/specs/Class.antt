@@ -6,9 +6,9 @@ use mathlib.Core.Path.{_≡_, refl, sym, _∙_, ap}
 use mathlib.Core.Logic.{_≢_}
 use lib.ListN.{length, getD, set}
 use native.Mathlib.Omega.{arith}
-use Rattle.decoder.specs.State.{Node}
-use Rattle.builder.specs.Build.{at}
-use Rattle.builder.specs.Unfold.{In}
+use Rattle.steps.specs.State.{Node}
+use Rattle.reading.specs.Build.{at}
+use Rattle.reading.specs.Unfold.{In}
 use Rattle.resolve.specs.Length.{namesLen, textLen, Readable, len-global, len-object}
 use Rattle.resolve.specs.Word.{packW, textsW, texts-pack}
 use Rattle.resolved.specs.Walk.{State}

@@ -11,10 +11,10 @@ use borrow.Author.Tests.{ne-eqb}
 use native.Mathlib.Numerals.{add-one, sub-one}
 use native.Mathlib.Omega.{arith}
 use Rattle.value.specs.Value.{Value, textOf}
-use Rattle.decoder.specs.State.{Node}
-use Rattle.builder.specs.Build.{Mark, fresh, taken, kept, mark, none, at, isTaken, firstTaken, blocked}
-use Rattle.builder.specs.Unfold.{In, here, Marked, same, other, marked}
-use Rattle.builder.specs.Measures.{value, measure}
+use Rattle.steps.specs.State.{Node}
+use Rattle.reading.specs.Build.{Mark, fresh, taken, kept, mark, none, at, isTaken, firstTaken, blocked}
+use Rattle.reading.specs.Unfold.{In, here, Marked, same, other, marked}
+use Rattle.reading.specs.Measures.{value, measure}
 use Rattle.resolve.specs.Word.{packW, deepW, valuesW, textsW, deep-pack}
 use Rattle.resolve.specs.Length.{textLen}
 use Rattle.resolve.specs.Blocked.{held, headTaken}

@@ -7,11 +7,11 @@ use lib.ListN.{length, getD}
 use lib.Dec.{eqb, ltb}
 use native.Mathlib.Omega.{arith}
 use Rattle.value.specs.Value.{Value, textOf}
-use Rattle.decoder.specs.State.{Node}
-use Rattle.decoder.specs.Opcodes.{isObject}
-use Rattle.builder.specs.Build.{taken, kept, at}
-use Rattle.builder.specs.Unfold.{In, here, there}
-use Rattle.builder.specs.Measures.{value}
+use Rattle.steps.specs.State.{Node}
+use Rattle.steps.specs.Opcodes.{isObject}
+use Rattle.reading.specs.Build.{taken, kept, at}
+use Rattle.reading.specs.Unfold.{In, here, there}
+use Rattle.reading.specs.Measures.{value}
 use Rattle.resolve.specs.Length.{textLen, Readable}
 use Rattle.resolve.specs.Word.{word}
 use Rattle.resolved.specs.Walk.{State}

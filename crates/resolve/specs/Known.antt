@@ -9,10 +9,10 @@ use borrow.Author.Tests.{lt-ltb, le-ltb, ne-eqb}
 use native.Mathlib.Decide.{decLt}
 use native.Mathlib.Omega.{arith}
 use Rattle.value.specs.Value.{Label, Value, textOf, NoneL, BoolL, I64L, F64L, BytesL, StringL, ListL, TupleL, SetL, FrozenSetL, DictL, GlobalL, ObjectL}
-use Rattle.decoder.specs.State.{Node}
-use Rattle.builder.specs.Build.{fresh, taken, kept, mark, none, at}
-use Rattle.builder.specs.Unfold.{Marked, same, other, marked}
-use Rattle.builder.specs.Measures.{value, measure}
+use Rattle.steps.specs.State.{Node}
+use Rattle.reading.specs.Build.{fresh, taken, kept, mark, none, at}
+use Rattle.reading.specs.Unfold.{Marked, same, other, marked}
+use Rattle.reading.specs.Measures.{value, measure}
 use Rattle.resolve.specs.Length.{textLen, len-nothing}
 use Rattle.resolve.specs.Word.{packW, word-large}
 use Rattle.resolved.specs.Walk.{State, Made, View, copied, inside, stuck, entered, view, gone, markR, eachR, finishR, walk}

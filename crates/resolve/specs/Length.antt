@@ -1,7 +1,7 @@
 -- How long the text of a node is, off its words: no text is decoded for it.
 use Prim.Native.Nat.{ℕ, _+_, _-_, _*_, _^_, _/_, _%_, _<_, _≤_}
 use mathlib.Core.Bool.{Bool, true, false, cond, _&&_, _||_}
-use mathlib.Core.List.{List, [], _∷_, _++_}
+use mathlib.Core.List.{List, [], _++_}
 use mathlib.Core.Path.{_≡_, refl, sym, _∙_, ap}
 use mathlib.Core.Logic.{_≢_}
 use lib.ListN.{length, length-append, length-take, length-drop, getD, set, take, drop, replicate, length-replicate, getD-replicate, List·getD-map, List·getD-eq-default, drop-of-length-le}
@@ -26,7 +26,7 @@ use Rattle.text.specs.Text.{hasQuotes, inner, byte, unescapeString, unescapeUni
 use Rattle.text.specs.Answers.{decoded-len, decoded-bad, quoted-plain, quoted-escaped, quoted-bad}
 use Rattle.value.specs.Value.{Label, NoneL, textOf}
 use Rattle.value.specs.Shape.{kindIn}
-use Rattle.decoder.specs.Rooms.{first, second, within, classIn, moduleOf, nameOf}
+use Rattle.steps.specs.NodeWords.{first, second, within, classIn, moduleOf, nameOf}
 use Rattle.resolved.specs.Shown.{labels, labelOf}
 
 -- of node i's label

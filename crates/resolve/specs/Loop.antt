@@ -1,5 +1,5 @@
 -- The loop over a container's children: the turns of the walk, on the rooms, with the code's sums.
-use Prim.Native.Nat.{ℕ, suc, _+_, _-_, _*_, _<_, _≤_, min, max}
+use Prim.Native.Nat.{ℕ, suc, _+_, _*_, _<_, _≤_, min, max}
 use mathlib.Core.Bool.{true}
 use mathlib.Core.List.{List, [], _∷_, _++_}
 use mathlib.Core.Path.{_≡_, refl, sym, _∙_, ap}
@@ -7,10 +7,10 @@ use lib.ListN.{length, length-append, getD, set, take}
 use lib.Seq.{slice, length-slice, getD-append-seam, getD-drop, getD-take}
 use native.Mathlib.Omega.{arith}
 use Rattle.value.specs.Value.{Value, textOf}
-use Rattle.decoder.specs.State.{Node}
-use Rattle.builder.specs.Build.{taken, kept, mark, at}
-use Rattle.builder.specs.Unfold.{In, here, there, Marked, same, other, marked}
-use Rattle.builder.specs.Measures.{Measure, nilM, pushM, value, measure}
+use Rattle.steps.specs.State.{Node}
+use Rattle.reading.specs.Build.{taken, kept, mark, at}
+use Rattle.reading.specs.Unfold.{In, here, there, Marked, same, other, marked}
+use Rattle.reading.specs.Measures.{Measure, nilM, pushM, value, measure}
 use Rattle.resolve.specs.Word.{packW, deepW, valuesW, textsW, deep-pack, values-pack, texts-pack}
 use Rattle.resolved.specs.Walk.{State, Made, overwrite, eachR, finishR, walk}
 use Rattle.resolved.specs.Resolves.{Called, old-taken}

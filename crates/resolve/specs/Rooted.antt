@@ -10,13 +10,14 @@ use borrow.Author.Tests.{leb-true, ltb-true}
 use native.Mathlib.Decide.{decLt}
 use native.Mathlib.Omega.{arith}
 use Rattle.value.specs.Value.{Value, one, size, depth, text}
-use Rattle.decoder.specs.State.{Node}
-use Rattle.builder.specs.Build.{Marks, unbuilt, at, build, tree}
-use Rattle.builder.specs.Graph.{Graph, Stands}
-use Rattle.builder.specs.Unfold.{In, left-all}
-use Rattle.builder.specs.Fuel.{build-fuel}
-use Rattle.builder.specs.Shallow.{deep, levels}
-use Rattle.builder.specs.Measures.{value, measure, measure-deep, measure-values, measure-texts}
+use Rattle.steps.specs.State.{Node}
+use Rattle.reading.specs.Build.{Marks, unbuilt, at, build, tree}
+use Rattle.reading.specs.Graph.{Graph}
+use Rattle.resolve.specs.Standing.{Stands}
+use Rattle.reading.specs.Unfold.{In, left-all}
+use Rattle.reading.specs.Fuel.{build-fuel}
+use Rattle.reading.specs.Shallow.{deep, levels}
+use Rattle.reading.specs.Measures.{value, measure, measure-deep, measure-values, measure-texts}
 use Rattle.resolved.specs.Resolved.{StandsFor}
 use Rattle.resolved.specs.Walk.{State, start, walk-build}
 use Rattle.resolved.specs.Tree.{walked, tree-stands, levels-enough, root-slot}

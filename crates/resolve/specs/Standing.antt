@@ -8,18 +8,29 @@ use borrow.Author.Tests.{le-ltb, ne-eqb}
 use native.Mathlib.Omega.{arith}
 use Rattle.value.specs.Value.{Label, NoneL, textOf}
 use Rattle.value.specs.Shape.{kindIn}
-use Rattle.decoder.specs.State.{Node, plain}
-use Rattle.decoder.specs.Rooms.{first, second, choices, nodeIs, nodeOf, kidsOf, classIn, Class, Classed}
-use Rattle.decoder.specs.RoomReads.{node-at, nodes-length, object-kind}
-use Rattle.decoder.specs.Effects.{Firm}
-use Rattle.builder.specs.Build.{at}
-use Rattle.builder.specs.Graph.{Graph, Stands}
+use Rattle.steps.specs.State.{Node, plain}
+use Rattle.decoder.specs.declared.Counts.{Counts}
+use Rattle.decoder.specs.Rooms.{Rooms, nodeOf, kidsOf, stateOf, Class, Classed}
+use Rattle.steps.specs.NodeWords.{first, second, choices, nodeIs, classIn, object-kind}
+use Rattle.decoder.specs.RoomReads.{node-at, nodes-length}
+use Rattle.decoder.specs.Effects.{Firm, Sound}
+use Rattle.reading.specs.Build.{at}
+use Rattle.reading.specs.Graph.{Graph}
 use Rattle.resolved.specs.Shown.{labelOf}
 use Rattle.resolved.specs.Noted.{isContainer, isTextLeaf}
 use Rattle.resolved.specs.Dues.{isDue}
 use Rattle.resolved.specs.Ranges.{graph-inside}
 use Rattle.resolve.specs.Length.{textLen}
 use Rattle.resolve.specs.Facts.{containerKind, dueKind, kindAt, Facts}
+
+-- the nodes t are those that the pickle p and the words ws say
+pub record Stands (p ws : List ℕ) (t : List Node) : Type 0 where
+  pub rooms : Rooms
+  pub counts : Counts
+  pub sound : Sound rooms counts
+  pub pickle : rooms .pickle ≡ p
+  pub words : rooms .nodes ≡ ws
+  pub nodes : t ≡ stateOf rooms counts .nodes
 
 -- a node of kind k
 record Suits (k : ℕ) (n : Node) : Type 0 where

@@ -2,7 +2,7 @@
 use Prim.Native.Nat.{ℕ, _+_, _*_, _/_, _%_, _<_, _≤_, min}
 use mathlib.Core.Path.{_≡_}
 use native.Mathlib.Omega.{arith}
-use Rattle.builder.specs.Measures.{Measure}
+use Rattle.reading.specs.Measures.{Measure}
 
 unfoldable pub packW : ℕ → ℕ → ℕ → ℕ
 packW d v t = d + 128 * min v 2049 + 524288 * min t 65537

@@ -9,11 +9,11 @@ use mathlib.Core.Logic.{_≢_}
 use lib.ListN.{length, length-append}
 use native.Mathlib.Omega.{arith}
 use Rattle.value.specs.Value.{Label, Forest, Value, one, nil, node, textOf, text, count, size, NoneL, BoolL, I64L, F64L, BytesL, StringL, ListL, TupleL, SetL, FrozenSetL, DictL, GlobalL, ObjectL}
-use Rattle.decoder.specs.State.{Node}
-use Rattle.decoder.specs.Opcodes.{isList, isTuple}
-use Rattle.builder.specs.Build.{Mark, Marks, fresh, taken, kept, mark, none, at, blocked}
-use Rattle.builder.specs.Settle.{items}
-use Rattle.builder.specs.Unfold.{In, here, there, Marked, same, other, marked}
+use Rattle.steps.specs.State.{Node}
+use Rattle.steps.specs.Opcodes.{isList, isTuple}
+use Rattle.reading.specs.Build.{Mark, Marks, fresh, taken, kept, mark, none, at, blocked}
+use Rattle.reading.specs.Settle.{items}
+use Rattle.reading.specs.Unfold.{In, here, there, Marked, same, other, marked}
 use Rattle.resolved.specs.Resolved.{Kids, Stand, sNil, sNode}
 use Rattle.resolved.specs.Arrange.{byN, insertN, asSetN, itemsN}
 use Rattle.resolved.specs.Moved.{stand-count}

@@ -3,8 +3,8 @@ use mathlib.Core.List.{List, [], _∷_}
 use mathlib.Core.Path.{_≡_, refl}
 use Rattle.value.specs.Value.{I64L, ListL, TupleL, SetL, DictL}
 use Rattle.value.specs.Order.{_then_, lex, labels}
-use Rattle.decoder.specs.State.{Node, plain}
-use Rattle.builder.specs.Build.{blocked, firstTaken}
+use Rattle.steps.specs.State.{Node, plain}
+use Rattle.reading.specs.Build.{blocked, firstTaken}
 use Rattle.resolved.specs.Resolved.{Kids}
 use Rattle.resolved.specs.Walk.{State, start, eachR, finishR, walk}
 use Rattle.resolved.specs.Arrange.{byN, insertN, asSetN, enterN, asDictN, itemsN, arrangeN}

@@ -7,11 +7,11 @@ use lib.ListN.{length, length-append, getD, set}
 use native.Mathlib.Decide.{ℕ-discrete}
 use native.Mathlib.Omega.{arith}
 use Rattle.value.specs.Value.{Forest, Value}
-use Rattle.decoder.specs.State.{Node}
-use Rattle.decoder.specs.Opcodes.{isObject}
-use Rattle.builder.specs.Build.{fresh, taken, kept, none, at}
-use Rattle.builder.specs.Graph.{Graph}
-use Rattle.builder.specs.Unfold.{In, freshness}
+use Rattle.steps.specs.State.{Node}
+use Rattle.steps.specs.Opcodes.{isObject}
+use Rattle.reading.specs.Build.{fresh, taken, kept, none, at}
+use Rattle.reading.specs.Graph.{Graph}
+use Rattle.reading.specs.Unfold.{In, freshness}
 use Rattle.resolved.specs.Resolved.{Stand}
 use Rattle.resolved.specs.Ordered.{Final}
 use Rattle.resolved.specs.Walk.{State, put, gone, overwrite, markR, finishR, start}

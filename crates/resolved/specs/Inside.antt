@@ -6,10 +6,10 @@ use mathlib.Core.Path.{_≡_, refl}
 use lib.ListN.{length}
 use native.Mathlib.Omega.{arith}
 use Rattle.value.specs.Value.{Forest, one, depth}
-use Rattle.decoder.specs.State.{Node}
-use Rattle.builder.specs.Build.{Mark, fresh, taken, kept, at, blocked, tree}
-use Rattle.builder.specs.Settle.{settle}
-use Rattle.builder.specs.Unfold.{In, here, there}
+use Rattle.steps.specs.State.{Node}
+use Rattle.reading.specs.Build.{Mark, fresh, taken, kept, at, blocked, tree}
+use Rattle.reading.specs.Settle.{settle}
+use Rattle.reading.specs.Unfold.{In, here, there}
 use Rattle.resolved.specs.Resolved.{Kids, Stand}
 use Rattle.resolved.specs.Walk.{State, Made, overwrite, markR, eachR, finishR, walk, start}
 use Rattle.resolved.specs.Ordered.{Final}

@@ -7,8 +7,8 @@ use lib.ListN.{length, length-append}
 use lib.Dec.{eqb, ltb}
 use native.Mathlib.Omega.{arith}
 use Rattle.value.specs.Value.{Label, Forest, Value, one, bit, half, textOf, text, count, size, recordOf, table, NoneL, BoolL, I64L, F64L, BytesL, StringL, ListL, TupleL, SetL, FrozenSetL, DictL, GlobalL, ObjectL, nil, node}
-use Rattle.decoder.specs.State.{Node}
-use Rattle.builder.specs.Build.{before}
+use Rattle.steps.specs.State.{Node}
+use Rattle.reading.specs.Build.{before}
 use Rattle.resolved.specs.Resolved.{Kids, Stand, sNil, sNode}
 
 -- ---- one value and those behind it

@@ -11,10 +11,10 @@ use lib.Seq.{getD-set-same, getD-set-other}
 use native.Mathlib.Decide.{ℕ-discrete}
 use native.Mathlib.Omega.{arith}
 use Rattle.value.specs.Value.{Label, Value, nil, NoneL, BoolL, I64L, F64L, BytesL, StringL, ListL, TupleL, SetL, FrozenSetL, DictL, GlobalL, ObjectL}
-use Rattle.decoder.specs.State.{Node}
-use Rattle.decoder.specs.Opcodes.{isObject}
-use Rattle.builder.specs.Build.{Mark, fresh, taken, kept, mark, at, blocked}
-use Rattle.builder.specs.Unfold.{In, here, there, Marked, same, other, marked}
+use Rattle.steps.specs.State.{Node}
+use Rattle.steps.specs.Opcodes.{isObject}
+use Rattle.reading.specs.Build.{Mark, fresh, taken, kept, mark, at, blocked}
+use Rattle.reading.specs.Unfold.{In, here, there, Marked, same, other, marked}
 use Rattle.resolved.specs.Resolved.{sNil, sNode, StandsFor, value-unique}
 use Rattle.resolved.specs.Ordered.{in-rest}
 use Rattle.resolved.specs.Walk.{State, Made, gone, markR, eachR, finishR, walk}

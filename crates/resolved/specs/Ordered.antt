@@ -3,7 +3,7 @@ use Prim.Native.Nat.{ℕ}
 use mathlib.Core.List.{List, [], _∷_}
 use mathlib.Core.Path.{_≡_, refl}
 use mathlib.Core.Logic.{_≢_, _⊎_, inl, inr}
-use Rattle.builder.specs.Unfold.{In, here, there}
+use Rattle.reading.specs.Unfold.{In, here, there}
 use Rattle.resolved.specs.Resolved.{Kids}
 
 -- a member that is not the first is one of the others

@@ -7,10 +7,10 @@ use lib.ListN.{length, length-append, length-set, getD, set, take, drop}
 use lib.Seq.{slice, length-slice, set-append-seam, take-set-le, take-set-lt, drop-set-lt, drop-set-add}
 use native.Mathlib.Decide.{decLt, ℕ-discrete}
 use native.Mathlib.Omega.{arith}
-use Rattle.decoder.specs.State.{Node}
-use Rattle.builder.specs.Build.{at}
-use Rattle.builder.specs.Graph.{Graph}
-use Rattle.builder.specs.Unfold.{In, here, there, outside}
+use Rattle.steps.specs.State.{Node}
+use Rattle.reading.specs.Build.{at}
+use Rattle.reading.specs.Graph.{Graph}
+use Rattle.reading.specs.Unfold.{In, here, there, outside}
 use Rattle.resolved.specs.Resolved.{Kids}
 use Rattle.resolved.specs.Walk.{put}
 use Rattle.resolved.specs.Resolves.{put-same, put-other}

@@ -8,9 +8,9 @@ use mathlib.Core.Logic.{_≢_}
 use lib.ListN.{length, getD}
 use native.Mathlib.Omega.{arith}
 use Rattle.value.specs.Value.{Label, Value, one, textOf, text}
-use Rattle.decoder.specs.State.{Node}
-use Rattle.builder.specs.Build.{at}
-use Rattle.builder.specs.Unfold.{In, here, there}
+use Rattle.steps.specs.State.{Node}
+use Rattle.reading.specs.Build.{at}
+use Rattle.reading.specs.Unfold.{In, here, there}
 use Rattle.resolved.specs.Resolved.{stand-label}
 use Rattle.resolved.specs.Walk.{State, start}
 use Rattle.resolved.specs.Resolves.{Resolves, Stood}

@@ -4,9 +4,9 @@ use Prim.Native.Nat.{ℕ}
 use mathlib.Core.List.{List, [], _∷_}
 use mathlib.Core.Path.{_≡_, refl, ap₂}
 use Rattle.value.specs.Value.{Label, Forest, Value, one, nil, node}
-use Rattle.decoder.specs.State.{Node}
-use Rattle.builder.specs.Build.{at}
-use Rattle.builder.specs.Unfold.{In, here, there}
+use Rattle.steps.specs.State.{Node}
+use Rattle.reading.specs.Build.{at}
+use Rattle.reading.specs.Unfold.{In, here, there}
 
 abbrev pub Kids : Type 0
 Kids = ℕ → List ℕ

@@ -10,10 +10,10 @@ use lib.Dec.{eqb, T, eqb→eq, eqb-refl}
 use native.Mathlib.Decide.{ℕ-discrete}
 use native.Mathlib.Omega.{arith}
 use Rattle.value.specs.Value.{Label, Forest, Value, nil, node, kind, NoneL, BoolL, I64L, F64L, BytesL, StringL, ListL, TupleL, SetL, FrozenSetL, DictL, GlobalL, ObjectL}
-use Rattle.decoder.specs.State.{Node, plain}
-use Rattle.decoder.specs.Opcodes.{isObject}
-use Rattle.builder.specs.Build.{Mark, Marks, fresh, taken, kept, mark, none, at}
-use Rattle.builder.specs.Unfold.{In, here, there, Marked, same, other, marked, freshness, outside}
+use Rattle.steps.specs.State.{Node, plain}
+use Rattle.steps.specs.Opcodes.{isObject}
+use Rattle.reading.specs.Build.{Mark, Marks, fresh, taken, kept, mark, none, at}
+use Rattle.reading.specs.Unfold.{In, here, there, Marked, same, other, marked, freshness, outside}
 use Rattle.resolved.specs.Resolved.{Kids, Stand, sNil, sNode, StandsFor, Frame, frame}
 use Rattle.resolved.specs.Ordered.{Final, Ordered, oNext, ordered-closed, ordered-same}
 use Rattle.resolved.specs.Walk.{State, Made, put, gone, overwrite, markR, finishR}

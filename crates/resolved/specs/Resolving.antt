@@ -7,10 +7,10 @@ use mathlib.Core.Logic.{_≢_, inl, inr}
 use lib.ListN.{length, length-append}
 use native.Mathlib.Omega.{arith}
 use Rattle.value.specs.Value.{Forest, Value}
-use Rattle.decoder.specs.State.{Node}
-use Rattle.decoder.specs.Opcodes.{isObject}
-use Rattle.builder.specs.Build.{Mark, Marks, fresh, taken, kept, mark, none, at, firstTaken, blocked}
-use Rattle.builder.specs.Unfold.{In, here, there, Marked, same, other, marked, freshness}
+use Rattle.steps.specs.State.{Node}
+use Rattle.steps.specs.Opcodes.{isObject}
+use Rattle.reading.specs.Build.{Mark, Marks, fresh, taken, kept, mark, none, at, firstTaken, blocked}
+use Rattle.reading.specs.Unfold.{In, here, there, Marked, same, other, marked, freshness}
 use Rattle.resolved.specs.Resolved.{Stand, sNil, sNode, StandsFor, frame, stand-before}
 use Rattle.resolved.specs.Ordered.{Final}
 use Rattle.resolved.specs.Walk.{State, Made, gone, overwrite, markR, eachR, finishR, walk}

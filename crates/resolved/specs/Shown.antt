@@ -12,10 +12,10 @@ use Rattle.text.specs.Pieces.{bytesOf}
 use Rattle.text.specs.Text.{unescapeString, unescapeUnicode}
 use Rattle.value.specs.Value.{Label, NoneL, BoolL, I64L, F64L, BytesL, StringL, ListL, TupleL, SetL, FrozenSetL, DictL, GlobalL, ObjectL}
 use Rattle.value.specs.Shape.{kindIn, newIn}
-use Rattle.decoder.specs.State.{Node}
-use Rattle.decoder.specs.Rooms.{first, second, within, classIn, moduleOf, nameOf}
-use Rattle.builder.specs.Build.{at}
-use Rattle.builder.specs.Unfold.{In}
+use Rattle.steps.specs.State.{Node}
+use Rattle.steps.specs.NodeWords.{first, second, within, classIn, moduleOf, nameOf}
+use Rattle.reading.specs.Build.{at}
+use Rattle.reading.specs.Unfold.{In}
 use Rattle.resolved.specs.Resolved.{Kids}
 use Rattle.resolved.specs.Noted.{isContainer}
 

@@ -10,7 +10,7 @@ use lib.Dec.{eqb}
 use borrow.Author.Tests.{eq-eqb, ne-eqb}
 use native.Mathlib.Decide.{ℕ-discrete}
 use native.Mathlib.Omega.{arith}
-use Rattle.builder.specs.Unfold.{In, here, there}
+use Rattle.reading.specs.Unfold.{In, here, there}
 use Rattle.resolved.specs.Resolved.{Kids}
 use Rattle.resolved.specs.Ordered.{Ordered, oNil, oNext, in-rest}
 

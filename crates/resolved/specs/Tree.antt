@@ -7,12 +7,12 @@ use mathlib.Core.Path.{_≡_, refl, sym, _∙_, ap}
 use lib.ListN.{length}
 use native.Mathlib.Omega.{arith}
 use Rattle.value.specs.Value.{Value, one, depth, BytesL, ListL, TupleL, ObjectL}
-use Rattle.decoder.specs.State.{Node, plain}
-use Rattle.decoder.specs.Opcodes.{isObject}
-use Rattle.builder.specs.Build.{Marks, unbuilt, at, firstTaken, blocked, build, tree}
-use Rattle.builder.specs.Unfold.{left-all}
-use Rattle.builder.specs.Fuel.{build-fuel}
-use Rattle.builder.specs.Shallow.{deep, levels-back}
+use Rattle.steps.specs.State.{Node, plain}
+use Rattle.steps.specs.Opcodes.{isObject}
+use Rattle.reading.specs.Build.{Marks, unbuilt, at, firstTaken, blocked, build, tree}
+use Rattle.reading.specs.Unfold.{left-all}
+use Rattle.reading.specs.Fuel.{build-fuel}
+use Rattle.reading.specs.Shallow.{deep, levels-back}
 use Rattle.resolved.specs.Resolved.{StandsFor}
 use Rattle.resolved.specs.Walk.{State, Made, start, eachR, finishR, walk, walk-build}
 use Rattle.resolved.specs.Ordered.{Final, oNil}

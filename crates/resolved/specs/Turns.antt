@@ -5,9 +5,9 @@ use mathlib.Core.List.{List, [], _∷_, _++_, append-assoc}
 use mathlib.Core.Path.{_≡_, _∙_, ap, ap₂}
 use lib.ListN.{length, length-append}
 use native.Mathlib.Omega.{arith}
-use Rattle.decoder.specs.State.{Node}
-use Rattle.builder.specs.Build.{taken, at}
-use Rattle.builder.specs.Measures.{Measure, nilM, pushM, measure, value}
+use Rattle.steps.specs.State.{Node}
+use Rattle.reading.specs.Build.{taken, at}
+use Rattle.reading.specs.Measures.{Measure, nilM, pushM, measure, value}
 use Rattle.resolved.specs.Walk.{State, Made, overwrite, eachR}
 use Rattle.resolved.specs.Resolves.{Resolves, Called, overwrite-resolves, put-same, old-taken}
 

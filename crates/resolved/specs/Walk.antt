@@ -6,9 +6,9 @@ use mathlib.Core.List.{List, [], _∷_, _++_}
 use mathlib.Core.Path.{_≡_, refl, _∙_, ap, ap₂}
 use lib.Dec.{eqb}
 use Rattle.value.specs.Value.{Forest, Value, kind, nil}
-use Rattle.decoder.specs.State.{Node}
-use Rattle.decoder.specs.Opcodes.{isObject}
-use Rattle.builder.specs.Build.{Mark, Marks, fresh, taken, kept, unbuilt, mark, none, before, at, blocked, finish, each, build}
+use Rattle.steps.specs.State.{Node}
+use Rattle.steps.specs.Opcodes.{isObject}
+use Rattle.reading.specs.Build.{Mark, Marks, fresh, taken, kept, unbuilt, mark, none, before, at, blocked, finish, each, build}
 use Rattle.resolved.specs.Resolved.{Kids}
 
 pub record State : Type 0 where

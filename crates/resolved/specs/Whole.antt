@@ -7,10 +7,10 @@ use mathlib.Core.Path.{_≡_, refl, sym, _∙_}
 use lib.ListN.{length}
 use native.Mathlib.Omega.{arith}
 use Rattle.value.specs.Value.{Forest, Value, one, depth}
-use Rattle.decoder.specs.State.{Node}
-use Rattle.builder.specs.Build.{Mark, fresh, taken, kept, none, at, blocked, tree}
-use Rattle.builder.specs.Settle.{settle}
-use Rattle.builder.specs.Unfold.{In, Marked, same, other, marked}
+use Rattle.steps.specs.State.{Node}
+use Rattle.reading.specs.Build.{Mark, fresh, taken, kept, none, at, blocked, tree}
+use Rattle.reading.specs.Settle.{settle}
+use Rattle.reading.specs.Unfold.{In, Marked, same, other, marked}
 use Rattle.resolved.specs.Resolved.{Kids, Stand}
 use Rattle.resolved.specs.Ordered.{in-rest}
 use Rattle.resolved.specs.Walk.{State, Made, overwrite, markR, eachR, finishR, walk, start, walk-build}

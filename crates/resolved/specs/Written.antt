@@ -8,8 +8,8 @@ use lib.Seq.{take-add, drop-drop, take-take, take-nil}
 use native.Mathlib.Nat.{zero-add, suc-add}
 use native.Mathlib.Omega.{arith}
 use Rattle.value.specs.Value.{Forest, Value, one, nil, node, textOf, text, count, size, recordOf, record-length, table, table-length}
-use Rattle.decoder.specs.State.{Node}
-use Rattle.builder.specs.Build.{at, before}
+use Rattle.steps.specs.State.{Node}
+use Rattle.reading.specs.Build.{at, before}
 use Rattle.resolved.specs.Resolved.{Kids, Stand, sNil, sNode, stand-before}
 use Rattle.resolved.specs.Moved.{text-before, table-before, stand-count, moves, moved}
 

@@ -6,10 +6,10 @@ use mathlib.Core.Path.{_≡_}
 use lib.ListN.{length}
 use Rattle.refusal.specs.declared.Answer.{Answer}
 use Rattle.value.specs.Value.{Forest}
-use Rattle.decoder.specs.State.{State, ok, last}
-use Rattle.decoder.specs.Run.{Next, run}
-use Rattle.builder.specs.Unfold.{WritesOut, NothingContainsItself}
-use Rattle.builder.specs.Reading.{pickleLimit, told, consumed, prefix, written-out}
+use Rattle.steps.specs.State.{State, ok, last}
+use Rattle.steps.specs.Run.{Next, run}
+use Rattle.reading.specs.Unfold.{WritesOut, NothingContainsItself}
+use Rattle.reading.specs.Reading.{pickleLimit, told, consumed, prefix, written-out}
 use Rattle.rooms.specs.Stated.{Slices}
 use Rattle.de.specs.Call.{ReadCall}
 use Rattle.de.specs.Theorems.{Place, place-shows, LateItems, late-items-show}

@@ -8,7 +8,7 @@ use mathlib.Core.Path.{_≡_, refl, sym, _∙_, ap}
 use lib.ListN.{length}
 use native.Mathlib.Omega.{arith}
 use Rattle.refusal.specs.declared.Answer.{Answer}
-use Rattle.builder.specs.Reading.{Reading, pickleLimit, prefix, whole}
+use Rattle.reading.specs.Reading.{Reading, pickleLimit, prefix, whole}
 use Rattle.rooms.specs.Stated.{Slices, stated, short}
 use Rattle.de.specs.Call.{Left, reading, ReadCall}
 use Rattle.run_laws.specs.Numbers.{LeavesBytes, prefix-two, prefix-never-one, prefix-never-eleven, whole-two, whole-eleven, whole-never-one}

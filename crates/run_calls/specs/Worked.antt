@@ -5,10 +5,10 @@ use mathlib.Core.Path.{_≡_, refl}
 use native.Mathlib.Omega.{arith}
 use Rattle.op.specs.Table.{rowIn, rowOf, knownName, opcodeOf}
 use Rattle.input.specs.Bytes.{lowFirst}
-use Rattle.decoder.specs.State.{State, ok, _>>=_, need, bytes, byte, pop, top, popMany, pushId, pushNode, push, link, nodeAt, extend, find, has, insert, get, put}
-use Rattle.decoder.specs.Opcodes.{proto, lowBytes, binint1, made, tupleN, added, append, getBytes, putBytes}
-use Rattle.decoder.specs.Run.{goes, stops, going, does, decide, step, start}
-use Rattle.decoder.specs.Keeps.{after}
+use Rattle.steps.specs.State.{State, ok, _>>=_, need, bytes, byte, pop, top, popMany, pushId, pushNode, push, link, nodeAt, extend, find, has, insert, get, put}
+use Rattle.steps.specs.Opcodes.{proto, lowBytes, binint1, made, tupleN, added, append, getBytes, putBytes}
+use Rattle.steps.specs.Run.{goes, stops, going, does, decide, step, start}
+use Rattle.steps.specs.Keeps.{after}
 use Rattle.machine.specs.Ran.{onward, afterSteps}
 use Rattle.de.specs.Shared.{shared}
 use Rattle.run_laws.specs.Late.{Has, what}

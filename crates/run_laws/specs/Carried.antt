@@ -11,13 +11,13 @@ use lib.Dec.{T}
 use native.Mathlib.Omega.{arith}
 use Rattle.input.specs.Bytes.{lt-or-le}
 use Rattle.value.specs.Value.{Label, NoneL, BoolL, I64L, F64L, BytesL, StringL, ListL, TupleL, SetL, FrozenSetL, DictL, GlobalL, ObjectL}
-use Rattle.decoder.specs.State.{Node, State, ok, nodeAt}
-use Rattle.decoder.specs.Opcodes.{isList, isDict, isObject}
-use Rattle.decoder.specs.Run.{Next, goes, stops, step, run}
-use Rattle.decoder.specs.Out.{Out, out, of-out, bind}
-use Rattle.decoder.specs.Effect.{labelled, Effect}
-use Rattle.decoder.specs.Keeps.{after, step-keeps}
-use Rattle.decoder.specs.Tuples.{Changed, stays, longer, stated, effect-changes}
+use Rattle.steps.specs.State.{Node, State, ok, nodeAt}
+use Rattle.steps.specs.Opcodes.{isList, isDict, isObject}
+use Rattle.steps.specs.Run.{Next, goes, stops, step, run}
+use Rattle.steps.specs.Out.{Out, out, of-out, bind}
+use Rattle.steps.specs.Effect.{labelled, Effect}
+use Rattle.steps.specs.Keeps.{after, step-keeps}
+use Rattle.steps.specs.Tuples.{Changed, stays, longer, stated, effect-changes}
 use Rattle.machine.specs.Ran.{onward, afterSteps}
 use Rattle.run_laws.specs.Steps.{atEnd, in-steps, from-then-on}
 

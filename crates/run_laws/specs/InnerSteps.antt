@@ -15,10 +15,10 @@ use Rattle.op.specs.declared.Opcode.{Opcode}
 use Rattle.op.specs.declared.Opcode.the-variants.{MARK, STOP, POP, «POP_MARK», DUP, FLOAT, INT, BININT, BININT1, LONG, BININT2, NONE, REDUCE, STRING, BINSTRING, «SHORT_BINSTRING», UNICODE, BINUNICODE, APPEND, BUILD, GLOBAL, DICT, «EMPTY_DICT», APPENDS, GET, BINGET, «LONG_BINGET», LIST, «EMPTY_LIST», PUT, BINPUT, «LONG_BINPUT», SETITEM, TUPLE, «EMPTY_TUPLE», SETITEMS, BINFLOAT, PROTO, NEWOBJ, TUPLE1, TUPLE2, TUPLE3, NEWTRUE, NEWFALSE, LONG1, LONG4}
 use Rattle.input.specs.Long.{denotes}
 use Rattle.value.specs.Value.{Label, NoneL, BoolL, I64L, F64L, BytesL, StringL, ListL, TupleL, SetL, FrozenSetL, DictL, GlobalL, ObjectL, Forest}
-use Rattle.decoder.specs.State.{Node, State, Res, ok, no, _>>=_, need, leaf, bytes, byte, line, pop, top, popMark, popMany, pushId, pushNode, push, link, nodeAt, find, get, put}
-use Rattle.decoder.specs.Opcodes.{isList, isDict, classOf, proto, mark, popOne, popToMark, dup, int, lowBytes, binint, binint1, binint2, long, longN, float, binfloat, string, signedLength, binstring, shortBinstring, unicode, binunicode, global, made, list, tuple, tupleN, pairs, dict, added, append, appends, setitem, setitems, getLine, getBytes, putLine, putBytes, called, reduce, newobj, build}
-use Rattle.decoder.specs.Run.{Next, goes, stops, going, does, decide, step, runs, start, run}
-use Rattle.builder.specs.Measure.{measured}
+use Rattle.steps.specs.State.{Node, State, Res, ok, no, _>>=_, need, leaf, bytes, byte, line, pop, top, popMark, popMany, pushId, pushNode, push, link, nodeAt, find, get, put}
+use Rattle.steps.specs.Opcodes.{isList, isDict, classOf, proto, mark, popOne, popToMark, dup, int, lowBytes, binint, binint1, binint2, long, longN, float, binfloat, string, signedLength, binstring, shortBinstring, unicode, binunicode, global, made, list, tuple, tupleN, pairs, dict, added, append, appends, setitem, setitems, getLine, getBytes, putLine, putBytes, called, reduce, newobj, build}
+use Rattle.steps.specs.Run.{Next, goes, stops, going, does, decide, step, runs, start, run}
+use Rattle.reading.specs.Measure.{measured}
 use Rattle.run_laws.specs.Inner.{Inner, InnerRead, newline-inner, longOf-inner, parseU32-inner, intLiteral-inner, longLiteral-inner, parseF64-inner, unescapeString-inner, unescapeUnicode-inner}
 
 -- whatever is refused, is refused with another number

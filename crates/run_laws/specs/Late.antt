@@ -8,11 +8,11 @@ use lib.Seq.{getD-append-add}
 use lib.Dec.{T}
 use native.Mathlib.Omega.{arith}
 use Rattle.value.specs.Value.{Label, Forest, node}
-use Rattle.decoder.specs.State.{Node, State, ok, nodeAt}
-use Rattle.decoder.specs.Run.{Next, goes, step, run}
-use Rattle.decoder.specs.Keeps.{after}
-use Rattle.builder.specs.Build.{at}
-use Rattle.builder.specs.Unfold.{WritesOut, nothing, afresh}
+use Rattle.steps.specs.State.{Node, State, ok, nodeAt}
+use Rattle.steps.specs.Run.{Next, goes, step, run}
+use Rattle.steps.specs.Keeps.{after}
+use Rattle.reading.specs.Build.{at}
+use Rattle.reading.specs.Unfold.{WritesOut, nothing, afresh}
 use Rattle.machine.specs.Ran.{afterSteps}
 use Rattle.run_laws.specs.Steps.{one-step}
 use Rattle.run_laws.specs.Carried.{listOrDict, begins-at, contents-at-stop}

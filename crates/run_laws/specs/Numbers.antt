@@ -12,10 +12,10 @@ use borrow.Author.Tests.{le-leb, leb-true, leb-false, lt-ltb, ltb-true, eq-eqb, 
 use Rattle.refusal.specs.declared.Refusal.{Refusal}
 use Rattle.refusal.specs.declared.Refusal.the-variants.{TooLong}
 use Rattle.value.specs.Value.{Forest, one}
-use Rattle.decoder.specs.State.{State, Res, ok, no, _>>=_, need}
-use Rattle.builder.specs.Build.{tree}
-use Rattle.builder.specs.Measure.{measured}
-use Rattle.builder.specs.Reading.{Reading, told, pickleLimit, stopped, consumed, prefix, leaves, whole, stopped-long, prefix-refused, whole-trailing, whole-prefix}
+use Rattle.steps.specs.State.{State, Res, ok, no, _>>=_, need}
+use Rattle.reading.specs.Build.{tree}
+use Rattle.reading.specs.Measure.{measured}
+use Rattle.reading.specs.Reading.{Reading, told, pickleLimit, stopped, consumed, prefix, leaves, whole, stopped-long, prefix-refused, whole-trailing, whole-prefix}
 use Rattle.run_laws.specs.Inner.{outer}
 use Rattle.run_laws.specs.InnerSteps.{InnerOnly, joined, fine, pop-inner, run-inner, measured-inner}
 

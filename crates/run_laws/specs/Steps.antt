@@ -9,12 +9,12 @@ use native.Mathlib.Omega.{arith}
 use Rattle.refusal.specs.declared.Refusal.{Refusal}
 use Rattle.input.specs.Bytes.{lt-or-le}
 use Rattle.decoder.specs.declared.Counts.{Counts}
-use Rattle.decoder.specs.State.{State, Res, ok, no, _>>=_}
-use Rattle.decoder.specs.Run.{Next, goes, stops, step, start, run}
-use Rattle.decoder.specs.Out.{Out}
-use Rattle.decoder.specs.Keeps.{after}
-use Rattle.decoder.specs.Shrinks.{step-less}
-use Rattle.decoder.specs.Fuel.{finish, run-finish, finish-refused, finish-stops, finish-goes}
+use Rattle.steps.specs.State.{State, Res, ok, no, _>>=_}
+use Rattle.steps.specs.Run.{Next, goes, stops, step, start, run}
+use Rattle.steps.specs.Out.{Out}
+use Rattle.steps.specs.Keeps.{after}
+use Rattle.steps.specs.Shrinks.{step-less}
+use Rattle.steps.specs.Fuel.{finish, run-finish, finish-refused, finish-stops, finish-goes}
 use Rattle.decoder.specs.Rooms.{Rooms, stateOf}
 use Rattle.effects.specs.declared.Step.the-variants as step-of
 use Rattle.effects.specs.Done.{meant, Done}

@@ -19,17 +19,17 @@ use Rattle.value.specs.Value.{Label, Forest, Value, one, text, count, size, dep
 use Rattle.value.specs.Order as Order
 use Rattle.value.specs.Shape.{shaped, and-l, and-r}
 use Rattle.value.specs.WellFormed.{WellFormed, ascending, keys, settled, well-formed-one}
-use Rattle.decoder.specs.State as State
-use Rattle.decoder.specs.State.{Node, State, ok, _>>=_, last}
-use Rattle.decoder.specs.Opcodes as Opcodes
-use Rattle.decoder.specs.Opcodes.{builtin, setName}
-use Rattle.decoder.specs.Run as Run
-use Rattle.decoder.specs.Run.{run}
-use Rattle.builder.specs.Measure.{measured}
-use Rattle.builder.specs.Settle as Settle
-use Rattle.builder.specs.Settle.{settle}
-use Rattle.builder.specs.Unfold.{WritesOut, nothing, afresh, NothingContainsItself}
-use Rattle.builder.specs.Reading.{Reading, reads, told as readingOf, consumed, prefix, whole, leaves, whole-prefix, pickleLimit, told-fits, sharing-never-shows}
+use Rattle.steps.specs.State as State
+use Rattle.steps.specs.State.{Node, State, ok, _>>=_, last}
+use Rattle.steps.specs.Opcodes as Opcodes
+use Rattle.steps.specs.Opcodes.{builtin, setName}
+use Rattle.steps.specs.Run as Run
+use Rattle.steps.specs.Run.{run}
+use Rattle.reading.specs.Measure.{measured}
+use Rattle.reading.specs.Settle as Settle
+use Rattle.reading.specs.Settle.{settle}
+use Rattle.reading.specs.Unfold.{WritesOut, nothing, afresh, NothingContainsItself}
+use Rattle.reading.specs.Reading.{Reading, reads, told as readingOf, consumed, prefix, whole, leaves, whole-prefix, pickleLimit, told-fits, sharing-never-shows}
 use Rattle.outback.specs.WriteOut.{written-nothing-itself}
 use Rattle.rooms.specs.Stated.{Slices, stated, short}
 use Rattle.de.specs.Call.{ReadCall}

@@ -13,13 +13,13 @@ use Rattle.input.specs.Bytes.{Bytes}
 use Rattle.value.specs.Value.{Forest, one, size, table, text}
 use Rattle.value.specs.WellFormed.{WellFormed}
 use Rattle.table.specs.Length.{textLength, text-length}
-use Rattle.decoder.specs.State.{State, Res, ok, no, last}
-use Rattle.decoder.specs.Run.{run}
-use Rattle.builder.specs.Measure.{measured}
-use Rattle.builder.specs.Settle.{settle}
-use Rattle.builder.specs.Unfold.{WritesOut, NothingContainsItself}
-use Rattle.builder.specs.Reading.{Reading, refuses, reads, told, consumed, prefix, whole, leaves, whole-trailing, whole-prefix, pickleLimit, told-fits, sharing-never-shows}
-use Rattle.builder.specs.Success.{Formed, refusal-number, prefix-well-formed}
+use Rattle.steps.specs.State.{State, Res, ok, no, last}
+use Rattle.steps.specs.Run.{run}
+use Rattle.reading.specs.Measure.{measured}
+use Rattle.reading.specs.Settle.{settle}
+use Rattle.reading.specs.Unfold.{WritesOut, NothingContainsItself}
+use Rattle.reading.specs.Reading.{Reading, refuses, reads, told, consumed, prefix, whole, leaves, whole-trailing, whole-prefix, pickleLimit, told-fits, sharing-never-shows}
+use Rattle.reading.specs.Success.{Formed, refusal-number, prefix-well-formed}
 use Rattle.rooms.specs.Stated.{Slices, tableOf, textOf, begun}
 use Rattle.de.specs.Call.{reading, ReadCall}
 use Rattle.de.specs.Theorems.{call-never-shows-sharing, call-answer, call-table, call-text, call-long-enough, prefix-call-formed}

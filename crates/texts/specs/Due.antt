@@ -1,23 +1,23 @@
 -- The pass over all nodes: whose text is wanted, and what is true of the first n nodes when it has come so far.
 use Prim.Native.Nat.{ℕ, suc, zero, _+_, _*_, _^_, _<_, _≤_}
 use mathlib.Core.Bool.{Bool, true, false, cond, _&&_}
-use mathlib.Core.List.{List, [], _∷_, _++_, append-assoc}
+use mathlib.Core.List.{List, _++_, append-assoc}
 use mathlib.Core.Path.{_≡_, refl, sym, _∙_, ap}
 use mathlib.Core.Logic.{_≢_, _⊎_, inl, inr}
 use native.Mathlib.Decide.{decLt, ℕ-discrete}
 use native.Mathlib.Omega.{arith}
 use lib.ListN.{length, length-append, length-set, getD, take, drop, set}
-use lib.Seq.{length-take-le, take-take, take-add, take-at, drop-at, drop-append-add, take-append-seam, drop-append-seam, drop-drop, sets, sets-eq, length-sets, getD-set-same, getD-set-other}
+use lib.Seq.{length-take-le, take-take, take-add, take-at, drop-at, take-append-seam, drop-append-seam, drop-drop, sets, sets-eq, length-sets, getD-set-same, getD-set-other}
 use lib.Dec.{eqb, ltb, leb}
-use borrow.Author.Tests.{ltb-true, ltb-false, lt-ltb, le-ltb, le-leb, lt-leb, ne-eqb, leb-true}
+use borrow.Author.Tests.{ltb-true, lt-ltb, le-ltb, le-leb, lt-leb, ne-eqb}
 use Rattle.value.specs.Value.{Label, NoneL}
 use Rattle.value.specs.Shape.{kindIn}
-use Rattle.decoder.specs.Rooms.{first, second, classIn}
+use Rattle.steps.specs.NodeWords.{first, second, classIn}
 use Rattle.resolved.specs.Noted.{isContainer}
 use Rattle.resolved.specs.Shown.{labels, labelOf, leading, trailing, hasText, isDecoded, placeIn, leadIn, trailIn, rawLead, rawTrail, leadText, trailText, Spelled}
 use Rattle.texts.specs.declared.Spelling.{Spelling}
 use Rattle.texts.specs.Mark.{markOf, mark-least, mark-most, mark-decoded, mark-place, mark-lead, mark-trail}
-use Rattle.texts.specs.Spell.{Fits, Stands, Spells, stays, stands, SpellsNode, Unspelled}
+use Rattle.texts.specs.Spell.{Fits, Stands, stays, stands, SpellsNode}
 
 -- ---- whose text is wanted
 

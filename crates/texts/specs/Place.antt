@@ -8,10 +8,10 @@ use native.Mathlib.Omega.{arith}
 use native.Mathlib.Decide.{decLe}
 use lib.ListN.{length, length-drop, getD, take, drop}
 use lib.Seq.{take-all, drop-nil}
-use borrow.Author.Tests.{le-leb, lt-leb, eq-eqb, ne-eqb}
+use borrow.Author.Tests.{le-leb, lt-leb, ne-eqb}
 use Rattle.text.specs.Text.{pick}
 use Rattle.value.specs.Shape.{kindIn}
-use Rattle.decoder.specs.Rooms.{first, second, within, classIn}
+use Rattle.steps.specs.NodeWords.{first, second, within, classIn}
 use Rattle.resolved.specs.Shown.{isDecoded, placeIn, leadIn, trailIn, rawLead, rawTrail, leadText, trailText}
 use Rattle.texts.specs.declared.Place.{Place}
 

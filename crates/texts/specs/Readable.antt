@@ -1,13 +1,13 @@
 -- What a call that reads node i's text asks of the rooms: that its words, its mark and its class's words are there.
-use Prim.Native.Nat.{ℕ, suc, _+_, _*_, _<_, _≤_}
+use Prim.Native.Nat.{ℕ, _+_, _*_, _<_}
 use mathlib.Core.List.{List}
 use mathlib.Core.Path.{_≡_}
 use lib.ListN.{length, getD}
 use native.Mathlib.Omega.{arith}
 use Rattle.value.specs.Value.{Label}
 use Rattle.value.specs.Shape.{kindIn}
-use Rattle.decoder.specs.State.{Node}
-use Rattle.decoder.specs.Rooms.{first, classIn}
+use Rattle.steps.specs.State.{Node}
+use Rattle.steps.specs.NodeWords.{first, classIn}
 use Rattle.resolved.specs.Resolved.{Kids}
 use Rattle.resolved.specs.Shown.{Shown, Spelled, leadText, trailText}
 

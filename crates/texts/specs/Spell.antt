@@ -1,21 +1,21 @@
 -- One text put into the decoded text, or left where it stands in the pickle.
 use Prim.Native.Nat.{ℕ, suc, zero, _+_, _-_, _*_, _/_, _<_, _≤_}
-use mathlib.Core.Bool.{Bool, true, false}
+use mathlib.Core.Bool.{true}
 use mathlib.Core.List.{List, [], _∷_, _++_, append-assoc, append-nil}
-use mathlib.Core.Path.{_≡_, refl, sym, _∙_, ap}
+use mathlib.Core.Path.{_≡_, refl, sym, _∙_}
 use mathlib.Core.Logic.{_≢_}
 use native.Mathlib.Nat.{add-zero}
 use native.Mathlib.Numerals.{add-one}
 use native.Mathlib.Omega.{arith}
-use lib.ListN.{length, length-take, length-drop, length-append, getD, take, drop, set}
-use lib.Seq.{take-length, drop-length, drop-drop, sets, sets-eq, length-sets}
+use lib.ListN.{length, length-take, length-drop, getD, take, drop, set}
+use lib.Seq.{take-length, drop-length, drop-drop, sets, sets-eq}
 use Rattle.utf8.specs.Utf8.{repair, valid}
 use Rattle.utf8.specs.Laws.{repair-valid}
 use Rattle.text.specs.Pieces.{bytesOf}
 use Rattle.text.specs.Text.{unescapeString, unescapeUnicode}
 use Rattle.value.specs.Value.{NoneL}
 use Rattle.value.specs.Shape.{kindIn}
-use Rattle.decoder.specs.Rooms.{first, second, within, classIn, moduleOf, nameOf}
+use Rattle.steps.specs.NodeWords.{first, second, within, classIn, moduleOf, nameOf}
 use Rattle.resolved.specs.Shown.{labels, labelOf, leading, trailing, hasText, rawLead, rawTrail}
 use Rattle.texts.specs.declared.Spelling.{Spelling}
 use Rattle.texts.specs.Mark.{markOf}

@@ -7,7 +7,7 @@ ghost use lib.ListN.{length, take, drop};
 ghost use Rattle.utf8.specs.Utf8.{repair};
 ghost use Rattle.text.specs.Pieces.{bytesOf};
 ghost use Rattle.text.specs.Text.{pick, unescapeString, unescapeUnicode};
-ghost use Rattle.decoder.specs.Rooms.{within};
+ghost use Rattle.steps.specs.NodeWords.{within};
 ghost use Rattle.resolved.specs.Shown.{leadText, trailText};
 ghost use Rattle.texts.specs.Readable.{Readable};
 ghost use Rattle.texts.specs.Place.{placed};

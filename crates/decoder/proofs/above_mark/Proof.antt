@@ -5,10 +5,8 @@ use Rattle.decoder.proofs.above_mark.Tie as tie
 use Rattle.decoder.proofs.above_mark.Reads as reads
 use Rattle.decoder.proofs.above_mark.Lts as lts
 use Prim.Native.Nat.{_-_}
-use mathlib.Core.Path.{refl}
 use native.Mathlib.Omega.{arith}
-use Rattle.decoder.specs.Effects.{Decides}
-use Rattle.decoder.specs.Items.{TakesMark, Adds, lists, dicts}
+use Rattle.decoder.specs.Items.{TakesMark}
 use Rattle.decoder.specs.StackSteps.{marks-room, took-none, took-above, took-from}
 
 returns : tie.Need-returns

@@ -5,11 +5,10 @@ use Rattle.decoder.proofs.append.Tie as tie
 use Rattle.decoder.proofs.append.Reads as reads
 use Rattle.decoder.proofs.append.Lts as lts
 use Rattle.decoder.proofs.grown.Reads as grown-reads
-use Prim.Native.Nat.{_-_}
 use mathlib.Core.Path.{refl}
 use native.Mathlib.Omega.{arith}
 use Rattle.decoder.specs.Effects.{Decides, says-refused}
-use Rattle.decoder.specs.Items.{TakesMark, Adds, lists, dicts}
+use Rattle.decoder.specs.Items.{Adds, lists}
 use Rattle.decoder.specs.StackSteps.{append-underflow, append-adds}
 
 returns : tie.Need-returns

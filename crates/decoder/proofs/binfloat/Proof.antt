@@ -4,7 +4,7 @@ use Rattle.decoder.proofs.binfloat.Statement.{statement}
 use Rattle.decoder.proofs.binfloat.Tie as tie
 use native.Mathlib.Omega.{arith}
 use Rattle.decoder.specs.ReadsPickle.{lent-at, bytes-end, bytes-push, makes-as, makes-f64}
-use Rattle.decoder.specs.Opcodes.{binfloat}
+use Rattle.steps.specs.Opcodes.{binfloat}
 use Rattle.value.specs.Value.{F64L}
 use Rattle.input.specs.Bytes.{highFirst}
 

@@ -4,7 +4,7 @@ use Rattle.decoder.proofs.binint.Statement.{statement}
 use Rattle.decoder.proofs.binint.Tie as tie
 use native.Mathlib.Omega.{arith}
 use Rattle.decoder.specs.ReadsPickle.{lent-at, bytes-end, bytes-push, makes-as, makes-i64}
-use Rattle.decoder.specs.Opcodes.{binint}
+use Rattle.steps.specs.Opcodes.{binint}
 use Rattle.value.specs.Value.{I64L}
 use Rattle.input.specs.Long.{bits64, denotes}
 

@@ -4,10 +4,10 @@ use Rattle.decoder.proofs.binint2.Statement.{statement}
 use Rattle.decoder.proofs.binint2.Tie as tie
 use native.Mathlib.Omega.{arith}
 use Rattle.decoder.specs.ReadsPickle.{lent-at, bytes-end, bytes-push, makes-as, makes-i64, low-is, same-step, fixed}
-use Rattle.decoder.specs.Opcodes.{binint2}
+use Rattle.steps.specs.Opcodes.{binint2}
 use Rattle.value.specs.Value.{I64L}
 use Rattle.input.specs.Bytes.{lowFirst}
-use Rattle.decoder.specs.State.{push}
+use Rattle.steps.specs.State.{push}
 
 sub-if1 : tie.Need-sub-if1
 sub-if1 c = let h = lent-at _ _ (c .before .pre) in omega arith

@@ -5,10 +5,8 @@ use Rattle.decoder.proofs.dup.Tie as tie
 use Rattle.decoder.proofs.dup.Reads as reads
 use Rattle.decoder.proofs.dup.Lts as lts
 use Prim.Native.Nat.{_-_}
-use mathlib.Core.Path.{refl}
 use native.Mathlib.Omega.{arith}
 use Rattle.decoder.specs.Effects.{Decides, says-refused}
-use Rattle.decoder.specs.Items.{TakesMark, Adds, lists, dicts}
 use Rattle.decoder.specs.StackSteps.{stack-room, dup-underflow, dup-lent}
 
 returns : tie.Need-returns

@@ -3,7 +3,7 @@ use borrow.Author.Needs.{needs}
 use Rattle.decoder.proofs.first_word.Statement.{statement}
 use Rattle.decoder.proofs.first_word.Tie as tie
 use mathlib.Core.Path.{refl}
-use Rattle.decoder.specs.Rooms.{first}
+use Rattle.steps.specs.NodeWords.{first}
 
 returns : tie.Need-returns
 unfolding first

@@ -7,7 +7,7 @@ use Rattle.decoder.specs.ReadsPickle.{at-newline, no-newline, line-insid
 use Rattle.refusal.specs.declared.Refusal.the-variants.{InvalidLiteral, FloatOutside}
 use Rattle.float.specs.Literal.{parseF64}
 use Rattle.value.specs.Value.{F64L}
-use Rattle.decoder.specs.Opcodes.{float}
+use Rattle.steps.specs.Opcodes.{float}
 use Rattle.decoder.proofs.LawsPickle.{float-bits, float-bad, float-outside}
 
 line-requires : tie.Need-line-requires

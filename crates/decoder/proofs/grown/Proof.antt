@@ -7,10 +7,9 @@ use Rattle.decoder.proofs.grown.Lts as lts
 use Rattle.decoder.proofs.cut.Reads as cut-reads
 use Rattle.decoder.proofs.kind.Reads as kind-reads
 use Prim.Native.Nat.{_-_}
-use mathlib.Core.Path.{refl}
 use native.Mathlib.Omega.{arith}
-use Rattle.decoder.specs.Effects.{Decides, says-refused}
-use Rattle.decoder.specs.Items.{TakesMark, Adds, lists, dicts}
+use Rattle.decoder.specs.Effects.{says-refused}
+use Rattle.decoder.specs.Items.{Adds}
 use Rattle.decoder.specs.StackSteps.{stack-room, words-room, added-underflow, wrong-lent, extends-lent}
 
 returns : tie.Need-returns

@@ -6,7 +6,7 @@ use native.Mathlib.Omega.{arith}
 use Rattle.decoder.specs.ReadsPickle.{at-newline, no-newline, line-inside, line-ends, line-bad, line-push, makes-bool, makes-i64}
 use Rattle.refusal.specs.declared.Refusal.the-variants.{InvalidLiteral}
 use Rattle.number.specs.Number.{intLiteral}
-use Rattle.decoder.specs.Opcodes.{int, intLabel}
+use Rattle.steps.specs.Opcodes.{int, intLabel}
 use Rattle.decoder.proofs.LawsPickle.{int-bool, int-whole, int-bad}
 
 line-requires : tie.Need-line-requires

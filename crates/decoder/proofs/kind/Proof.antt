@@ -5,7 +5,7 @@ use Rattle.decoder.proofs.kind.Tie as tie
 use Rattle.decoder.proofs.kind.Reads as reads
 use Rattle.decoder.proofs.kind.Lts as lts
 use Rattle.value.specs.Shape.{kindIn}
-use Rattle.decoder.specs.Rooms.{first}
+use Rattle.steps.specs.NodeWords.{first}
 
 mul-i : tie.Need-mul-i
 mul-i c = search needs

@@ -6,11 +6,9 @@ use Rattle.decoder.proofs.list.Reads as reads
 use Rattle.decoder.proofs.list.Lts as lts
 use Rattle.decoder.proofs.above_mark.Reads as above-mark-reads
 use Rattle.decoder.proofs.cut.Reads as cut-reads
-use Prim.Native.Nat.{_-_}
-use mathlib.Core.Path.{refl}
 use native.Mathlib.Omega.{arith}
 use Rattle.decoder.specs.Effects.{Decides, says-refused}
-use Rattle.decoder.specs.Items.{TakesMark, Adds, lists, dicts}
+use Rattle.decoder.specs.Items.{TakesMark}
 use Rattle.decoder.specs.StackSteps.{took-below, list-underflow, list-makes}
 
 above-mark-requires : tie.Need-above-mark-requires

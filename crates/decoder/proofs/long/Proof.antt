@@ -8,7 +8,7 @@ use Rattle.refusal.specs.declared.Refusal.the-variants.{InvalidLiteral}
 use Rattle.input.specs.Long.{bits64}
 use Rattle.number.specs.Number.{longLiteral}
 use Rattle.value.specs.Value.{I64L}
-use Rattle.decoder.specs.Opcodes.{long}
+use Rattle.steps.specs.Opcodes.{long}
 use Rattle.decoder.proofs.LawsPickle.{long-whole, long-bad}
 
 line-requires : tie.Need-line-requires

@@ -4,8 +4,8 @@ use Rattle.decoder.proofs.long1.Statement.{statement}
 use Rattle.decoder.proofs.long1.Tie as tie
 use native.Mathlib.Omega.{arith}
 use Rattle.decoder.specs.ReadsPickle.{counted, counted-is, part, part-inside, part-ends, part-bad, part-push, same-step, makes-i64}
-use Rattle.decoder.specs.Opcodes.{longN}
-use Rattle.decoder.specs.State.{_>>=_, leaf, push}
+use Rattle.steps.specs.Opcodes.{longN}
+use Rattle.steps.specs.State.{_>>=_, leaf, push}
 use Rattle.input.specs.Long.{longOf}
 use Rattle.value.specs.Value.{I64L}
 use Rattle.refusal.specs.declared.Refusal.the-variants.{IntegerTooLarge}

@@ -4,7 +4,7 @@ use Rattle.decoder.proofs.made_kind.Statement.{statement}
 use Rattle.decoder.proofs.made_kind.Tie as tie
 use mathlib.Core.Path.{sym, _∙_, ap}
 use Rattle.number.specs.Space.{same}
-use Rattle.decoder.specs.Opcodes.{builtin, setName, frozensetName}
+use Rattle.steps.specs.Opcodes.{builtin, setName, frozensetName}
 use Rattle.decoder.proofs.LawsCalls.{kind-many, kind-other, kind-set, kind-frozenset, kind-neither}
 
 returns : tie.Need-returns

@@ -5,8 +5,8 @@ use Rattle.decoder.proofs.newobj.Tie as tie
 use mathlib.Core.Bool.{true}
 use mathlib.Core.Path.{refl}
 use native.Mathlib.Omega.{arith}
-use Rattle.decoder.specs.Opcodes.{object, newobj}
-use Rattle.decoder.specs.RoomReads.{objectWord}
+use Rattle.steps.specs.Opcodes.{object, newobj}
+use Rattle.steps.specs.NodeWords.{objectWord}
 use Rattle.decoder.specs.Effects.{Decides}
 use Rattle.decoder.proofs.LawsCalls.{call-of, call-refused, call-rooms, says-object}
 

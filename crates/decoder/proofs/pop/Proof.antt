@@ -5,11 +5,7 @@ use Rattle.decoder.proofs.pop.Tie as tie
 use Rattle.decoder.proofs.pop.Reads as reads
 use Rattle.decoder.proofs.pop.Lts as lts
 use Rattle.decoder.proofs.cut.Reads as cut-reads
-use Prim.Native.Nat.{_-_}
-use mathlib.Core.Path.{refl}
-use native.Mathlib.Omega.{arith}
 use Rattle.decoder.specs.Effects.{Decides, says-refused}
-use Rattle.decoder.specs.Items.{TakesMark, Adds, lists, dicts}
 use Rattle.decoder.specs.StackSteps.{pop-underflow, pop-goes}
 
 returns : tie.Need-returns

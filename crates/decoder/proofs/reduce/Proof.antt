@@ -2,7 +2,7 @@
 use borrow.Author.Needs.{needs}
 use Rattle.decoder.proofs.reduce.Statement.{statement}
 use Rattle.decoder.proofs.reduce.Tie as tie
-use Rattle.decoder.specs.Opcodes.{reduce}
+use Rattle.steps.specs.Opcodes.{reduce}
 use Rattle.decoder.specs.Effects.{Decides}
 use Rattle.decoder.proofs.LawsCalls.{call-of, call-refused}
 

@@ -6,9 +6,9 @@ use Prim.Native.Nat.{_/_}
 use mathlib.Core.Path.{refl, sym, _∙_, ap}
 use native.Mathlib.Omega.{arith}
 use lib.ListN.{length, getD}
-use Rattle.decoder.specs.Opcodes.{reduce}
+use Rattle.steps.specs.Opcodes.{reduce}
 use Rattle.decoder.specs.Rooms.{kidsOf}
-use Rattle.decoder.specs.RoomReads.{objectWord}
+use Rattle.steps.specs.NodeWords.{objectWord}
 use Rattle.decoder.specs.Effects.{Decides}
 use Rattle.decoder.proofs.LawsCalls.{call-rooms, found, item-room, item-there, first-none, reduce-object, reduce-set}
 

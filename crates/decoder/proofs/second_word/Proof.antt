@@ -3,7 +3,7 @@ use borrow.Author.Needs.{needs}
 use Rattle.decoder.proofs.second_word.Statement.{statement}
 use Rattle.decoder.proofs.second_word.Tie as tie
 use native.Mathlib.Numerals.{add-one}
-use Rattle.decoder.specs.Rooms.{second}
+use Rattle.steps.specs.NodeWords.{second}
 
 returns : tie.Need-returns
 unfolding second

@@ -4,11 +4,10 @@ use Rattle.decoder.proofs.setitem.Tie as tie
 use Rattle.decoder.proofs.setitem.Reads as reads
 use Rattle.decoder.proofs.setitem.Lts as lts
 use Rattle.decoder.proofs.grown.Reads as grown-reads
-use Prim.Native.Nat.{_-_}
 use mathlib.Core.Path.{refl}
 use native.Mathlib.Omega.{arith}
 use Rattle.decoder.specs.Effects.{Decides, says-refused}
-use Rattle.decoder.specs.Items.{TakesMark, Adds, lists, dicts}
+use Rattle.decoder.specs.Items.{Adds, dicts}
 use Rattle.decoder.specs.StackSteps.{setitem-underflow, setitem-adds}
 
 returns : tie.Need-returns

@@ -6,11 +6,10 @@ use Rattle.decoder.proofs.setitems.Reads as reads
 use Rattle.decoder.proofs.setitems.Lts as lts
 use Rattle.decoder.proofs.above_mark.Reads as above-mark-reads
 use Rattle.decoder.proofs.grown.Reads as grown-reads
-use Prim.Native.Nat.{_-_}
 use mathlib.Core.Path.{refl}
 use native.Mathlib.Omega.{arith}
 use Rattle.decoder.specs.Effects.{Decides, says-refused}
-use Rattle.decoder.specs.Items.{TakesMark, Adds, lists, dicts}
+use Rattle.decoder.specs.Items.{TakesMark, Adds, dicts}
 use Rattle.decoder.specs.StackSteps.{took-below, setitems-underflow, setitems-odd, setitems-adds}
 
 above-mark-requires : tie.Need-above-mark-requires

@@ -5,8 +5,8 @@ use Rattle.decoder.proofs.short_binstring.Tie as tie
 use native.Mathlib.Omega.{arith}
 use mathlib.Core.Path.{refl}
 use Rattle.decoder.specs.ReadsPickle.{counted, counted-is, part, part-inside, part-ends, part-push, same-step, lent-size, makes-as, makes-bytes}
-use Rattle.decoder.specs.Opcodes.{shortBinstring}
-use Rattle.decoder.specs.State.{_>>=_, leaf, push}
+use Rattle.steps.specs.Opcodes.{shortBinstring}
+use Rattle.steps.specs.State.{_>>=_, leaf, push}
 use Rattle.value.specs.Value.{BytesL}
 use Rattle.refusal.specs.Read.{got}
 use Rattle.number.specs.Number.{turned}

@@ -5,11 +5,7 @@ use Rattle.decoder.proofs.small_tuple.Tie as tie
 use Rattle.decoder.proofs.small_tuple.Reads as reads
 use Rattle.decoder.proofs.small_tuple.Lts as lts
 use Rattle.decoder.proofs.cut.Reads as cut-reads
-use Prim.Native.Nat.{_-_}
-use mathlib.Core.Path.{refl}
-use native.Mathlib.Omega.{arith}
 use Rattle.decoder.specs.Effects.{Decides, says-refused}
-use Rattle.decoder.specs.Items.{TakesMark, Adds, lists, dicts}
 use Rattle.decoder.specs.StackSteps.{tuple-n-underflow, tuple-n-makes}
 
 sub-n : tie.Need-sub-n

@@ -7,7 +7,7 @@ use Rattle.decoder.specs.ReadsPickle.{at-newline, no-newline, line-insid
 use Rattle.refusal.specs.declared.Refusal.the-variants.{InvalidLiteral}
 use Rattle.text.specs.Text.{unescapeString}
 use Rattle.value.specs.Value.{BytesL}
-use Rattle.decoder.specs.Opcodes.{string}
+use Rattle.steps.specs.Opcodes.{string}
 use Rattle.decoder.proofs.LawsPickle.{line-ends-by, string-plain, string-escaped, string-bad, quotes-two, plain-label, makes-inner, makes-string-line}
 
 line-requires : tie.Need-line-requires

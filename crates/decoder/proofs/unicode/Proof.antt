@@ -7,7 +7,7 @@ use Rattle.decoder.specs.ReadsPickle.{at-newline, no-newline, line-insid
 use Rattle.refusal.specs.declared.Refusal.the-variants.{InvalidLiteral}
 use Rattle.text.specs.Text.{unescapeUnicode}
 use Rattle.value.specs.Value.{StringL}
-use Rattle.decoder.specs.Opcodes.{unicode}
+use Rattle.steps.specs.Opcodes.{unicode}
 use Rattle.decoder.proofs.LawsPickle.{line-ends-by, unicode-some, unicode-bad, makes-line}
 
 line-requires : tie.Need-line-requires

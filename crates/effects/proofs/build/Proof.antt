@@ -5,9 +5,7 @@ use Rattle.effects.proofs.build.Tie as tie
 use Rattle.effects.proofs.build.Reads as reads
 use Rattle.effects.proofs.build.Lts as lts
 use Rattle.effects.proofs.with_state.Reads as with-state-reads
-use Prim.Native.Nat.{_+_, _-_, _*_}
 use lib.ListN.{length-set}
-use mathlib.Core.Path.{_∙_}
 use native.Mathlib.Omega.{arith}
 use borrow.Author.Needs.{needs}
 use Rattle.effects.specs.Words.{build-room, built-lent}

@@ -5,8 +5,6 @@ use Rattle.effects.proofs.extend.Tie as tie
 use Rattle.effects.proofs.extend.Reads as reads
 use Rattle.effects.proofs.extend.Lts as lts
 use Rattle.effects.proofs.link_all.Reads as link-all-reads
-use Prim.Native.Nat.{_+_, _-_, _*_}
-use lib.ListN.{length-set}
 use native.Mathlib.Omega.{arith}
 use Rattle.effects.specs.Containers.{extend-rooms, extend-linkable, extended-lent, extend-full-lent}
 

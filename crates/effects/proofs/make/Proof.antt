@@ -4,7 +4,6 @@ use Rattle.effects.proofs.make.Statement.{statement}
 use Rattle.effects.proofs.make.Tie as tie
 use Rattle.effects.proofs.make.Reads as reads
 use Rattle.effects.proofs.make.Lts as lts
-use Prim.Native.Nat.{_+_, _-_, _*_}
 use lib.ListN.{length-set}
 use mathlib.Core.Path.{_∙_}
 use native.Mathlib.Omega.{arith}

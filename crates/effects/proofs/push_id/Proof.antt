@@ -5,7 +5,6 @@ use Rattle.effects.proofs.push_id.Tie as tie
 use Rattle.effects.proofs.push_id.Reads as reads
 use Rattle.effects.proofs.push_id.Lts as lts
 use Rattle.effects.proofs.pushed.Reads as pushed-reads
-use native.Mathlib.Omega.{arith}
 use Rattle.effects.specs.Push.{PushId, push-id-full, push-id-done}
 
 returns : tie.Need-returns

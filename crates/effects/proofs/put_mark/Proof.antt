@@ -5,7 +5,6 @@ use Rattle.effects.proofs.put_mark.Tie as tie
 use Rattle.effects.proofs.put_mark.Reads as reads
 use Rattle.effects.proofs.put_mark.Lts as lts
 use Rattle.effects.proofs.most.Reads as most-reads
-use native.Mathlib.Omega.{arith}
 use Rattle.effects.specs.Push.{PutMark, put-mark-full, put-mark-done}
 
 returns : tie.Need-returns

@@ -5,7 +5,6 @@ use Rattle.effects.proofs.remember.Tie as tie
 use Rattle.effects.proofs.remember.Reads as reads
 use Rattle.effects.proofs.remember.Lts as lts
 use Rattle.decoder.proofs.slot.Reads as slot-reads
-use lib.ListN.{length-set}
 use native.Mathlib.Omega.{arith}
 use Rattle.effects.specs.Memo.{remember-room, remember-numbered, replaced-lent, full-lent, more-lent}
 

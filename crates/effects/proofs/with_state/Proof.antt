@@ -4,9 +4,6 @@ use Rattle.effects.proofs.with_state.Statement.{statement}
 use Rattle.effects.proofs.with_state.Tie as tie
 use Rattle.effects.proofs.with_state.Reads as reads
 use Rattle.effects.proofs.with_state.Lts as lts
-use Prim.Native.Nat.{_+_, _-_, _*_}
-use lib.ListN.{length-set}
-use native.Mathlib.Omega.{arith}
 use borrow.Author.Tests.{eq-eqb, ne-eqb}
 use Rattle.value.specs.Shape.{stateIn}
 

@@ -5,7 +5,7 @@ use Rattle.emit.proofs.is_open.Tie as tie
 use mathlib.Core.Path.{sym, _∙_}
 use native.Mathlib.Omega.{arith}
 use borrow.Author.Tests.{ne-eqb}
-use Rattle.decoder.specs.Rooms.{first}
+use Rattle.steps.specs.NodeWords.{first}
 use Rattle.emit.specs.Leaves.{opened}
 
 returns : tie.Need-returns

@@ -6,7 +6,7 @@ use mathlib.Core.Path.{ap}
 use native.Mathlib.Omega.{arith}
 use lib.ListN.{length}
 use lib.Seq.{length-sets}
-use Rattle.decoder.specs.Rooms.{first}
+use Rattle.steps.specs.NodeWords.{first}
 use Rattle.emit.specs.Leaves.{texts-small, texts-box, lead-room, texts-lead, names-room, texts-names}
 
 returns : tie.Need-returns

@@ -4,7 +4,7 @@ use Rattle.emit.proofs.write_flat.Statement.{statement}
 use Rattle.emit.proofs.write_flat.Tie as tie
 use mathlib.Core.Path.{refl, sym, _∙_}
 use native.Mathlib.Omega.{arith}
-use Rattle.decoder.specs.Rooms.{first}
+use Rattle.steps.specs.NodeWords.{first}
 use Rattle.emit.specs.Calls.{size-one, ready-most, ready-inside, flat-none, flat-copy, flat-copied, flat-leaf-ready, flat-made}
 
 write-again-requires : tie.Need-write-again-requires

@@ -3,7 +3,6 @@ use borrow.Author.Needs.{needs}
 use Rattle.lists.proofs.item.Statement.{statement}
 use Rattle.lists.proofs.item.Tie as tie
 use Prim.Native.Nat.{_<_}
-use native.Mathlib.Omega.{arith}
 use lib.ListN.{length}
 
 mul-result : tie.Need-mul-result

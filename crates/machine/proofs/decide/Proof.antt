@@ -7,7 +7,7 @@ use Rattle.machine.proofs.decide.Lts as lts
 use native.Mathlib.Omega.{arith}
 use Rattle.op.specs.Table.{numberOf, numberIn, isNamed, place}
 use Rattle.op.specs.declared.Opcode.the-variants.{MARK, STOP, POP, «POP_MARK», DUP, FLOAT, INT, BININT, BININT1, LONG, BININT2, NONE, REDUCE, STRING, BINSTRING, «SHORT_BINSTRING», UNICODE, BINUNICODE, APPEND, BUILD, GLOBAL, DICT, «EMPTY_DICT», APPENDS, GET, BINGET, «LONG_BINGET», LIST, «EMPTY_LIST», PUT, BINPUT, «LONG_BINPUT», SETITEM, TUPLE, «EMPTY_TUPLE», SETITEMS, BINFLOAT, PROTO, NEWOBJ, NEWTRUE, NEWFALSE, LONG1, LONG4}
-use Rattle.decoder.specs.Run.{does}
+use Rattle.steps.specs.Run.{does}
 use Rattle.machine.specs.Lent.{ended, lent, arm, unsupported, tuples, no-name, marks, stop, none-pushed, true-pushed, false-pushed, list-pushed, tuple-pushed, dict-pushed}
 
 returns : tie.Need-returns

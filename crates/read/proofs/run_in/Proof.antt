@@ -1,6 +1,5 @@
 -- `read::run_in` meets its contract: the parts that are lent are put back, and the memo is cleared. Assumes nothing.
 use borrow.Author.Needs.{needs}
-use Prim.Native.Nat.{_*_}
 use mathlib.Core.List.{_++_}
 use mathlib.Core.Path.{_∙_, ap}
 use native.Mathlib.Omega.{arith}

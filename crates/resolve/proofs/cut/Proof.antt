@@ -4,7 +4,7 @@ use Rattle.resolve.proofs.cut.Statement.{statement}
 use Rattle.resolve.proofs.cut.Tie as tie
 use Rattle.resolve.proofs.cut.Reads as reads
 use Rattle.resolve.proofs.cut.Lts as lts
-use mathlib.Core.Path.{_≡_, refl}
+use mathlib.Core.Path.{_≡_}
 use Prim.Native.Nat.{_+_, _-_}
 use native.Mathlib.Omega.{arith}
 use Rattle.resolve.specs.Length.{cut-none, cut-rest}

@@ -2,7 +2,7 @@
 use Rattle.texts.proofs.decode_all.Statement.{statement}
 use Rattle.texts.proofs.decode_all.Tie as tie
 use Prim.Native.Nat.{_-_, _≤_}
-use mathlib.Core.Path.{_≡_, refl}
+use mathlib.Core.Path.{_≡_}
 use native.Mathlib.Numerals.{add-one}
 use native.Mathlib.Omega.{arith}
 use Rattle.texts.specs.Due.{Decodes, decodes-none, turn-ready, turn-more}

@@ -4,7 +4,7 @@ use Rattle.texts.proofs.decode_one.Statement.{statement}
 use Rattle.texts.proofs.decode_one.Tie as tie
 use mathlib.Core.Path.{refl, sym, _∙_}
 use lib.ListN.{getD}
-use Rattle.decoder.specs.Rooms.{first}
+use Rattle.steps.specs.NodeWords.{first}
 use Rattle.texts.specs.Due.{due-word, due-text, passed, spelled}
 
 spell-node-requires : tie.Need-spell-node-requires

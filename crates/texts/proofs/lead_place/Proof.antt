@@ -6,7 +6,7 @@ use mathlib.Core.Path.{_∙_}
 use native.Mathlib.Omega.{arith}
 use native.Mathlib.Numerals.{add-one}
 use Rattle.value.specs.Shape.{kindIn}
-use Rattle.decoder.specs.Rooms.{first, second, classIn}
+use Rattle.steps.specs.NodeWords.{first, second, classIn}
 use Rattle.texts.specs.Place.{lead-decoded, lead-global, lead-object, lead-leaf}
 
 returns : tie.Need-returns

@@ -2,7 +2,7 @@
 use borrow.Author.Needs.{needs}
 use Rattle.texts.proofs.module_text.Statement.{statement}
 use Rattle.texts.proofs.module_text.Tie as tie
-use Rattle.decoder.specs.Rooms.{within}
+use Rattle.steps.specs.NodeWords.{within}
 
 returns : tie.Need-returns
 unfolding within

@@ -2,10 +2,9 @@
 use borrow.Author.Needs.{needs}
 use Rattle.texts.proofs.spell_node.Statement.{statement}
 use Rattle.texts.proofs.spell_node.Tie as tie
-use mathlib.Core.Path.{refl}
 use native.Mathlib.Omega.{arith}
 use Rattle.value.specs.Shape.{kindIn}
-use Rattle.decoder.specs.Rooms.{first, classIn}
+use Rattle.steps.specs.NodeWords.{first, classIn}
 use Rattle.texts.specs.Spell.{stands, fits-as, spells-as, word-at, texts-string, texts-global, texts-object, texts-line, texts-unicode, bytes-stay}
 
 spell-text-requires : tie.Need-spell-text-requires

@@ -3,7 +3,7 @@ use Rattle.texts.proofs.text_place.Statement.{statement}
 use Rattle.texts.proofs.text_place.Tie as tie
 use mathlib.Core.Path.{refl}
 use Rattle.text.specs.Text.{pick}
-use Rattle.decoder.specs.Rooms.{within}
+use Rattle.steps.specs.NodeWords.{within}
 use Rattle.texts.specs.Place.{placed}
 
 returns : tie.Need-returns

@@ -1,1 +1,0 @@
-// The Builder of de.rs: its definitions.

@@ -1,0 +1,71 @@
+-- An opcode reads its argument and has one effect; a step reads a byte before. So what reading and the eight effects keep, every
+-- opcode, every step and the run keep.
+use Prim.Native.Nat.{ℕ, suc, zero, _≤_}
+use mathlib.Core.List.{List}
+use mathlib.Core.Option.{Option, none, some}
+use mathlib.Core.Path.{_≡_, refl}
+use lib.ListN.{length, drop}
+use native.Mathlib.Omega.{arith}
+use Rattle.op.specs.Table.{Row, numberOf, rowOf}
+use Rattle.op.specs.declared.Opcode.{Opcode}
+use Rattle.steps.specs.State.{State, Res, ok, no, withInput}
+use Rattle.steps.specs.Run.{Next, goes, stops, does, step, runs, start, run}
+use Rattle.steps.specs.Out.{Out, weaken}
+use Rattle.steps.specs.Effect.{Effect, same}
+use Rattle.steps.specs.Arguments.{taken}
+use Rattle.steps.specs.Pickletools.{Fits, does-fits, step-fits}
+
+-- the machine after a step, whether it goes on or has stopped
+unfoldable pub after : Next → State
+after (goes t) = t
+after (stops t) = t
+
+-- from s to t: bytes read, `least` at least, and an effect
+pub record Effected (least : ℕ) (s t : State) : Type 0 where
+  pub read : ℕ
+  pub enough : least ≤ read
+  pub inside : read ≤ length (s .input)
+  pub effect : Effect (withInput s (drop read (s .input))) t
+
+effected : (r : Option Row) (s : State) (n : Next) → Fits r s n → Effected 0 s (after n)
+unfolding Fits after
+effected none s n f = absurd f
+effected (some r) s (goes t) f = record { read = taken (r .form) (s .input); enough = omega arith; inside = f .reads .fits; effect = rw (f .reads .rest) at (f .did .effect) }
+effected (some r) s (stops t) f = record { read = 0; enough = omega arith; inside = omega arith; effect = rw (f .1) same }
+
+pub does-effected : (o : Opcode) (s : State) → Out (λ (n : Next). Effected 0 s (after n)) (does o s)
+does-effected o s = weaken _ _ _ (does-fits o s) (λ n f. effected (rowOf (numberOf o)) s n f)
+
+pub step-effected : (s : State) → Out (λ (n : Next). Effected 1 s (after n)) (step s)
+step-effected s = weaken _ _ _ (step-fits s) λ n f.
+    let e = effected (rowOf (f .code)) (withInput s (f .rest)) n (f .fits) in
+    let i = e .inside in
+    record { read = suc (e .read); enough = omega arith; inside = rw (f .input-is) (omega arith); effect = rw (f .input-is) (e .effect) }
+
+module _
+    (P : State → Type 0)
+    (reads : (s : State) (i : List ℕ) → P s → P (withInput s i))
+    (effects : (s t : State) → P s → Effect s t → P t)
+  where
+    keeps : {n : ℕ} (s t : State) → P s → Effected n s t → P t
+    keeps s t p e = effects (withInput s (drop (e .read) (s .input))) t (reads s (drop (e .read) (s .input)) p) (e .effect)
+
+    pub does-keeps : (o : Opcode) (s : State) → P s → Out (λ (n : Next). P (after n)) (does o s)
+    does-keeps o s p = weaken _ _ _ (does-effected o s) (λ n e. keeps s (after n) p e)
+
+    pub step-keeps : (s : State) → P s → Out (λ (n : Next). P (after n)) (step s)
+    step-keeps s p = weaken _ _ _ (step-effected s) (λ n e. keeps s (after n) p e)
+
+    pub runs-keeps : (k : ℕ) (s : State) → P s → Out P (runs k s)
+    unfolding runs Out after
+    runs-keeps zero s p = tt
+    runs-keeps (suc k) s p = go (step s) refl (step-keeps s p) (runs-keeps k)
+      where
+        go : (r : Res Next) → step s ≡ r → Out (λ (n : Next). P (after n)) r → ((t : State) → P t → Out P (runs k t)) → Out P (runs (suc k) s)
+        go (no why) e h more = rw (e, runs) tt
+        go (ok (stops t)) e h more = rw (e, runs) h
+        go (ok (goes t)) e h more = rw (e, runs) (more t h)
+
+    pub run-keeps : (p : List ℕ) → P (start p) → Out P (run p)
+    unfolding run
+    run-keeps p h = runs-keeps _ (start p) h
