@@ -21,7 +21,7 @@ use Rattle.children.specs.Children.{Ended, Stopped, SideBySide}
 use Rattle.resolve.specs.Rooted.{Begins}
 use Rattle.machine.specs.Clear.{UsedTo, zeroed, owners-used, children-used}
 use Rattle.produce.specs.Rooms.{Zeros, zeros-long, zeros-all, front-cleared}
-use Rattle.produce.specs.Measured.{Lent}
+use Rattle.produce.specs.Measured.{WorkRooms}
 use Rattle.build.specs.Parts.{whole, part-length, part-behind, zeros-at, part-back}
 use Rattle.build.specs.declared.Built.{Built}
 use Rattle.build.specs.declared.Built.the-variants as built
@@ -32,7 +32,7 @@ pub record At (p ws owners log : List ℕ) (count links : ℕ) (r : Rooms) (c : 
   pub pickle : r .pickle ≡ p
 
 -- some are, and the root is a node
-pub record Ready (p ws owners log : List ℕ) (count links root : ℕ) : Type 0 where
+pub record AtStop (p ws owners log : List ℕ) (count links root : ℕ) : Type 0 where
   pub rooms : Rooms
   pub counts : Counts
   pub at : At p ws owners log count links rooms counts
@@ -62,8 +62,8 @@ unfoldable pub Builds : List ℕ → List ℕ → List ℕ → List ℕ → ℕ 
 Builds p ws owners log count links root left b o q o′ q′ = (r : Rooms) (c : Counts) → At p ws owners log count links r c → Comes left (one (tree (stateOf r c .nodes) root)) b o q o′ q′
 
 -- of whatever nodes the rooms say, once the children of each stand side by side
-unfoldable pub Makes : List ℕ → List ℕ → List ℕ → List ℕ → List ℕ → List ℕ → ℕ → Bool → Built → List ℕ → List ℕ → List ℕ → List ℕ → Type 0
-Makes p ws starts children marks dues root left b o q o′ q′ = (k : Begins p ws starts children marks dues root) → Comes left (one (tree (k .nodes) root)) b o q o′ q′
+unfoldable pub BuildsLaid : List ℕ → List ℕ → List ℕ → List ℕ → List ℕ → List ℕ → ℕ → Bool → Built → List ℕ → List ℕ → List ℕ → List ℕ → Type 0
+BuildsLaid p ws starts children marks dues root left b o q o′ q′ = (k : Begins p ws starts children marks dues root) → Comes left (one (tree (k .nodes) root)) b o q o′ q′
 
 -- ---- at STOP
 
@@ -90,7 +90,7 @@ log-used t =
 
 -- ---- from each step of `build` to the next
 
-module _ {p ws owners log : List ℕ} {count links root : ℕ} (k : Ready p ws owners log count links root) {list decoded starts sorted measures o q : List ℕ} (w : Working list decoded starts sorted measures o q) where
+module _ {p ws owners log : List ℕ} {count links root : ℕ} (k : AtStop p ws owners log count links root) {list decoded starts sorted measures o q : List ℕ} (w : Working list decoded starts sorted measures o q) where
   pub stopped : Stopped ws owners log count links
   stopped = record { rooms = k .rooms; counts = k .counts; ended = k .at .ended }
 
@@ -113,7 +113,7 @@ module _ {p ws owners log : List ℕ} {count links root : ℕ} (k : Ready p ws o
     unfolding zeroed
     log-zeros = zeros-all (log-long (k .at) .1) (e .1)
 
-    pub rooms-lent : Lent decoded log′ list o q
+    pub rooms-lent : WorkRooms decoded log′ list o q
     rooms-lent =
         record { decoded-zero = w .decoded-zero; log-zero = log-zeros; list-zero = w .list-zero; table-long = w .table-room; text-long = w .text-room }
 
@@ -143,9 +143,9 @@ module _ {p ws owners log : List ℕ} {count links root : ℕ} (k : Ready p ws o
     pub make-begins : Begins p ws starts′ (take (used - 0) sorted′) (take (count - 0) measures) (take (count + 1 - 0) owners′) root
     make-begins = begins (k .rooms) (k .counts) (k .at)
 
-    pub build-comes : (left : Bool) (b : Built) (o′ q′ : List ℕ) → Makes p ws starts′ (take (used - 0) sorted′) (take (count - 0) measures) (take (count + 1 - 0) owners′) root left b o q o′ q′
+    pub build-comes : (left : Bool) (b : Built) (o′ q′ : List ℕ) → BuildsLaid p ws starts′ (take (used - 0) sorted′) (take (count - 0) measures) (take (count + 1 - 0) owners′) root left b o q o′ q′
         → Builds p ws owners log count links root left b o q o′ q′
-    unfolding Makes Builds
+    unfolding BuildsLaid Builds
     build-comes left b o′ q′ m r c a = m (begins r c a)
 
     -- whatever the parts have come to: they are cleared, and the rooms are as they were

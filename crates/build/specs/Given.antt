@@ -30,7 +30,7 @@ use Rattle.reading.specs.Settle.{settle}
 use Rattle.reading.specs.Measure.{measured}
 use Rattle.reading.specs.Reading.{Reading, refuses, reads, told, consumed, leaves, prefix, whole, pickleLimit, stopped-refused, stopped-empty, stopped-with, prefix-refused, prefix-told}
 use Rattle.reading.specs.Success.{refusal-number}
-use Rattle.build.specs.Building.{At, Ready, dueOf, Comes, Builds}
+use Rattle.build.specs.Building.{At, AtStop, dueOf, Comes, Builds}
 use Rattle.build.specs.declared.Built.{Built}
 use Rattle.build.specs.declared.Built.the-variants as built
 
@@ -174,7 +174,7 @@ module _ {p nodes owners children stack : List ℕ} where
       unfolding countsOf
       stopped-at = record { ended = record { sound = h .ran .sound; words = refl; owners-are = refl; log-is = refl; count-is = refl; links-are = refl }; pickle = refl }
 
-      pub ready : Ready p nodes owners children (c .nodes) (c .links) root
+      pub ready : AtStop p nodes owners children (c .nodes) (c .links) root
       unfolding countsOf
       ready = record { rooms = rooms h; counts = c; at = stopped-at; known = known }
         where

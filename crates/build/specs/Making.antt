@@ -21,7 +21,7 @@ use Rattle.resolve.specs.Standing.{node-is, label-is, facts}
 use Rattle.resolve.specs.Rooted.{Begins, Rooted, r-deep, r-word, Roots}
 use Rattle.resolve.specs.declared.Answer.{Answer}
 use Rattle.produce.specs.Measured.{Worded, MeasuredAs, Measured, Produces}
-use Rattle.build.specs.Building.{dueOf, Comes, Makes}
+use Rattle.build.specs.Building.{dueOf, Comes, BuildsLaid}
 use Rattle.build.specs.Limits.{said, Tells}
 use Rattle.build.specs.declared.Built.the-variants as built
 use Rattle.build.specs.declared.Due.{Due}
@@ -97,8 +97,8 @@ module _ (p ws starts children marks dues children′ marks′ dues′ : List �
   told k = T (k .nodes) (k .beyond) starts dues marks′ children′ dues′ root (R k)
 
   -- a refusal
-  pub make-refused : (why : Refusal) → d ≡ due.Refused why → (o q : List ℕ) → Makes p ws starts children marks dues root left (built.Refused why) o q o q
-  unfolding Makes Comes said
+  pub make-refused : (why : Refusal) → d ≡ due.Refused why → (o q : List ℕ) → BuildsLaid p ws starts children marks dues root left (built.Refused why) o q o q
+  unfolding BuildsLaid Comes said
   make-refused why e o q k = (told k ∙ ap said e, refl, refl)
 
   -- nothing
@@ -125,6 +125,6 @@ module _ (p ws starts children marks dues children′ marks′ dues′ : List �
     pub make-measured : Begins p ws starts children marks dues root → Measured p ws starts children′ dues′ marks′ root
     make-measured k = record { nodes = k .nodes; are = measured-as k }
 
-    pub make-made : (o q o′ q′ : List ℕ) (n : ℕ) → Produces p ws starts children′ dues′ marks′ root o q o′ q′ n → Makes p ws starts children marks dues root left (built.Made n) o q o′ q′
-    unfolding Makes Comes
+    pub make-made : (o q o′ q′ : List ℕ) (n : ℕ) → Produces p ws starts children′ dues′ marks′ root o q o′ q′ n → BuildsLaid p ws starts children marks dues root left (built.Made n) o q o′ q′
+    unfolding BuildsLaid Comes
     make-made o q o′ q′ n P k = let x = P (k .nodes) (measured-as k) in (free k, x .counted, x .table-is, x .text-is)

@@ -18,7 +18,7 @@ use Rattle.steps.specs.Run.{going, does, decide, step, runs, start, run}
 use Rattle.reading.specs.Build.{at}
 use Rattle.reading.specs.Unfold.{WritesOut, nothing, afresh, In, here, there, Contains, direct, through, Reachable, NothingContainsItself}
 use Rattle.reading.specs.Reading.{Reading, told, consumed, prefix}
-use Rattle.reading.specs.Bench.{Line, Holds, bench, bench-holds}
+use Rattle.reading.specs.Bench.{Line, ReadAs, bench, bench-holds}
 use Rattle.de.specs.Call.{reading, ReadCall}
 use Rattle.de.specs.Theorems.{Place, shown-here, shown-inside, shown-after, call-never-shows-sharing}
 
@@ -120,7 +120,7 @@ entwined-not h = h 0 (inr (direct here)) (through here (direct here))
 pub Called : List Line → Type 0
 Called t = Every (λ (n : Line). (l l′ : Slices) (a : Answer) → ReadCall (prefix (n .pickle)) l l′ a → ReadCall (n .reading) l l′ a) t
 
-called : (t : List Line) → Holds t → Called t
+called : (t : List Line) → ReadAs t → Called t
 unfolding Every Called
 called [] e = tt
 called (n ∷ t) e =

@@ -21,15 +21,15 @@ use Rattle.decoder.specs.declared.NodeId.{NodeId}
 use Rattle.decoder.specs.declared.CallRead.{CallRead}
 use Rattle.decoder.specs.declared.Effect.the-variants.{Push, Build}
 use Rattle.decoder.specs.declared.CallRead.the-variants.{None, Of}
-use Rattle.steps.specs.Opcodes.{builtin, setName, frozensetName, object, setOf, reduced, called, build}
+use Rattle.steps.specs.Opcodes.{builtin, setName, frozensetName, object, setOf, reduced, called, buildState}
 use Rattle.steps.specs.Run.{going}
 use Rattle.decoder.specs.Rooms.{Rooms, Counts, kidsOf, stateOf, Counted, Together, Placed}
-use Rattle.steps.specs.NodeWords.{first, second, within, moduleOf, nameOf, nodeIs, Holds, aList, aTuple, aDict, holds-below, objectWord, object-made, object-node}
+use Rattle.steps.specs.NodeWords.{first, second, within, moduleOf, nameOf, nodeIs, HoldsLinks, aList, aTuple, aDict, holds-below, objectWord, object-made, object-node}
 use Rattle.decoder.specs.RoomKeeps.{class-none, class-made}
 use Rattle.decoder.specs.Effects.{Firm, Sound, Lent, Says, Fits, enacted, refusing, says-refused}
 use Rattle.decoder.specs.Reads.{cutTo, firm-cut}
 use Rattle.decoder.specs.StackSteps.{on-stack, stack-room}
-use Rattle.decoder.specs.ReadsCalls.{Makes, Calls, Call, ReadsCall, lower-node, upper-node, build-short, build-no-object, build-object, Made, aSet, aFrozenSet, anObject, made-of, call-short, call-no-class, call-no-arguments, call-both, madeKind, same-builtin, same-set, same-frozenset}
+use Rattle.decoder.specs.ReadsCalls.{MadeByCall, Calls, Call, ReadsCall, lower-node, upper-node, build-short, build-no-object, build-object, Made, aSet, aFrozenSet, anObject, made-of, call-short, call-no-class, call-no-arguments, call-both, madeKind, same-builtin, same-set, same-frozenset}
 
 -- ---- the two topmost values
 
@@ -154,7 +154,7 @@ module _ (c : Counts) (ws st : List ℕ) (k : CallRead) (reads : ReadsCall c ws 
   unfolding ReadsCall Call
   call-of x y d = rw d at (reads r s e f)
 
-  pub call-refused : (makes : Makes) (why : Refusal) → k ≡ None why → Says (refusing c why) r c (going (called makes (stateOf r c)))
+  pub call-refused : (makes : MadeByCall) (why : Refusal) → k ≡ None why → Says (refusing c why) r c (going (called makes (stateOf r c)))
   unfolding ReadsCall Call going
   call-refused makes why d = says-refused why r c (going (called makes (stateOf r c))) (rw ((rw d at (reads r s e f)) makes))
 
@@ -175,7 +175,7 @@ module _ (r : Rooms) (c : Counts) (s : Sound r c) (x y : ℕ) (call : Calls c r 
   abbrev name : List ℕ × List ℕ
   name = (moduleOf (r .pickle) (first (r .nodes) x), nameOf (r .pickle) (second (r .nodes) x))
 
-  pub says-object : (makes : Makes) (new : Bool) (c₁ : Counts) (a b : ℕ) → makes name y (kidsOf r c y) ≡ object name new y → c₁ ≡ cutTo c (c .at) (c .stack - 2) (c .marks) → a ≡ objectWord new x → b ≡ y
+  pub says-object : (makes : MadeByCall) (new : Bool) (c₁ : Counts) (a b : ℕ) → makes name y (kidsOf r c y) ≡ object name new y → c₁ ≡ cutTo c (c .at) (c .stack - 2) (c .marks) → a ≡ objectWord new x → b ≡ y
       → Says (Push c₁ a b) r c (going (called makes (stateOf r c)))
   unfolding enacted Fits
   says-object makes new c₁ a b m e f g =
@@ -197,7 +197,7 @@ module _ (r : Rooms) (c : Counts) (s : Sound r c) (x y : ℕ) (call : Calls c r 
         fits = (firm-rest, class-none (r .nodes) (c .nodes) k (λ z. omega arith), holds k b low high);
       })
     where
-      holds : (k b : ℕ) → 7 < kindIn k → kindIn k < 10 → Holds k → b ≡ 0
+      holds : (k b : ℕ) → 7 < kindIn k → kindIn k < 10 → HoldsLinks k → b ≡ 0
       holds k b low high (aList e) = absurd (omega arith)
       holds k b low high (aTuple e) = absurd (omega arith)
       holds k b low high (aDict e) = absurd (omega arith)
@@ -289,17 +289,17 @@ module _ (r : Rooms) (c : Counts) (x y w k : ℕ) (s : Sound r c) (f : Found r c
 -- ---- BUILD
 
 module _ (r : Rooms) (c : Counts) (s : Sound r c) (ws st : List ℕ) (e : r .nodes ≡ ws) (f : r .stack ≡ st) where
-  pub says-build-short : c .stack < 2 → Says (refusing c StackUnderflow) r c (going (build (stateOf r c)))
+  pub says-build-short : c .stack < 2 → Says (refusing c StackUnderflow) r c (going (buildState (stateOf r c)))
   unfolding going
-  says-build-short h = says-refused StackUnderflow r c (going (build (stateOf r c))) (rw (build-short r c s h))
+  says-build-short h = says-refused StackUnderflow r c (going (buildState (stateOf r c))) (rw (build-short r c s h))
 
   module _ (two : 2 ≤ c .stack) where
-    pub says-no-object : kindIn (first ws (getD st (c .stack - 2) 0)) ≢ 12 → Says (refusing c (Invalid Object)) r c (going (build (stateOf r c)))
+    pub says-no-object : kindIn (first ws (getD st (c .stack - 2) 0)) ≢ 12 → Says (refusing c (Invalid Object)) r c (going (buildState (stateOf r c)))
     unfolding going
-    says-no-object d = says-refused (Invalid Object) r c (going (build (stateOf r c))) (rw (build-no-object r c s two _ _ (at c ws st r (c .stack - 2) f) (at c ws st r (c .stack - 1) f) (rw e d)))
+    says-no-object d = says-refused (Invalid Object) r c (going (buildState (stateOf r c))) (rw (build-no-object r c s two _ _ (at c ws st r (c .stack - 2) f) (at c ws st r (c .stack - 1) f) (rw e d)))
 
     pub says-build : (x y : NodeId) (c₁ : Counts) → getD st (c .stack - 2) 0 ≡ x .0 → getD st (c .stack - 1) 0 ≡ y .0 → kindIn (first ws (getD st (c .stack - 2) 0)) ≡ 12 → c₁ ≡ cutTo c (c .at) (c .stack - 1) (c .marks)
-        → Says (Build c₁ x y) r c (going (build (stateOf r c)))
+        → Says (Build c₁ x y) r c (going (buildState (stateOf r c)))
     unfolding enacted Fits going
     says-build x y c₁ p q k g =
         let lower = at c ws st r (c .stack - 2) f ∙ p in

@@ -1,14 +1,13 @@
 -- The opcodes that read only the pickle: what each return of their functions has of its definition.
 use Prim.Native.Nat.{ℕ, suc, zero, _+_, _-_, _*_, _^_, _<_, _≤_}
-use mathlib.Core.Bool.{Bool, true, false, cond, _&&_, _||_}
+use mathlib.Core.Bool.{Bool, true}
 use mathlib.Core.List.{List, [], _∷_}
 use mathlib.Core.Path.{_≡_, refl, sym, _∙_, ap, ap₂, subst}
-use lib.Dec.{leb, eqb}
 use lib.ListN.{length, getD, take, drop, length-take}
 use lib.IntN.{ℤ, pos, negsuc}
 use lib.Seq.{drop-drop, take-take}
 use native.Mathlib.Omega.{arith}
-use borrow.Author.Tests.{le-leb, lt-leb, leb-true, ltb-true, ltb-false}
+use borrow.Author.Tests.{le-leb, lt-leb, ltb-true, ltb-false}
 use Rattle.refusal.specs.Read.{Read, got, refused}
 use Rattle.refusal.specs.declared.Refusal.the-variants.{EndOfInput, UnsupportedProtocol, Invalid, InvalidLiteral, IntegerTooLarge, FloatOutside}
 use Rattle.refusal.specs.declared.Wanted.the-variants.{Length}
@@ -27,23 +26,25 @@ use Rattle.float.specs.Literal.{f64Read, parseF64}
 use Rattle.float.specs.declared.F64Literal.{F64Literal}
 use Rattle.float.specs.declared.F64Literal.the-variants as floats
 use Rattle.input.specs.Line.{newlineOf, lineOf, line-length}
-use Rattle.text.specs.Escapes.{stringHead}
-use Rattle.text.specs.Pieces.{texts, bytesOf, lengthOf}
-use Rattle.text.specs.Text.{hasQuotes, inner, byte as byteText, unescapeString, unescapeUnicode, measured, quotedSays, decodedSays}
+use Rattle.text.specs.Pieces.{bytesOf, lengthOf}
+use Rattle.text.specs.Text.{inner, unescapeString, unescapeUnicode, measured, quotedSays, decodedSays}
 use Rattle.text.specs.Answers.{got-bytes, decoded-len, decoded-bad, quoted-plain, quoted-escaped, quoted-bad}
 use Rattle.text.specs.declared.Decoded.{Decoded}
 use Rattle.text.specs.declared.Decoded.the-variants as decoded
 use Rattle.text.specs.declared.Quoted.{Quoted}
 use Rattle.text.specs.declared.Quoted.the-variants as quoted
 use Rattle.value.specs.Value.{Label, BoolL, I64L, F64L, BytesL, StringL, GlobalL}
+use Rattle.decoder.specs.declared.Effect.{Effect}
 use Rattle.decoder.specs.declared.Effect.the-variants.{Push, Go}
-use Rattle.steps.specs.State.{ok, no, _>>=_, need, byte, bytes, push}
-use Rattle.steps.specs.Opcodes.{intLabel, signedLength, proto, binstring, global}
+use Rattle.decoder.specs.declared.Part.{Part}
+use Rattle.decoder.specs.declared.Part.the-variants.{Short, At}
+use Rattle.steps.specs.State.{ok, no, _>>=_, need, leaf, byte, bytes, push}
+use Rattle.steps.specs.Opcodes.{intLabel, signedLength, proto, longN, binstring, global}
 use Rattle.steps.specs.Run.{going}
 use Rattle.decoder.specs.Rooms.{Rooms, Counts, stateOf, atTo}
-use Rattle.decoder.specs.Effects.{Sound, Decides, refusing}
+use Rattle.decoder.specs.Effects.{Sound, Lent, Decides, refusing}
 use Rattle.decoder.specs.Reads.{cutTo, bytes-short, bytes-got, line-none, line-got}
-use Rattle.decoder.specs.ReadsPickle.{Makes, refused-going, says-go, pushed-step, short, enough, ended, lined, first-byte, line-part, line-inside, makes-as, makes-bytes, makes-escaped, makes-unicode, makes-global}
+use Rattle.decoder.specs.ReadsPickle.{Found, counted, counted-is, part, part-inside, part-ends, part-bad, part-push, same-step, makes-i64, Makes, refused-going, says-go, pushed-step, short, enough, ended, lined, first-byte, line-part, line-inside, makes-as, makes-bytes, makes-escaped, makes-unicode, makes-global}
 
 -- ---- PROTO
 
@@ -125,17 +126,34 @@ module _ (l : List ℕ) (x : F64Literal) (e : f64Read x ≡ parseF64 l) where
   float-outside d = ap (turned F64L) (sym e ∙ ap f64Read d)
 
 module _ (l : List ℕ) (x : Integer) (e : integer x ≡ longOf l) where
-  pub part-whole : (v : ℕ) → x ≡ integers.Value v → turned I64L (longOf l) ≡ got (I64L v)
+  part-whole : (v : ℕ) → x ≡ integers.Value v → turned I64L (longOf l) ≡ got (I64L v)
   unfolding turned integer
   part-whole v d = ap (turned I64L) (sym e ∙ ap integer d)
 
-  pub part-large : x ≡ integers.TooLarge → turned I64L (longOf l) ≡ refused IntegerTooLarge 0
+  part-large : x ≡ integers.TooLarge → turned I64L (longOf l) ≡ refused IntegerTooLarge 0
   unfolding turned integer
   part-large d = ap (turned I64L) (sym e ∙ ap integer d)
 
 -- a part from its place to its end
-pub cut-part : (p : List ℕ) (a m : ℕ) → take (a + m - a) (drop a p) ≡ take m (drop a p)
+cut-part : (p : List ℕ) (a m : ℕ) → take (a + m - a) (drop a p) ≡ take m (drop a p)
 cut-part p a m = let e : a + m - a ≡ m = omega arith in rw e
+
+-- ---- LONG1, LONG4: t is the part behind a length of n bytes
+
+module _ (c : Counts) (p : List ℕ) (n : ℕ) (t : Part) (h : Found c (λ r. r .pickle ≡ p) (counted n) t) where
+  by-part : (e : Effect) → Decides c (λ r. r .pickle ≡ p) (λ s. going (part longOf I64L (counted n s))) e → Decides c (λ r. r .pickle ≡ p) (λ s. going (longN n s)) e
+  unfolding longN
+  by-part e = same-step c (λ r. r .pickle ≡ p) (longN n) (λ s. part longOf I64L (counted n s)) e (λ s. counted-is n s (λ q. leaf (longOf (q .0)) >>= λ v. push (I64L v) (q .1)))
+
+  pub long-ends : t ≡ Short → Decides c (λ r. r .pickle ≡ p) (λ s. going (longN n s)) (refusing c EndOfInput)
+  long-ends e = by-part (refusing c EndOfInput) (part-ends c p n (λ q. leaf (longOf (q .0)) >>= λ v. push (I64L v) (q .1)) t h e)
+
+  module _ (a m : ℕ) (e : t ≡ At a m) (x : Integer) (d : integer x ≡ longOf (take (a + m - a) (drop a p))) where
+    pub long-pushed : Lent c (λ r. r .pickle ≡ p) → (v : ℕ) → x ≡ integers.Value v → (c₁ : Counts) → c₁ ≡ cutTo c (a + m) (c .stack) (c .marks) → Decides c (λ r. r .pickle ≡ p) (λ s. going (longN n s)) (Push c₁ 2 v)
+    long-pushed l v k c₁ g = by-part (Push c₁ 2 v) (part-push c p n a m t h e longOf I64L _ (cut-part p a m) 2 v _ c₁ (part-inside c p n a m t h e l) (part-whole _ x d v k) (makes-i64 p v) g)
+
+    pub long-large : x ≡ integers.TooLarge → Decides c (λ r. r .pickle ≡ p) (λ s. going (longN n s)) (refusing c IntegerTooLarge)
+    long-large k = by-part (refusing c IntegerTooLarge) (part-bad c p n a m t h e longOf I64L _ (cut-part p a m) IntegerTooLarge _ (part-large _ x d k))
 
 -- ---- a line's own part
 
@@ -189,15 +207,6 @@ module _ (l : List ℕ) (x : Quoted) (e : quotedSays l x ≡ measured l) where
   pub string-bad : (j : ℕ) → x ≡ quoted.Refused j → turned BytesL (unescapeString l) ≡ refused InvalidLiteral j
   unfolding turned
   string-bad j d = ap (turned BytesL) (quoted-bad l j (rw d at e))
-
-pub quotes-two : (l v : List ℕ) → unescapeString l ≡ got v → 2 ≤ length l
-unfolding unescapeString hasQuotes
-quotes-two l v = go (leb 2 (length l)) refl
-  where
-    go : (t : Bool) → leb 2 (length l) ≡ t
-        → cond (t && eqb (getD l 0 0) (getD l (length l - 1) 0) && (eqb (getD l 0 0) 39 || eqb (getD l 0 0) 34)) (texts stringHead byteText 0 1 (inner l)) (refused InvalidLiteral 0) ≡ got v → 2 ≤ length l
-    go true h e = leb-true 2 (length l) h
-    go false h e = let z : _≡_ {A = ℕ} 0 1 = cc in absurd (omega arith)
 
 pub plain-label : (l : List ℕ) → unescapeString l ≡ got (inner l) → turned BytesL (unescapeString l) ≡ got (BytesL (inner l))
 unfolding turned

@@ -17,7 +17,7 @@ use Rattle.steps.specs.Opcodes.{mark, made}
 use Rattle.steps.specs.Run.{Next, goes, stops, going}
 use Rattle.steps.specs.Range.{InRange}
 use Rattle.decoder.specs.Rooms.{Rooms, Counts, stateOf, Class, Numbered, Kept}
-use Rattle.steps.specs.NodeWords.{first, nodeIs, Holds}
+use Rattle.steps.specs.NodeWords.{first, nodeIs, HoldsLinks}
 
 -- ---- the parts of a step that follow what it read and took
 
@@ -111,12 +111,12 @@ pub record Sound (r : Rooms) (c : Counts) : Type 0 where
 
 -- the effect can be had in the rooms
 unfoldable pub Fits : Effect → Rooms → ℕ → Type 0
-Fits (Push c a b) r h = Firm r c × Class (r .nodes) (c .nodes) a × (Holds a → b ≡ 0)
+Fits (Push c a b) r h = Firm r c × Class (r .nodes) (c .nodes) a × (HoldsLinks a → b ≡ 0)
 Fits (Share c i) r h = Firm r c × (i .0 < c .nodes)
 Fits (Mark c) r h = Firm r c
 Fits (Go c) r h = Firm r c
-Fits (Make c k) r h = Firm r c × (c .stack ≤ h) × (h ≤ c .deepest) × Holds k
-Fits (Extend c o) r h = Firm r c × (c .stack ≤ h) × (h ≤ c .deepest) × (o .0 < c .nodes) × Holds (first (r .nodes) (o .0)) × (kindIn (first (r .nodes) (o .0)) ≢ 7)
+Fits (Make c k) r h = Firm r c × (c .stack ≤ h) × (h ≤ c .deepest) × HoldsLinks k
+Fits (Extend c o) r h = Firm r c × (c .stack ≤ h) × (h ≤ c .deepest) × (o .0 < c .nodes) × HoldsLinks (first (r .nodes) (o .0)) × (kindIn (first (r .nodes) (o .0)) ≢ 7)
 Fits (Remember c i w k) r h = Firm r c × (i .0 < c .nodes)
 Fits (Build c o i) r h = Firm r c × (o .0 < c .nodes) × (i .0 < c .nodes) × (kindIn (first (r .nodes) (o .0)) ≡ 12)
 Fits (Stop c) r h = Firm r c

@@ -10,8 +10,9 @@ use Rattle.value.specs.Value.{Label}
 use Rattle.decoder.specs.declared.Taken.{Taken}
 use Rattle.decoder.specs.declared.Taken.the-variants.{Short, From}
 use Rattle.decoder.specs.declared.Effect.{Effect}
-use Rattle.steps.specs.State.{ok, no, popMark}
-use Rattle.steps.specs.Opcodes.{isList, isDict, added}
+use Rattle.steps.specs.State.{State, Res, ok, no, _>>=_, popMark}
+use Rattle.steps.specs.NodeWords.{labelIn}
+use Rattle.steps.specs.Opcodes.{isList, isDict, made, added}
 use Rattle.steps.specs.Run.{going}
 use Rattle.decoder.specs.Rooms.{Rooms, Counts, stateOf}
 use Rattle.decoder.specs.Effects.{Sound, Says, above}
@@ -26,10 +27,16 @@ Took (From m) r c = (popMark (stateOf r c) ≡ ok (above m (c .stack) (r .stack)
 unfoldable pub TakesMark : Counts → List ℕ → Taken → Type 0
 TakesMark c marks t = (r : Rooms) → Sound r c → r .marks ≡ marks → Took t r c
 
+-- what stands above the last mark, as a new container of the kind k
+unfoldable pub gathered : ℕ → State → Res State
+gathered k s = do
+  (is, s₁) ← popMark s
+  made (labelIn k) is s₁
+
 -- the containers that grow, by their kinds
-pub data Grows (k : ℕ) : Type 0 where
-  lists : k ≡ 6 → Grows k
-  dicts : k ≡ 10 → Grows k
+pub data GrowingKind (k : ℕ) : Type 0 where
+  lists : k ≡ 6 → GrowingKind k
+  dicts : k ≡ 10 → GrowingKind k
 
 unfoldable pub isGrown : ℕ → Label → Bool
 isGrown k l = cond (eqb k 6) (isList l) (isDict l)

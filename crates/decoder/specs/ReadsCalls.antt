@@ -19,7 +19,7 @@ use Rattle.value.specs.Shape.{kindIn}
 use Rattle.decoder.specs.declared.CallRead.{CallRead}
 use Rattle.decoder.specs.declared.CallRead.the-variants.{None, Of}
 use Rattle.steps.specs.State.{Node, ok, no, _>>=_, need, pop, top, pushNode}
-use Rattle.steps.specs.Opcodes.{isTuple, isObject, classOf, builtin, setName, frozensetName, object, setOf, reduced, called, build}
+use Rattle.steps.specs.Opcodes.{isTuple, isObject, classOf, builtin, setName, frozensetName, object, setOf, reduced, called, buildState}
 use Rattle.decoder.specs.Rooms.{Rooms, Counts, kidsOf, nodeOf, stateOf}
 use Rattle.steps.specs.NodeWords.{first, second, moduleOf, nameOf, nodeIs, tuple-kind, object-kind, class-kind}
 use Rattle.decoder.specs.RoomReads.{node-at}
@@ -30,8 +30,8 @@ use Rattle.decoder.specs.StackSteps.{on-stack}
 -- ---- a class and its arguments
 
 -- what a call makes of a class, its arguments and their items
-abbrev pub Makes : Type 0
-Makes = List ℕ × List ℕ → ℕ → List ℕ → Node
+abbrev pub MadeByCall : Type 0
+MadeByCall = List ℕ × List ℕ → ℕ → List ℕ → Node
 
 -- in the rooms r with the counts c a Global and above it a Tuple are on top
 pub record Calls (c : Counts) (r : Rooms) (class args : ℕ) : Type 0 where
@@ -40,12 +40,12 @@ pub record Calls (c : Counts) (r : Rooms) (class args : ℕ) : Type 0 where
   pub class-kind : kindIn (first (r .nodes) class) ≡ 11
   pub args-node : args < c .nodes
   pub args-kind : kindIn (first (r .nodes) args) ≡ 7
-  pub step : (makes : Makes) → called makes (stateOf r c)
+  pub step : (makes : MadeByCall) → called makes (stateOf r c)
       ≡ pushNode (makes (moduleOf (r .pickle) (first (r .nodes) class), nameOf (r .pickle) (second (r .nodes) class)) args (kidsOf r c args)) (stateOf r (cutTo c (c .at) (c .stack - 2) (c .marks)))
 
 -- what the code answers: no call, or the two nodes
 unfoldable pub Call : Counts → Rooms → CallRead → Type 0
-Call c r (None why) = (makes : Makes) → called makes (stateOf r c) ≡ no why
+Call c r (None why) = (makes : MadeByCall) → called makes (stateOf r c) ≡ no why
 Call c r (Of class args) = Calls c r (class .0) (args .0)
 
 -- the same in all rooms with these nodes and this stack
@@ -60,7 +60,7 @@ module _ (r : Rooms) (c : Counts) (s : Sound r c) where
   firm-below : Firm r (below c)
   firm-below = firm-cut r c (c .at) (c .stack - 1) (c .marks) (s .firm) (omega arith) (s .firm .at) (omega arith) (omega arith)
 
-  pub call-short : c .stack < 2 → (makes : Makes) → called makes (stateOf r c) ≡ no StackUnderflow
+  pub call-short : c .stack < 2 → (makes : MadeByCall) → called makes (stateOf r c) ≡ no StackUnderflow
   unfolding called _>>=_
   call-short h makes = go (c .stack) refl
     where
@@ -68,11 +68,11 @@ module _ (r : Rooms) (c : Counts) (s : Sound r c) where
       go zero e = rw (pop-none r c (s .firm) e)
       go (suc n) e = rw (pop-got r c (s .firm) (omega arith), pop-none r (below c) firm-below (omega arith))
 
-  pub build-short : c .stack < 2 → build (stateOf r c) ≡ no StackUnderflow
-  unfolding build _>>=_
+  pub build-short : c .stack < 2 → buildState (stateOf r c) ≡ no StackUnderflow
+  unfolding buildState _>>=_
   build-short h = go (c .stack) refl
     where
-      go : (n : ℕ) → c .stack ≡ n → build (stateOf r c) ≡ no StackUnderflow
+      go : (n : ℕ) → c .stack ≡ n → buildState (stateOf r c) ≡ no StackUnderflow
       go zero e = rw (pop-none r c (s .firm) e)
       go (suc n) e = rw (pop-got r c (s .firm) (omega arith), top-none r (below c) firm-below (omega arith))
 
@@ -93,13 +93,13 @@ module _ (r : Rooms) (c : Counts) (s : Sound r c) (two : 2 ≤ c .stack) (o i : 
   second-pop : pop (stateOf r (below c)) ≡ ok (o, stateOf r (cutTo c (c .at) (c .stack - 2) (c .marks)))
   second-pop = rw (place, lower) at (pop-got r (below c) (firm-below r c s) (omega arith))
 
-  taken : (makes : Makes) → called makes (stateOf r c)
+  taken : (makes : MadeByCall) → called makes (stateOf r c)
       ≡ (classOf (nodeOf r c o .label) >>= λ (k : List ℕ × List ℕ). need (isTuple (nodeOf r c i .label)) (Invalid Arguments) >>= λ (u : Unit {0}). pushNode (makes k i (nodeOf r c i .kids)) (stateOf r (cutTo c (c .at) (c .stack - 2) (c .marks))))
   unfolding called _>>=_
   taken makes = rw (first-pop, second-pop, node-at r (cutTo c (c .at) (c .stack - 2) (c .marks)) o lower-node, node-at r (cutTo c (c .at) (c .stack - 2) (c .marks)) i upper-node)
 
   -- the class comes before the arguments
-  pub call-no-class : kindIn (first (r .nodes) o) ≢ 11 → (makes : Makes) → called makes (stateOf r c) ≡ no (Invalid AClass)
+  pub call-no-class : kindIn (first (r .nodes) o) ≢ 11 → (makes : MadeByCall) → called makes (stateOf r c) ≡ no (Invalid AClass)
   unfolding _>>=_
   call-no-class d makes = taken makes ∙ rw (class-kind (r .pickle) (r .nodes) (kidsOf r c o) (first (r .nodes) o) (second (r .nodes) o), ne-eqb (kindIn (first (r .nodes) o)) 11 d)
 
@@ -107,7 +107,7 @@ module _ (r : Rooms) (c : Counts) (s : Sound r c) (two : 2 ≤ c .stack) (o i : 
     named : classOf (nodeOf r c o .label) ≡ ok (moduleOf (r .pickle) (first (r .nodes) o), nameOf (r .pickle) (second (r .nodes) o))
     named = class-kind (r .pickle) (r .nodes) (kidsOf r c o) (first (r .nodes) o) (second (r .nodes) o) ∙ rw (eq-eqb (kindIn (first (r .nodes) o)) 11 global)
 
-    pub call-no-arguments : kindIn (first (r .nodes) i) ≢ 7 → (makes : Makes) → called makes (stateOf r c) ≡ no (Invalid Arguments)
+    pub call-no-arguments : kindIn (first (r .nodes) i) ≢ 7 → (makes : MadeByCall) → called makes (stateOf r c) ≡ no (Invalid Arguments)
     unfolding _>>=_ need
     call-no-arguments d makes = taken makes ∙ rw (named, tuple-kind (r .pickle) (r .nodes) (kidsOf r c i) (first (r .nodes) i) (second (r .nodes) i), ne-eqb (kindIn (first (r .nodes) i)) 7 d)
 
@@ -127,15 +127,15 @@ module _ (r : Rooms) (c : Counts) (s : Sound r c) (two : 2 ≤ c .stack) (o i : 
   on-top : top (stateOf r (below c)) ≡ ok o
   on-top = rw (place, lower) at (top-got r (below c) (firm-below r c s) (omega arith))
 
-  building : build (stateOf r c) ≡ (need (isObject (nodeOf r c o .label)) (Invalid Object) >>= λ (u : Unit {0}). ok (state o i (stateOf r (below c))))
-  unfolding build state _>>=_
+  building : buildState (stateOf r c) ≡ (need (isObject (nodeOf r c o .label)) (Invalid Object) >>= λ (u : Unit {0}). ok (state o i (stateOf r (below c))))
+  unfolding buildState state _>>=_
   building = rw (first-pop, on-top, ← node-at r (below c) o lower-node)
 
-  pub build-no-object : kindIn (first (r .nodes) o) ≢ 12 → build (stateOf r c) ≡ no (Invalid Object)
+  pub build-no-object : kindIn (first (r .nodes) o) ≢ 12 → buildState (stateOf r c) ≡ no (Invalid Object)
   unfolding _>>=_ need
   build-no-object d = building ∙ rw (object-kind (r .pickle) (r .nodes) (kidsOf r c o) (first (r .nodes) o) (second (r .nodes) o), ne-eqb (kindIn (first (r .nodes) o)) 12 d)
 
-  pub build-object : kindIn (first (r .nodes) o) ≡ 12 → build (stateOf r c) ≡ ok (state o i (stateOf r (cutTo c (c .at) (c .stack - 1) (c .marks))))
+  pub build-object : kindIn (first (r .nodes) o) ≡ 12 → buildState (stateOf r c) ≡ ok (state o i (stateOf r (cutTo c (c .at) (c .stack - 1) (c .marks))))
   unfolding _>>=_ need
   build-object e = building ∙ rw (object-kind (r .pickle) (r .nodes) (kidsOf r c o) (first (r .nodes) o) (second (r .nodes) o), eq-eqb (kindIn (first (r .nodes) o)) 12 e)
 

@@ -29,7 +29,7 @@ use Rattle.steps.specs.State.{State, Res, ok, no, _>>=_, leaf, plain, bytes, li
 use Rattle.steps.specs.Opcodes.{lowBytes}
 use Rattle.steps.specs.Run.{going}
 use Rattle.decoder.specs.Rooms.{Rooms, Counts, stateOf, atTo}
-use Rattle.steps.specs.NodeWords.{moduleOf, nameOf, nodeIs, Holds, aList, aTuple, aDict, within-at, node-kind, kind-made, rest-made}
+use Rattle.steps.specs.NodeWords.{moduleOf, nameOf, nodeIs, HoldsLinks, aList, aTuple, aDict, within-at, node-kind, kind-made, rest-made}
 use Rattle.decoder.specs.RoomKeeps.{class-none}
 use Rattle.decoder.specs.Effects.{Firm, Sound, Says, Fits, Lent, Decides, enacted, refusing, says-refused}
 use Rattle.decoder.specs.Reads.{cutTo, firm-cut, bytes-short, bytes-got, line-none, line-got}
@@ -77,7 +77,7 @@ pub record Makes (p : List ℕ) (k b : ℕ) (l : Label) : Type 0 where
 wrong : (j m : ℕ) → leafy j ≡ true → leafy m ≡ false → j ≡ m → ⊥
 wrong j m t f e = let z : _≡_ {A = ℕ} 0 1 = cc in omega arith
 
-no-links : (k : ℕ) → leafy (kindIn k) ≡ true → Holds k → ⊥
+no-links : (k : ℕ) → leafy (kindIn k) ≡ true → HoldsLinks k → ⊥
 unfolding leafy
 no-links k t (aList e) = wrong (kindIn k) 6 t refl e
 no-links k t (aTuple e) = wrong (kindIn k) 7 t refl e

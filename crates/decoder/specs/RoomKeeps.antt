@@ -10,7 +10,7 @@ use native.Mathlib.Decide.{ℕ-discrete}
 use native.Mathlib.Omega.{arith}
 use Rattle.value.specs.Shape.{kindIn}
 use Rattle.decoder.specs.Rooms.{items, Owned, Holding, Class, Classed, Counted, Together, Placed, Kept}
-use Rattle.steps.specs.NodeWords.{first, second, wordsSet, classIn, Holds, aList, aTuple, aDict, Built, first-other, second-other, first-set, second-set, words-second, holds-below, objectWord, object-made}
+use Rattle.steps.specs.NodeWords.{first, second, wordsSet, classIn, HoldsLinks, aList, aTuple, aDict, Built, first-other, second-other, first-set, second-set, words-second, holds-below, objectWord, object-made}
 use Rattle.decoder.specs.RoomLists.{items-own, items-other, items-new}
 
 -- ---- owners
@@ -29,7 +29,7 @@ owned-link owners links n o r l h k m = go (ℕ-discrete k links)
 
 -- ---- owners' kinds
 
-same-holds : (a b : ℕ) → kindIn b ≡ kindIn a → Holds a → Holds b
+same-holds : (a b : ℕ) → kindIn b ≡ kindIn a → HoldsLinks a → HoldsLinks b
 same-holds a b e (aList h) = aList (e ∙ h)
 same-holds a b e (aTuple h) = aTuple (e ∙ h)
 same-holds a b e (aDict h) = aDict (e ∙ h)
@@ -45,16 +45,16 @@ pub holding-words : (ws owners : List ℕ) (links o a b : ℕ) → suc (2 * o) <
 unfolding Holding
 holding-words ws owners links o a b room kind h k l = go (ℕ-discrete (getD owners k 0) o)
   where
-    go : Dec (getD owners k 0 ≡ o) → Holds (first (wordsSet ws o a b) (getD owners k 0))
+    go : Dec (getD owners k 0 ≡ o) → HoldsLinks (first (wordsSet ws o a b) (getD owners k 0))
     go (yes e) = rw (e, first-set ws o a b room) (same-holds (first ws o) a kind (rw e at (h k l)))
     go (no d) = rw (first-other ws o a b (getD owners k 0) d) (h k l)
 
 -- a link more
-pub holding-link : (ws owners : List ℕ) (links o : ℕ) → links < length owners → Holds (first ws o) → Holding ws owners links → Holding ws (set owners links o) (suc links)
+pub holding-link : (ws owners : List ℕ) (links o : ℕ) → links < length owners → HoldsLinks (first ws o) → Holding ws owners links → Holding ws (set owners links o) (suc links)
 unfolding Holding
 holding-link ws owners links o r t h k m = go (ℕ-discrete k links)
   where
-    go : Dec (k ≡ links) → Holds (first ws (getD (set owners links o) k 0))
+    go : Dec (k ≡ links) → HoldsLinks (first ws (getD (set owners links o) k 0))
     go (yes e) = rw (e, getD-set-same owners links o 0 r) t
     go (no d) = rw (getD-set-other owners links k o 0 d) (h k (omega arith))
 
@@ -112,9 +112,9 @@ module _ (ws : List ℕ) (n o a b : ℕ) (room : suc (2 * o) < length ws) (kind 
 
 -- no items yet, and none of the links there are
 unfoldable pub Empty : ℕ → ℕ → ℕ → Type 0
-Empty links a b = Holds a → (b % 2 ^ 32 ≡ 0) × (b / 2 ^ 32 ≤ links)
+Empty links a b = HoldsLinks a → (b % 2 ^ 32 ≡ 0) × (b / 2 ^ 32 ≤ links)
 
-pub empty-zero : (links a b : ℕ) → (Holds a → b ≡ 0) → Empty links a b
+pub empty-zero : (links a b : ℕ) → (HoldsLinks a → b ≡ 0) → Empty links a b
 unfolding Empty
 empty-zero links a b z t = let e = z t in (omega arith, omega arith)
 
@@ -128,12 +128,12 @@ module _ (b : ℕ) (small : suc (b % 2 ^ 32) < 2 ^ 32) where
 
 module _ (ws owners children : List ℕ) (links n : ℕ) (h : Counted ws owners children links n) where
   -- words set for a node that is no container with items
-  set-counted : (o a b : ℕ) → suc (2 * o) < length ws → (Holds a → b % 2 ^ 32 ≡ length (items (take links owners) (take links children) o)) → (i : ℕ) → (i ≢ o → i < n)
-      → Holds (first (wordsSet ws o a b) i) → second (wordsSet ws o a b) i % 2 ^ 32 ≡ length (items (take links owners) (take links children) i)
+  set-counted : (o a b : ℕ) → suc (2 * o) < length ws → (HoldsLinks a → b % 2 ^ 32 ≡ length (items (take links owners) (take links children) o)) → (i : ℕ) → (i ≢ o → i < n)
+      → HoldsLinks (first (wordsSet ws o a b) i) → second (wordsSet ws o a b) i % 2 ^ 32 ≡ length (items (take links owners) (take links children) i)
   unfolding Counted
   set-counted o a b room new i l = go (ℕ-discrete i o)
     where
-      go : Dec (i ≡ o) → Holds (first (wordsSet ws o a b) i) → second (wordsSet ws o a b) i % 2 ^ 32 ≡ length (items (take links owners) (take links children) i)
+      go : Dec (i ≡ o) → HoldsLinks (first (wordsSet ws o a b) i) → second (wordsSet ws o a b) i % 2 ^ 32 ≡ length (items (take links owners) (take links children) i)
       go (yes e) = rw (e, first-set ws o a b room, second-set ws o a b room) new
       go (no d) = rw (first-other ws o a b i d, second-other ws o a b i d) (h i (l d))
 
@@ -143,7 +143,7 @@ module _ (ws owners children : List ℕ) (links n : ℕ) (h : Counted ws owners 
   counted-node a b room none new i z = set-counted n a b room (λ t. new t .0 ∙ sym (ap length none)) i (λ d. omega arith)
 
   -- words changed of a node that is no container
-  pub counted-words : (o a b : ℕ) → suc (2 * o) < length ws → (Holds a → ⊥) → Counted (wordsSet ws o a b) owners children links n
+  pub counted-words : (o a b : ℕ) → suc (2 * o) < length ws → (HoldsLinks a → ⊥) → Counted (wordsSet ws o a b) owners children links n
   unfolding Counted
   counted-words o a b room none i z = set-counted o a b room (λ t. absurd (none t)) i (λ d. z)
 
@@ -159,7 +159,7 @@ module _ (ws owners children : List ℕ) (links n : ℕ) (h : Counted ws owners 
       b : ℕ
       b = suc (second ws o)
 
-      go : Dec (i ≡ o) → Holds (first (wordsSet ws o a b) i) → second (wordsSet ws o a b) i % 2 ^ 32 ≡ length (items (take (suc links) (set owners links o)) (take (suc links) (set children links k)) i)
+      go : Dec (i ≡ o) → HoldsLinks (first (wordsSet ws o a b) i) → second (wordsSet ws o a b) i % 2 ^ 32 ≡ length (items (take (suc links) (set owners links o)) (take (suc links) (set children links k)) i)
       go (yes e) = rw (e, first-set ws o a b room, second-set ws o a b room, items-own owners children links o k l l′, length-append, suc-low (second ws o) small) (λ t. let v = h o z t in omega arith)
       go (no d) = rw (first-other ws o a b i d, second-other ws o a b i d, items-other owners children links o k l l′ i d) (h i y)
 
@@ -245,7 +245,7 @@ module _ (ws owners children : List ℕ) (links n : ℕ) (h : Kept ws owners chi
   }
 
   -- a link more, with its owner's count
-  pub kept-link : (o k : ℕ) → suc (2 * o) < length ws → o < n → Holds (first ws o) → links < length owners → links < length children → suc (second ws o % 2 ^ 32) < 2 ^ 32 → (kindIn (first ws o) ≡ 7 → second ws o / 2 ^ 32 + second ws o % 2 ^ 32 ≡ links)
+  pub kept-link : (o k : ℕ) → suc (2 * o) < length ws → o < n → HoldsLinks (first ws o) → links < length owners → links < length children → suc (second ws o % 2 ^ 32) < 2 ^ 32 → (kindIn (first ws o) ≡ 7 → second ws o / 2 ^ 32 + second ws o % 2 ^ 32 ≡ links)
       → Kept (set ws (suc (2 * o)) (suc (second ws o))) (set owners links o) (set children links k) (suc links) n
   kept-link o k room z t l l′ small end = record {
     owned = owned-link owners links n o l z (h .owned);

@@ -11,7 +11,7 @@ use Rattle.value.specs.Value.{NoneL}
 use Rattle.value.specs.Shape.{kindIn}
 use Rattle.steps.specs.State.{Node, plain, withInput, withNodes, withStack, withMarks, withMemo, withLinks, nodeAt, extend, insert}
 use Rattle.decoder.specs.RoomLists.{getD-tab, tab-same, tab-set, items-own, items-other, items-new}
-use Rattle.steps.specs.NodeWords.{first-other, second-other, first-set, second-set, words-second, holds-below, first, second, wordsSet, classIn, nodeIs, Holds, Built, node-grown, node-count, node-built, node-words, words-other}
+use Rattle.steps.specs.NodeWords.{first-other, second-other, first-set, second-set, words-second, holds-below, first, second, wordsSet, classIn, nodeIs, HoldsLinks, Built, node-grown, node-count, node-built, node-words, words-other}
 use Rattle.decoder.specs.RoomMemo.{insert-absent, insert-present}
 use Rattle.decoder.specs.Rooms.{Rooms, Counts, tab, kidsOf, nodeOf, nodesOf, stateOf, wordsIn, logIn, stackIn, marksIn, memoIn, atTo, nodesTo, linksTo, stackTo, marksTo, memoTo, Owned, Class, Classed, Absent}
 
@@ -44,7 +44,7 @@ module _ (r : Rooms) (c : Counts) where
 -- ---- a link more
 
 module _ (r : Rooms) (c : Counts) where
-  pub link-more : (o k : ℕ) → o < c .nodes → Holds (first (r .nodes) o) → c .links < length (r .owners) → c .links < length (r .children)
+  pub link-more : (o k : ℕ) → o < c .nodes → HoldsLinks (first (r .nodes) o) → c .links < length (r .owners) → c .links < length (r .children)
       → stateOf (logIn r (set (r .owners) (c .links) o) (set (r .children) (c .links) k)) (linksTo c (suc (c .links))) ≡ extend o (k ∷ []) (withLinks (stateOf r c) (suc (c .links)))
   unfolding stateOf extend
   link-more o k h t l l′ = ap (withNodes (withLinks (stateOf r c) (suc (c .links)))) (tab-set (nodeOf r c) (nodeOf r₁ c₁) (c .nodes) o (plain NoneL) h other ∙ ap (set (nodesOf r c) o) own)
@@ -105,7 +105,7 @@ module _ (r : Rooms) (c : Counts) where
   -- ---- words of a node changed
 
   -- the number of a container's items does not count
-  pub count-set : (o b : ℕ) → Holds (first (r .nodes) o) → suc (2 * o) < length (r .nodes) → Classed (r .nodes) (c .nodes) → stateOf (wordsIn r (set (r .nodes) (suc (2 * o)) b)) c ≡ stateOf r c
+  pub count-set : (o b : ℕ) → HoldsLinks (first (r .nodes) o) → suc (2 * o) < length (r .nodes) → Classed (r .nodes) (c .nodes) → stateOf (wordsIn r (set (r .nodes) (suc (2 * o)) b)) c ≡ stateOf r c
   unfolding stateOf Classed Class
   count-set o b t h cl = rw (← whole) (ap (withNodes (stateOf r c)) (tab-same (nodeOf r c) (nodeOf r₁ c) (c .nodes) (λ i z. go i z (ℕ-discrete i o))))
     where

@@ -7,7 +7,7 @@ use lib.Seq.{set-set, set-getD, set-append-seam, getD-append-seam, getD-set-same
 use Rattle.value.specs.Value.{Label, NoneL}
 use Rattle.steps.specs.State.{Node, State, plain, withNodes, withLinks, nodeAt, extend}
 use Rattle.decoder.specs.Rooms.{Rooms, Counts, stateOf, wordsIn, logIn, linksTo, Classed}
-use Rattle.steps.specs.NodeWords.{first, Holds}
+use Rattle.steps.specs.NodeWords.{first, HoldsLinks}
 use Rattle.decoder.specs.RoomLaws.{link-more, count-set}
 
 -- ---- items one after the other
@@ -40,7 +40,7 @@ link-next o k xs m m′ s u t h e f =
     ∙ extend-more o xs k m m′ s (rw (ap (λ (x : State). length (x .nodes)) e ∙ extend-length o xs (withLinks s m)) at h)
 
 -- a link more, and the owner's count with it
-pub link-counted : (r : Rooms) (c : Counts) (o k b : ℕ) → o < c .nodes → Holds (first (r .nodes) o) → c .links < length (r .owners) → c .links < length (r .children) → suc (2 * o) < length (r .nodes) → Classed (r .nodes) (c .nodes)
+pub link-counted : (r : Rooms) (c : Counts) (o k b : ℕ) → o < c .nodes → HoldsLinks (first (r .nodes) o) → c .links < length (r .owners) → c .links < length (r .children) → suc (2 * o) < length (r .nodes) → Classed (r .nodes) (c .nodes)
     → stateOf (wordsIn (logIn r (set (r .owners) (c .links) o) (set (r .children) (c .links) k)) (set (r .nodes) (suc (2 * o)) b)) (linksTo c (suc (c .links))) ≡ extend o (k ∷ []) (withLinks (stateOf r c) (suc (c .links)))
 link-counted r c o k b h t l l′ room cl =
     count-set (logIn r (set (r .owners) (c .links) o) (set (r .children) (c .links) k)) (linksTo c (suc (c .links))) o b t room cl

@@ -8,7 +8,7 @@ use lib.ListN.{length, getD, take, drop}
 use lib.Dec.{eqb}
 use Rattle.value.specs.Shape.{kindIn}
 use Rattle.steps.specs.State.{Node, State}
-use Rattle.steps.specs.NodeWords.{first, second, classIn, nodeIs, Holds}
+use Rattle.steps.specs.NodeWords.{first, second, classIn, nodeIs, HoldsLinks}
 pub use Rattle.decoder.specs.declared.Counts.{Counts}
 
 -- the rooms: the pickle, two words a node, the log of links (owner, child), stack, marks, the memo (number, node)
@@ -131,7 +131,7 @@ pub record Numbered (keys : List ℕ) (n m : ℕ) : Type 0 where
 
 -- the low half of a container's second word is the number of its items
 unfoldable pub Counted : List ℕ → List ℕ → List ℕ → ℕ → ℕ → Type 0
-Counted ws owners children links n = (i : ℕ) → i < n → Holds (first ws i) → second ws i % 2 ^ 32 ≡ length (items (take links owners) (take links children) i)
+Counted ws owners children links n = (i : ℕ) → i < n → HoldsLinks (first ws i) → second ws i % 2 ^ 32 ≡ length (items (take links owners) (take links children) i)
 
 -- `is` are the children of links that stand together: the halves of the word b are their number and the place of the first
 pub record Together (b : ℕ) (is children : List ℕ) (links : ℕ) : Type 0 where
@@ -144,7 +144,7 @@ Placed ws owners children links n = (i : ℕ) → i < n → kindIn (first ws i) 
 
 -- every owner is a List, Tuple or Dict
 unfoldable pub Holding : List ℕ → List ℕ → ℕ → Type 0
-Holding ws owners links = (k : ℕ) → k < links → Holds (first ws (getD owners k 0))
+Holding ws owners links = (k : ℕ) → k < links → HoldsLinks (first ws (getD owners k 0))
 
 -- what the code keeps of its words and its log, for n nodes
 pub record Kept (ws owners children : List ℕ) (links n : ℕ) : Type 0 where

@@ -16,15 +16,15 @@ use Rattle.value.specs.Shape.{kindIn}
 use Rattle.decoder.specs.declared.Taken.the-variants.{Short, From}
 use Rattle.decoder.specs.declared.Effect.the-variants.{Share, Go, Make, Extend}
 use Rattle.steps.specs.State.{State, no, _>>=_, need, nodeAt}
-use Rattle.steps.specs.Opcodes.{popOne, popToMark, dup, list, tuple, tupleN, pairs, dict, isList, isDict, added, append, appends, setitem, setitems}
+use Rattle.steps.specs.Opcodes.{popOne, popToMark, dup, tupleN, pairs, dict, isList, isDict, added, append, appends, setitem, setitems}
 use Rattle.steps.specs.Run.{going}
 use Rattle.steps.specs.Out.{every-at}
 use Rattle.decoder.specs.Rooms.{Rooms, Counts, kidsOf, stateOf, stackTo}
-use Rattle.steps.specs.NodeWords.{first, second, nodeIs, Holds, aList, aTuple, aDict, list-kind, dict-kind}
+use Rattle.steps.specs.NodeWords.{first, second, nodeIs, HoldsLinks, aList, aTuple, aDict, list-kind, dict-kind, node-label}
 use Rattle.decoder.specs.RoomReads.{stack-of, stack-length, nodes-length, node-at}
 use Rattle.decoder.specs.Effects.{Firm, Sound, Lent, Fits, Says, refusing, says-refused, enacted, container, grow, above}
 use Rattle.decoder.specs.Reads.{cutTo, firm-cut, mark-none, mark-above, mark-got, top-none, top-got, pop-none, pop-got, many-none, many-got}
-use Rattle.decoder.specs.Items.{Took, TakesMark, Grows, lists, dicts, isGrown}
+use Rattle.decoder.specs.Items.{Took, TakesMark, GrowingKind, lists, dicts, isGrown, gathered}
 
 module _ (r : Rooms) (c : Counts) (s : Sound r c) where
   in-room : c .stack ≤ length (r .stack)
@@ -67,25 +67,17 @@ module _ (r : Rooms) (c : Counts) (s : Sound r c) where
 
   -- ---- containers made
 
-  making : (n m k : ℕ) → n ≤ c .stack → m ≤ c .marks → Holds k → Fits (Make (cutTo c (c .at) n m) k) r (c .stack)
+  making : (n m k : ℕ) → n ≤ c .stack → m ≤ c .marks → HoldsLinks k → Fits (Make (cutTo c (c .at) n m) k) r (c .stack)
   unfolding Fits
   making n m k h l t = (cut-firm n m h l, h, s .firm .stack, t)
 
-  pub list-underflow : Took Short r c → going (list (stateOf r c)) ≡ no StackUnderflow
-  unfolding list _>>=_ going Took
-  list-underflow h = rw h
+  pub gathered-underflow : (k : ℕ) → Took Short r c → going (gathered k (stateOf r c)) ≡ no StackUnderflow
+  unfolding gathered _>>=_ going Took
+  gathered-underflow k h = rw h
 
-  pub list-makes : (m : ℕ) → Took (From m) r c → Says (Make (cutTo c (c .at) m (c .marks - 1)) 6) r c (going (list (stateOf r c)))
-  unfolding list _>>=_ going Took enacted container nodeIs kindIn
-  list-makes m h = record { enacts = rw (h .0); fits = making m (c .marks - 1) 6 (h .1) (omega arith) (aList refl) }
-
-  pub tuple-underflow : Took Short r c → going (tuple (stateOf r c)) ≡ no StackUnderflow
-  unfolding tuple _>>=_ going Took
-  tuple-underflow h = rw h
-
-  pub tuple-makes : (m : ℕ) → Took (From m) r c → Says (Make (cutTo c (c .at) m (c .marks - 1)) 7) r c (going (tuple (stateOf r c)))
-  unfolding tuple _>>=_ going Took enacted container nodeIs kindIn
-  tuple-makes m h = record { enacts = rw (h .0); fits = making m (c .marks - 1) 7 (h .1) (omega arith) (aTuple refl) }
+  pub gathered-makes : (m k : ℕ) → HoldsLinks k → Took (From m) r c → Says (Make (cutTo c (c .at) m (c .marks - 1)) k) r c (going (gathered k (stateOf r c)))
+  unfolding gathered _>>=_ going Took enacted container
+  gathered-makes m k t h = record { enacts = rw (h .0, node-label (r .pickle) k 0 [] (r .nodes) t); fits = making m (c .marks - 1) k (h .1) (omega arith) t }
 
   pub tuple-n-underflow : (n : ℕ) → c .stack < n → going (tupleN n (stateOf r c)) ≡ no StackUnderflow
   unfolding tupleN _>>=_ going
@@ -114,7 +106,7 @@ module _ (r : Rooms) (c : Counts) (s : Sound r c) where
 
   -- ---- items added
 
-  module _ (keep m k : ℕ) (why : Wanted) (is : List ℕ) (kin : Grows k) (low : keep ≤ c .stack) (fewer : m ≤ c .marks) where
+  module _ (keep m k : ℕ) (why : Wanted) (is : List ℕ) (kin : GrowingKind k) (low : keep ≤ c .stack) (fewer : m ≤ c .marks) where
     abbrev pub owner : ℕ
     owner = getD (r .stack) (keep - 1) 0
 
@@ -129,7 +121,7 @@ module _ (r : Rooms) (c : Counts) (s : Sound r c) where
     unfolding isGrown
     right h = rw (node-at r (cutTo c (c .at) keep m) owner (on-stack (keep - 1) (omega arith))) (go kin)
       where
-        go : Grows k → cond (eqb k 6) (isList (nodeIs (r .pickle) (r .nodes) (kidsOf r c owner) (first (r .nodes) owner) (second (r .nodes) owner) .label)) (isDict (nodeIs (r .pickle) (r .nodes) (kidsOf r c owner) (first (r .nodes) owner) (second (r .nodes) owner) .label)) ≡ eqb (kindIn (first (r .nodes) owner)) k
+        go : GrowingKind k → cond (eqb k 6) (isList (nodeIs (r .pickle) (r .nodes) (kidsOf r c owner) (first (r .nodes) owner) (second (r .nodes) owner) .label)) (isDict (nodeIs (r .pickle) (r .nodes) (kidsOf r c owner) (first (r .nodes) owner) (second (r .nodes) owner) .label)) ≡ eqb (kindIn (first (r .nodes) owner)) k
         go (lists e) = rw e (list-kind (r .pickle) (r .nodes) (kidsOf r c owner) (first (r .nodes) owner) (second (r .nodes) owner))
         go (dicts e) = rw e (dict-kind (r .pickle) (r .nodes) (kidsOf r c owner) (first (r .nodes) owner) (second (r .nodes) owner))
 
@@ -141,15 +133,15 @@ module _ (r : Rooms) (c : Counts) (s : Sound r c) where
     unfolding added grow _>>=_ going need
     added-grows h e = rw (top-got r (cutTo c (c .at) keep m) (cut-firm keep m low fewer) (omega arith), right h, eq-eqb (kindIn (first (r .nodes) owner)) k e)
 
-  grows-holds : (k a : ℕ) → Grows k → kindIn a ≡ k → Holds a
+  grows-holds : (k a : ℕ) → GrowingKind k → kindIn a ≡ k → HoldsLinks a
   grows-holds k a (lists h) e = aList (e ∙ h)
   grows-holds k a (dicts h) e = aDict (e ∙ h)
 
-  grows-other : (k a : ℕ) → Grows k → kindIn a ≡ k → kindIn a ≢ 7
+  grows-other : (k a : ℕ) → GrowingKind k → kindIn a ≡ k → kindIn a ≢ 7
   grows-other k a (lists h) e z = omega arith
   grows-other k a (dicts h) e z = omega arith
 
-  pub grown-extends : (keep m k : ℕ) (why : Wanted) → Grows k → keep ≤ c .stack → m ≤ c .marks → keep ≢ 0 → kindIn (first (r .nodes) (getD (r .stack) (keep - 1) 0)) ≡ k
+  pub grown-extends : (keep m k : ℕ) (why : Wanted) → GrowingKind k → keep ≤ c .stack → m ≤ c .marks → keep ≢ 0 → kindIn (first (r .nodes) (getD (r .stack) (keep - 1) 0)) ≡ k
       → Says (Extend (cutTo c (c .at) keep m) (record { 0 = getD (r .stack) (keep - 1) 0 })) r c (going (added (isGrown k) (Invalid why) (above keep (c .stack) (r .stack)) (stateOf r (cutTo c (c .at) keep m))))
   unfolding enacted Fits
   grown-extends keep m k why g l f h e = record {
@@ -273,7 +265,7 @@ module _ (c : Counts) (l : List ℕ) where
     dup-lent h = rw (← q) (dup-shares r c s h)
 
   -- the owner's words are n
-  module _ (n : List ℕ) (r : Rooms) (s : Sound r c) (a : r .nodes ≡ n) (b : r .stack ≡ l) (keep m k : ℕ) (why : Wanted) (g : Grows k) (low : keep ≤ c .stack) (fewer : m ≤ c .marks) (h : keep ≢ 0) where
+  module _ (n : List ℕ) (r : Rooms) (s : Sound r c) (a : r .nodes ≡ n) (b : r .stack ≡ l) (keep m k : ℕ) (why : Wanted) (g : GrowingKind k) (low : keep ≤ c .stack) (fewer : m ≤ c .marks) (h : keep ≢ 0) where
     pub wrong-lent : kindIn (first n (getD l (keep - 1) 0)) ≢ k
         → Says (refusing c (Invalid why)) r c (going (added (isGrown k) (Invalid why) (above keep (c .stack) (r .stack)) (stateOf r (cutTo c (c .at) keep m))))
     wrong-lent d = says-refused (Invalid why) r c (going (added (isGrown k) (Invalid why) (above keep (c .stack) (r .stack)) (stateOf r (cutTo c (c .at) keep m)))) (added-wrong r c s keep m k why (above keep (c .stack) (r .stack)) g low fewer h (rw (a, b) d))

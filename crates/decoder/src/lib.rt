@@ -24,15 +24,15 @@ ghost use mathlib.Core.Path.{_≡_};
 ghost use Prim.Native.Nat.{ℕ, _+_, _-_, _*_, _^_, _/_, _<_, _≤_};
 ghost use lib.ListN.{length, getD, take, drop};
 ghost use Rattle.steps.specs.State.{get, put};
-ghost use Rattle.steps.specs.Opcodes.{proto, popOne, popToMark, dup, int, binint, binint1, binint2, long, longN, float, binfloat, string, binstring, shortBinstring, unicode, binunicode, global, list, tuple, tupleN, dict, append, appends, setitem, setitems, getLine, getBytes, putLine, putBytes, lowBytes, reduce, newobj, build};
+ghost use Rattle.steps.specs.Opcodes.{proto, popOne, popToMark, dup, int, binint, binint1, binint2, long, longN, float, binfloat, string, binstring, shortBinstring, unicode, binunicode, global, list, tuple, tupleN, dict, append, appends, setitem, setitems, getLine, getBytes, putLine, putBytes, lowBytes, reduce, newobj, buildState};
 ghost use Rattle.steps.specs.Run.{going};
 ghost use Rattle.decoder.specs.Effects.{Lent, Decides};
 ghost use Rattle.decoder.specs.Reads.{cutTo};
 ghost use Rattle.decoder.specs.ReadsPickle.{Found, counted};
-ghost use Rattle.decoder.specs.Items.{TakesMark, Grows, Adds};
+ghost use Rattle.decoder.specs.Items.{TakesMark, GrowingKind, Adds, gathered};
 ghost use Rattle.value.specs.Shape.{kindIn};
 ghost use Rattle.decoder.specs.Rooms.{Absent, Numbered};
-ghost use Rattle.steps.specs.NodeWords.{first, second, moduleOf, nameOf};
+ghost use Rattle.steps.specs.NodeWords.{first, second, moduleOf, nameOf, HoldsLinks};
 ghost use Rattle.decoder.specs.ReadsMemo.{keyLine, ReadsKey};
 ghost use Rattle.decoder.specs.ReadsCalls.{Calls, ReadsCall, madeKind};
 ghost use Rattle.number.specs.Space.{same};
@@ -73,38 +73,38 @@ pub enum Effect {
 
 // The kinds of a node's first word. 0 to 12 are those of a table's record; Bytes of a STRING with an escape and a String of UNICODE stay
 // their lines, quotes and all.
-pub const NONE: u64 = 0;
+pub const KIND_NONE: u64 = 0;
 
-pub const BOOL: u64 = 1;
+pub const KIND_BOOL: u64 = 1;
 
-pub const I64: u64 = 2;
+const KIND_I64: u64 = 2;
 
-pub const F64: u64 = 3;
+const KIND_F64: u64 = 3;
 
-pub const BYTES: u64 = 4;
+const KIND_BYTES: u64 = 4;
 
-pub const STRING: u64 = 5;
+const KIND_STRING: u64 = 5;
 
-pub const LIST: u64 = 6;
+pub const KIND_LIST: u64 = 6;
 
-pub const TUPLE: u64 = 7;
+pub const KIND_TUPLE: u64 = 7;
 
-pub const SET: u64 = 8;
+const KIND_SET: u64 = 8;
 
-pub const FROZEN_SET: u64 = 9;
+const KIND_FROZEN_SET: u64 = 9;
 
-pub const DICT: u64 = 10;
+pub const KIND_DICT: u64 = 10;
 
-pub const GLOBAL: u64 = 11;
+const KIND_GLOBAL: u64 = 11;
 
-pub const OBJECT: u64 = 12;
+const KIND_OBJECT: u64 = 12;
 
-pub const ESCAPED: u64 = 13;
+const KIND_ESCAPED: u64 = 13;
 
-pub const UNICODE: u64 = 14;
+const KIND_UNICODE: u64 = 14;
 
 // The counts with place, stack and marks moved.
-pub fn cut(c: Counts, at: usize, stack: usize, marks: usize) -> Counts
+fn cut(c: Counts, at: usize, stack: usize, marks: usize) -> Counts
     ensures { λ r. ⌜ r ≡ cutTo c at stack marks ⌝ }
 {
     Counts {
@@ -201,8 +201,8 @@ pub fn int(pickle: &[u8], c: Counts) -> Effect
     match newline(pickle, c.at) {
         LineEnd::End => Effect::Refused(c, 0, 0, Refusal::EndOfInput),
         LineEnd::At(end) => match number::int(line(pickle, c.at, end)) {
-            IntLiteral::Bool(b) => Effect::Push(read_to(c, end + 1), BOOL, b as u64),
-            IntLiteral::I64(v) => Effect::Push(read_to(c, end + 1), I64, v),
+            IntLiteral::Bool(b) => Effect::Push(read_to(c, end + 1), KIND_BOOL, b as u64),
+            IntLiteral::I64(v) => Effect::Push(read_to(c, end + 1), KIND_I64, v),
             IntLiteral::Invalid => Effect::Refused(c, 0, 0, Refusal::InvalidLiteral),
         },
     }
@@ -217,7 +217,7 @@ pub fn binint(pickle: &[u8], c: Counts) -> Effect
     if pickle.len() - at < 4 {
         return Effect::Refused(c, 0, 0, Refusal::EndOfInput);
     }
-    Effect::Push(read_to(c, at + 4), I64, i32_at(pickle, at))
+    Effect::Push(read_to(c, at + 4), KIND_I64, i32_at(pickle, at))
 }
 
 // BININT1: a byte.
@@ -229,7 +229,7 @@ pub fn binint1(pickle: &[u8], c: Counts) -> Effect
     if pickle.len() - at < 1 {
         return Effect::Refused(c, 0, 0, Refusal::EndOfInput);
     }
-    Effect::Push(read_to(c, at + 1), I64, pickle[at] as u64)
+    Effect::Push(read_to(c, at + 1), KIND_I64, pickle[at] as u64)
 }
 
 // BININT2: two bytes.
@@ -241,7 +241,7 @@ pub fn binint2(pickle: &[u8], c: Counts) -> Effect
     if pickle.len() - at < 2 {
         return Effect::Refused(c, 0, 0, Refusal::EndOfInput);
     }
-    Effect::Push(read_to(c, at + 2), I64, u16_at(pickle, at) as u64)
+    Effect::Push(read_to(c, at + 2), KIND_I64, u16_at(pickle, at) as u64)
 }
 
 // LONG: a line with or without an `L`.
@@ -252,7 +252,7 @@ pub fn long(pickle: &[u8], c: Counts) -> Effect
     match newline(pickle, c.at) {
         LineEnd::End => Effect::Refused(c, 0, 0, Refusal::EndOfInput),
         LineEnd::At(end) => match number::long_text(line(pickle, c.at, end)) {
-            I64Literal::Value(v) => Effect::Push(read_to(c, end + 1), I64, v),
+            I64Literal::Value(v) => Effect::Push(read_to(c, end + 1), KIND_I64, v),
             I64Literal::Invalid => Effect::Refused(c, 0, 0, Refusal::InvalidLiteral),
         },
     }
@@ -268,7 +268,7 @@ pub fn long1(pickle: &[u8], c: Counts) -> Effect
         Part::At(at, len) => {
             let end = at + len;
             match input::long(&pickle[at..end]) {
-                Integer::Value(v) => Effect::Push(read_to(c, end), I64, v),
+                Integer::Value(v) => Effect::Push(read_to(c, end), KIND_I64, v),
                 Integer::TooLarge => Effect::Refused(c, 0, 0, Refusal::IntegerTooLarge),
             }
         }
@@ -285,7 +285,7 @@ pub fn long4(pickle: &[u8], c: Counts) -> Effect
         Part::At(at, len) => {
             let end = at + len;
             match input::long(&pickle[at..end]) {
-                Integer::Value(v) => Effect::Push(read_to(c, end), I64, v),
+                Integer::Value(v) => Effect::Push(read_to(c, end), KIND_I64, v),
                 Integer::TooLarge => Effect::Refused(c, 0, 0, Refusal::IntegerTooLarge),
             }
         }
@@ -300,7 +300,7 @@ pub fn float(pickle: &[u8], c: Counts) -> Effect
     match newline(pickle, c.at) {
         LineEnd::End => Effect::Refused(c, 0, 0, Refusal::EndOfInput),
         LineEnd::At(end) => match parse_f64(line(pickle, c.at, end)) {
-            F64Literal::Bits(v) => Effect::Push(read_to(c, end + 1), F64, v),
+            F64Literal::Bits(v) => Effect::Push(read_to(c, end + 1), KIND_F64, v),
             F64Literal::Invalid => Effect::Refused(c, 0, 0, Refusal::InvalidLiteral),
             F64Literal::Outside => Effect::Refused(c, 0, 0, Refusal::FloatOutside),
         },
@@ -316,7 +316,7 @@ pub fn binfloat(pickle: &[u8], c: Counts) -> Effect
     if pickle.len() - at < 8 {
         return Effect::Refused(c, 0, 0, Refusal::EndOfInput);
     }
-    Effect::Push(read_to(c, at + 8), F64, f64_at(pickle, at))
+    Effect::Push(read_to(c, at + 8), KIND_F64, f64_at(pickle, at))
 }
 
 // STRING: a value without an escape is a part of the pickle; any other keeps its line, and is unescaped when it is built.
@@ -331,10 +331,14 @@ pub fn string(pickle: &[u8], c: Counts) -> Effect
             let len = l.len();
             match string_len(l) {
                 Quoted::Plain => {
-                    Effect::Push(read_to(c, end + 1), BYTES, text_word(c.at + 1, len - 2))
+                    Effect::Push(
+                        read_to(c, end + 1),
+                        KIND_BYTES,
+                        text_word(c.at + 1, len - 2),
+                    )
                 }
                 Quoted::Escaped(_) => {
-                    Effect::Push(read_to(c, end + 1), ESCAPED, text_word(c.at, len))
+                    Effect::Push(read_to(c, end + 1), KIND_ESCAPED, text_word(c.at, len))
                 }
                 Quoted::Refused(_) => Effect::Refused(c, 0, 0, Refusal::InvalidLiteral),
             }
@@ -359,7 +363,11 @@ pub fn binstring(pickle: &[u8], c: Counts) -> Effect
     if pickle.len() - at - 4 < size {
         return Effect::Refused(c, 0, 0, Refusal::EndOfInput);
     }
-    Effect::Push(read_to(c, at + 4 + size), BYTES, text_word(at + 4, size))
+    Effect::Push(
+        read_to(c, at + 4 + size),
+        KIND_BYTES,
+        text_word(at + 4, size),
+    )
 }
 
 // SHORT_BINSTRING: a length of one byte, and the text.
@@ -369,7 +377,7 @@ pub fn short_binstring(pickle: &[u8], c: Counts) -> Effect
 {
     match part1(pickle, c) {
         Part::Short => Effect::Refused(c, 0, 0, Refusal::EndOfInput),
-        Part::At(at, len) => Effect::Push(read_to(c, at + len), BYTES, text_word(at, len)),
+        Part::At(at, len) => Effect::Push(read_to(c, at + len), KIND_BYTES, text_word(at, len)),
     }
 }
 
@@ -385,7 +393,7 @@ pub fn unicode(pickle: &[u8], c: Counts) -> Effect
             let len = l.len();
             match unicode_len(l) {
                 Decoded::Len(_) => {
-                    Effect::Push(read_to(c, end + 1), UNICODE, text_word(c.at, len))
+                    Effect::Push(read_to(c, end + 1), KIND_UNICODE, text_word(c.at, len))
                 }
                 Decoded::Refused(_) => Effect::Refused(c, 0, 0, Refusal::InvalidLiteral),
             }
@@ -400,7 +408,7 @@ pub fn binunicode(pickle: &[u8], c: Counts) -> Effect
 {
     match part4(pickle, c) {
         Part::Short => Effect::Refused(c, 0, 0, Refusal::EndOfInput),
-        Part::At(at, len) => Effect::Push(read_to(c, at + len), STRING, text_word(at, len)),
+        Part::At(at, len) => Effect::Push(read_to(c, at + len), KIND_STRING, text_word(at, len)),
     }
 }
 
@@ -420,7 +428,7 @@ pub fn global(pickle: &[u8], c: Counts) -> Effect
                     let name = line(pickle, from, to).len();
                     Effect::Push(
                         read_to(c, to + 1),
-                        GLOBAL + 16 * (module as u64 * 0x100_0000 + c.at as u64),
+                        KIND_GLOBAL + 16 * (module as u64 * 0x100_0000 + c.at as u64),
                         text_word(from, name),
                     )
                 }
@@ -487,24 +495,29 @@ pub fn dup(stack: &[u16], c: Counts) -> Effect
 
 // ---- containers
 
+// What stands above the last mark, as a new container.
+fn gather(marks: &[u16], c: Counts, kind: u64) -> Effect
+    requires { ⌜ Lent c (λ r. r .marks ≡ now marks) × HoldsLinks kind ⌝ }
+    ensures { λ e. ⌜ Decides c (λ r. r .marks ≡ now (marks .entry)) (λ s. going (gathered kind s)) e ⌝ }
+{
+    match above_mark(marks, c) {
+        Taken::Short => Effect::Refused(c, 0, 0, Refusal::StackUnderflow),
+        Taken::From(m) => Effect::Make(cut(c, c.at, m, c.marks - 1), kind),
+    }
+}
+
 pub fn list(marks: &[u16], c: Counts) -> Effect
     requires { ⌜ Lent c (λ r. r .marks ≡ now marks) ⌝ }
     ensures { λ e. ⌜ Decides c (λ r. r .marks ≡ now (marks .entry)) (λ s. going (list s)) e ⌝ }
 {
-    match above_mark(marks, c) {
-        Taken::Short => Effect::Refused(c, 0, 0, Refusal::StackUnderflow),
-        Taken::From(m) => Effect::Make(cut(c, c.at, m, c.marks - 1), LIST),
-    }
+    gather(marks, c, KIND_LIST)
 }
 
 pub fn tuple(marks: &[u16], c: Counts) -> Effect
     requires { ⌜ Lent c (λ r. r .marks ≡ now marks) ⌝ }
     ensures { λ e. ⌜ Decides c (λ r. r .marks ≡ now (marks .entry)) (λ s. going (tuple s)) e ⌝ }
 {
-    match above_mark(marks, c) {
-        Taken::Short => Effect::Refused(c, 0, 0, Refusal::StackUnderflow),
-        Taken::From(m) => Effect::Make(cut(c, c.at, m, c.marks - 1), TUPLE),
-    }
+    gather(marks, c, KIND_TUPLE)
 }
 
 // TUPLE1 to TUPLE3 pay no heed to marks.
@@ -516,7 +529,7 @@ pub fn small_tuple(c: Counts, code: u8) -> Effect
     if c.stack < n {
         return Effect::Refused(c, 0, 0, Refusal::StackUnderflow);
     }
-    Effect::Make(cut(c, c.at, c.stack - n, c.marks), TUPLE)
+    Effect::Make(cut(c, c.at, c.stack - n, c.marks), KIND_TUPLE)
 }
 
 pub fn dict(marks: &[u16], c: Counts) -> Effect
@@ -527,7 +540,7 @@ pub fn dict(marks: &[u16], c: Counts) -> Effect
         Taken::Short => Effect::Refused(c, 0, 0, Refusal::StackUnderflow),
         Taken::From(m) => {
             if (c.stack - m) % 2 == 0 {
-                Effect::Make(cut(c, c.at, m, c.marks - 1), DICT)
+                Effect::Make(cut(c, c.at, m, c.marks - 1), KIND_DICT)
             } else {
                 Effect::Refused(c, 0, 0, Refusal::Invalid(Wanted::DictItems))
             }
@@ -555,7 +568,7 @@ fn grown(
     why: Wanted,
 ) -> Effect
     requires { ⌜ Lent c (λ r. (r .nodes ≡ now nodes) × (r .stack ≡ now stack)) ⌝ }
-    requires { ⌜ (keep ≤ c .stack) × (marks ≤ c .marks) × Grows container ⌝ }
+    requires { ⌜ (keep ≤ c .stack) × (marks ≤ c .marks) × GrowingKind container ⌝ }
     ensures { λ e. ⌜ Adds c (now (nodes .entry)) (now (stack .entry)) keep marks container why e ⌝ }
 {
     if keep == 0 {
@@ -576,7 +589,15 @@ pub fn append(nodes: &[u64], stack: &[u16], c: Counts) -> Effect
     if c.stack == 0 {
         return Effect::Refused(c, 0, 0, Refusal::StackUnderflow);
     }
-    grown(nodes, stack, c, c.stack - 1, c.marks, LIST, Wanted::List)
+    grown(
+        nodes,
+        stack,
+        c,
+        c.stack - 1,
+        c.marks,
+        KIND_LIST,
+        Wanted::List,
+    )
 }
 
 pub fn appends(nodes: &[u64], stack: &[u16], marks: &[u16], c: Counts) -> Effect
@@ -585,7 +606,7 @@ pub fn appends(nodes: &[u64], stack: &[u16], marks: &[u16], c: Counts) -> Effect
 {
     match above_mark(marks, c) {
         Taken::Short => Effect::Refused(c, 0, 0, Refusal::StackUnderflow),
-        Taken::From(m) => grown(nodes, stack, c, m, c.marks - 1, LIST, Wanted::List),
+        Taken::From(m) => grown(nodes, stack, c, m, c.marks - 1, KIND_LIST, Wanted::List),
     }
 }
 
@@ -596,7 +617,15 @@ pub fn setitem(nodes: &[u64], stack: &[u16], c: Counts) -> Effect
     if c.stack < 2 {
         return Effect::Refused(c, 0, 0, Refusal::StackUnderflow);
     }
-    grown(nodes, stack, c, c.stack - 2, c.marks, DICT, Wanted::Dict)
+    grown(
+        nodes,
+        stack,
+        c,
+        c.stack - 2,
+        c.marks,
+        KIND_DICT,
+        Wanted::Dict,
+    )
 }
 
 pub fn setitems(nodes: &[u64], stack: &[u16], marks: &[u16], c: Counts) -> Effect
@@ -607,7 +636,7 @@ pub fn setitems(nodes: &[u64], stack: &[u16], marks: &[u16], c: Counts) -> Effec
         Taken::Short => Effect::Refused(c, 0, 0, Refusal::StackUnderflow),
         Taken::From(m) => {
             if (c.stack - m) % 2 < 1 {
-                grown(nodes, stack, c, m, c.marks - 1, DICT, Wanted::Dict)
+                grown(nodes, stack, c, m, c.marks - 1, KIND_DICT, Wanted::Dict)
             } else {
                 Effect::Refused(c, 0, 0, Refusal::Invalid(Wanted::DictItems))
             }
@@ -818,10 +847,10 @@ fn class_and_arguments(nodes: &[u64], stack: &[u16], c: Counts) -> CallRead
     let j = c.stack - 1;
     let class = NodeId(stack[i] as usize);
     let arguments = NodeId(stack[j] as usize);
-    if kind(nodes, class) != GLOBAL {
+    if kind(nodes, class) != KIND_GLOBAL {
         return CallRead::None(Refusal::Invalid(Wanted::Class));
     }
-    if kind(nodes, arguments) != TUPLE {
+    if kind(nodes, arguments) != KIND_TUPLE {
         return CallRead::None(Refusal::Invalid(Wanted::Arguments));
     }
     CallRead::Of(class, arguments)
@@ -862,7 +891,7 @@ fn made_kind(pickle: &[u8], a: u64, b: u64, n: u64) -> u64
     ensures { λ r. ⌜ r ≡ madeKind (moduleOf (now (pickle .entry)) a) (nameOf (now (pickle .entry)) b) n ⌝ }
 {
     if 1 < n {
-        return OBJECT;
+        return KIND_OBJECT;
     }
     let m = a / 16;
     if same_text(
@@ -875,13 +904,13 @@ fn made_kind(pickle: &[u8], a: u64, b: u64, n: u64) -> u64
             (b / 0x1_0000_0000) as usize,
         );
         if same_text(name, b"set") {
-            return SET;
+            return KIND_SET;
         }
         if same_text(name, b"frozenset") {
-            return FROZEN_SET;
+            return KIND_FROZEN_SET;
         }
     }
-    OBJECT
+    KIND_OBJECT
 }
 
 // The one item of a tuple with the second word `word`: its links stand together, from the place in the high half on.
@@ -914,8 +943,8 @@ fn reduced(
         n,
     );
     let rest = cut(c, c.at, c.stack - 2, c.marks);
-    if made == OBJECT {
-        return Effect::Push(rest, OBJECT + 64 * class.0 as u64, arguments.0 as u64);
+    if made == KIND_OBJECT {
+        return Effect::Push(rest, KIND_OBJECT + 64 * class.0 as u64, arguments.0 as u64);
     }
     // A set of no argument has the empty tuple of arguments.
     if n == 0 {
@@ -944,16 +973,16 @@ pub fn newobj(nodes: &[u64], stack: &[u16], c: Counts) -> Effect
         CallRead::None(why) => Effect::Refused(c, 0, 0, why),
         CallRead::Of(class, arguments) => Effect::Push(
             cut(c, c.at, c.stack - 2, c.marks),
-            OBJECT + 16 + 64 * class.0 as u64,
+            KIND_OBJECT + 16 + 64 * class.0 as u64,
             arguments.0 as u64,
         ),
     }
 }
 
 // The top is the state of the Object below it.
-pub fn build(nodes: &[u64], stack: &[u16], c: Counts) -> Effect
+pub fn build_state(nodes: &[u64], stack: &[u16], c: Counts) -> Effect
     requires { ⌜ Lent c (λ r. (r .nodes ≡ now nodes) × (r .stack ≡ now stack)) ⌝ }
-    ensures { λ e. ⌜ Decides c (λ r. (r .nodes ≡ now (nodes .entry)) × (r .stack ≡ now (stack .entry))) (λ s. going (build s)) e ⌝ }
+    ensures { λ e. ⌜ Decides c (λ r. (r .nodes ≡ now (nodes .entry)) × (r .stack ≡ now (stack .entry))) (λ s. going (buildState s)) e ⌝ }
 {
     if c.stack < 2 {
         return Effect::Refused(c, 0, 0, Refusal::StackUnderflow);
@@ -962,7 +991,7 @@ pub fn build(nodes: &[u64], stack: &[u16], c: Counts) -> Effect
     let j = c.stack - 1;
     let object = NodeId(stack[i] as usize);
     let state = NodeId(stack[j] as usize);
-    if kind(nodes, object) != OBJECT {
+    if kind(nodes, object) != KIND_OBJECT {
         return Effect::Refused(c, 0, 0, Refusal::Invalid(Wanted::Object));
     }
     Effect::Build(cut(c, c.at, j, c.marks), object, state)

@@ -14,7 +14,7 @@ use Rattle.steps.specs.State.{State, Node, plain, ok, no, _>>=_, need, nodesLim
 use Rattle.steps.specs.Opcodes.{made}
 use Rattle.steps.specs.Run.{going}
 use Rattle.decoder.specs.Rooms.{Rooms, stateOf, stackIn, linksTo, Class}
-use Rattle.steps.specs.NodeWords.{nodeIs, wordsSet, Holds, aList, aTuple, aDict, first-set, second-set, holds-below, node-count}
+use Rattle.steps.specs.NodeWords.{nodeIs, wordsSet, HoldsLinks, aList, aTuple, aDict, first-set, second-set, holds-below, node-count}
 use Rattle.decoder.specs.RoomReads.{nodes-length, stack-length, links-of}
 use Rattle.decoder.specs.RoomKeeps.{Empty, class-none}
 use Rattle.decoder.specs.RoomLinks.{extend-new}
@@ -35,8 +35,8 @@ pub record Makeable (nodes owners children stack : List ℕ) (c : Counts) (k had
   pub stack-is : rooms .stack ≡ stack
   pub fits : Fits (Make c k) rooms had
 
-unfoldable pub Makes : List ℕ → List ℕ → List ℕ → List ℕ → Counts → ℕ → ℕ → List ℕ → List ℕ → List ℕ → List ℕ → Step → Type 0
-Makes nodes owners children stack c k had ns ws cs st t =
+unfoldable pub MakesNode : List ℕ → List ℕ → List ℕ → List ℕ → Counts → ℕ → ℕ → List ℕ → List ℕ → List ℕ → List ℕ → Step → Type 0
+MakesNode nodes owners children stack c k had ns ws cs st t =
     (r : Rooms) → r .nodes ≡ nodes → r .owners ≡ owners → r .children ≡ children → r .stack ≡ stack → Fits (Make c k) r had → Done t r (stackIn (linkedIn r ns ws cs) st) (enacted (Make c k) r had)
 
 pub record Extendable (nodes owners children stack : List ℕ) (c : Counts) (o had : ℕ) : Type 0 where
@@ -100,7 +100,7 @@ module _ (r : Rooms) (c : Counts) where
 -- ---- a container made
 
 -- without links it is its label alone
-plain-made : (p ws : List ℕ) (k b : ℕ) → Holds k → nodeIs p ws [] k b ≡ plain (nodeIs p ws [] k b .label)
+plain-made : (p ws : List ℕ) (k b : ℕ) → HoldsLinks k → nodeIs p ws [] k b ≡ plain (nodeIs p ws [] k b .label)
 unfolding nodeIs
 plain-made p ws k b (aList e) = rw e
 plain-made p ws k b (aTuple e) = rw e
@@ -119,7 +119,7 @@ module _ (r : Rooms) (c : Counts) (k had : ℕ) (f : Fits (Make c k) r had) wher
   unfolding Fits
   high = f .2
 
-  kin : Holds k
+  kin : HoldsLinks k
   unfolding Fits
   kin = f .3
 
@@ -231,8 +231,8 @@ module _ (nodes owners children stack : List ℕ) (c : Counts) (k had : ℕ) (a 
 
   pub made-lent : (ns ws cs : List ℕ) (n : ℕ) → had - c .stack ≤ linksLimit - c .links → c .nodes < nodesLimit → c .stack < stackLimit → n ≡ c .links + (had - c .stack)
       → LinkAll (set (set nodes (2 * c .nodes) k) (2 * c .nodes + 1) (c .links * 2 ^ 32)) owners children stack (c .stack) (c .links) (c .nodes) had ns ws cs n
-      → Makes nodes owners children stack c k had ns ws cs (set stack (c .stack) (c .nodes)) (step.Next (pushedTo c (c .nodes + 1) n))
-  unfolding Makes LinkAll
+      → MakesNode nodes owners children stack c k had ns ws cs (set stack (c .stack) (c .nodes)) (step.Next (pushedTo c (c .nodes + 1) n))
+  unfolding MakesNode LinkAll
   made-lent ns ws cs n h l m e d r p q s t f =
       let v = make-rooms in
       let x = v .0 in
@@ -241,16 +241,16 @@ module _ (nodes owners children stack : List ℕ) (c : Counts) (k had : ℕ) (a 
       (rw (words-plus nodes (c .nodes) k (c .links * 2 ^ 32), first-set nodes (c .nodes) k (c .links * 2 ^ 32) (omega arith)) (kin r c k had f))
       (rw (words-plus nodes (c .nodes) k (c .links * 2 ^ 32), second-set nodes (c .nodes) k (c .links * 2 ^ 32) (omega arith)) (λ z. omega arith)))) m)
 
-  pub make-full-lent : linksLimit - c .links < had - c .stack → Makes nodes owners children stack c k had nodes owners children stack (step.Refused c LinksFull)
-  unfolding Makes
+  pub make-full-lent : linksLimit - c .links < had - c .stack → MakesNode nodes owners children stack c k had nodes owners children stack (step.Refused c LinksFull)
+  unfolding MakesNode
   make-full-lent h r p q s t f = rw (← p, ← q, ← s, ← t) (make-full r c k had f h)
 
-  pub make-crowded-lent : had - c .stack ≤ linksLimit - c .links → nodesLimit ≤ c .nodes → Makes nodes owners children stack c k had nodes owners children stack (step.Refused c NodesFull)
-  unfolding Makes
+  pub make-crowded-lent : had - c .stack ≤ linksLimit - c .links → nodesLimit ≤ c .nodes → MakesNode nodes owners children stack c k had nodes owners children stack (step.Refused c NodesFull)
+  unfolding MakesNode
   make-crowded-lent h l r p q s t f = rw (← p, ← q, ← s, ← t) (make-crowded r c k had f h l)
 
-  pub make-high-lent : had - c .stack ≤ linksLimit - c .links → c .nodes < nodesLimit → stackLimit ≤ c .stack → Makes nodes owners children stack c k had nodes owners children stack (step.Refused c StackFull)
-  unfolding Makes
+  pub make-high-lent : had - c .stack ≤ linksLimit - c .links → c .nodes < nodesLimit → stackLimit ≤ c .stack → MakesNode nodes owners children stack c k had nodes owners children stack (step.Refused c StackFull)
+  unfolding MakesNode
   make-high-lent h l m r p q s t f = rw (← p, ← q, ← s, ← t) (make-high r c k had f h l m)
 
 module _ (nodes owners children stack : List ℕ) (c : Counts) (o had : ℕ) (a : Extendable nodes owners children stack c o had) where

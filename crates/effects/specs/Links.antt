@@ -12,7 +12,7 @@ use Rattle.value.specs.Shape.{kindIn}
 use Rattle.decoder.specs.declared.Counts.{Counts}
 use Rattle.steps.specs.State.{_>>=_, linksLimit, withLinks, extend}
 use Rattle.decoder.specs.Rooms.{Rooms, items, stateOf, wordsIn, logIn, linksTo, Counted}
-use Rattle.steps.specs.NodeWords.{first, second, Holds}
+use Rattle.steps.specs.NodeWords.{first, second, HoldsLinks}
 use Rattle.decoder.specs.RoomReads.{nodes-length}
 use Rattle.decoder.specs.RoomKeeps.{kept-link, suc-low, suc-high}
 use Rattle.decoder.specs.RoomLinks.{extend-none, link-next, link-counted}
@@ -29,7 +29,7 @@ linkedIn r ns ws cs = wordsIn (logIn r ws cs) ns
 pub record Linked (r : Rooms) (c : Counts) (o : ℕ) (xs : List ℕ) (n : ℕ) (ns ws cs : List ℕ) : Type 0 where
   pub state : stateOf (linkedIn r ns ws cs) (linksTo c n) ≡ extend o xs (withLinks (stateOf r c) n)
   pub firm : Firm (linkedIn r ns ws cs) (linksTo c n)
-  pub holds : Holds (first ns o)
+  pub holds : HoldsLinks (first ns o)
   pub end : kindIn (first ns o) ≡ 7 → second ns o / 2 ^ 32 + second ns o % 2 ^ 32 ≡ n
 
 -- rooms in which o is a container, to which the values from `from` to `to` can be linked
@@ -43,7 +43,7 @@ pub record Linkable (nodes owners children stack : List ℕ) (from to links o : 
   pub links-are : counts .links ≡ links
   pub firm : Firm rooms counts
   pub inside : o < counts .nodes
-  pub holds : Holds (first nodes o)
+  pub holds : HoldsLinks (first nodes o)
   pub end : kindIn (first nodes o) ≡ 7 → second nodes o / 2 ^ 32 + second nodes o % 2 ^ 32 ≡ links
   pub low : from ≤ to
   pub high : to ≤ length stack
@@ -52,7 +52,7 @@ pub record Linkable (nodes owners children stack : List ℕ) (from to links o : 
 -- what the loop keeps, and at its end promises: the values up to i are linked
 unfoldable pub LinkAll : List ℕ → List ℕ → List ℕ → List ℕ → ℕ → ℕ → ℕ → ℕ → List ℕ → List ℕ → List ℕ → ℕ → Type 0
 LinkAll nodes owners children stack from links o i ns ws cs n =
-    (r : Rooms) (c : Counts) → r .nodes ≡ nodes → r .owners ≡ owners → r .children ≡ children → c .stack ≡ from → c .links ≡ links → Firm r c → o < c .nodes → Holds (first nodes o) → (kindIn (first nodes o) ≡ 7 → second nodes o / 2 ^ 32 + second nodes o % 2 ^ 32 ≡ links)
+    (r : Rooms) (c : Counts) → r .nodes ≡ nodes → r .owners ≡ owners → r .children ≡ children → c .stack ≡ from → c .links ≡ links → Firm r c → o < c .nodes → HoldsLinks (first nodes o) → (kindIn (first nodes o) ≡ 7 → second nodes o / 2 ^ 32 + second nodes o % 2 ^ 32 ≡ links)
     → Linked r c o (above from i stack) n ns ws cs
 
 -- no more items than links
@@ -77,7 +77,7 @@ above-more n i l h k =
     rw (add-one i, take-suc l i 0 k) (drop-append-le n (take i l) (getD l i 0 ∷ []) (omega arith))
 
 module _ (r : Rooms) (c : Counts) (o : ℕ) where
-  linked-start : Firm r c → Holds (first (r .nodes) o) → (kindIn (first (r .nodes) o) ≡ 7 → second (r .nodes) o / 2 ^ 32 + second (r .nodes) o % 2 ^ 32 ≡ c .links) → Linked r c o [] (c .links) (r .nodes) (r .owners) (r .children)
+  linked-start : Firm r c → HoldsLinks (first (r .nodes) o) → (kindIn (first (r .nodes) o) ≡ 7 → second (r .nodes) o / 2 ^ 32 + second (r .nodes) o % 2 ^ 32 ≡ c .links) → Linked r c o [] (c .links) (r .nodes) (r .owners) (r .children)
   unfolding stateOf
   linked-start f h e = record { state = sym (extend-none o (stateOf r c)); firm = f; holds = h; end = e }
 
@@ -134,7 +134,7 @@ module _ (r : Rooms) (c : Counts) (o : ℕ) where
         clean = record { nodes = blank-set (2 * c .nodes) (2 * c .nodes) ns (f .clean .nodes) (omega arith) (suc (2 * o)) (suc (second ns o)) (omega arith); owners = blank-set n (suc n) ws (f .clean .owners) (omega arith) n o (omega arith); children = blank-set n (suc n) cs (f .clean .children) (omega arith) n k (omega arith); stack = f .clean .stack; marks = f .clean .marks; keys = f .clean .keys; held = f .clean .held };
       }
 
-      next-holds : Holds (first ns′ o)
+      next-holds : HoldsLinks (first ns′ o)
       unfolding first
       next-holds = rw (getD-set-other ns (suc (2 * o)) (2 * o) (suc (second ns o)) 0 (λ e. omega arith)) (l .holds)
 

@@ -8,13 +8,12 @@ use refusal::Refusal;
 ghost use mathlib.Core.Bool.{cond};
 ghost use mathlib.Core.Path.{_≡_};
 ghost use Prim.Native.Nat.{_+_, _-_, _*_, _^_, _%_, _<_, _≤_, max};
-ghost use lib.ListN.{length, getD, set};
+ghost use lib.ListN.{length, getD};
 ghost use Rattle.value.specs.Shape.{stateIn};
-ghost use Rattle.decoder.specs.Rooms.{Rooms};
 ghost use Rattle.effects.specs.Done.{pushedTo};
 ghost use Rattle.effects.specs.Push.{PushNode, PushId, PutMark};
 ghost use Rattle.effects.specs.Links.{filled, Linkable, LinkAll};
-ghost use Rattle.effects.specs.Containers.{Makeable, Makes, Extendable, Extends};
+ghost use Rattle.effects.specs.Containers.{Makeable, MakesNode, Extendable, Extends};
 ghost use Rattle.effects.specs.Memo.{Rememberable, Remembers};
 ghost use Rattle.effects.specs.Words.{Buildable, Builds};
 
@@ -187,7 +186,7 @@ pub fn make(
     had: usize,
 ) -> Step
     requires { ⌜ Makeable (now nodes) (now owners) (now children) (now stack) c kind had ⌝ }
-    ensures { λ t. ⌜ Makes (now (nodes .entry)) (now (owners .entry)) (now (children .entry)) (now (stack .entry)) c kind had (now (nodes .exit)) (now (owners .exit)) (now (children .exit)) (now (stack .exit)) t ⌝ }
+    ensures { λ t. ⌜ MakesNode (now (nodes .entry)) (now (owners .entry)) (now (children .entry)) (now (stack .entry)) c kind had (now (nodes .exit)) (now (owners .exit)) (now (children .exit)) (now (stack .exit)) t ⌝ }
 {
     let items = had - c.stack;
     if LINKS - c.links < items {
@@ -261,7 +260,7 @@ fn with_state(a: u64) -> u64
 }
 
 // An Object's state, in place of any earlier one.
-pub fn build(nodes: &mut [u64], c: Counts, object: NodeId, state: NodeId) -> Step
+pub fn set_state(nodes: &mut [u64], c: Counts, object: NodeId, state: NodeId) -> Step
     requires { ⌜ Buildable (now nodes) c (object .0) (state .0) ⌝ }
     ensures { λ t. ⌜ Builds (now (nodes .entry)) c (object .0) (state .0) (now (nodes .exit)) t ⌝ }
 {

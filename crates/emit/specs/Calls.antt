@@ -37,14 +37,14 @@ pub record Begun (t : List Node) (h : Kids) (done m p d ws starts children log :
   pub unwritten : (j : ℕ) → getD m j 0 < 2 ^ 63
 
 -- room for the value v
-pub record Fits (v : Value) (to : ℕ) (table bytes : List ℕ) : Type 0 where
+pub record HasRoom (v : Value) (to : ℕ) (table bytes : List ℕ) : Type 0 where
   pub records : recordIn to + size (one v) ≤ 2048
   pub texts : textIn to + length (text (one v)) ≤ 65536
   pub table-long : 8192 ≤ length table
   pub text-long : 65536 ≤ length bytes
 
 -- node i stands for the value v
-pub record Ready (p d ws starts children log : List ℕ) (i to : ℕ) (marks table bytes : List ℕ) : Type 0 where
+pub record ReadyNode (p d ws starts children log : List ℕ) (i to : ℕ) (marks table bytes : List ℕ) : Type 0 where
   pub t : List Node
   pub h : Kids
   pub done : List ℕ
@@ -53,7 +53,7 @@ pub record Ready (p d ws starts children log : List ℕ) (i to : ℕ) (marks tab
   pub begun : Begun t h done m p d ws starts children log
   pub known : Final 4096 done i
   pub stands : StandsFor t h i v
-  pub fits : Fits v to table bytes
+  pub fits : HasRoom v to table bytes
   pub marks-long : length marks ≡ length m
   pub since : Since t h table bytes 0 (recordIn to) (textIn to) m marks
 
@@ -62,12 +62,12 @@ pub record Flat (p d ws : List ℕ) (i to : ℕ) (marks table bytes : List ℕ) 
   pub starts : List ℕ
   pub children : List ℕ
   pub log : List ℕ
-  pub ready : Ready p d ws starts children log i to marks table bytes
+  pub ready : ReadyNode p d ws starts children log i to marks table bytes
   pub closed : opened ws marks i ≡ false
 
 -- it is to be walked, with so many levels left
 pub record Open (p d ws starts children log : List ℕ) (levels i to : ℕ) (marks table bytes : List ℕ) : Type 0 where
-  pub ready : Ready p d ws starts children log i to marks table bytes
+  pub ready : ReadyNode p d ws starts children log i to marks table bytes
   pub unclosed : opened ws marks i ≡ true
   pub deep : depth (one (ready .v)) ≤ levels
 
@@ -103,7 +103,7 @@ no-node (x ∷ t) (suc i) h = no-node t i (omega arith)
 
 -- ---- what is there
 
-module _ {p d ws starts children log : List ℕ} {i to : ℕ} {marks table bytes : List ℕ} (R : Ready p d ws starts children log i to marks table bytes) where
+module _ {p d ws starts children log : List ℕ} {i to : ℕ} {marks table bytes : List ℕ} (R : ReadyNode p d ws starts children log i to marks table bytes) where
   ready-nodes : (i ≡ 4096) ⊎ (i < length (R .t))
   ready-nodes = R .begun .shown .nodes i (R .known)
 
@@ -149,7 +149,7 @@ module _ {p d ws starts children log : List ℕ} {i to : ℕ} {marks table bytes
 -- ---- what is made without a walk
 
 -- a node with nothing in it
-leaf-made : (t : List Node) (h : Kids) (v : Value) (i to : ℕ) (table bytes table′ bytes′ : List ℕ) (r : ℕ) → StandsFor t h i v → h i ≡ [] → Fits v to table bytes → LeafPut (at t i .label) to table bytes table′ bytes′ r
+leaf-made : (t : List Node) (h : Kids) (v : Value) (i to : ℕ) (table bytes table′ bytes′ : List ℕ) (r : ℕ) → StandsFor t h i v → h i ≡ [] → HasRoom v to table bytes → LeafPut (at t i .label) to table bytes table′ bytes′ r
     → Made t h v i to table bytes table′ bytes′ r
 unfolding size text
 leaf-made t h v i to table bytes table′ bytes′ r s e f l =
@@ -186,7 +186,7 @@ leaf-made t h v i to table bytes table′ bytes′ r s e f l =
     nodes x y z = written-node t h table′ bytes′ (recordIn to) (textIn to) x y z
 
 -- what is written already, once more
-module _ (t : List Node) (h : Kids) (v : Value) (i to : ℕ) (table bytes : List ℕ) (w : ℕ) (s : StandsFor t h i v) (f : Fits v to table bytes) (x : Stored t h table bytes 0 (recordIn to) (textIn to) i w) where
+module _ (t : List Node) (h : Kids) (v : Value) (i to : ℕ) (table bytes : List ℕ) (w : ℕ) (s : StandsFor t h i v) (f : HasRoom v to table bytes) (x : Stored t h table bytes 0 (recordIn to) (textIn to) i w) where
   same-value : x .value ≡ v
   same-value = value-unique (x .written .stands) s
 

@@ -16,7 +16,7 @@ use Rattle.resolved.specs.Noted.{isContainer}
 use Rattle.emit.specs.Words.{recordIn, textIn}
 use Rattle.emit.specs.Leaves.{opened}
 use Rattle.emit.specs.Since.{since-leaf}
-use Rattle.emit.specs.Calls.{Begun, Ready, Flat, Open, Made, Wrote, no-node}
+use Rattle.emit.specs.Calls.{Begun, ReadyNode, Flat, Open, Made, Wrote, no-node}
 
 -- the rooms show nodes and a graph in which the root stands for a value within the limits, and nothing is written yet
 pub record Rooted (p d ws starts children log : List ℕ) (root : ℕ) (marks table bytes : List ℕ) : Type 0 where
@@ -44,7 +44,7 @@ abbrev pub Emits : (p d ws starts children log : List ℕ) (root : ℕ) (marks t
 Emits p d ws starts children log root marks table bytes marks′ table′ bytes′ r = (G : Rooted p d ws starts children log root marks table bytes) → Emitted (G .t) (G .v) marks table bytes marks′ table′ bytes′ r
 
 module _ {p d ws starts children log : List ℕ} {root : ℕ} {marks table bytes : List ℕ} (G : Rooted p d ws starts children log root marks table bytes) where
-  pub root-ready : Ready p d ws starts children log root 0 marks table bytes
+  pub root-ready : ReadyNode p d ws starts children log root 0 marks table bytes
   root-ready = record {
     t = G .t;
     h = G .h;

@@ -4,7 +4,6 @@ use mathlib.Core.List.{List, [], _∷_, _++_, append-assoc}
 use mathlib.Core.Path.{_≡_, refl, sym, _∙_, ap}
 use lib.ListN.{length, getD, take, drop, set}
 use lib.Seq.{sets, sets-eq, take-set-le, drop-set-lt, getD-take, drop-at, length-take-le, take-append-seam, take-take, drop-drop}
-use native.Mathlib.Nat.{add-zero}
 use native.Mathlib.Omega.{arith}
 use Rattle.resolved.specs.Written.{Part}
 
@@ -20,11 +19,6 @@ pub sets-there : (l : List ℕ) (i : ℕ) (vs : List ℕ) → i + length vs ≤ 
 sets-there l i vs h =
     let n : length (take i l) ≡ i = length-take-le i l (omega arith) in
     rw (sets-eq vs l i h, append-assoc, drop-at (take i l) (vs ++ drop (i + length vs) l) i n) (take-append-seam vs (drop (i + length vs) l))
-
--- a run of stores behind another
-pub sets-append : (u v l : List ℕ) (n : ℕ) → sets (sets l n u) (n + length u) v ≡ sets l n (u ++ v)
-sets-append [] v l n = rw (add-zero n)
-sets-append (a ∷ u) v l n = let e : n + suc (length u) ≡ suc n + length u = omega arith in rw e (sets-append u v (set l n a) (suc n))
 
 -- ---- rooms that agree up to e, or from e on
 

@@ -29,7 +29,7 @@ use Rattle.emit.specs.Words.{place, recordIn, textIn, writtenW, kindOf, 
 use Rattle.emit.specs.Forests.{text-append, append-none, append-next, depth-behind, written-join}
 use Rattle.emit.specs.Leaves.{TextReady, TextPut, record-at, FinishReady, FinishPut, opened}
 use Rattle.emit.specs.Since.{Since, since-then, since-late, since-mark, since-fresh}
-use Rattle.emit.specs.Calls.{Ready, Flat, Open, Made, Wrote, size-one, text-one, ready-most, ready-below, ready-label, ready-boxed, ready-text}
+use Rattle.emit.specs.Calls.{ReadyNode, Flat, Open, Made, Wrote, size-one, text-one, ready-most, ready-below, ready-label, ready-boxed, ready-text}
 
 -- ---- a container that is to be walked
 
@@ -300,7 +300,7 @@ module _ {p d ws starts children log : List ℕ} {levels i to from : ℕ} {marks
       split-depth : depth (one (turn-child .value)) ≤ depth (T .g)
       split-depth = before-depth (T .g) (turn-child .value) (turn-child .rest) (turn-child .split)
 
-      pub turn-ready : Ready p d ws starts children log c next marks table bytes
+      pub turn-ready : ReadyNode p d ws starts children log c next marks table bytes
       turn-ready =
           let R = E .walk .ready in
           let C = turn-child in

@@ -23,7 +23,7 @@ use Rattle.steps.specs.State.{State, _>>=_, byte, plain, push}
 use Rattle.steps.specs.Opcodes.{tupleN}
 use Rattle.steps.specs.Run.{going, does, decide, step}
 use Rattle.decoder.specs.Rooms.{Rooms, stateOf}
-use Rattle.steps.specs.NodeWords.{nodeIs, Holds, aList, aTuple, aDict}
+use Rattle.steps.specs.NodeWords.{nodeIs, HoldsLinks, aList, aTuple, aDict}
 use Rattle.decoder.specs.RoomKeeps.{class-none}
 use Rattle.steps.specs.Pickletools.{decided}
 use Rattle.decoder.specs.Effects.{Sound, Lent, Decides, Fits, enacted, refusing}
@@ -106,7 +106,7 @@ module _ (c : Counts) where
   stop r z a = record { enacts = refl; fits = z .firm }
 
   -- a value without contents, of the kind a
-  pushes : (o : Opcode) (l : Label) (a b : ℕ) → ((s : State) → does o s ≡ going (push l s)) → ((p ws : List ℕ) → nodeIs p ws [] a b ≡ plain l) → kindIn a < 11 → (Holds a → b ≡ 0) → Decides c (λ r. Unit {0}) (does o) (Push c a b)
+  pushes : (o : Opcode) (l : Label) (a b : ℕ) → ((s : State) → does o s ≡ going (push l s)) → ((p ws : List ℕ) → nodeIs p ws [] a b ≡ plain l) → kindIn a < 11 → (HoldsLinks a → b ≡ 0) → Decides c (λ r. Unit {0}) (does o) (Push c a b)
   unfolding Decides enacted Fits push
   pushes o l a b e n k t r z x = record {
     enacts = rw (e (stateOf r c), n (r .pickle) (r .nodes));
@@ -121,7 +121,7 @@ module _ (c : Counts) where
   unfolding does nodeIs kindIn
   true-pushed = pushes NEWTRUE (BoolL true) 1 1 (λ s. refl) (λ p ws. refl) (omega arith) bool
     where
-      bool : Holds 1 → _≡_ {A = ℕ} 1 0
+      bool : HoldsLinks 1 → _≡_ {A = ℕ} 1 0
       bool (aList e) = absurd (omega arith)
       bool (aTuple e) = absurd (omega arith)
       bool (aDict e) = absurd (omega arith)

@@ -16,6 +16,7 @@ use Rattle.steps.specs.Range.{InRange, step-range}
 use Rattle.decoder.specs.Rooms.{Rooms, stateOf}
 use Rattle.decoder.specs.RoomReads.{start-of, input-of}
 use Rattle.decoder.specs.Effects.{Sound}
+use Rattle.effects.specs.declared.Step.{Step}
 use Rattle.effects.specs.declared.Step.the-variants as step-of
 use Rattle.effects.specs.Done.{meant, Stays, Done}
 use Rattle.machine.specs.declared.Outcome.{Outcome}
@@ -24,6 +25,10 @@ use Rattle.machine.specs.declared.Outcome.the-variants as outcome
 -- nothing read or used
 abbrev pub start : Counts
 start = record { at = 0; nodes = 0; links = 0; stack = 0; deepest = 0; marks = 0; most = 0; memo = 0; greatest = 0 }
+
+-- a step in the rooms r with the counts c, which leaves the rooms r′
+abbrev pub Stepped : Step → Counts → Rooms → Rooms → Type 0
+Stepped t c r r′ = Done t r r′ (step (stateOf r c))
 
 -- what an outcome means
 unfoldable pub ended : Outcome → Rooms → Res State

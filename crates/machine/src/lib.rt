@@ -1,31 +1,29 @@
 // The run of de.rs's `Decoder`: `decide` has the one match over the opcode byte and answers an effect, `apply` has it, `run` goes on to
 // STOP. What it used of the rooms is cleared by the counts, by those who lend them.
-use decoder::BOOL;
 use decoder::Counts;
-use decoder::DICT;
 use decoder::Effect;
-use decoder::LIST;
-use decoder::NONE;
-use decoder::TUPLE;
+use decoder::KIND_BOOL;
+use decoder::KIND_DICT;
+use decoder::KIND_LIST;
+use decoder::KIND_NONE;
+use decoder::KIND_TUPLE;
 use effects::Step;
-use effects::build;
 use effects::extend;
 use effects::make;
 use effects::push_id;
 use effects::push_node;
 use effects::put_mark;
 use effects::remember;
+use effects::set_state;
 use refusal::Refusal;
 ghost use Rattle.steps.specs.Run.{step};
-ghost use Rattle.decoder.specs.Rooms.{stateOf};
 ghost use Rattle.decoder.specs.Effects.{Lent, Decides, Sound};
-ghost use Rattle.effects.specs.Done.{Done};
 ghost use Rattle.machine.specs.Lent.{roomsOf, Agrees};
 ghost use Rattle.machine.specs.Applied.{Fitting, Applies};
-ghost use Rattle.machine.specs.Ran.{start, Ran};
+ghost use Rattle.machine.specs.Ran.{start, Stepped, Ran};
 
 // Has an effect. It reads no pickle: what it does is right for all pickles with which the effect fits.
-pub fn apply(
+fn apply(
     nodes: &mut [u64],
     owners: &mut [u16],
     children: &mut [u16],
@@ -36,8 +34,12 @@ pub fn apply(
     had: usize,
     e: Effect,
 ) -> Step
-    requires { ⌜ Fitting e had (λ p. roomsOf p (now nodes) (now owners) (now children) (now stack) (now marks) (now keys) (now held)) ⌝ }
-    ensures { λ t. ⌜ Applies e had t (λ p. roomsOf p (now (nodes .entry)) (now (owners .entry)) (now (children .entry)) (now (stack .entry)) (now (marks .entry)) (now (keys .entry)) (now (held .entry))) (λ p. roomsOf p (now (nodes .exit)) (now (owners .exit)) (now (children .exit)) (now (stack .exit)) (now (marks .exit)) (now (keys .exit)) (now (held .exit))) ⌝ }
+    requires { ⌜ Fitting e had (λ p. roomsOf p
+        (now nodes) (now owners) (now children) (now stack) (now marks) (now keys) (now held)) ⌝ }
+    ensures { λ t.
+        ⌜ Applies e had t
+        (λ p. roomsOf p (now (nodes .entry)) (now (owners .entry)) (now (children .entry)) (now (stack .entry)) (now (marks .entry)) (now (keys .entry)) (now (held .entry)))
+        (λ p. roomsOf p (now (nodes .exit)) (now (owners .exit)) (now (children .exit)) (now (stack .exit)) (now (marks .exit)) (now (keys .exit)) (now (held .exit))) ⌝ }
 {
     match e {
         Effect::Push(c, a, b) => push_node(nodes, stack, c, a, b),
@@ -47,14 +49,14 @@ pub fn apply(
         Effect::Make(c, kind) => make(nodes, owners, children, stack, c, kind, had),
         Effect::Extend(c, owner) => extend(nodes, owners, children, stack, c, owner, had),
         Effect::Remember(c, id, _, key) => remember(keys, held, c, key, id),
-        Effect::Build(c, object, state) => build(nodes, c, object, state),
+        Effect::Build(c, object, state) => set_state(nodes, c, object, state),
         Effect::Stop(c) => Step::Stop(c),
         Effect::Refused(c, _, _, why) => Step::Refused(c, why),
     }
 }
 
 // The one match over the opcode byte. TUPLE1 to TUPLE3 are a range.
-pub fn decide(
+fn decide(
     pickle: &[u8],
     nodes: &[u64],
     children: &[u16],
@@ -64,8 +66,12 @@ pub fn decide(
     held: &[u16],
     c: Counts,
 ) -> Effect
-    requires { ⌜ Lent c (Agrees (now pickle) (now nodes) (now children) (now stack) (now marks) (now keys) (now held)) ⌝ }
-    ensures { λ e. ⌜ Decides c (Agrees (now (pickle .entry)) (now (nodes .entry)) (now (children .entry)) (now (stack .entry)) (now (marks .entry)) (now (keys .entry)) (now (held .entry))) step e ⌝ }
+    requires { ⌜ Lent c (Agrees
+        (now pickle) (now nodes) (now children) (now stack) (now marks) (now keys) (now held)) ⌝ }
+    ensures { λ e.
+        ⌜ Decides c (Agrees
+        (now (pickle .entry)) (now (nodes .entry)) (now (children .entry)) (now (stack .entry)) (now (marks .entry))
+        (now (keys .entry)) (now (held .entry))) step e ⌝ }
 {
     let at = c.at;
     if pickle.len() <= at {
@@ -95,7 +101,7 @@ pub fn decide(
         op::BININT1 => decoder::binint1(pickle, d),
         op::LONG => decoder::long(pickle, d),
         op::BININT2 => decoder::binint2(pickle, d),
-        op::NONE => Effect::Push(d, NONE, 0),
+        op::NONE => Effect::Push(d, KIND_NONE, 0),
         op::REDUCE => decoder::reduce(pickle, nodes, children, stack, d),
         op::STRING => decoder::string(pickle, d),
         op::BINSTRING => decoder::binstring(pickle, d),
@@ -103,28 +109,28 @@ pub fn decide(
         op::UNICODE => decoder::unicode(pickle, d),
         op::BINUNICODE => decoder::binunicode(pickle, d),
         op::APPEND => decoder::append(nodes, stack, d),
-        op::BUILD => decoder::build(nodes, stack, d),
+        op::BUILD => decoder::build_state(nodes, stack, d),
         op::GLOBAL => decoder::global(pickle, d),
         op::DICT => decoder::dict(marks, d),
-        op::EMPTY_DICT => Effect::Push(d, DICT, 0),
+        op::EMPTY_DICT => Effect::Push(d, KIND_DICT, 0),
         op::APPENDS => decoder::appends(nodes, stack, marks, d),
         op::GET => decoder::get_line(pickle, keys, held, d),
         op::BINGET => decoder::binget(pickle, keys, held, d),
         op::LONG_BINGET => decoder::long_binget(pickle, keys, held, d),
         op::LIST => decoder::list(marks, d),
-        op::EMPTY_LIST => Effect::Push(d, LIST, 0),
+        op::EMPTY_LIST => Effect::Push(d, KIND_LIST, 0),
         op::PUT => decoder::put_line(pickle, stack, d),
         op::BINPUT => decoder::binput(pickle, stack, d),
         op::LONG_BINPUT => decoder::long_binput(pickle, stack, d),
         op::SETITEM => decoder::setitem(nodes, stack, d),
         op::TUPLE => decoder::tuple(marks, d),
-        op::EMPTY_TUPLE => Effect::Push(d, TUPLE, 0),
+        op::EMPTY_TUPLE => Effect::Push(d, KIND_TUPLE, 0),
         op::SETITEMS => decoder::setitems(nodes, stack, marks, d),
         op::BINFLOAT => decoder::binfloat(pickle, d),
         op::PROTO => decoder::proto(pickle, d),
         op::NEWOBJ => decoder::newobj(nodes, stack, d),
-        op::NEWTRUE => Effect::Push(d, BOOL, 1),
-        op::NEWFALSE => Effect::Push(d, BOOL, 0),
+        op::NEWTRUE => Effect::Push(d, KIND_BOOL, 1),
+        op::NEWFALSE => Effect::Push(d, KIND_BOOL, 0),
         op::LONG1 => decoder::long1(pickle, d),
         op::LONG4 => decoder::long4(pickle, d),
         0x85..=0x87 => decoder::small_tuple(d, code),
@@ -144,8 +150,12 @@ pub fn take_step(
     held: &mut [u16],
     c: Counts,
 ) -> Step
-    requires { ⌜ Sound (roomsOf (now pickle) (now nodes) (now owners) (now children) (now stack) (now marks) (now keys) (now held)) c ⌝ }
-    ensures { λ t. ⌜ Done t (roomsOf (now (pickle .entry)) (now (nodes .entry)) (now (owners .entry)) (now (children .entry)) (now (stack .entry)) (now (marks .entry)) (now (keys .entry)) (now (held .entry))) (roomsOf (now (pickle .entry)) (now (nodes .exit)) (now (owners .exit)) (now (children .exit)) (now (stack .exit)) (now (marks .exit)) (now (keys .exit)) (now (held .exit))) (step (stateOf (roomsOf (now (pickle .entry)) (now (nodes .entry)) (now (owners .entry)) (now (children .entry)) (now (stack .entry)) (now (marks .entry)) (now (keys .entry)) (now (held .entry))) c)) ⌝ }
+    requires { ⌜ Sound (roomsOf (now pickle)
+        (now nodes) (now owners) (now children) (now stack) (now marks) (now keys) (now held)) c ⌝ }
+    ensures { λ t.
+        ⌜ Stepped t c
+        (roomsOf (now (pickle .entry)) (now (nodes .entry)) (now (owners .entry)) (now (children .entry)) (now (stack .entry)) (now (marks .entry)) (now (keys .entry)) (now (held .entry)))
+        (roomsOf (now (pickle .entry)) (now (nodes .exit)) (now (owners .exit)) (now (children .exit)) (now (stack .exit)) (now (marks .exit)) (now (keys .exit)) (now (held .exit))) ⌝ }
 {
     let e = decide(pickle, nodes, children, stack, marks, keys, held, c);
     apply(
@@ -178,8 +188,11 @@ pub fn run(
     keys: &mut [u32],
     held: &mut [u16],
 ) -> Outcome
-    requires { ⌜ Sound (roomsOf (now pickle) (now nodes) (now owners) (now children) (now stack) (now marks) (now keys) (now held)) start ⌝ }
-    ensures { λ o. ⌜ Ran o (now (pickle .entry)) (roomsOf (now (pickle .entry)) (now (nodes .exit)) (now (owners .exit)) (now (children .exit)) (now (stack .exit)) (now (marks .exit)) (now (keys .exit)) (now (held .exit))) ⌝ }
+    requires { ⌜ Sound (roomsOf (now pickle)
+        (now nodes) (now owners) (now children) (now stack) (now marks) (now keys) (now held)) start ⌝ }
+    ensures { λ o.
+        ⌜ Ran o (now (pickle .entry))
+        (roomsOf (now (pickle .entry)) (now (nodes .exit)) (now (owners .exit)) (now (children .exit)) (now (stack .exit)) (now (marks .exit)) (now (keys .exit)) (now (held .exit))) ⌝ }
 {
     let mut c = Counts {
         at: 0,

@@ -12,7 +12,7 @@ use Rattle.op.specs.declared.Opcode.the-variants.{TUPLE, BUILD}
 use Rattle.value.specs.Value.{Label, Forest, count, TupleL, GlobalL, ObjectL, nil, node}
 use Rattle.value.specs.Stands.{_⊕_}
 use Rattle.steps.specs.State.{Node, State, ok, _>>=_, need, withInput, withNodes, withStack, withMarks}
-use Rattle.steps.specs.Opcodes.{tuple, tupleN, made, called, reduced, object, build}
+use Rattle.steps.specs.Opcodes.{tuple, tupleN, made, called, reduced, object, buildState}
 use Rattle.steps.specs.Run.{going, does}
 use Rattle.reading.specs.Build.{at}
 use Rattle.outback.specs.WriteOut.{WritesIn, none, more, writes-moved, writes-count}
@@ -76,7 +76,7 @@ module _ {s t u : State} {mid : List ℕ} {m k : List ℕ} {a : Forest} (rest : 
 -- ---- the state
 
 pub build-on : {s t u : State} {mid : List ℕ} {m k : List ℕ} {b : Bool} {c g : Forest} (rest : List ℕ) → OneMore s mid (ObjectL m k b) c t → count c ≡ 1 → count g ≡ 1 → ManyMore t (numberOf BUILD ∷ rest) g u → Outcome u (OneMore s rest (ObjectL m k b) (c ⊕ g))
-unfolding does build need _>>=_ After
+unfolding does buildState need _>>=_ After
 build-on {s} {t} {u} {mid} {m} {k} {b} {c} {g} rest x p q y = go (x .kids) refl (writes-count (x .inside) ∙ p) (y .ids) refl (writes-count (y .values) ∙ q)
   where
     go : (ks : List ℕ) → x .kids ≡ ks → length ks ≡ 1 → (is : List ℕ) → y .ids ≡ is → length is ≡ 1 → Outcome u (OneMore s rest (ObjectL m k b) (c ⊕ g))

@@ -21,7 +21,7 @@ use Rattle.resolved.specs.Dues.{isDue, dues}
 use Rattle.resolved.specs.Shown.{Shown}
 use Rattle.resolved.specs.Whole.{value-stands-64}
 use Rattle.arrange.specs.Walked.{graph, dues-in, not-settled}
-use Rattle.arrange.specs.Settling.{Ready, Settles}
+use Rattle.arrange.specs.Settling.{ReadyToSettle, Settles}
 use Rattle.emit.specs.Roots.{Rooted, Emits}
 use Rattle.produce.specs.Measured.{Produced}
 use Rattle.produce.specs.Ready.{Spelt, inside}
@@ -37,7 +37,7 @@ pub record Arranged (t : List Node) (s : State) (p d ws starts log marks childre
 
 abbrev pub Arranges : (noted p d ws starts children log marks list children′ log′ marks′ : List ℕ) (used : ℕ) → Type 0
 Arranges noted p d ws starts children log marks list children′ log′ marks′ used =
-    (t : List Node) (s : State) (lent : List ℕ) → Ready t s lent noted p d ws starts children log marks list → Arranged t s p d ws starts log marks children′ log′ marks′ used
+    (t : List Node) (s : State) (lent : List ℕ) → ReadyToSettle t s lent noted p d ws starts children log marks list → Arranged t s p d ws starts log marks children′ log′ marks′ used
 
 pub settles-arranged : {t : List Node} {s : State} {p d ws starts log marks list children′ log′ marks′ list′ : List ℕ} {used most : ℕ} → Settles t s p d ws starts log marks list children′ log′ marks′ list′ used most
     → Arranged t s p d ws starts log marks children′ log′ marks′ used

@@ -15,7 +15,7 @@ use Rattle.reading.specs.Settle.{settle}
 use Rattle.resolved.specs.Noted.{isContainer}
 use Rattle.resolved.specs.Shown.{labelOf}
 use Rattle.resolved.specs.Tree.{walked}
-use Rattle.resolve.specs.Facts.{Holds}
+use Rattle.resolve.specs.Facts.{HoldsWalk}
 use Rattle.produce.specs.Rooms.{Zeros}
 
 -- ---- given
@@ -45,7 +45,7 @@ pub record Limited (p ws starts : List ℕ) (t : List Node) (root : ℕ) : Type 
 pub record MeasuredAs (p ws starts sorted dues marks : List ℕ) (t : List Node) (root : ℕ) : Type 0 where
   pub limited : Limited p ws starts t root
   pub lent : List ℕ
-  pub holds : Holds t (limited .worded .beyond) starts lent marks sorted dues (walked t 4096 64 root .after)
+  pub holds : HoldsWalk t (limited .worded .beyond) starts lent marks sorted dues (walked t 4096 64 root .after)
 
 -- there are such nodes
 pub record Measured (p ws starts sorted dues marks : List ℕ) (root : ℕ) : Type 0 where
@@ -53,7 +53,7 @@ pub record Measured (p ws starts sorted dues marks : List ℕ) (root : ℕ) : Ty
   pub are : MeasuredAs p ws starts sorted dues marks nodes root
 
 -- rooms to work in, and room for the outputs
-pub record Lent (decoded log list table bytes : List ℕ) : Type 0 where
+pub record WorkRooms (decoded log list table bytes : List ℕ) : Type 0 where
   pub decoded-zero : Zeros 65536 decoded
   pub log-zero : Zeros 8192 log
   pub list-zero : Zeros 2048 list

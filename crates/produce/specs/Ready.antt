@@ -24,7 +24,7 @@ use Rattle.resolved.specs.Shown.{Shown, Spelled, hasText}
 use Rattle.resolve.specs.Rooted.{root-words, marks-low}
 use Rattle.texts.specs.Due.{isDue, Decodes}
 use Rattle.arrange.specs.Walked.{Walked}
-use Rattle.arrange.specs.Settling.{Ready}
+use Rattle.arrange.specs.Settling.{ReadyToSettle}
 use Rattle.arrange.specs.Enough.{walk-over, walk-fits}
 use Rattle.produce.specs.Measured.{Worded, Limited, MeasuredAs}
 use Rattle.produce.specs.Texts.{marks-many}
@@ -33,7 +33,7 @@ use Rattle.produce.specs.Texts.{marks-many}
 pub record Spelt (p d ws starts sorted noted marks log list : List ℕ) (t : List Node) (root : ℕ) : Type 0 where
   pub limited : Limited p ws starts t root
   pub lent : List ℕ
-  pub ready : Ready t (walked t 4096 64 root .after) lent noted p d ws starts sorted log marks list
+  pub ready : ReadyToSettle t (walked t 4096 64 root .after) lent noted p d ws starts sorted log marks list
   pub low : (j : ℕ) → getD marks j 0 < 2 ^ 63
 
 -- there are such nodes

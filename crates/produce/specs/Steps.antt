@@ -9,7 +9,7 @@ use Rattle.texts.specs.Due.{dueText, Decodes}
 use Rattle.arrange.specs.Settling.{Unsettled, Settles, SettlesAll}
 use Rattle.emit.specs.Roots.{Rooted, Emits}
 use Rattle.produce.specs.Rooms.{zeros-long, zeros-whole, front-cleared, end-begins, end-fits, end-cleared}
-use Rattle.produce.specs.Measured.{Measured, Lent, Produces}
+use Rattle.produce.specs.Measured.{Measured, WorkRooms, Produces}
 use Rattle.produce.specs.Texts.{marks-many, texts-fit}
 use Rattle.produce.specs.Ready.{Unwritten, spelt}
 use Rattle.produce.specs.Made.{Arranges, settles-arranged, rooted, produced, Outputs, Writes}
@@ -60,7 +60,7 @@ module _ {p d ws starts sorted noted marks log list : List ℕ} {root : ℕ} {ta
 
 -- ---- after the decoding
 
-module _ {p ws starts sorted noted marks₀ : List ℕ} {root : ℕ} {decoded log list table bytes d marks : List ℕ} {used : ℕ} (m : Measured p ws starts sorted noted marks₀ root) (l : Lent decoded log list table bytes) (D : Decodes p ws decoded marks₀ (length marks₀) d marks used) where
+module _ {p ws starts sorted noted marks₀ : List ℕ} {root : ℕ} {decoded log list table bytes d marks : List ℕ} {used : ℕ} (m : Measured p ws starts sorted noted marks₀ root) (l : WorkRooms decoded log list table bytes) (D : Decodes p ws decoded marks₀ (length marks₀) d marks used) where
   log-long : length (take 8192 log) ≡ 8192
   log-long = ap length (l .log-zero .zero) ∙ length-replicate {A = ℕ} 8192 0
 

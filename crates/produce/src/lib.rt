@@ -10,7 +10,7 @@ use texts::decode_all;
 ghost use mathlib.Core.Path.{_≡_};
 ghost use lib.ListN.{replicate};
 ghost use Rattle.arrange.specs.Settling.{Unsettled};
-ghost use Rattle.produce.specs.Measured.{Measured, Lent, Produces, Restored};
+ghost use Rattle.produce.specs.Measured.{Measured, WorkRooms, Produces, Restored};
 ghost use Rattle.produce.specs.Ready.{Unwritten};
 ghost use Rattle.produce.specs.Made.{Arranges, Outputs, Writes};
 
@@ -117,7 +117,7 @@ pub fn produce<'a>(
     text: &mut [u8],
 ) -> usize
     requires { ⌜ Measured (now pickle) (now nodes) (now starts) (now sorted) (now dues) (now measures) (root .0) ⌝ }
-    requires { ⌜ Lent (now decoded) (now log) (now list) (now table) (now text) ⌝ }
+    requires { ⌜ WorkRooms (now decoded) (now log) (now list) (now table) (now text) ⌝ }
     ensures { λ r. ⌜ Produces (now (pickle .entry)) (now (nodes .entry)) (now (starts .entry)) (now (sorted .entry))
         (now (dues .entry)) (now (measures .entry)) (root .0) (now (table .entry)) (now (text .entry))
         (now (table .exit)) (now (text .exit)) r ⌝ }

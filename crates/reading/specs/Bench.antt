@@ -17,7 +17,7 @@ use Rattle.text.specs.Examples.{evaluates as text-evaluates}
 use Rattle.value.specs.Value.{text, count, size, depth, table, NoneL, BoolL, I64L, BytesL, StringL, ListL, TupleL, SetL, DictL, ObjectL, nil, node}
 use Rattle.value.specs.Order.{_then_, lex, labels, forests, order}
 use Rattle.steps.specs.State.{_>>=_, need, leaf, bytes, byte, line, pop, top, popMark, popMany, pushId, pushNode, push, link, extend, find, has, insert, get, put}
-use Rattle.steps.specs.Opcodes.{builtin, setName, proto, popOne, intLabel, int, lowBytes, binint1, longN, string, signedLength, binstring, shortBinstring, unicode, binunicode, global, made, tupleN, pairs, added, append, setitems, getBytes, putBytes, reduced, called, reduce, build, mark}
+use Rattle.steps.specs.Opcodes.{builtin, setName, proto, popOne, intLabel, int, lowBytes, binint1, longN, string, signedLength, binstring, shortBinstring, unicode, binunicode, global, made, tupleN, pairs, added, append, setitems, getBytes, putBytes, reduced, called, reduce, buildState, mark}
 use Rattle.steps.specs.Run.{going, does, decide, step, runs, start, run}
 use Rattle.reading.specs.Build as Build
 use Rattle.reading.specs.Measure.{measured}
@@ -30,7 +30,7 @@ unfolding utf8.evaluates firstFrom newlineOf lessCr lineOf long-evaluates whiteS
 literals = tt
 
 unfoldable machine : Unit {0}
-unfolding rowIn rowOf knownName opcodeOf _>>=_ need leaf bytes byte line pop top popMark popMany pushId pushNode push link extend find has insert get put proto popOne intLabel int lowBytes binint1 longN string signedLength binstring shortBinstring unicode binunicode global made tupleN pairs added append setitems getBytes putBytes reduced called reduce build mark going does decide step runs start run
+unfolding rowIn rowOf knownName opcodeOf _>>=_ need leaf bytes byte line pop top popMark popMany pushId pushNode push link extend find has insert get put proto popOne intLabel int lowBytes binint1 longN string signedLength binstring shortBinstring unicode binunicode global made tupleN pairs added append setitems getBytes putBytes reduced called reduce buildState mark going does decide step runs start run
 machine = tt
 
 unfoldable builder : Unit {0}
@@ -60,10 +60,10 @@ bench =
     ∷ []
 
 -- each pickle's prefix reading is the one that stands beside it
-abbrev pub Holds : List Line → Type 0
-Holds t = map prefix (map (λ (l : Line). l .pickle) t) ≡ map (λ (l : Line). l .reading) t
+abbrev pub ReadAs : List Line → Type 0
+ReadAs t = map prefix (map (λ (l : Line). l .pickle) t) ≡ map (λ (l : Line). l .reading) t
 
-pub bench-holds : Holds bench
+pub bench-holds : ReadAs bench
 unfolding literals machine builder
 bench-holds = refl
 
@@ -88,7 +88,7 @@ building =
     ∷ gives (0x7D ∷ 0x28 ∷ 0x58 ∷ 0x01 ∷ 0x00 ∷ 0x00 ∷ 0x00 ∷ 0xFF ∷ 0x4B ∷ 0x01 ∷ 0x56 ∷ 0x5C ∷ 0x75 ∷ 0x64 ∷ 0x38 ∷ 0x30 ∷ 0x30 ∷ 0x0A ∷ 0x4B ∷ 0x02 ∷ 0x75 ∷ 0x2E ∷ []) (reads 22 (node DictL (node (StringL (0xEF ∷ 0xBF ∷ 0xBD ∷ [])) nil (node (I64L 2) nil nil)) nil))
     ∷ []
 
-pub building-holds : Holds building
+pub building-holds : ReadAs building
 unfolding literals machine builder
 building-holds = refl
 

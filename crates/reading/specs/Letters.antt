@@ -22,7 +22,7 @@ use Rattle.text.specs.Laws.{unicode-valid}
 use Rattle.value.specs.Value.{Label, NoneL, BoolL, I64L, F64L, BytesL, StringL, ListL, TupleL, SetL, FrozenSetL, DictL, GlobalL, ObjectL}
 use Rattle.value.specs.Shape.{and-l, and-r}
 use Rattle.steps.specs.State.{Node, State, Res, ok, no, plain, nodeAt, bytes, byte, line, pop, popMark, popMany, pushId, pushNode, push, link, extend, get, put}
-use Rattle.steps.specs.Opcodes.{isTuple, classOf, proto, mark, popOne, popToMark, dup, intLabel, int, lowBytes, binint, binint1, binint2, long, longN, float, binfloat, string, binstring, shortBinstring, unicode, binunicode, global, made, list, tuple, tupleN, dict, added, append, appends, setitem, setitems, getLine, getBytes, putLine, putBytes, builtin, setName, frozensetName, object, setOf, reduced, called, reduce, newobj, build}
+use Rattle.steps.specs.Opcodes.{isTuple, classOf, proto, mark, popOne, popToMark, dup, intLabel, int, lowBytes, binint, binint1, binint2, long, longN, float, binfloat, string, binstring, shortBinstring, unicode, binunicode, global, made, list, tuple, tupleN, dict, added, append, appends, setitem, setitems, getLine, getBytes, putLine, putBytes, builtin, setName, frozensetName, object, setOf, reduced, called, reduce, newobj, buildState}
 use Rattle.steps.specs.Run.{Next, goes, stops, going, does, decide, step, runs, start, run}
 use Rattle.steps.specs.Out.{Out, out, bind, bind-any, bind-need, bind-leaf, Every, every-append}
 use Rattle.steps.specs.Keeps.{after}
@@ -249,8 +249,8 @@ module _ (s : State) (h : L s) where
   unfolding dup
   dup-l = bind-any _ _ _ λ i e. pushId-l s h i
 
-  build-l : Out L (build s)
-  unfolding build L₂ L
+  build-l : Out L (buildState s)
+  unfolding buildState L₂ L
   build-l = bind _ _ _ _ (pop-l s h) λ p u. bind-any _ _ _ λ o e. bind-need _ _ _ _ λ v. out _ _ (lettered-set (p .1 .nodes) o _ u (lettered-at (p .1 .nodes) o u))
 
 -- the line of a pickle of bytes

@@ -27,7 +27,7 @@ use Rattle.resolved.specs.Ranges.{Lies}
 use Rattle.resolved.specs.Resolving.{walk-resolves}
 use Rattle.resolved.specs.Listed.{Listing}
 use Rattle.resolved.specs.Fits.{fits-take, fits-block}
-use Rattle.resolve.specs.Facts.{wordOf, kindAt, classAt, Facts, Shallow, Holds}
+use Rattle.resolve.specs.Facts.{wordOf, kindAt, classAt, Facts, Shallow, HoldsWalk}
 use Rattle.resolve.specs.Noting.{Notes}
 use Rattle.resolve.specs.Class.{Owned, Owns}
 use Rattle.resolve.specs.Known.{word-big, Yields, Knows, k-open, k-empty, k-word, Learns}
@@ -44,7 +44,7 @@ pub record Opens (p ws starts marks children room : List ℕ) (n : ℕ) : Type 0
   pub state : State
   pub lent : List ℕ
   pub roomy : length nodes < length lent
-  pub holds : Holds nodes (facts .beyond) starts lent marks children room state
+  pub holds : HoldsWalk nodes (facts .beyond) starts lent marks children room state
   pub below : n < length nodes
   pub container : isContainer (at nodes n .label) ≡ true
   pub fresh-is : state .marks n ≡ fresh
@@ -52,10 +52,10 @@ pub record Opens (p ws starts marks children room : List ℕ) (n : ℕ) : Type 0
 -- what an answer says of m, which the walk makes of n, and of the rooms after
 pub data Ends (t : List Node) (beyond : length t ≤ 4096) (starts lent : List ℕ) (levels n : ℕ) (m : Made) (marks children room : List ℕ) : Answer → Type 0 where
   ends-deep : levels < value (m .value) .deep → Listing lent room → Ends t beyond starts lent levels n m marks children room answer.TooDeep
-  ends-empty : m .slot ≡ 4096 → m .value ≡ none → Holds t beyond starts lent marks children room (m .after)
+  ends-empty : m .slot ≡ 4096 → m .value ≡ none → HoldsWalk t beyond starts lent marks children room (m .after)
       → Ends t beyond starts lent levels n m marks children room answer.Empty
   ends-word : (w : ℕ) → m .slot ≡ n → w ≡ wordOf (m .value) → value (m .value) .deep ≤ levels
-      → Holds t beyond starts lent marks children room (m .after)
+      → HoldsWalk t beyond starts lent marks children room (m .after)
       → Ends t beyond starts lent levels n m marks children room (answer.Word w)
 
 -- whatever nodes and state they are
@@ -64,7 +64,7 @@ Walks p ws starts levels n marks children room marks′ children′ room′ r =
     (o : Opens p ws starts marks children room n) → Ends (o .nodes) (o .facts .beyond) starts (o .lent) levels n (walk (o .nodes) 4096 levels n (o .state)) marks′ children′ room′ r
 
 pub held-list : {t : List Node} {beyond : length t ≤ 4096} {starts lent marks children room : List ℕ} {s : State}
-    → Holds t beyond starts lent marks children room s → Listing lent room
+    → HoldsWalk t beyond starts lent marks children room s → Listing lent room
 held-list {t} {s = s} h = record { list = dues t (s .done); lists = h .listed }
 
 -- ---- an Object's first child
@@ -268,7 +268,7 @@ module _ {p ws starts marks₀ children₀ room₀ : List ℕ} {n : ℕ} (I : En
       go (k-empty b) = let c = yields 4096 129 b in let e = yields-deep 4096 129 c in mid-none I k T h′ (small .1) 129 marks′ children room (yields-back 4096 129 c (omega (arith, small .0))) (c .slot-is)
 
   -- a fresh container is walked
-  same-holds : (m : List ℕ) → m ≡ marks → Holds (I .nodes) (I .facts .beyond) starts (I .lent) m children room (T .state)
+  same-holds : (m : List ℕ) → m ≡ marks → HoldsWalk (I .nodes) (I .facts .beyond) starts (I .lent) m children room (T .state)
   same-holds m e = rw e (T .holds)
 
   module _ (a : Learns p ws marks marks′ (getD children i 0) Open) where

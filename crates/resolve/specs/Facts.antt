@@ -18,7 +18,7 @@ use Rattle.resolved.specs.Walk.{State}
 use Rattle.resolved.specs.Inside.{Within}
 use Rattle.resolved.specs.Dues.{isDue, dues}
 use Rattle.resolved.specs.Noted.{isContainer, isTextLeaf}
-use Rattle.resolved.specs.Fits.{Fits}
+use Rattle.resolved.specs.Fits.{FitsState}
 use Rattle.resolved.specs.Resolves.{open-not-done}
 use Rattle.resolved.specs.Sums.{apartNext, ordered-apart, apart-short}
 use Rattle.resolved.specs.Listed.{Lists, lists-count, lists-length}
@@ -66,8 +66,8 @@ abbrev pub Shallow : State → Type 0
 Shallow s = (j : ℕ) (v : Value) → s .marks j ≡ kept v → value v .deep ≤ 64
 
 -- marks, children and dues hold the state s of a walk, the room of dues being `lent` at its beginning
-pub record Holds (t : List Node) (beyond : length t ≤ 4096) (starts lent marks children room : List ℕ) (s : State) : Type 0 where
-  pub fits : Fits t 4096 beyond wordOf starts marks children s
+pub record HoldsWalk (t : List Node) (beyond : length t ≤ 4096) (starts lent marks children room : List ℕ) (s : State) : Type 0 where
+  pub fits : FitsState t 4096 beyond wordOf starts marks children s
   pub small : Shallow s
   pub within : Within t s
   pub listed : Lists lent room (dues t (s .done))
@@ -81,7 +81,7 @@ dues-short t (i ∷ l) = go (isDue (at t i .label)) (dues-short t l)
     go true h = omega arith
     go false h = omega arith
 
-module _ {t : List Node} {beyond : length t ≤ 4096} {starts lent marks children room : List ℕ} {s : State} (h : Holds t beyond starts lent marks children room s) (n : ℕ) (l : n < length t) (e : s .marks n ≡ taken) where
+module _ {t : List Node} {beyond : length t ≤ 4096} {starts lent marks children room : List ℕ} {s : State} (h : HoldsWalk t beyond starts lent marks children room s) (n : ℕ) (l : n < length t) (e : s .marks n ≡ taken) where
   -- finished nodes are different nodes, and the one that is taken is none of them: another may be noted
   pub one-more : length (dues t (s .done)) < length t
   one-more =

@@ -1,29 +1,25 @@
 -- How long the text of a node is, off its words: no text is decoded for it.
 use Prim.Native.Nat.{ℕ, _+_, _-_, _*_, _^_, _/_, _%_, _<_, _≤_}
-use mathlib.Core.Bool.{Bool, true, false, cond, _&&_, _||_}
 use mathlib.Core.List.{List, [], _++_}
-use mathlib.Core.Path.{_≡_, refl, sym, _∙_, ap}
+use mathlib.Core.Path.{_≡_, sym, _∙_, ap}
 use mathlib.Core.Logic.{_≢_}
 use lib.ListN.{length, length-append, length-take, length-drop, getD, set, take, drop, replicate, length-replicate, getD-replicate, List·getD-map, List·getD-eq-default, drop-of-length-le}
 use lib.Seq.{take-all, take-nil, getD-set-other}
-use lib.Dec.{eqb, leb}
-use borrow.Author.Tests.{leb-true}
 use native.Mathlib.Decide.{decLt}
 use native.Mathlib.Numerals.{add-one}
 use native.Mathlib.Omega.{arith}
 use Rattle.utf8.specs.Utf8.{repair}
 use Rattle.utf8.specs.Laws.{repair-length}
-use Rattle.refusal.specs.Read.{Read, got, refused}
+use Rattle.refusal.specs.Read.{Read, refused}
 use Rattle.refusal.specs.declared.Refusal.{Refusal}
 use Rattle.refusal.specs.declared.Refusal.the-variants.{InvalidLiteral}
 use Rattle.text.specs.declared.Decoded.{Decoded}
 use Rattle.text.specs.declared.Decoded.the-variants as decoded
 use Rattle.text.specs.declared.Quoted.{Quoted}
 use Rattle.text.specs.declared.Quoted.the-variants as quoted
-use Rattle.text.specs.Escapes.{stringHead}
-use Rattle.text.specs.Pieces.{texts, bytesOf, lengthOf}
-use Rattle.text.specs.Text.{hasQuotes, inner, byte, unescapeString, unescapeUnicode, measured, quotedSays, decodedSays}
-use Rattle.text.specs.Answers.{decoded-len, decoded-bad, quoted-plain, quoted-escaped, quoted-bad}
+use Rattle.text.specs.Pieces.{bytesOf, lengthOf}
+use Rattle.text.specs.Text.{inner, unescapeString, unescapeUnicode, measured, quotedSays, decodedSays}
+use Rattle.text.specs.Answers.{decoded-len, decoded-bad, quoted-plain, quoted-escaped, quoted-bad, quotes-two}
 use Rattle.value.specs.Value.{Label, NoneL, textOf}
 use Rattle.value.specs.Shape.{kindIn}
 use Rattle.steps.specs.NodeWords.{first, second, within, classIn, moduleOf, nameOf}
@@ -86,14 +82,7 @@ no-bytes r why k e = rw e
 
 module _ (l : List ℕ) (r : Quoted) (y : quotedSays l r ≡ measured l) where
   pub plain-two : r ≡ quoted.Plain → 2 ≤ length l
-  unfolding unescapeString hasQuotes
-  plain-two z = go (leb 2 (length l)) refl (quoted-plain l (rw z at y))
-    where
-      go : (t : Bool) → leb 2 (length l) ≡ t
-          → cond (t && eqb (getD l 0 0) (getD l (length l - 1) 0) && (eqb (getD l 0 0) 39 || eqb (getD l 0 0) 34)) (texts stringHead byte 0 1 (inner l)) (refused InvalidLiteral 0) ≡ got (inner l)
-          → 2 ≤ length l
-      go true h e = leb-true 2 (length l) h
-      go false h e = let x : _≡_ {A = ℕ} 0 1 = cc in absurd (omega arith)
+  plain-two z = quotes-two l (inner l) (quoted-plain l (rw z at y))
 
   pub plain-len : r ≡ quoted.Plain → length l - 2 ≡ length (bytesOf (unescapeString l))
   unfolding bytesOf inner

@@ -18,8 +18,8 @@ use Rattle.resolved.specs.Resolving.{Resolved, each-resolves, walk-resolves}
 use Rattle.resolved.specs.Turns.{Turn, turn-next, turn-end, turn-deep, push-nil}
 use Rattle.resolved.specs.Dues.{dues}
 use Rattle.resolved.specs.Noted.{isContainer}
-use Rattle.resolved.specs.Fits.{Fits, fits-put, fits-same, fits-finish}
-use Rattle.resolve.specs.Facts.{wordOf, kindAt, Facts, Shallow, Holds, one-more, note-fits}
+use Rattle.resolved.specs.Fits.{FitsState, fits-put, fits-same, fits-finish}
+use Rattle.resolve.specs.Facts.{wordOf, kindAt, Facts, Shallow, HoldsWalk, one-more, note-fits}
 use Rattle.resolve.specs.Noting.{Notes}
 
 -- what the rooms say where the loop begins: node n is taken, its children are as they were, and the room of dues, lent as it was, has room
@@ -29,7 +29,7 @@ pub record Entered (p ws starts marks children room : List ℕ) (n : ℕ) : Type
   pub state : State
   pub lent : List ℕ
   pub roomy : length nodes < length lent
-  pub holds : Holds nodes (facts .beyond) starts lent marks children room state
+  pub holds : HoldsWalk nodes (facts .beyond) starts lent marks children room state
   pub below : n < length nodes
   pub container : isContainer (at nodes n .label) ≡ true
   pub taken-is : state .marks n ≡ taken
@@ -39,7 +39,7 @@ pub record Entered (p ws starts marks children room : List ℕ) (n : ℕ) : Type
 pub record Back (t : List Node) (beyond : length t ≤ 4096) (starts lent : List ℕ) (k : ℕ) (m : Made) (w : ℕ) (marks children room : List ℕ) : Type 0 where
   pub is : w ≡ wordOf (m .value)
   pub shallow : value (m .value) .deep ≤ k
-  pub holds : Holds t beyond starts lent marks children room (m .after)
+  pub holds : HoldsWalk t beyond starts lent marks children room (m .after)
 
 -- ---- the child to come: what is left of a list
 
@@ -66,8 +66,8 @@ over f e l is (x ∷ js) h b g c =
 
 put-there : (t : List Node) (beyond : length t ≤ 4096) (starts marks children : List ℕ) (n : ℕ) (is js : List ℕ) (s : State) (i x place : ℕ)
     → i ≡ place → x ≡ 4096
-    → Fits t 4096 beyond wordOf starts marks (set children place 4096) (overwrite n (is ++ (4096 ∷ js)) s)
-    → Fits t 4096 beyond wordOf starts marks (set children i 4096) (overwrite n (is ++ (x ∷ js)) s)
+    → FitsState t 4096 beyond wordOf starts marks (set children place 4096) (overwrite n (is ++ (4096 ∷ js)) s)
+    → FitsState t 4096 beyond wordOf starts marks (set children i 4096) (overwrite n (is ++ (x ∷ js)) s)
 put-there t beyond starts marks children n is js s i x place e f h = rw (e, f) h
 
 module _ {p ws starts marks₀ children₀ room₀ : List ℕ} {n : ℕ} (I : Entered p ws starts marks₀ children₀ room₀ n) (k : ℕ) where
@@ -78,7 +78,7 @@ module _ {p ws starts marks₀ children₀ room₀ : List ℕ} {n : ℕ} (I : En
     pub state : State
     pub sum : Measure
     pub turn : Turn (I .nodes) 4096 (I .facts .beyond) (walk (I .nodes) 4096 k) n (I .state) done todo state sum
-    pub holds : Holds (I .nodes) (I .facts .beyond) starts (I .lent) marks children room state
+    pub holds : HoldsWalk (I .nodes) (I .facts .beyond) starts (I .lent) marks children room state
     pub place : i ≡ getD starts n 0 + length done
     pub below : (j : ℕ) → In j todo → j < length (I .nodes)
     pub deep-is : deepest ≡ sum .deep
@@ -144,7 +144,7 @@ module _ {p ws starts marks₀ children₀ room₀ : List ℕ} {n : ℕ} (I : En
 
       step : (k ≤ 64) → (w : ℕ) (marks′ children′ children″ room′ : List ℕ)
           → Back (I .nodes) (I .facts .beyond) starts (I .lent) k called w marks′ children′ room′
-          → Fits (I .nodes) 4096 (I .facts .beyond) wordOf starts marks′ children″ (overwrite n (T .done ++ (called .slot ∷ next h .rest)) (called .after))
+          → FitsState (I .nodes) 4096 (I .facts .beyond) wordOf starts marks′ children″ (overwrite n (T .done ++ (called .slot ∷ next h .rest)) (called .after))
           → Midway len marks′ children″ room′ (max deepest (deepW w)) (values + valuesW w) (texts + textsW w) (i + 1)
       step q w marks′ children′ children″ room′ c f =
           let v = value (called .value) in
@@ -203,13 +203,13 @@ module _ {p ws starts marks₀ children₀ room₀ : List ℕ} {n : ℕ} (I : En
       -- the node's due noted, its mark the word
       pub mid-finish : (w : ℕ) (room′ : List ℕ) → (k ≤ 63) → Notes (kindAt ws n) n room room′
           → w ≡ wordOf (finishR (I .nodes) n (eachR (walk (I .nodes) 4096 k) n [] (at (I .nodes) n .kids) (I .state)) .value)
-          → Holds (I .nodes) (I .facts .beyond) starts (I .lent) (set marks n w) children room′ (finishR (I .nodes) n (eachR (walk (I .nodes) 4096 k) n [] (at (I .nodes) n .kids) (I .state)) .after)
+          → HoldsWalk (I .nodes) (I .facts .beyond) starts (I .lent) (set marks n w) children room′ (finishR (I .nodes) n (eachR (walk (I .nodes) 4096 k) n [] (at (I .nodes) n .kids) (I .state)) .after)
       unfolding finishR Notes dues
       mid-finish w room′ b c e =
           let q = ended .0 in
           let s = eachR (walk (I .nodes) 4096 k) n [] (at (I .nodes) n .kids) (I .state) in
           let r : Resolved (I .nodes) 4096 (I .facts .beyond) n [] (I .state) s = each-resolves (I .nodes) 4096 (I .facts .beyond) (walk (I .nodes) 4096 k) (λ j c. walk-resolves (I .nodes) 4096 (I .facts .beyond) k j c) n [] (at (I .nodes) n .kids) (I .state) (I .holds .fits .resolves) (I .taken-is) (I .kids-are) in
-          let f : Fits (I .nodes) 4096 (I .facts .beyond) wordOf starts marks children (s .1) = rw q (T .holds .fits) in
+          let f : FitsState (I .nodes) 4096 (I .facts .beyond) wordOf starts marks children (s .1) = rw q (T .holds .fits) in
           let o : s .1 .marks n ≡ taken = rw q (T .turn .open-still) in
           let g = r .held in
           let d = I .facts .due-are n (I .below) in

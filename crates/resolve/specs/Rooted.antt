@@ -32,7 +32,7 @@ use Rattle.resolved.specs.Reached.{textIf, container-done, leaf-done, done-leaf
 use Rattle.resolved.specs.Fits.{fits-start}
 use Rattle.resolve.specs.Length.{Readable}
 use Rattle.resolve.specs.Word.{packW}
-use Rattle.resolve.specs.Facts.{wordOf, Facts, Shallow, Holds}
+use Rattle.resolve.specs.Facts.{wordOf, Facts, Shallow, HoldsWalk}
 use Rattle.resolve.specs.Known.{word-big, word-low, leaf-deep, Knows, k-open, k-empty, k-word, Learns}
 use Rattle.resolve.specs.Ends.{Opens, Ends, ends-deep, ends-empty, ends-word, Walks}
 use Rattle.resolve.specs.Standing.{facts}
@@ -42,8 +42,8 @@ use Rattle.resolve.specs.declared.Seen.{Seen}
 use Rattle.resolve.specs.declared.Seen.the-variants as seen
 
 -- no node is marked
-abbrev pub Blank : ℕ → List ℕ → Type 0
-Blank n d = (i : ℕ) → i < n → getD d i 0 ≡ 0
+abbrev pub Unmarked : ℕ → List ℕ → Type 0
+Unmarked n d = (i : ℕ) → i < n → getD d i 0 ≡ 0
 
 -- w is the word of v, which is no deeper than 64
 pub record Measured (v : Value) (w : ℕ) : Type 0 where
@@ -57,7 +57,7 @@ pub record Begins (p ws starts children marks room : List ℕ) (root : ℕ) : Ty
   pub graph : Graph nodes starts children
   pub beyond : length nodes ≤ 4096
   pub many : length marks ≡ length nodes
-  pub blank : Blank (length nodes) marks
+  pub blank : Unmarked (length nodes) marks
   pub roomy : length nodes < length room
   pub no-dues : getD room 0 0 ≡ 0
   pub below : root < length nodes
@@ -68,7 +68,7 @@ pub data Rooted (t : List Node) (beyond : length t ≤ 4096) (starts lent marks 
   r-word : (w : ℕ)
       → Measured (tree t root) w
       → StandsFor t (walked t 4096 64 root .after .kids) root (tree t root)
-      → Holds t beyond starts lent marks children room (walked t 4096 64 root .after)
+      → HoldsWalk t beyond starts lent marks children room (walked t 4096 64 root .after)
       → Rooted t beyond starts lent marks children room root (answer.Word w)
 
 unfoldable pub Roots : List ℕ → List ℕ → List ℕ → List ℕ → List ℕ → List ℕ → List ℕ → List ℕ → List ℕ → ℕ → Answer → Type 0
@@ -106,7 +106,7 @@ walked-tree t beyond root h = walk-build t 4096 64 root (start t) .value ∙ lev
 
 -- the word of a finished node is there, unless it is a leaf without text; it is not one that was read ahead
 pub root-words : {t : List Node} {beyond : length t ≤ 4096} {starts lent marks children room : List ℕ} {s : State}
-    → Holds t beyond starts lent marks children room s
+    → HoldsWalk t beyond starts lent marks children room s
     → (j : ℕ) → j < length t → In j (s .done) → (isContainer (at t j .label) || isTextLeaf (at t j .label)) ≡ true
     → (128 ≤ getD marks j 0) × (getD marks j 0 < ahead)
 root-words {t} {marks = marks} {s = s} h j l m c = go (isContainer (at t j .label)) refl c
@@ -122,7 +122,7 @@ root-words {t} {marks = marks} {s = s} h j l m c = go (isContainer (at t j .labe
 
 -- and whose word is there, is finished
 pub words-done : {t : List Node} {beyond : length t ≤ 4096} {starts lent marks children room : List ℕ} {s : State}
-    → Holds t beyond starts lent marks children room s
+    → HoldsWalk t beyond starts lent marks children room s
     → (j : ℕ) → j < length t → 128 ≤ getD marks j 0 → (isContainer (at t j .label) ≡ false → getD marks j 0 < ahead) → In j (s .done)
 words-done {t} {marks = marks} {s = s} h j l w a = go (isContainer (at t j .label)) refl
   where
@@ -131,7 +131,7 @@ words-done {t} {marks = marks} {s = s} h j l w a = go (isContainer (at t j .labe
     go false e = leaf-done t wordOf 4096 marks s (h .fits .resolves) (h .fits .noted) j l e (omega arith) (a e)
 
 -- no mark reaches 2^42: what the passes behind put there is above all words
-pub marks-low : {t : List Node} {beyond : length t ≤ 4096} {starts lent marks children room : List ℕ} {s : State} → Holds t beyond starts lent marks children room s
+pub marks-low : {t : List Node} {beyond : length t ≤ 4096} {starts lent marks children room : List ℕ} {s : State} → HoldsWalk t beyond starts lent marks children room s
     → (j : ℕ) → j < length t → getD marks j 0 < 2 * ahead
 marks-low {t} {marks = marks} {s = s} h j l = go (isContainer (at t j .label)) refl
   where
@@ -163,7 +163,7 @@ root-texts t beyond root h due d =
     rw (← e) (texts-held t 4096 beyond 64 root due d)
 
 pub worded-texts : {t : List Node} {beyond : length t ≤ 4096} {starts lent marks children room : List ℕ} (root : ℕ) → depth (one (tree t root)) ≤ 64
-    → Holds t beyond starts lent marks children room (walked t 4096 64 root .after)
+    → HoldsWalk t beyond starts lent marks children room (walked t 4096 64 root .after)
     → upTo (textIf t (worded t marks)) (length t) ≤ length (text (one (tree t root)))
 worded-texts {t} {beyond = beyond} {marks = marks} root d h = root-texts t beyond root d (worded t marks) go
   where
@@ -211,7 +211,7 @@ module _ {p ws starts children marks room : List ℕ} {root : ℕ} (b : Begins p
   small-start : Shallow (start (b .nodes))
   small-start j v e = absurd (let z : _≡_ {A = ℕ} 0 1 = cc in omega arith)
 
-  holds-start : Holds (b .nodes) (b .beyond) starts room marks children room (start (b .nodes))
+  holds-start : HoldsWalk (b .nodes) (b .beyond) starts room marks children room (start (b .nodes))
   unfolding dues
   holds-start =
       record {
@@ -227,7 +227,7 @@ module _ {p ws starts children marks room : List ℕ} {root : ℕ} (b : Begins p
 
   rooted : (w : ℕ) (marks′ children′ room′ : List ℕ) → w ≡ wordOf (walked (b .nodes) 4096 64 root .value)
       → value (walked (b .nodes) 4096 64 root .value) .deep ≤ 64
-      → Holds (b .nodes) (b .beyond) starts room marks′ children′ room′ (walked (b .nodes) 4096 64 root .after)
+      → HoldsWalk (b .nodes) (b .beyond) starts room marks′ children′ room′ (walked (b .nodes) 4096 64 root .after)
       → Rooted (b .nodes) (b .beyond) starts room marks′ children′ room′ root (answer.Word w)
   rooted w marks′ children′ room′ e d h =
       let x = value-deep (walked (b .nodes) 4096 64 root .value) in
@@ -255,7 +255,7 @@ module _ {p ws starts children marks room : List ℕ} {root : ℕ} (b : Begins p
     unfolding Learns
     learns r a = a starts (b .nodes) (start (b .nodes)) facts-at (holds-start .fits .resolves) (holds-start .fits .noted) small-start (b .below)
 
-    same-holds : (m : List ℕ) → m ≡ marks → Holds (b .nodes) (b .beyond) starts room m children room (start (b .nodes))
+    same-holds : (m : List ℕ) → m ≡ marks → HoldsWalk (b .nodes) (b .beyond) starts room m children room (start (b .nodes))
     same-holds m e = rw e holds-start
 
     -- a container: it is walked

@@ -107,7 +107,7 @@ fn unicode_text(line: &[u8]) -> usize
 }
 
 // Of a node; an Object's is its class's.
-pub fn text_len(pickle: &[u8], nodes: &[u64], node: NodeId) -> usize
+fn text_len(pickle: &[u8], nodes: &[u64], node: NodeId) -> usize
     requires { ⌜ Readable (now pickle) (now nodes) (node .0) ⌝ }
     ensures { λ r. ⌜ r ≡ textLen (now (pickle .entry)) (now (nodes .entry)) (node .0) ⌝ }
 {

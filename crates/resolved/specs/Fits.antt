@@ -22,14 +22,14 @@ use Rattle.resolved.specs.Ranges.{Lies, graph-lies, lies-put}
 use Rattle.resolved.specs.Noted.{isContainer, Noted, unseen, noted-mark, noted-done}
 
 module _ (t : List Node) (nowhere : ℕ) (beyond : length t ≤ nowhere) (word : Value → ℕ) (starts : List ℕ) where
-  pub record Fits (words children : List ℕ) (s : State) : Type 0 where
+  pub record FitsState (words children : List ℕ) (s : State) : Type 0 where
     pub resolves : Resolves t nowhere s
     pub noted : Noted t word words s
     pub lies : Lies starts (length t) children (s .kids)
 
   -- before the walk
   pub fits-start : (words children : List ℕ) → Graph t starts children → length words ≡ length t → ((j : ℕ) → j < length t → getD words j 0 ≡ 0)
-      → Fits words children (start t)
+      → FitsState words children (start t)
   fits-start words children g n z =
       record {
         resolves = start-resolves t nowhere beyond;
@@ -37,14 +37,14 @@ module _ (t : List Node) (nowhere : ℕ) (beyond : length t ≤ nowhere) (word :
         lies = graph-lies t starts children g;
       }
 
-  module _ (words children : List ℕ) (s : State) (f : Fits words children s) where
+  module _ (words children : List ℕ) (s : State) (f : FitsState words children s) where
     -- marks[i] = 1
-    pub fits-take : (i : ℕ) → i < length t → isContainer (at t i .label) ≡ true → s .marks i ≡ fresh → Fits (set words i 1) children (markR i taken s)
+    pub fits-take : (i : ℕ) → i < length t → isContainer (at t i .label) ≡ true → s .marks i ≡ fresh → FitsState (set words i 1) children (markR i taken s)
     fits-take i l c e = record { resolves = take-resolves t nowhere beyond s i (f .resolves) e; noted = noted-mark t word words s i 1 taken (f .noted) l c refl; lies = f .lies }
 
     -- marks[i] = 3
     pub fits-block : (i : ℕ) → i < length t → isContainer (at t i .label) ≡ true → s .marks i ≡ fresh → isObject (at t i .label) ≡ true
-        → Fits (set words i 3) children (markR i (kept none) s)
+        → FitsState (set words i 3) children (markR i (kept none) s)
     unfolding freshness
     fits-block i l c e o =
         record { resolves = mark-resolves t nowhere beyond s i (kept none) (f .resolves) e refl blocks; noted = noted-mark t word words s i 3 (kept none) (f .noted) l c (let o′ = o in rw o′); lies = f .lies }
@@ -54,7 +54,7 @@ module _ (t : List Node) (nowhere : ℕ) (beyond : length t ≤ nowhere) (word :
 
     -- children[starts[n] + the number of those before] = x
     pub fits-put : (n : ℕ) → n < length t → s .marks n ≡ taken → (is js : List ℕ) (c x : ℕ) → s .kids n ≡ is ++ (c ∷ js)
-        → Fits words (set children (getD starts n 0 + length is) x) (overwrite n (is ++ (x ∷ js)) s)
+        → FitsState words (set children (getD starts n 0 + length is) x) (overwrite n (is ++ (x ∷ js)) s)
     fits-put n l e is js c x h =
         record {
           resolves = overwrite-resolves t nowhere beyond s n (is ++ (x ∷ js)) (f .resolves) e (rw h (simp length-append));
@@ -63,7 +63,7 @@ module _ (t : List Node) (nowhere : ℕ) (beyond : length t ≤ nowhere) (word :
         }
 
     -- a child that stays is not stored
-    pub fits-same : (n : ℕ) → s .marks n ≡ taken → (l : List ℕ) → s .kids n ≡ l → Fits words children (overwrite n l s)
+    pub fits-same : (n : ℕ) → s .marks n ≡ taken → (l : List ℕ) → s .kids n ≡ l → FitsState words children (overwrite n l s)
     fits-same n e l h =
         record {
           resolves = overwrite-resolves t nowhere beyond s n l (f .resolves) e (ap length (sym h));
@@ -78,7 +78,7 @@ module _ (t : List Node) (nowhere : ℕ) (beyond : length t ≤ nowhere) (word :
     -- marks[i] = the word of what it keeps
     pub fits-finish : (i : ℕ) → i < length t → isContainer (at t i .label) ≡ true → s .marks i ≡ taken → (c : Forest)
         → Stand t (s .kids) (s .kids i) c → ((j : ℕ) → In j (s .kids i) → Final nowhere (s .done) j)
-        → let v : Value = record { label = at t i .label; contents = c } in Fits (set words i (word v)) children (finishR t i (c, s) .after)
+        → let v : Value = record { label = at t i .label; contents = c } in FitsState (set words i (word v)) children (finishR t i (c, s) .after)
     unfolding finishR
     fits-finish i l b e c w z =
         let v : Value = record { label = at t i .label; contents = c } in

@@ -16,7 +16,7 @@ use Rattle.op.specs.declared.Opcode.the-variants.{MARK, STOP, POP, «POP_MARK»
 use Rattle.input.specs.Long.{denotes}
 use Rattle.value.specs.Value.{Label, NoneL, BoolL, I64L, F64L, BytesL, StringL, ListL, TupleL, SetL, FrozenSetL, DictL, GlobalL, ObjectL, Forest}
 use Rattle.steps.specs.State.{Node, State, Res, ok, no, _>>=_, need, leaf, bytes, byte, line, pop, top, popMark, popMany, pushId, pushNode, push, link, nodeAt, find, get, put}
-use Rattle.steps.specs.Opcodes.{isList, isDict, classOf, proto, mark, popOne, popToMark, dup, int, lowBytes, binint, binint1, binint2, long, longN, float, binfloat, string, signedLength, binstring, shortBinstring, unicode, binunicode, global, made, list, tuple, tupleN, pairs, dict, added, append, appends, setitem, setitems, getLine, getBytes, putLine, putBytes, called, reduce, newobj, build}
+use Rattle.steps.specs.Opcodes.{isList, isDict, classOf, proto, mark, popOne, popToMark, dup, int, lowBytes, binint, binint1, binint2, long, longN, float, binfloat, string, signedLength, binstring, shortBinstring, unicode, binunicode, global, made, list, tuple, tupleN, pairs, dict, added, append, appends, setitem, setitems, getLine, getBytes, putLine, putBytes, called, reduce, newobj, buildState}
 use Rattle.steps.specs.Run.{Next, goes, stops, going, does, decide, step, runs, start, run}
 use Rattle.reading.specs.Measure.{measured}
 use Rattle.run_laws.specs.Inner.{Inner, InnerRead, newline-inner, longOf-inner, parseU32-inner, intLiteral-inner, longLiteral-inner, parseF64-inner, unescapeString-inner, unescapeUnicode-inner}
@@ -293,8 +293,8 @@ module _ (s : State) where
   unfolding newobj
   newobj-inner = called-inner _ s
 
-  build-inner : InnerOnly (build s)
-  unfolding build
+  build-inner : InnerOnly (buildState s)
+  unfolding buildState
   build-inner = joined _ _ (pop-inner s) λ p. joined _ _ (top-inner (p .1)) λ o. after-check _ (Invalid Object) _ tt (fine _)
 
 going-inner : (r : Res State) → InnerOnly r → InnerOnly (going r)

@@ -74,12 +74,12 @@ unfoldable pub Part : List ℕ → List ℕ → Type 0
 Part a b = (n : ℕ) × (a ≡ take n b)
 
 -- items that a list takes, and those that a dict takes
-unfoldable pub Grows : Label → ℕ → Type 0
-Grows l n = T (isList l) ⊎ (T (isDict l) × (n % 2 ≡ 0))
+unfoldable pub TakesItems : Label → ℕ → Type 0
+TakesItems l n = T (isList l) ⊎ (T (isDict l) × (n % 2 ≡ 0))
 
-pub grows-inside : (l : List Node) (i n : ℕ) → Grows (getD l i (plain NoneL) .label) n → i < length l
-unfolding Grows
-grows-inside l i n g = labelled (λ (x : Label). Grows x n) l i (λ h. ⊎-elim (λ u. u) (λ u. u .0) h) g
+pub grows-inside : (l : List Node) (i n : ℕ) → TakesItems (getD l i (plain NoneL) .label) n → i < length l
+unfolding TakesItems
+grows-inside l i n g = labelled (λ (x : Label). TakesItems x n) l i (λ h. ⊎-elim (λ u. u) (λ u. u .0) h) g
 
 pub object-inside : (l : List Node) (i : ℕ) → T (isObject (getD l i (plain NoneL) .label)) → i < length l
 object-inside l i h = labelled (λ (x : Label). T (isObject x)) l i (λ u. u) h
@@ -101,7 +101,7 @@ pub data Effect (s : State) : State → Type 0 where
       → Effect s (record { input = s .input; nodes = s .nodes ++ (n ∷ []); stack = st ++ (length (s .nodes) ∷ []); marks = ms; memo = s .memo; links = lk })
   -- APPEND, APPENDS, SETITEM, SETITEMS: a list or a dict has items more
   grown :
-      (o : ℕ) (is st ms : List ℕ) → Part st (s .stack) → Part ms (s .marks) → Known s o → Grows (nodeAt s o .label) (length is)
+      (o : ℕ) (is st ms : List ℕ) → Part st (s .stack) → Part ms (s .marks) → Known s o → TakesItems (nodeAt s o .label) (length is)
       → Every (Known s) is → s .links + length is ≤ linksLimit
       → Effect s (record { input = s .input; nodes = set (s .nodes) o (record { label = nodeAt s o .label; kids = nodeAt s o .kids ++ is }); stack = st; marks = ms; memo = s .memo; links = s .links + length is })
   -- BUILD: an Object has a state

@@ -13,7 +13,7 @@ use Rattle.steps.specs.Run.{Next, goes, stops, does, step, runs, start, 
 use Rattle.steps.specs.Out.{Out, weaken}
 use Rattle.steps.specs.Effect.{Effect, same}
 use Rattle.steps.specs.Arguments.{taken}
-use Rattle.steps.specs.Pickletools.{Fits, does-fits, step-fits}
+use Rattle.steps.specs.Pickletools.{FitsRow, does-fits, step-fits}
 
 -- the machine after a step, whether it goes on or has stopped
 unfoldable pub after : Next → State
@@ -27,8 +27,8 @@ pub record Effected (least : ℕ) (s t : State) : Type 0 where
   pub inside : read ≤ length (s .input)
   pub effect : Effect (withInput s (drop read (s .input))) t
 
-effected : (r : Option Row) (s : State) (n : Next) → Fits r s n → Effected 0 s (after n)
-unfolding Fits after
+effected : (r : Option Row) (s : State) (n : Next) → FitsRow r s n → Effected 0 s (after n)
+unfolding FitsRow after
 effected none s n f = absurd f
 effected (some r) s (goes t) f = record { read = taken (r .form) (s .input); enough = omega arith; inside = f .reads .fits; effect = rw (f .reads .rest) at (f .did .effect) }
 effected (some r) s (stops t) f = record { read = 0; enough = omega arith; inside = omega arith; effect = rw (f .1) same }

@@ -87,14 +87,18 @@ unfoldable pub nodeIs : List ℕ → List ℕ → List ℕ → ℕ → ℕ → N
 nodeIs p ws ks a b = getD (choices p ws ks a b) (kindIn a) (plain NoneL)
 
 -- the first word of a node that holds links
-pub data Holds (a : ℕ) : Type 0 where
-  aList : kindIn a ≡ 6 → Holds a
-  aTuple : kindIn a ≡ 7 → Holds a
-  aDict : kindIn a ≡ 10 → Holds a
+pub data HoldsLinks (a : ℕ) : Type 0 where
+  aList : kindIn a ≡ 6 → HoldsLinks a
+  aTuple : kindIn a ≡ 7 → HoldsLinks a
+  aDict : kindIn a ≡ 10 → HoldsLinks a
 
 -- an Object's first word
 unfoldable pub objectWord : Bool → ℕ → ℕ
 objectWord new class = 12 + 16 * bit new + 64 * class
+
+-- the label of a container, by its first word
+abbrev pub labelIn : ℕ → Label
+labelIn a = nodeIs [] [] [] a 0 .label
 
 -- the words a′ and b′ are those of an Object with a and b, but that its state is i
 pub record Built (a b a′ b′ i : ℕ) : Type 0 where
@@ -221,7 +225,7 @@ state-set a b i k = go (eqb (a / 32 % 2) 1) refl
 -- ---- one node, its words or its items changed
 
 -- a container is neither Global nor Object nor a line: those kinds are above 10
-pub holds-below : (a : ℕ) → Holds a → kindIn a ≤ 10
+pub holds-below : (a : ℕ) → HoldsLinks a → kindIn a ≤ 10
 holds-below a (aList e) = omega arith
 holds-below a (aTuple e) = omega arith
 holds-below a (aDict e) = omega arith
@@ -237,14 +241,26 @@ module _ (p : List ℕ) (a b : ℕ) where
       go (no d) = getD-set-other (choices p ws ks a b) 12 (kindIn a) (getD (choices p ws′ ks a b) 12 (plain NoneL)) (plain NoneL) d
 
   -- a List, Tuple or Dict with a child more
-  pub node-grown : (ks ws : List ℕ) (k : ℕ) → Holds a → nodeIs p ws (ks ++ (k ∷ [])) a b ≡ record { label = nodeIs p ws ks a b .label; kids = nodeIs p ws ks a b .kids ++ (k ∷ []) }
+  pub node-grown : (ks ws : List ℕ) (k : ℕ) → HoldsLinks a → nodeIs p ws (ks ++ (k ∷ [])) a b ≡ record { label = nodeIs p ws ks a b .label; kids = nodeIs p ws ks a b .kids ++ (k ∷ []) }
   unfolding nodeIs
   node-grown ks ws k (aList e) = rw e
   node-grown ks ws k (aTuple e) = rw e
   node-grown ks ws k (aDict e) = rw e
 
+  -- its label is its kind's alone
+  pub node-label : (ks ws : List ℕ) → HoldsLinks a → nodeIs p ws ks a b .label ≡ labelIn a
+  node-label ks ws = go
+    where
+      label : Node → Label
+      label n = n .label
+
+      go : HoldsLinks a → nodeIs p ws ks a b .label ≡ labelIn a
+      go (aList e) = ap label (node-kind p ws ks a b 6 e) ∙ sym (ap label (node-kind [] [] [] a 0 6 e))
+      go (aTuple e) = ap label (node-kind p ws ks a b 7 e) ∙ sym (ap label (node-kind [] [] [] a 0 7 e))
+      go (aDict e) = ap label (node-kind p ws ks a b 10 e) ∙ sym (ap label (node-kind [] [] [] a 0 10 e))
+
   -- its second word does not count
-  pub node-count : (ks ws : List ℕ) (b′ : ℕ) → Holds a → nodeIs p ws ks a b′ ≡ nodeIs p ws ks a b
+  pub node-count : (ks ws : List ℕ) (b′ : ℕ) → HoldsLinks a → nodeIs p ws ks a b′ ≡ nodeIs p ws ks a b
   unfolding nodeIs
   node-count ks ws b′ (aList e) = rw e
   node-count ks ws b′ (aTuple e) = rw e

@@ -346,8 +346,8 @@ unfoldable pub newobj : State → Res State
 newobj s = called (λ c args items. object c true args) s
 
 -- the state replaces an earlier one
-unfoldable pub build : State → Res State
-build s = do
+unfoldable pub buildState : State → Res State
+buildState s = do
   (i, s₁) ← pop s
   o ← top s₁
   let n = nodeAt s₁ o

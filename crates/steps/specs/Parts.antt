@@ -14,9 +14,9 @@ use Rattle.op.specs.Table.{Stack, values, toMark, aMark}
 use Rattle.number.specs.Space.{same as sameText}
 use Rattle.value.specs.Value.{Label, SetL, FrozenSetL, ListL, TupleL, DictL}
 use Rattle.steps.specs.State.{Node, State, Res, _>>=_, plain, linksLimit, withStack, withMarks, withLinks, last, butLast, pop, top, popMark, popMany, pushId, pushNode, push, link, nodeAt, extend, get, put}
-use Rattle.steps.specs.Opcodes.{isList, isDict, isTuple, mark, popOne, popToMark, dup, made, list, tuple, tupleN, pairs, dict, added, append, appends, setitem, setitems, builtin, setName, frozensetName, object, setOf, reduced, called, reduce, newobj, build}
+use Rattle.steps.specs.Opcodes.{isList, isDict, isTuple, mark, popOne, popToMark, dup, made, list, tuple, tupleN, pairs, dict, added, append, appends, setitem, setitems, builtin, setName, frozensetName, object, setOf, reduced, called, reduce, newobj, buildState}
 use Rattle.steps.specs.Out.{Out, out, bind-any, bind-need, join-need, Every, every-of}
-use Rattle.steps.specs.Effect.{linked, linked-none, held, Right, Known, stacked, kept, inside, known-drop, Part, Grows, same, marked, cut, again, new, grown, built, noted, moved, Stacks, Did}
+use Rattle.steps.specs.Effect.{linked, linked-none, held, Right, Known, stacked, kept, inside, known-drop, Part, TakesItems, same, marked, cut, again, new, grown, built, noted, moved, Stacks, Did}
 
 -- ---- parts of a list
 
@@ -205,7 +205,7 @@ tupleN-did n s = bind-popMany _ s n _ λ h.
 -- APPEND, APPENDS, SETITEM, SETITEMS: n values are left, the container the last of them
 added-did :
     (tk : Stack) (s : State) (right : Label → Bool) (why : Refusal) (is : List ℕ) (n : ℕ) (ms : List ℕ) → n ≤ length (s .stack) → Part ms (s .marks) → Every (Known s) is
-    → ((l : Label) → T (right l) → Grows l (length is))
+    → ((l : Label) → T (right l) → TakesItems l (length is))
     → (0 < n → (t : State) → t .stack ≡ take n (s .stack) ++ [] → t .marks ≡ ms → Stacks tk (values 1) s t)
     → Out (Did tk (values 1) s) (added right why is (withMarks (withStack s (take n (s .stack))) ms))
 unfolding added extend
@@ -221,7 +221,7 @@ added-did tk s right why is n ms h b c g f =
 -- the items that are above the mark
 batch-did :
     (right : Label → Bool) (why : Refusal) (s : State) → 0 < length (s .marks) → last (s .marks) ≤ length (s .stack)
-    → ((l : Label) → T (right l) → Grows l (length (drop (last (s .marks)) (s .stack))))
+    → ((l : Label) → T (right l) → TakesItems l (length (drop (last (s .marks)) (s .stack))))
     → Out (Did (toMark 1) (values 1) s) (added right why (drop (last (s .marks)) (s .stack)) (withMarks (withStack s (take (last (s .marks)) (s .stack))) (butLast (s .marks))))
 batch-did right why s h u g =
     let m = last (s .marks) in
@@ -229,29 +229,29 @@ batch-did right why s h u g =
     λ z t a b. by-mark 1 1 m [] s t h u (omega arith) (omega arith) u a (omega arith) b
 
 pub append-did : (s : State) → Out (Did (values 2) (values 1) s) (append s)
-unfolding append Every Grows
+unfolding append Every TakesItems
 append-did s = bind-pop _ s _ λ h.
     let n = length (s .stack) - 1 in
     added-did (values 2) s isList _ (last (s .stack) ∷ []) n (s .marks) (omega arith) (whole (s .marks)) (topmost s h, tt) (λ l v. inl v)
     λ z t a b. by-values 2 1 n [] s t (omega arith) (omega arith) (omega arith) a (omega arith) b
 
 pub appends-did : (s : State) → Out (Did (toMark 1) (values 1) s) (appends s)
-unfolding appends Grows
+unfolding appends TakesItems
 appends-did s = bind-popMark _ s _ λ h u. batch-did isList _ s h u (λ l v. inl v)
 
 pub setitem-did : (s : State) → Out (Did (values 3) (values 1) s) (setitem s)
-unfolding setitem Every Grows
+unfolding setitem Every TakesItems
 setitem-did s = bind-pops _ s _ λ h.
     let n = length (s .stack) - 2 in
     added-did (values 3) s isDict _ (getD (s .stack) n 0 ∷ last (s .stack) ∷ []) n (s .marks) (omega arith) (whole (s .marks)) (stacked n (omega arith), (topmost s (omega arith), tt)) (λ l v. inr (v, refl))
     λ z t a b. by-values 3 1 n [] s t (omega arith) (omega arith) (omega arith) a (omega arith) b
 
 pub setitems-did : (s : State) → Out (Did (toMark 1) (values 1) s) (setitems s)
-unfolding setitems pairs Grows
+unfolding setitems pairs TakesItems
 setitems-did s = bind-popMark _ s _ λ h u. bind-need _ _ _ _ λ v. batch-did isDict _ s h u (λ l w. inr (w, eqb→eq _ 0 v))
 
-pub build-did : (s : State) → Out (Did (values 2) (values 1) s) (build s)
-unfolding build
+pub build-did : (s : State) → Out (Did (values 2) (values 1) s) (buildState s)
+unfolding buildState
 build-did s = bind-pop _ s _ λ h. bind-top _ (withStack s (butLast (s .stack))) _ λ u. bind-need _ _ _ _ λ v.
     let n = length (s .stack) - 1 in
     let z = rw length-take at u in

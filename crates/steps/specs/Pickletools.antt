@@ -29,21 +29,21 @@ use Rattle.steps.specs.Parts.{mark-did, pop-did, popMark-did, dup-did, p
 -- ---- every opcode, and a step
 
 -- STOP stops with the machine as it is
-unfoldable pub Fits : Option Row → State → Next → Type 0
-Fits none s n = ⊥
-Fits (some r) s (goes t) = Claim (r .form) (r .takes) (r .leaves) s t
-Fits (some r) s (stops t) = (r .number ≡ 0x2E) × (t ≡ s)
+unfoldable pub FitsRow : Option Row → State → Next → Type 0
+FitsRow none s n = ⊥
+FitsRow (some r) s (goes t) = Claim (r .form) (r .takes) (r .leaves) s t
+FitsRow (some r) s (stops t) = (r .number ≡ 0x2E) × (t ≡ s)
 
-goes-fits : (r : Row) (s : State) (x : Res State) → Out (Claim (r .form) (r .takes) (r .leaves) s) x → Out (Fits (some r) s) (going x)
-unfolding Out Fits going
+goes-fits : (r : Row) (s : State) (x : Res State) → Out (Claim (r .form) (r .takes) (r .leaves) s) x → Out (FitsRow (some r) s) (going x)
+unfolding Out FitsRow going
 goes-fits r s (ok t) h = h
 goes-fits r s (no why) h = tt
 
-stops-fits : (r : Row) (s : State) → r .number ≡ 0x2E → Out (Fits (some r) s) (ok (stops s))
-unfolding Out Fits
+stops-fits : (r : Row) (s : State) → r .number ≡ 0x2E → Out (FitsRow (some r) s) (ok (stops s))
+unfolding Out FitsRow
 stops-fits r s e = (e, refl)
 
-pub does-fits : (o : Opcode) (s : State) → Out (Fits (rowOf (numberOf o)) s) (does o s)
+pub does-fits : (o : Opcode) (s : State) → Out (FitsRow (rowOf (numberOf o)) s) (does o s)
 unfolding does taken rowOf rowIn numberOf numberIn isNamed place Right
 does-fits MARK s = goes-fits _ s _ (bare _ _ s _ (mark-did s))
 does-fits STOP s = stops-fits _ s refl
@@ -140,7 +140,7 @@ pub record Stepped (s : State) (n : Next) : Type 0 where
   pub code : ℕ
   pub rest : List ℕ
   pub input-is : s .input ≡ code ∷ rest
-  pub fits : Fits (rowOf code) (withInput s rest) n
+  pub fits : FitsRow (rowOf code) (withInput s rest) n
 
 pub step-fits : (s : State) → Out (Stepped s) (step s)
 unfolding step decide Out
@@ -152,4 +152,4 @@ step-fits s = bind _ _ _ _ (byte-read s) λ p h.
   where
     go : (b : ℕ) (t : State) (o : Option Opcode) → opcodeOf b ≡ o → t ≡ withInput s (drop 1 (s .input)) → s .input ≡ b ∷ drop 1 (s .input) → Out (Stepped s) (decide o b t)
     go b t none e r c = tt
-    go b t (some o) e r c = weaken (Fits (rowOf (numberOf o)) t) (Stepped s) (does o t) (does-fits o t) λ n f. record { code = b; rest = drop 1 (s .input); input-is = c; fits = rw (← decided b o e, ← r) f }
+    go b t (some o) e r c = weaken (FitsRow (rowOf (numberOf o)) t) (Stepped s) (does o t) (does-fits o t) λ n f. record { code = b; rest = drop 1 (s .input); input-is = c; fits = rw (← decided b o e, ← r) f }

@@ -10,7 +10,7 @@ use Rattle.op.specs.declared.Opcode.{Opcode}
 use Rattle.op.specs.declared.Opcode.the-variants.{MARK, STOP, POP, «POP_MARK», DUP, FLOAT, INT, BININT, BININT1, LONG, BININT2, NONE, REDUCE, STRING, BINSTRING, «SHORT_BINSTRING», UNICODE, BINUNICODE, APPEND, BUILD, GLOBAL, DICT, «EMPTY_DICT», APPENDS, GET, BINGET, «LONG_BINGET», LIST, «EMPTY_LIST», PUT, BINPUT, «LONG_BINPUT», SETITEM, TUPLE, «EMPTY_TUPLE», SETITEMS, BINFLOAT, PROTO, NEWOBJ, TUPLE1, TUPLE2, TUPLE3, NEWTRUE, NEWFALSE, LONG1, LONG4}
 use Rattle.value.specs.Value.{NoneL, BoolL, ListL, TupleL, DictL}
 use Rattle.steps.specs.State.{State, Res, ok, no, _>>=_, byte, push}
-use Rattle.steps.specs.Opcodes.{proto, mark, popOne, popToMark, dup, int, binint, binint1, binint2, long, longN, float, binfloat, string, binstring, shortBinstring, unicode, binunicode, global, list, tuple, tupleN, dict, append, appends, setitem, setitems, getLine, getBytes, putLine, putBytes, reduce, newobj, build}
+use Rattle.steps.specs.Opcodes.{proto, mark, popOne, popToMark, dup, int, binint, binint1, binint2, long, longN, float, binfloat, string, binstring, shortBinstring, unicode, binunicode, global, list, tuple, tupleN, dict, append, appends, setitem, setitems, getLine, getBytes, putLine, putBytes, reduce, newobj, buildState}
 
 -- what a step comes to: the machine goes on, or has stopped
 pub data Next : Type 0 where
@@ -42,7 +42,7 @@ does «SHORT_BINSTRING» s = going (shortBinstring s)
 does UNICODE s = going (unicode s)
 does BINUNICODE s = going (binunicode s)
 does APPEND s = going (append s)
-does BUILD s = going (build s)
+does BUILD s = going (buildState s)
 does GLOBAL s = going (global s)
 does DICT s = going (dict s)
 does «EMPTY_DICT» s = going (push DictL s)

@@ -15,7 +15,7 @@ use Rattle.steps.specs.State.{Node, State, plain}
 use Rattle.steps.specs.Opcodes.{isTuple, isObject}
 use Rattle.steps.specs.Run.{Next, step, start, run}
 use Rattle.steps.specs.Out.{Out}
-use Rattle.steps.specs.Effect.{Right, labelled, Grows, Effect, same, marked, cut, again, new, grown, built, noted}
+use Rattle.steps.specs.Effect.{Right, labelled, TakesItems, Effect, same, marked, cut, again, new, grown, built, noted}
 use Rattle.steps.specs.Keeps.{after, step-keeps, run-keeps}
 use Rattle.steps.specs.Tuples.{Changed, stays, longer, stated, changed-label, Changes, effect-changes}
 
@@ -52,8 +52,8 @@ module _ (l m : List Node) (c : Changes l m) where
   in-pairs : (a b : ℕ) → a % 2 ≡ 0 → b % 2 ≡ 0 → (a + b) % 2 ≡ 0
   in-pairs a b h u = rw (add-mod a b 2, h, u)
 
-  right-longer : (x : Label) (ks is : List ℕ) → Grows x (length is) → Right l x ks → Right m x (ks ++ is)
-  unfolding Right Grows
+  right-longer : (x : Label) (ks is : List ℕ) → TakesItems x (length is) → Right l x ks → Right m x (ks ++ is)
+  unfolding Right TakesItems
   right-longer NoneL ks is g r = never g
   right-longer (BoolL b) ks is g r = never g
   right-longer (I64L v) ks is g r = never g

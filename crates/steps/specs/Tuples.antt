@@ -16,13 +16,13 @@ use Rattle.steps.specs.State.{Node, State, plain, nodeAt}
 use Rattle.steps.specs.Opcodes.{isList, isDict, isObject}
 use Rattle.steps.specs.Run.{Next, does, step, runs}
 use Rattle.steps.specs.Out.{Out, weaken}
-use Rattle.steps.specs.Effect.{Grows, grows-inside, object-inside, Effect, same, marked, cut, again, new, grown, built, noted}
+use Rattle.steps.specs.Effect.{TakesItems, grows-inside, object-inside, Effect, same, marked, cut, again, new, grown, built, noted}
 use Rattle.steps.specs.Keeps.{after, does-effected, step-effected, step-keeps, runs-keeps}
 
 -- from the node n to the node m
 pub data Changed (n : Node) : Node → Type 0 where
   stays : Changed n n
-  longer : (is : List ℕ) → Grows (n .label) (length is) → Changed n (record { label = n .label; kids = n .kids ++ is })
+  longer : (is : List ℕ) → TakesItems (n .label) (length is) → Changed n (record { label = n .label; kids = n .kids ++ is })
   stated : (i : ℕ) → T (isObject (n .label)) → Changed n (record { label = n .label; kids = getD (n .kids) 0 0 ∷ i ∷ [] })
 
 pub record Changes (l m : List Node) : Type 0 where
@@ -71,7 +71,7 @@ unfoldable pub Stands : ℕ → Node → State → Type 0
 Stands i n s = (i < length (s .nodes)) × (nodeAt s i ≡ n)
 
 changed-fixed : (n m : Node) → T (fixed (n .label)) → Changed n m → m ≡ n
-unfolding fixed Grows
+unfolding fixed TakesItems
 changed-fixed n m f stays = refl
 changed-fixed n m f (longer is g) = absurd (⊎-elim (λ h. listed (isList (n .label)) _ f h) (λ h. dicted (isList (n .label)) (isDict (n .label)) _ f (h .0)) g)
   where

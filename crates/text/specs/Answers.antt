@@ -1,10 +1,12 @@
 -- What a caller learns of a line from an answer of the code. Assumes nothing.
-use Prim.Native.Nat.{ℕ}
-use mathlib.Core.Bool.{Bool, true, false, cond}
+use Prim.Native.Nat.{ℕ, _-_, _≤_}
+use mathlib.Core.Bool.{Bool, true, false, cond, _&&_, _||_}
 use mathlib.Core.List.{List}
 use mathlib.Core.Path.{_≡_, refl, sym, ap, _∙_}
 use native.Mathlib.Omega.{arith}
-use lib.ListN.{length}
+use lib.ListN.{length, getD}
+use lib.Dec.{leb, eqb}
+use borrow.Author.Tests.{leb-true}
 use Rattle.refusal.specs.Read.{Read, got, refused}
 use Rattle.refusal.specs.declared.Refusal.the-variants.{InvalidLiteral}
 use Rattle.text.specs.declared.Quoted.the-variants as quoted
@@ -87,3 +89,13 @@ module _ (line : List ℕ) where
       go : (r : Read (List ℕ)) → refused InvalidLiteral at ≡ marked (hasEscape (inner line)) (lengthOf r) → r ≡ refused InvalidLiteral at
       go (got v) e = cc
       go (refused why k) e = cc
+
+-- a line that STRING reads has its two quotes
+pub quotes-two : (l v : List ℕ) → unescapeString l ≡ got v → 2 ≤ length l
+unfolding unescapeString hasQuotes
+quotes-two l v = go (leb 2 (length l)) refl
+  where
+    go : (t : Bool) → leb 2 (length l) ≡ t
+        → cond (t && eqb (getD l 0 0) (getD l (length l - 1) 0) && (eqb (getD l 0 0) 39 || eqb (getD l 0 0) 34)) (texts stringHead byte 0 1 (inner l)) (refused InvalidLiteral 0) ≡ got v → 2 ≤ length l
+    go true h e = leb-true 2 (length l) h
+    go false h e = let z : _≡_ {A = ℕ} 0 1 = cc in absurd (omega arith)

@@ -17,7 +17,7 @@ use Rattle.resolved.specs.Noted.{isContainer}
 use Rattle.resolved.specs.Shown.{labels, labelOf, leading, trailing, hasText, isDecoded, placeIn, leadIn, trailIn, rawLead, rawTrail, leadText, trailText, Spelled}
 use Rattle.texts.specs.declared.Spelling.{Spelling}
 use Rattle.texts.specs.Mark.{markOf, mark-least, mark-most, mark-decoded, mark-place, mark-lead, mark-trail}
-use Rattle.texts.specs.Spell.{Fits, Stands, stays, stands, SpellsNode}
+use Rattle.texts.specs.Spell.{TextRoom, Stands, stays, stands, SpellsNode}
 
 -- ---- whose text is wanted
 
@@ -141,7 +141,7 @@ pub record Turn (p ws : List ℕ) (i : ℕ) (d marks : List ℕ) (used : ℕ) : 
   pub words : 2 * i + 1 < length ws
   pub class : kindIn (first ws i) ≡ 12 → 2 * classIn (first ws i) + 1 < length ws
   pub marked : i < length marks
-  pub fits : isDue p ws i (getD marks i 0) ≡ true → Fits (leading (labelOf p ws i)) (trailing (labelOf p ws i)) used d
+  pub fits : isDue p ws i (getD marks i 0) ≡ true → TextRoom (leading (labelOf p ws i)) (trailing (labelOf p ws i)) used d
 
 pub data Turns (p ws : List ℕ) (i : ℕ) (d marks : List ℕ) (used : ℕ) (d′ marks′ : List ℕ) (used′ : ℕ) : Type 0 where
   passed : isDue p ws i (getD marks i 0) ≡ false → d′ ≡ d → marks′ ≡ marks → used′ ≡ used → Turns p ws i d marks used d′ marks′ used′

@@ -26,7 +26,7 @@ pub record Puts (v d : List ℕ) (at : ℕ) (d′ : List ℕ) (n : ℕ) : Type 0
   pub bytes : d′ ≡ sets d at v
 
 -- it has room for what leads and what trails
-pub record Fits (lead trail : List ℕ) (used : ℕ) (d : List ℕ) : Type 0 where
+pub record TextRoom (lead trail : List ℕ) (used : ℕ) (d : List ℕ) : Type 0 where
   pub fits : used + length lead + length trail ≤ 65536
   pub room : 65536 ≤ length d
 
@@ -49,7 +49,7 @@ pub record Unspelled (p ws : List ℕ) (i used : ℕ) (d : List ℕ) : Type 0 wh
   pub words : 2 * i + 1 < length ws
   pub class : kindIn (first ws i) ≡ 12 → 2 * classIn (first ws i) + 1 < length ws
   pub text : hasText (labelOf p ws i) ≡ true
-  pub fits : Fits (leading (labelOf p ws i)) (trailing (labelOf p ws i)) used d
+  pub fits : TextRoom (leading (labelOf p ws i)) (trailing (labelOf p ws i)) used d
 
 -- ---- what was put at the start of the rest of a room, in the room
 
@@ -67,7 +67,7 @@ module _ (v l ys : List ℕ) (at : ℕ) (h : at + length v ≤ length l) where
   sets-back e = put-back (e ∙ sets-front v (take (length l - at) (drop at l)) (rw (length-take, length-drop) (omega arith)))
 
 -- one behind the other
-sets-append : (u v l : List ℕ) (n : ℕ) → sets (sets l n u) (n + length u) v ≡ sets l n (u ++ v)
+pub sets-append : (u v l : List ℕ) (n : ℕ) → sets (sets l n u) (n + length u) v ≡ sets l n (u ++ v)
 sets-append [] v l n = rw (add-zero n)
 sets-append (a ∷ u) v l n = let e : n + suc (length u) ≡ suc n + length u = omega arith in rw e (sets-append u v (set l n a) (suc n))
 
@@ -105,7 +105,7 @@ pub record Texts (p ws : List ℕ) (i : ℕ) (raw-lead raw-trail lead trail : Li
   pub trails : trailing (labelOf p ws i) ≡ trail
 
 module _ {p ws : List ℕ} {i : ℕ} {rl rt l t : List ℕ} (x : Texts p ws i rl rt l t) where
-  pub fits-as : {used : ℕ} {d : List ℕ} → Fits (leading (labelOf p ws i)) (trailing (labelOf p ws i)) used d → Fits l t used d
+  pub fits-as : {used : ℕ} {d : List ℕ} → TextRoom (leading (labelOf p ws i)) (trailing (labelOf p ws i)) used d → TextRoom l t used d
   fits-as f = rw (x .leads, x .trails) at f
 
   pub spells-as : {m used : ℕ} {d : List ℕ} {r : Spelling} {d′ : List ℕ} → Spells rl rt l t m used d r d′ → SpellsNode p ws i m used d r d′

@@ -12,7 +12,7 @@ ghost use Rattle.resolved.specs.Shown.{leadText, trailText};
 ghost use Rattle.texts.specs.Readable.{Readable};
 ghost use Rattle.texts.specs.Place.{placed};
 ghost use Rattle.texts.specs.Mark.{markOf};
-ghost use Rattle.texts.specs.Spell.{Puts, Fits, Spells, Stands, SpellsNode, Unspelled};
+ghost use Rattle.texts.specs.Spell.{Puts, TextRoom, Spells, Stands, SpellsNode, Unspelled};
 ghost use Rattle.texts.specs.Due.{textKind, dueWord, Turn, Turns, Decodable, Decodes};
 use decoder::NodeId;
 use text::Decoded;
@@ -240,7 +240,7 @@ fn put_unicode(line: &[u8], decoded: &mut [u8], at: usize) -> usize
 
 // A String: it stays in the pickle if it is well formed there.
 fn spell_text(bytes: &[u8], mark: u64, decoded: &mut [u8], used: usize) -> Spelling
-    requires { ⌜ Fits (repair (now bytes)) [] used (now decoded) ⌝ }
+    requires { ⌜ TextRoom (repair (now bytes)) [] used (now decoded) ⌝ }
     ensures { λ r. ⌜
         Spells (now (bytes .entry)) [] (repair (now (bytes .entry))) [] mark used (now (decoded .entry)) r
         (now (decoded .exit))
@@ -258,7 +258,7 @@ fn spell_text(bytes: &[u8], mark: u64, decoded: &mut [u8], used: usize) -> Spell
 
 // A module and a name: they stay in the pickle if both are well formed there.
 fn spell_names(lead: &[u8], trail: &[u8], mark: u64, decoded: &mut [u8], used: usize) -> Spelling
-    requires { ⌜ Fits (repair (now lead)) (repair (now trail)) used (now decoded) ⌝ }
+    requires { ⌜ TextRoom (repair (now lead)) (repair (now trail)) used (now decoded) ⌝ }
     ensures { λ r. ⌜
         Spells (now (lead .entry)) (now (trail .entry)) (repair (now (lead .entry))) (repair (now (trail .entry))) mark used
         (now (decoded .entry)) r (now (decoded .exit))
@@ -279,7 +279,7 @@ fn spell_names(lead: &[u8], trail: &[u8], mark: u64, decoded: &mut [u8], used: u
 
 // A line of STRING is always decoded, and so is one of UNICODE.
 fn spell_string(line: &[u8], decoded: &mut [u8], used: usize) -> Spelling
-    requires { ⌜ Fits (bytesOf (unescapeString (now line))) [] used (now decoded) ⌝ }
+    requires { ⌜ TextRoom (bytesOf (unescapeString (now line))) [] used (now decoded) ⌝ }
     ensures { λ r. ⌜ Stands (bytesOf (unescapeString (now (line .entry)))) [] used (now (decoded .entry)) r (now (decoded .exit)) ⌝ }
 {
     let n = put_string(line, decoded, used);
@@ -290,7 +290,7 @@ fn spell_string(line: &[u8], decoded: &mut [u8], used: usize) -> Spelling
 }
 
 fn spell_unicode(line: &[u8], decoded: &mut [u8], used: usize) -> Spelling
-    requires { ⌜ Fits (bytesOf (unescapeUnicode (now line))) [] used (now decoded) ⌝ }
+    requires { ⌜ TextRoom (bytesOf (unescapeUnicode (now line))) [] used (now decoded) ⌝ }
     ensures { λ r. ⌜ Stands (bytesOf (unescapeUnicode (now (line .entry)))) [] used (now (decoded .entry)) r (now (decoded .exit)) ⌝ }
 {
     let n = put_unicode(line, decoded, used);

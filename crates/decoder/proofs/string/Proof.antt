@@ -8,7 +8,8 @@ use Rattle.refusal.specs.declared.Refusal.the-variants.{InvalidLiteral}
 use Rattle.text.specs.Text.{unescapeString}
 use Rattle.value.specs.Value.{BytesL}
 use Rattle.steps.specs.Opcodes.{string}
-use Rattle.decoder.proofs.LawsPickle.{line-ends-by, string-plain, string-escaped, string-bad, quotes-two, plain-label, makes-inner, makes-string-line}
+use Rattle.text.specs.Answers.{quotes-two}
+use Rattle.decoder.proofs.LawsPickle.{line-ends-by, string-plain, string-escaped, string-bad, plain-label, makes-inner, makes-string-line}
 
 line-requires : tie.Need-line-requires
 line-requires c κs = line-inside _ _ _ (at-newline _ _ _ _ (c .before .before .before .newline .ensures) (c .before .end .given .1))

@@ -1,38 +1,19 @@
 -- TUPLE: what stands above the last mark.
-use borrow.Author.Needs.{needs}
 use Rattle.decoder.proofs.tuple.Statement.{statement}
 use Rattle.decoder.proofs.tuple.Tie as tie
-use Rattle.decoder.proofs.tuple.Reads as reads
-use Rattle.decoder.proofs.tuple.Lts as lts
-use Rattle.decoder.proofs.above_mark.Reads as above-mark-reads
-use Rattle.decoder.proofs.cut.Reads as cut-reads
-use native.Mathlib.Omega.{arith}
-use Rattle.decoder.specs.Effects.{Decides, says-refused}
-use Rattle.decoder.specs.Items.{TakesMark}
-use Rattle.decoder.specs.StackSteps.{took-below, tuple-underflow, tuple-makes}
+use mathlib.Core.Path.{refl}
+use Rattle.value.specs.Shape.{kindIn}
+use Rattle.steps.specs.Opcodes.{tuple}
+use Rattle.steps.specs.NodeWords.{nodeIs, aTuple}
+use Rattle.decoder.specs.Items.{gathered}
 
-above-mark-requires : tie.Need-above-mark-requires
-above-mark-requires c κs = search needs
-
-enum-told : tie.Need-enum-told
-enum-told c = search needs
-
-enum-known-m : tie.Need-enum-known-m
-enum-known-m c = search needs
-
-sub-cut : tie.Need-sub-cut
-sub-cut c = omega (arith, took-below _ _ _ (rw (c .before .before .m .given .1) at (c .before .before .before .before .above-mark .ensures)) (c .before .before .before .before .before .before .pre) .1)
-
-cut-requires : tie.Need-cut-requires
-cut-requires c κs = search needs
+gather-requires : tie.Need-gather-requires
+unfolding kindIn
+gather-requires c κs = (c .before .pre, aTuple refl)
 
 returns : tie.Need-returns
-unfolding Decides TakesMark
-returns c = λ r s q. says-refused _ r _ _ (tuple-underflow r _ s (rw (c .enum-told .given .1) at (c .before .before .above-mark .ensures) r s q))
-
-returns-2 : tie.Need-returns-2
-unfolding Decides TakesMark
-returns-2 c = λ r s q. rw (c .cut .ensures) (tuple-makes r _ s _ (rw (c .before .before .before .m .given .1) at (c .before .before .before .before .before .above-mark .ensures) r s q))
+unfolding tuple gathered nodeIs kindIn
+returns c = c .gather .ensures
 
 pub tuple-spec : {M : Type 1} → statement M
-tuple-spec = tie.close (tie.spec above-mark-requires enum-told enum-known-m sub-cut cut-requires returns returns-2)
+tuple-spec = tie.close (tie.spec gather-requires returns)

@@ -7,7 +7,7 @@ use Rattle.machine.proofs.apply.Lts as lts
 use mathlib.Core.Path.{refl}
 use Rattle.decoder.specs.Effects.{Fits, enacted}
 use Rattle.effects.specs.Push.{PushNode, PushId, PutMark}
-use Rattle.effects.specs.Containers.{Makes, Extends}
+use Rattle.effects.specs.Containers.{MakesNode, Extends}
 use Rattle.effects.specs.Memo.{Remembers}
 use Rattle.effects.specs.Words.{Builds}
 use Rattle.machine.specs.Lent.{roomsOf}
@@ -55,8 +55,8 @@ remember-requires c κs = rememberable (roomsOf (c .before .before .before .befo
 enum-known-e-8 : tie.Need-enum-known-e-8
 enum-known-e-8 c = search needs
 
-build-requires : tie.Need-build-requires
-build-requires c κs = buildable (roomsOf (c .before .before .before .before .before .before .before .before .before .before .before .pre .pickle) (c .before .before .before .before .before .before .before .before .before .before .before .args .nodes .now) (c .before .before .before .before .before .before .before .before .before .before .before .args .owners .now) (c .before .before .before .before .before .before .before .before .before .before .before .args .children .now) (c .before .before .before .before .before .before .before .before .before .before .before .args .stack .now) (c .before .before .before .before .before .before .before .before .before .before .before .args .marks .now) (c .before .before .before .before .before .before .before .before .before .before .before .args .keys .now) (c .before .before .before .before .before .before .before .before .before .before .before .args .held .now)) _ _ _ _ (rw (c .before .before .e8 .given .1) at (c .before .before .before .before .before .before .before .before .before .before .before .pre .fits))
+set-state-requires : tie.Need-set-state-requires
+set-state-requires c κs = buildable (roomsOf (c .before .before .before .before .before .before .before .before .before .before .before .pre .pickle) (c .before .before .before .before .before .before .before .before .before .before .before .args .nodes .now) (c .before .before .before .before .before .before .before .before .before .before .before .args .owners .now) (c .before .before .before .before .before .before .before .before .before .before .before .args .children .now) (c .before .before .before .before .before .before .before .before .before .before .before .args .stack .now) (c .before .before .before .before .before .before .before .before .before .before .before .args .marks .now) (c .before .before .before .before .before .before .before .before .before .before .before .args .keys .now) (c .before .before .before .before .before .before .before .before .before .before .before .args .held .now)) _ _ _ _ (rw (c .before .before .e8 .given .1) at (c .before .before .before .before .before .before .before .before .before .before .before .pre .fits))
 
 enum-known-e-9 : tie.Need-enum-known-e-9
 enum-known-e-9 c = search needs
@@ -105,7 +105,7 @@ same-length-8 : tie.Need-same-length-8
 same-length-8 c = search needs
 
 returns-5 : tie.Need-returns-5
-unfolding Applies Makes
+unfolding Applies MakesNode
 returns-5 c = λ p f. rw (c .before .before .before .before .before .before .before .before .before .before .before .before .before .before .e5 .given .1) (c .before .before .before .before .before .before .before .before .make .ensures (roomsOf p (c .before .before .before .before .before .before .before .before .before .before .before .before .before .before .before .before .before .before .before .before .before .before .before .args .nodes .now) (c .before .before .before .before .before .before .before .before .before .before .before .before .before .before .before .before .before .before .before .before .before .before .before .args .owners .now) (c .before .before .before .before .before .before .before .before .before .before .before .before .before .before .before .before .before .before .before .before .before .before .before .args .children .now) (c .before .before .before .before .before .before .before .before .before .before .before .before .before .before .before .before .before .before .before .before .before .before .before .args .stack .now) (c .before .before .before .before .before .before .before .before .before .before .before .before .before .before .before .before .before .before .before .before .before .before .before .args .marks .now) (c .before .before .before .before .before .before .before .before .before .before .before .before .before .before .before .before .before .before .before .before .before .before .before .args .keys .now) (c .before .before .before .before .before .before .before .before .before .before .before .before .before .before .before .before .before .before .before .before .before .before .before .args .held .now)) refl refl refl refl (rw (c .before .before .before .before .before .before .before .before .before .before .before .before .before .before .e5 .given .1) at f))
 
 same-length-9 : tie.Need-same-length-9
@@ -139,7 +139,7 @@ same-length-15 c = search needs
 
 returns-8 : tie.Need-returns-8
 unfolding Applies Builds
-returns-8 c = λ p f. rw (c .before .before .before .before .before .e8 .given .1) (c .before .before .build .ensures (roomsOf p (c .before .before .before .before .before .before .before .before .before .before .before .before .before .before .args .nodes .now) (c .before .before .before .before .before .before .before .before .before .before .before .before .before .before .args .owners .now) (c .before .before .before .before .before .before .before .before .before .before .before .before .before .before .args .children .now) (c .before .before .before .before .before .before .before .before .before .before .before .before .before .before .args .stack .now) (c .before .before .before .before .before .before .before .before .before .before .before .before .before .before .args .marks .now) (c .before .before .before .before .before .before .before .before .before .before .before .before .before .before .args .keys .now) (c .before .before .before .before .before .before .before .before .before .before .before .before .before .before .args .held .now)) _ refl (rw (c .before .before .before .before .before .e8 .given .1) at f))
+returns-8 c = λ p f. rw (c .before .before .before .before .before .e8 .given .1) (c .before .before .set-state .ensures (roomsOf p (c .before .before .before .before .before .before .before .before .before .before .before .before .before .before .args .nodes .now) (c .before .before .before .before .before .before .before .before .before .before .before .before .before .before .args .owners .now) (c .before .before .before .before .before .before .before .before .before .before .before .before .before .before .args .children .now) (c .before .before .before .before .before .before .before .before .before .before .before .before .before .before .args .stack .now) (c .before .before .before .before .before .before .before .before .before .before .before .before .before .before .args .marks .now) (c .before .before .before .before .before .before .before .before .before .before .before .before .before .before .args .keys .now) (c .before .before .before .before .before .before .before .before .before .before .before .before .before .before .args .held .now)) _ refl (rw (c .before .before .before .before .before .e8 .given .1) at f))
 
 returns-9 : tie.Need-returns-9
 unfolding Applies
@@ -150,4 +150,4 @@ unfolding Applies
 returns-10 c = λ p f. rw (c .before .e10 .given .1) (refuses (roomsOf p (c .before .before .before .before .before .before .before .before .before .before .args .nodes .now) (c .before .before .before .before .before .before .before .before .before .before .args .owners .now) (c .before .before .before .before .before .before .before .before .before .before .args .children .now) (c .before .before .before .before .before .before .before .before .before .before .args .stack .now) (c .before .before .before .before .before .before .before .before .before .before .args .marks .now) (c .before .before .before .before .before .before .before .before .before .before .args .keys .now) (c .before .before .before .before .before .before .before .before .before .before .args .held .now)) _ _ _ _ _)
 
 pub apply-spec : {M : Type 1} → statement M
-apply-spec = tie.close (tie.spec enum-known-e push-node-requires enum-known-e-2 push-id-requires enum-known-e-3 put-mark-requires enum-known-e-4 enum-known-e-5 make-requires enum-known-e-6 extend-requires enum-known-e-7 remember-requires enum-known-e-8 build-requires enum-known-e-9 enum-known-e-10 same-length same-length-2 returns same-length-3 returns-2 same-length-4 returns-3 returns-4 same-length-5 same-length-6 same-length-7 same-length-8 returns-5 same-length-9 same-length-10 same-length-11 same-length-12 returns-6 same-length-13 same-length-14 returns-7 same-length-15 returns-8 returns-9 returns-10)
+apply-spec = tie.close (tie.spec enum-known-e push-node-requires enum-known-e-2 push-id-requires enum-known-e-3 put-mark-requires enum-known-e-4 enum-known-e-5 make-requires enum-known-e-6 extend-requires enum-known-e-7 remember-requires enum-known-e-8 set-state-requires enum-known-e-9 enum-known-e-10 same-length same-length-2 returns same-length-3 returns-2 same-length-4 returns-3 returns-4 same-length-5 same-length-6 same-length-7 same-length-8 returns-5 same-length-9 same-length-10 same-length-11 same-length-12 returns-6 same-length-13 same-length-14 returns-7 same-length-15 returns-8 returns-9 returns-10)

@@ -67,8 +67,8 @@ binunicode-requires c κs = lent _ _ _ _ _ _ _ _ (c .before .before .if1 .left) 
 append-requires : tie.Need-append-requires
 append-requires c κs = lent _ _ _ _ _ _ _ _ (c .before .before .if1 .left) _ (c .before .before .before .before .before .before .before .before .before .before .pre) (λ r a. (a .nodes, a .stack))
 
-build-requires : tie.Need-build-requires
-build-requires c κs = lent _ _ _ _ _ _ _ _ (c .before .before .if1 .left) _ (c .before .before .before .before .before .before .before .before .before .before .pre) (λ r a. (a .nodes, a .stack))
+build-state-requires : tie.Need-build-state-requires
+build-state-requires c κs = lent _ _ _ _ _ _ _ _ (c .before .before .if1 .left) _ (c .before .before .before .before .before .before .before .before .before .before .pre) (λ r a. (a .nodes, a .stack))
 
 global-requires : tie.Need-global-requires
 global-requires c κs = lent _ _ _ _ _ _ _ _ (c .before .before .if1 .left) _ (c .before .before .before .before .before .before .before .before .before .before .pre) (λ r a. a .pickle)
@@ -205,7 +205,7 @@ returns-20 c = arm _ _ _ _ _ _ _ _ (c .before .before .before .if1 .left) APPEND
 
 returns-21 : tie.Need-returns-21
 unfolding does numberOf numberIn isNamed place
-returns-21 c = arm _ _ _ _ _ _ _ _ (c .before .before .before .if1 .left) BUILD _ _ (c .before .match .keys20) (λ r a. (a .nodes, a .stack)) (c .build .ensures)
+returns-21 c = arm _ _ _ _ _ _ _ _ (c .before .before .before .if1 .left) BUILD _ _ (c .before .match .keys20) (λ r a. (a .nodes, a .stack)) (c .build-state .ensures)
 
 returns-22 : tie.Need-returns-22
 unfolding does numberOf numberIn isNamed place
@@ -311,4 +311,4 @@ unfolding numberOf numberIn isNamed place
 returns-47 c = unsupported _ _ _ _ _ _ _ _ (c .before .before .before .before .if1 .left) (no-name _ (c .before .before .match .rest) (λ x y. omega (arith, y, c .if3 .left)))
 
 pub decide-spec : {M : Type 1} → statement M
-decide-spec = tie.close (tie.spec returns shared-slice-read-code add-t12 pop-requires pop-mark-requires dup-requires float-requires int-requires binint-requires binint1-requires long-requires binint2-requires reduce-requires string-requires binstring-requires short-binstring-requires unicode-requires binunicode-requires append-requires build-requires global-requires dict-requires appends-requires get-line-requires binget-requires long-binget-requires list-requires put-line-requires binput-requires long-binput-requires setitem-requires tuple-requires setitems-requires binfloat-requires proto-requires newobj-requires long1-requires long4-requires small-tuple-requires returns-2 returns-3 returns-4 returns-5 returns-6 returns-7 returns-8 returns-9 returns-10 returns-11 returns-12 returns-13 returns-14 returns-15 returns-16 returns-17 returns-18 returns-19 returns-20 returns-21 returns-22 returns-23 returns-24 returns-25 returns-26 returns-27 returns-28 returns-29 returns-30 returns-31 returns-32 returns-33 returns-34 returns-35 returns-36 returns-37 returns-38 returns-39 returns-40 returns-41 returns-42 returns-43 returns-44 returns-45 returns-46 returns-47)
+decide-spec = tie.close (tie.spec returns shared-slice-read-code add-t12 pop-requires pop-mark-requires dup-requires float-requires int-requires binint-requires binint1-requires long-requires binint2-requires reduce-requires string-requires binstring-requires short-binstring-requires unicode-requires binunicode-requires append-requires build-state-requires global-requires dict-requires appends-requires get-line-requires binget-requires long-binget-requires list-requires put-line-requires binput-requires long-binput-requires setitem-requires tuple-requires setitems-requires binfloat-requires proto-requires newobj-requires long1-requires long4-requires small-tuple-requires returns-2 returns-3 returns-4 returns-5 returns-6 returns-7 returns-8 returns-9 returns-10 returns-11 returns-12 returns-13 returns-14 returns-15 returns-16 returns-17 returns-18 returns-19 returns-20 returns-21 returns-22 returns-23 returns-24 returns-25 returns-26 returns-27 returns-28 returns-29 returns-30 returns-31 returns-32 returns-33 returns-34 returns-35 returns-36 returns-37 returns-38 returns-39 returns-40 returns-41 returns-42 returns-43 returns-44 returns-45 returns-46 returns-47)

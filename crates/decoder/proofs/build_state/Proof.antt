@@ -1,7 +1,7 @@
--- `decoder::build` meets its contract. Assumes nothing.
+-- `decoder::build_state` meets its contract. Assumes nothing.
 use borrow.Author.Needs.{needs}
-use Rattle.decoder.proofs.build.Statement.{statement}
-use Rattle.decoder.proofs.build.Tie as tie
+use Rattle.decoder.proofs.build_state.Statement.{statement}
+use Rattle.decoder.proofs.build_state.Tie as tie
 use Prim.Native.Nat.{_-_}
 use mathlib.Core.Path.{refl, sym, _∙_}
 use native.Mathlib.Omega.{arith}
@@ -50,5 +50,5 @@ returns-3 c =
     let a = c .before .before .before .before .before .before .before .before .before .before .before .args in
     λ r s q. says-build r (a .c) s (a .nodes .now) (a .stack .now) (q .0) (q .1) (omega arith) _ _ (c .cut .result) refl refl (sym (c .before .before .kind .ensures) ∙ c .before .if2 .left) (c .cut .ensures)
 
-pub build-spec : {M : Type 1} → statement M
-build-spec = tie.close (tie.spec returns (λ c. search needs) (λ c. search needs) shared-slice-read-t12 cast-t13 (λ c. search needs) shared-slice-read-t12-2 cast-t13-2 kind-requires returns-2 (λ c κs. search needs) returns-3)
+pub build-state-spec : {M : Type 1} → statement M
+build-state-spec = tie.close (tie.spec returns (λ c. search needs) (λ c. search needs) shared-slice-read-t12 cast-t13 (λ c. search needs) shared-slice-read-t12-2 cast-t13-2 kind-requires returns-2 (λ c κs. search needs) returns-3)

@@ -1,9 +1,9 @@
 -- An Object's state.
 use borrow.Author.Needs.{needs}
-use Rattle.effects.proofs.build.Statement.{statement}
-use Rattle.effects.proofs.build.Tie as tie
-use Rattle.effects.proofs.build.Reads as reads
-use Rattle.effects.proofs.build.Lts as lts
+use Rattle.effects.proofs.set_state.Statement.{statement}
+use Rattle.effects.proofs.set_state.Tie as tie
+use Rattle.effects.proofs.set_state.Reads as reads
+use Rattle.effects.proofs.set_state.Lts as lts
 use Rattle.effects.proofs.with_state.Reads as with-state-reads
 use lib.ListN.{length-set}
 use native.Mathlib.Omega.{arith}
@@ -55,5 +55,5 @@ same-length c = search needs
 returns : tie.Need-returns
 returns c = rw (c .with-state .ensures) (built-lent _ _ _ _)
 
-pub build-spec : {M : Type 1} → statement M
-build-spec = tie.close (tie.spec mul-first add-second mul-a slice-read-a mul-b slice-read-b with-state-requires mul-nodes slice-write-nodes mul-nodes-2 add-nodes mul-nodes-3 slice-write-nodes-2 same-length returns)
+pub set-state-spec : {M : Type 1} → statement M
+set-state-spec = tie.close (tie.spec mul-first add-second mul-a slice-read-a mul-b slice-read-b with-state-requires mul-nodes slice-write-nodes mul-nodes-2 add-nodes mul-nodes-3 slice-write-nodes-2 same-length returns)

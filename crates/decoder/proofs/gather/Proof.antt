@@ -1,0 +1,38 @@
+-- What stands above the last mark, as a new container.
+use borrow.Author.Needs.{needs}
+use Rattle.decoder.proofs.gather.Statement.{statement}
+use Rattle.decoder.proofs.gather.Tie as tie
+use Rattle.decoder.proofs.gather.Reads as reads
+use Rattle.decoder.proofs.gather.Lts as lts
+use Rattle.decoder.proofs.above_mark.Reads as above-mark-reads
+use Rattle.decoder.proofs.cut.Reads as cut-reads
+use native.Mathlib.Omega.{arith}
+use Rattle.decoder.specs.Effects.{Decides, says-refused}
+use Rattle.decoder.specs.Items.{TakesMark}
+use Rattle.decoder.specs.StackSteps.{took-below, gathered-underflow, gathered-makes}
+
+above-mark-requires : tie.Need-above-mark-requires
+above-mark-requires c κs = c .before .pre .0
+
+enum-told : tie.Need-enum-told
+enum-told c = search needs
+
+enum-known-m : tie.Need-enum-known-m
+enum-known-m c = search needs
+
+sub-cut : tie.Need-sub-cut
+sub-cut c = omega (arith, took-below _ _ _ (rw (c .before .before .m .given .1) at (c .before .before .before .before .above-mark .ensures)) (c .before .before .before .before .before .before .pre .0) .1)
+
+cut-requires : tie.Need-cut-requires
+cut-requires c κs = search needs
+
+returns : tie.Need-returns
+unfolding Decides TakesMark
+returns c = λ r s q. says-refused _ r _ _ (gathered-underflow r _ s _ (rw (c .enum-told .given .1) at (c .before .before .above-mark .ensures) r s q))
+
+returns-2 : tie.Need-returns-2
+unfolding Decides TakesMark
+returns-2 c = λ r s q. rw (c .cut .ensures) (gathered-makes r _ s _ _ (c .before .before .before .before .before .before .before .pre .1) (rw (c .before .before .before .m .given .1) at (c .before .before .before .before .before .above-mark .ensures) r s q))
+
+pub gather-spec : {M : Type 1} → statement M
+gather-spec = tie.close (tie.spec above-mark-requires enum-told enum-known-m sub-cut cut-requires returns returns-2)
