@@ -28,13 +28,15 @@
 extern "C" {
 #endif
 
-/* What a call but compare and score answers. A refusal has length and count 0, and has changed no output. */
+/* What a call but compare and score answers, and what the batch answers to each sheet. A refusal has length and count 0, and has changed
+   no output. */
 struct qelemvir_answer {
     uint64_t number; /* 0, or why it refuses: enum qelemvir_refusal */
     uint64_t detail; /* 0 unless said there */
-    uint64_t length; /* bytes read or written */
+    uint64_t length; /* bytes read or written; 0 of the batch itself */
     uint64_t count;  /* records of a reading; else 0 */
 };
+#define QELEMVIR_ANSWER 4 /* the words of an answer, its four numbers in this order */
 
 /* What compare answers. */
 struct qelemvir_compared {
@@ -75,6 +77,7 @@ enum qelemvir_refusal {
     QELEMVIR_FLOAT_OUTSIDE = 20,       /* inf, nan, or a FLOAT, not zero, with digits above 2^53 or a power of ten outside -22 to 22 */
     QELEMVIR_BAD_TABLE = 21,           /* a table is not well formed; detail: 1, or 2 for the second table of compare */
     QELEMVIR_OUTPUT_FULL = 22,         /* what is to be written is longer than the lent output */
+    QELEMVIR_BAD_LENGTHS = 23,         /* the sheets' lengths do not add up to the buffer's (qelemvir_from_bytes_batch): nothing was touched */
     QELEMVIR_SHEET_SHAPE = 24,         /* a value is no sheet (qelemvir_score) */
     QELEMVIR_UNWRITABLE_NAME = 25      /* to_bytes of a Global, or an Object's class, whose module or name has a newline or ends with CR */
 };
@@ -146,10 +149,9 @@ enum qelemvir_kind {
 #define QELEMVIR_OUTPUT_MAX 122883  /* of to_bytes */
 #define QELEMVIR_LISTING_MAX 370688 /* of list */
 
-/* The parameters of a reading. */
+/* The parameters of a reading behind what it reads. */
 /* from rooms.txt, by tests/rooms: parameters */
 #define QELEMVIR_LENT                         \
-    const uint8_t *pickle, size_t pickle_len, \
     uint64_t *nodes, size_t nodes_len,        \
     uint16_t *owners, size_t owners_len,      \
     uint16_t *children, size_t children_len,  \
@@ -168,11 +170,20 @@ enum qelemvir_kind {
 /* Read the pickle at the start of the slice. On success `length` is the bytes read and `count` the records in `table`; of `table` and
    `text` only what is filled has changed, and the table is well formed. The rooms may hold anything before. After every answer but
    QELEMVIR_SHORT_ROOM they are zero up to their stated lengths. */
-struct qelemvir_answer qelemvir_from_bytes_prefix(QELEMVIR_LENT);
+struct qelemvir_answer qelemvir_from_bytes_prefix(const uint8_t *pickle, size_t pickle_len, QELEMVIR_LENT);
 
 /* Read a pickle that is the whole slice: the same answer, but for QELEMVIR_TRAILING_DATA exactly where the prefix reading succeeds
    and leaves bytes. */
-struct qelemvir_answer qelemvir_from_bytes(QELEMVIR_LENT);
+struct qelemvir_answer qelemvir_from_bytes(const uint8_t *pickle, size_t pickle_len, QELEMVIR_LENT);
+
+/* Read a night's sheets, which stand end to end in a buffer, each as from_bytes reads it by itself. `lengths` has the length of each;
+   `answers` is filled with number, detail, length and count of each, and kept behind the last. `table` and `text` hold the value of the
+   last sheet that was accepted, behind it what the ones before it left, or all they held before if none was. Its own answer is
+   QELEMVIR_SHORT_ROOM, also where there are fewer than four answers a sheet; then QELEMVIR_BAD_LENGTHS exactly where the lengths, added
+   without wrapping, are not the buffer's; else 0, whatever the sheets' answers are. Both refusals touch nothing, the rooms included; else
+   these are zero as after a reading. */
+struct qelemvir_answer qelemvir_from_bytes_batch(const uint8_t *sheets, size_t sheets_len, const uint64_t *lengths, size_t lengths_len,
+                                                 uint64_t *answers, size_t answers_len, QELEMVIR_LENT);
 
 /* The length of a well-formed table's text, which a reading does not return and the calls below ask for. */
 size_t qelemvir_text_len(const uint64_t *words, size_t words_len, size_t count);
@@ -219,22 +230,21 @@ struct qelemvir_rooms {
 }; /* 252 KB */
 /* end of struct */
 
-/* The arguments of a reading in such rooms; `table` and `text` have QELEMVIR_TABLE words and QELEMVIR_TEXT bytes. */
+/* The arguments of a reading behind what it reads, in such rooms; `table` and `text` have QELEMVIR_TABLE words and QELEMVIR_TEXT bytes. */
 /* from rooms.txt, by tests/rooms: arguments */
-#define QELEMVIR_LEND(rooms, pickle, pickle_len, table, text) \
-    pickle, pickle_len,                                       \
-    (rooms)->nodes, QELEMVIR_NODES,                           \
-    (rooms)->owners, QELEMVIR_OWNERS,                         \
-    (rooms)->children, QELEMVIR_CHILDREN,                     \
-    (rooms)->stack, QELEMVIR_STACK,                           \
-    (rooms)->marks, QELEMVIR_MARKS,                           \
-    (rooms)->keys, QELEMVIR_KEYS,                             \
-    (rooms)->held, QELEMVIR_HELD,                             \
-    (rooms)->unescaped, QELEMVIR_UNESCAPED,                   \
-    (rooms)->starts, QELEMVIR_STARTS,                         \
-    (rooms)->sorted, QELEMVIR_SORTED,                         \
-    (rooms)->measures, QELEMVIR_MEASURES,                     \
-    table, QELEMVIR_TABLE,                                    \
+#define QELEMVIR_LEND(rooms, table, text)   \
+    (rooms)->nodes, QELEMVIR_NODES,         \
+    (rooms)->owners, QELEMVIR_OWNERS,       \
+    (rooms)->children, QELEMVIR_CHILDREN,   \
+    (rooms)->stack, QELEMVIR_STACK,         \
+    (rooms)->marks, QELEMVIR_MARKS,         \
+    (rooms)->keys, QELEMVIR_KEYS,           \
+    (rooms)->held, QELEMVIR_HELD,           \
+    (rooms)->unescaped, QELEMVIR_UNESCAPED, \
+    (rooms)->starts, QELEMVIR_STARTS,       \
+    (rooms)->sorted, QELEMVIR_SORTED,       \
+    (rooms)->measures, QELEMVIR_MEASURES,   \
+    table, QELEMVIR_TABLE,                  \
     text, QELEMVIR_TEXT
 /* end of arguments */
 
@@ -242,14 +252,23 @@ struct qelemvir_rooms {
 static inline struct qelemvir_answer qelemvir_read_prefix(struct qelemvir_rooms *rooms, const uint8_t *pickle, size_t pickle_len,
                                                           uint64_t *table, uint8_t *text)
 {
-    return qelemvir_from_bytes_prefix(QELEMVIR_LEND(rooms, pickle, pickle_len, table, text));
+    return qelemvir_from_bytes_prefix(pickle, pickle_len, QELEMVIR_LEND(rooms, table, text));
 }
 
 /* from_bytes in such rooms. */
 static inline struct qelemvir_answer qelemvir_read(struct qelemvir_rooms *rooms, const uint8_t *pickle, size_t pickle_len,
                                                    uint64_t *table, uint8_t *text)
 {
-    return qelemvir_from_bytes(QELEMVIR_LEND(rooms, pickle, pickle_len, table, text));
+    return qelemvir_from_bytes(pickle, pickle_len, QELEMVIR_LEND(rooms, table, text));
+}
+
+/* from_bytes_batch in such rooms, of `count` sheets, with as many answers. */
+static inline struct qelemvir_answer qelemvir_read_batch(struct qelemvir_rooms *rooms, const uint8_t *sheets, size_t sheets_len,
+                                                         const uint64_t *lengths, struct qelemvir_answer *answers, size_t count,
+                                                         uint64_t *table, uint8_t *text)
+{
+    return qelemvir_from_bytes_batch(sheets, sheets_len, lengths, count, (uint64_t *)answers, QELEMVIR_ANSWER * count,
+                                     QELEMVIR_LEND(rooms, table, text));
 }
 
 #ifdef __cplusplus

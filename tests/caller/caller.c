@@ -2,7 +2,7 @@
 
    Requests come on standard input in the form that wire.py gives them. For each that comes out otherwise than due there is a line
    on standard output, the request's tag, a tab and what differs; the last line is `done` and the number of requests of each call.
-   A request that dies or takes a minute is told in the same way, and ends the program.
+   A request that dies or takes a minute, a batch ten, is told in the same way, and ends the program.
 
    Everything that is lent is dirty: filled with noise, and with more noise before and behind it, which no call may touch. */
 #include <signal.h>
@@ -15,14 +15,15 @@
 
 #include "qelemvir.h"
 
-enum call { VALUE, PREFIX, WHOLE, WRITE, LIST, COMPARE, LAWS, SCORE, CALLS };
-static const char *const names[CALLS] = {"value", "from_bytes_prefix", "from_bytes", "to_bytes", "list", "compare", "compare's laws", "score"};
+enum call { VALUE, PREFIX, WHOLE, WRITE, LIST, COMPARE, LAWS, SCORE, BATCH, CALLS };
+static const char *const names[CALLS] = {"value", "from_bytes_prefix", "from_bytes", "to_bytes", "list", "compare", "compare's laws", "score",
+                                         "from_bytes_batch"};
 
 /* A request; words and bytes follow it, filled up to a whole number of words. */
 struct request {
     uint64_t call, tag, seed;        /* the seed chooses the noise and how much longer than stated slices are */
-    uint64_t number, detail, length; /* the answer due; of compare `length` is the sign, of score the score */
-    uint64_t which, size;            /* a reading: a slice and how much longer it is; VALUE: words lent, count; COMPARE: slots; SCORE: -, items */
+    uint64_t number, detail, length; /* the answer due; of compare `length` is the sign, of score the score, of a batch how many sheets */
+    uint64_t which, size;            /* a reading, batch: a slice and how much longer it is; VALUE: words lent, count; COMPARE: slots; SCORE: -, items */
     uint64_t words, bytes;
 };
 
@@ -134,6 +135,11 @@ static struct {
 } slices[SLICES] = {EACH_ROOM(ROOM) EACH_OUTPUT(OUTPUT)};
 static struct memory *const table = &slices[ROOMS].memory, *const text = &slices[ROOMS + 1].memory;
 
+/* The answers of a batch: as a slice it stands behind those of a reading. */
+#define ANSWERS SLICES
+#define MOST_SHEETS 1024
+static struct memory answers;
+
 /* The value last given and the two before it, with noise behind the words. */
 #define VALUES 3
 #define MOST_WORDS 16384
@@ -163,6 +169,7 @@ static void make_memory(void)
         values[i].text = new_memory(MOST_TEXT);
     }
     output = new_memory(QELEMVIR_LISTING_MAX + LONGER);
+    answers = new_memory(sizeof(uint64_t) * (QELEMVIR_ANSWER * MOST_SHEETS + LONGER));
 }
 
 static void take_value(const struct request *r, const uint8_t *data)
@@ -204,16 +211,16 @@ static void lend(const struct request *r)
 static struct qelemvir_answer reading(uint64_t call, const uint8_t *pickle, size_t pickle_len)
 {
 #define LENT(i, type, name, stated) , (type *)slices[i].memory.at, slices[i].length
-#define ALL pickle, pickle_len EACH_ROOM(LENT) EACH_OUTPUT(LENT)
-    return call == PREFIX ? qelemvir_from_bytes_prefix(ALL) : qelemvir_from_bytes(ALL);
+#define ALL EACH_ROOM(LENT) EACH_OUTPUT(LENT)
+    return call == PREFIX ? qelemvir_from_bytes_prefix(pickle, pickle_len ALL) : qelemvir_from_bytes(pickle, pickle_len ALL);
 }
 
-/* After ShortRoom every room is as it was; else it is zero up to its stated length, and as it was behind that. */
+/* After ShortRoom, and BadLengths, every room is as it was; else it is zero up to its stated length, and as it was behind that. */
 static void check_rooms(const struct request *r)
 {
     for (size_t i = 0; i < ROOMS; i++) {
         const struct memory *room = &slices[i].memory;
-        int touched = r->number != QELEMVIR_SHORT_ROOM;
+        int touched = r->number != QELEMVIR_SHORT_ROOM && r->number != QELEMVIR_BAD_LENGTHS;
         if (touched && !is_zero(room->at, room->bytes))
             differs(r, "room %s is not zero", slices[i].name);
         if (!kept_from(room, touched ? room->bytes : 0))
@@ -221,8 +228,8 @@ static void check_rooms(const struct request *r)
     }
 }
 
-/* The outputs have the current value, if there is one due, and are as they were behind it. */
-static void check_value(const struct request *r)
+/* The outputs have the current value, if nothing is refused, and are as they were behind it. */
+static void check_filled(const struct request *r)
 {
     const struct value *v = given(0);
     size_t filled = r->number ? 0 : sizeof(uint64_t) * QELEMVIR_RECORD * v->count, written = r->number ? 0 : v->text_len;
@@ -239,6 +246,13 @@ static void check_value(const struct request *r)
         differs(r, "the table has changed behind what is filled");
     if (!kept_from(text, written))
         differs(r, "the text has changed behind what is filled");
+}
+
+/* The same of a reading, and that the value has its length of text. */
+static void check_value(const struct request *r)
+{
+    const struct value *v = given(0);
+    check_filled(r);
     if (r->number == 0) {
         size_t length = qelemvir_text_len((uint64_t *)table->at, slices[ROOMS].length, v->count);
         if (length != v->text_len)
@@ -271,6 +285,78 @@ static void check_reading(const struct request *r, const uint8_t *pickle)
     check_value(r);
     if (r->number != QELEMVIR_SHORT_ROOM && mix(r->seed) % 16 == 0)
         check_in_rooms(r, pickle, due);
+}
+
+static void check_sheet(const struct request *r, size_t sheet, const uint64_t *got, const uint64_t *due, const char *whose)
+{
+    if (memcmp(got, due, sizeof(uint64_t) * QELEMVIR_ANSWER) != 0)
+        differs(r, "sheet %zu: number %llu detail %llu length %llu count %llu, %s %llu %llu %llu %llu", sheet,
+                (unsigned long long)got[0], (unsigned long long)got[1], (unsigned long long)got[2], (unsigned long long)got[3], whose,
+                (unsigned long long)due[0], (unsigned long long)due[1], (unsigned long long)due[2], (unsigned long long)due[3]);
+}
+
+/* Separate calls, one for each sheet, with the same noise in the outputs before the first: they answer as the batch did, and leave the
+   outputs as it left them. */
+static void check_separately(const struct request *r, const uint64_t *lengths, const uint8_t *sheets)
+{
+    static uint64_t batch_table[QELEMVIR_TABLE + GAP];
+    static uint8_t batch_text[QELEMVIR_TEXT + GAP];
+    size_t table_bytes = table->bytes + GAP, text_bytes = text->bytes + GAP;
+    memcpy(batch_table, table->at, table_bytes);
+    memcpy(batch_text, text->at, text_bytes);
+    lend(r);
+    for (size_t i = 0; i < r->length; i++) {
+        struct qelemvir_answer by_itself = reading(WHOLE, sheets, lengths[i]);
+        const uint64_t numbers[QELEMVIR_ANSWER] = {by_itself.number, by_itself.detail, by_itself.length, by_itself.count};
+        check_sheet(r, i, (uint64_t *)answers.at + QELEMVIR_ANSWER * i, numbers, "a separate call answers");
+        sheets += lengths[i];
+    }
+    if (memcmp(batch_table, table->at, table_bytes) != 0)
+        differs(r, "separate calls leave another table");
+    if (memcmp(batch_text, text->at, text_bytes) != 0)
+        differs(r, "separate calls leave another text");
+}
+
+/* The header's own batch, in its struct of rooms: the same answers. */
+static void check_batch_in_rooms(const struct request *r, const uint64_t *lengths, const uint8_t *sheets, const uint64_t *due)
+{
+    static struct qelemvir_rooms rooms;
+    static struct qelemvir_answer got[MOST_SHEETS];
+    memcpy(&rooms, noise_of(r->seed), sizeof rooms);
+    make_dirty(table, r->seed);
+    make_dirty(text, r->seed);
+    check_answer(r, qelemvir_read_batch(&rooms, sheets, r->bytes, lengths, got, r->length, (uint64_t *)table->at, text->at),
+                 (struct qelemvir_answer){0, 0, 0, 0});
+    check_filled(r);
+    for (size_t i = 0; i < r->length; i++)
+        check_sheet(r, i, (uint64_t *)&got[i], due + QELEMVIR_ANSWER * i, "in the struct of rooms due is");
+}
+
+/* A batch of the sheets that the bytes are, end to end. The words are their lengths and, if it is due to succeed, the answers due. */
+static void check_batch(const struct request *r, const uint8_t *data)
+{
+    const uint64_t *lengths = (const uint64_t *)data, *due = lengths + r->length;
+    const uint8_t *sheets = data + sizeof(uint64_t) * r->words;
+    size_t places = QELEMVIR_ANSWER * r->length, filled = r->number ? 0 : sizeof(uint64_t) * places;
+    size_t lent = places + (r->which == ANSWERS ? r->size : mix(r->seed) % LONGER);
+    if (r->length > MOST_SHEETS || r->words != r->length + filled / sizeof(uint64_t) || lent > places + LONGER)
+        fail("a batch that is none");
+    lend(r);
+    answers.bytes = sizeof(uint64_t) * lent;
+    make_dirty(&answers, r->seed + ANSWERS);
+    struct qelemvir_answer got = qelemvir_from_bytes_batch(sheets, r->bytes, lengths, r->length, (uint64_t *)answers.at, lent ALL);
+    check_answer(r, got, (struct qelemvir_answer){r->number, r->detail, 0, 0});
+    check_rooms(r);
+    check_filled(r);
+    if (!kept_from(&answers, filled))
+        differs(r, "the answers have changed where they must not");
+    if (r->number != 0)
+        return;
+    for (size_t i = 0; i < r->length; i++)
+        check_sheet(r, i, (uint64_t *)answers.at + QELEMVIR_ANSWER * i, due + QELEMVIR_ANSWER * i, "due is");
+    check_separately(r, lengths, sheets);
+    if (mix(r->seed) % 4 == 0)
+        check_batch_in_rooms(r, lengths, sheets, due);
 }
 
 /* to_bytes or list of the current value with an output of so many bytes. */
@@ -371,7 +457,7 @@ static void died(int signal)
 static void answer_request(const struct request *r, const uint8_t *data)
 {
     at_work = r;
-    alarm(60);
+    alarm(r->call == BATCH ? 600 : 60);
     switch (r->call) {
     case VALUE:
         take_value(r, data);
@@ -392,6 +478,9 @@ static void answer_request(const struct request *r, const uint8_t *data)
         break;
     case SCORE:
         check_score(r);
+        break;
+    case BATCH:
+        check_batch(r, data);
         break;
     default:
         fail("no such call");

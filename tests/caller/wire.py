@@ -8,9 +8,10 @@ HERE = os.path.dirname(os.path.abspath(__file__))
 sys.path.insert(0, os.path.join(HERE, ".."))
 import stated  # noqa: E402
 
-VALUE, PREFIX, WHOLE, WRITE, LIST, COMPARE, LAWS, SCORE = range(8)
-CALLS = ["value", "from_bytes_prefix", "from_bytes", "to_bytes", "list", "compare", "compare's laws", "score"]
+VALUE, PREFIX, WHOLE, WRITE, LIST, COMPARE, LAWS, SCORE, BATCH = range(9)
+CALLS = ["value", "from_bytes_prefix", "from_bytes", "to_bytes", "list", "compare", "compare's laws", "score", "from_bytes_batch"]
 STATED = [slice.length for slice in stated.SLICES]
+ANSWERS = len(STATED)       # a batch's answers, as a slice behind those
 TABLE = stated.TABLE.length
 CURRENT, PREVIOUS = 0, 1    # the value last given, and the one before it
 HEAD = struct.Struct("<10Q")
@@ -55,6 +56,12 @@ def laws(tag, seed):
 def scoring(tag, seed, number, detail, score, items):
     """The score of the current value."""
     return request(SCORE, tag, seed, (number, detail, score), size=items)
+
+
+def batch(tag, seed, sheets, lengths, number, due=(), which=ANSWERS + 1, longer=0):
+    """A batch with its own number due and, where that is 0, the sheets' four numbers each, and in table and text the current value. One slice
+    may be lent longer than stated by so many elements, or shorter; the answers' is stated as four places a sheet."""
+    return request(BATCH, tag, seed, (number, 0, len(lengths)), which, longer, [*lengths, *due], sheets)
 
 
 def bad(tag, seed):

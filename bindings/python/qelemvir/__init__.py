@@ -3,13 +3,15 @@ refuses with exact numbers, and never lets sharing show. Nothing is imported, an
 
     value = qelemvir.loads(data)        # or Refused, or Unholdable
     table = qelemvir.read(data)         # the same as a table of records: table.list(), table.to_bytes(), table < other
+    sheets, last = qelemvir.read_many(night)    # many at once: what was made of each, and the table of the last that was read
 """
 
 from .refused import Refused
-from .table import Record, Table, read, read_prefix
+from .table import Record, Sheet, Table, read, read_many, read_prefix
 from .values import Global, Object, Unholdable
 
-__all__ = ["Global", "Object", "Record", "Refused", "Table", "Unholdable", "loads", "loads_prefix", "read", "read_prefix"]
+__all__ = ["Global", "Object", "Record", "Refused", "Sheet", "Table", "Unholdable", "loads", "loads_prefix", "read", "read_many",
+           "read_prefix"]
 
 
 def loads(data):

@@ -1,4 +1,4 @@
-"""The proved code as functions of Python, through ctypes. The repository's `tests/rooms` checks the slices of the two readings against the
+"""The proved code as functions of Python, through ctypes. The repository's `tests/rooms` checks the slices of the readings against the
 library's source. Nothing checks the declarations of the other calls: a change there must be made here too."""
 
 import ctypes
@@ -66,10 +66,11 @@ def lent(element):
 
 LIBRARY = load()
 BYTES, WORDS, COUNT, OUTPUT = (c_char_p, c_size_t), lent(c_uint64), (c_size_t,), lent(c_uint8)
-READING = [BYTES] + [lent(element) for _, element, _ in ROOMS] + [lent(c_uint64), lent(c_uint8)]
+READING = [lent(element) for _, element, _ in ROOMS] + [lent(c_uint64), lent(c_uint8)]
 
-from_bytes_prefix = declared("qelemvir_from_bytes_prefix", Answer, *READING)
-from_bytes = declared("qelemvir_from_bytes", Answer, *READING)
+from_bytes_prefix = declared("qelemvir_from_bytes_prefix", Answer, BYTES, *READING)
+from_bytes = declared("qelemvir_from_bytes", Answer, BYTES, *READING)
+from_bytes_batch = declared("qelemvir_from_bytes_batch", Answer, BYTES, WORDS, WORDS, *READING)
 compare = declared("qelemvir_compare", Compared, WORDS, COUNT, BYTES, WORDS, COUNT, BYTES)
 list_table = declared("qelemvir_list", Answer, WORDS, COUNT, BYTES, OUTPUT)
 to_bytes = declared("qelemvir_to_bytes", Answer, WORDS, COUNT, BYTES, OUTPUT)
@@ -99,7 +100,27 @@ def reading(call, data):
     """What a reading makes of the bytes: words, text, and how many bytes it took. The outputs are made anew for each."""
     # A copy, since another thread could change a bytearray while the library reads it.
     pickle = bytes(memoryview(data))
-    table, text = (c_uint64 * TABLE)(), (c_uint8 * TEXT)()
+    table, text = outputs()
     answer = accepted(call(pickle, len(pickle), *rooms.lent, table, TABLE, text, TEXT))
-    length = text_len(table, TABLE, answer.count)
-    return table[:4 * answer.count], bytes(text[:length]), answer.length
+    return *filled(table, text, answer.count), answer.length
+
+
+def batch(sheets):
+    """What the batch makes of these bytes: the four numbers of each, and words and text of the last that was read, or None."""
+    sheets = [bytes(memoryview(data)) for data in sheets]
+    night, count = b"".join(sheets), len(sheets)
+    lengths, answers = (c_uint64 * count)(*map(len, sheets)), (c_uint64 * (4 * count))()
+    table, text = outputs()
+    accepted(from_bytes_batch(night, len(night), lengths, count, answers, 4 * count, *rooms.lent, table, TABLE, text, TEXT))
+    fours = [tuple(answers[4 * k:4 * k + 4]) for k in range(count)]
+    read = [four for four in fours if four[0] == 0]
+    return fours, filled(table, text, read[-1][3]) if read else None
+
+
+def outputs():
+    return (c_uint64 * TABLE)(), (c_uint8 * TEXT)()
+
+
+def filled(table, text, count):
+    """Words and text of so many records at the start of the outputs."""
+    return table[:4 * count], bytes(text[:text_len(table, TABLE, count)])

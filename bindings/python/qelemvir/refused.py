@@ -6,7 +6,7 @@ NAMES = dict(enumerate((
     "InvalidLiteral", "IntegerTooLarge", "Invalid", "TrailingData", "StackFull", "MarksFull", "MemoFull", "NodesFull",
     "LinksFull", "TooDeep", "TooManyValues", "TextFull", "FloatOutside", "BadTable", "OutputFull",
 ), 1))
-NAMES.update({24: "SheetShape", 25: "UnwritableName"})
+NAMES.update({23: "BadLengths", 24: "SheetShape", 25: "UnwritableName"})
 
 # By number and detail; None for those whose detail may be any.
 WORDS = {
@@ -39,6 +39,7 @@ WORDS = {
     (21, 1): "the table is not well formed",
     (21, 2): "the second table is not well formed",
     (22, 0): "the lent output is too short",
+    (23, 0): "the lengths of the sheets do not add up to the bytes",
     (24, 0): "the value is no sheet",
     (25, 0): "a module or a name has a newline or ends with CR, and could not be read back",
 }

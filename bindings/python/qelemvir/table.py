@@ -141,6 +141,27 @@ class Table:
         return "<Table of %d records and %d bytes of text>" % (self.count, len(self._text))
 
 
+class Sheet(NamedTuple):
+    """What was made of a sheet: 0, 0, its bytes and the records of its value; or the number and the detail of its refusal, 0 and 0."""
+
+    number: int
+    detail: int
+    length: int
+    count: int
+
+    @property
+    def refused(self):
+        """Why it is refused, or None."""
+        return Refused(self.number, self.detail) if self.number else None
+
+
+def read_many(sheets):
+    """A night's sheets, each the bytes of one, read as `read` reads it by itself: what was made of each, and the table of the last one that
+    was read, or None."""
+    fours, last = library.batch(sheets)
+    return [Sheet(*four) for four in fours], Table(*last) if last else None
+
+
 def read(data):
     """The table of the value that the bytes are, with none left over."""
     words, text, _ = library.reading(library.from_bytes, data)

@@ -39,6 +39,38 @@ class Stored(unittest.TestCase):
                     self.assertEqual(refusal(call, data), (number, detail))
 
 
+class Nights(unittest.TestCase):
+    def alone(self, data):
+        """The four numbers of a sheet that is read by itself, and its table."""
+        try:
+            table = qelemvir.read(data)
+        except qelemvir.Refused as why:
+            return (why.number, why.detail, 0, 0), None
+        return (0, 0, len(data), table.count), table
+
+    def test_stored(self):
+        pickles = [data for data, _, _ in stored_values()] + [data for data, _, _ in stored_refusals()]
+        for night in (pickles, pickles[::-1], pickles[::7], pickles[:1], []):
+            due = [self.alone(data) for data in night]
+            sheets, last = qelemvir.read_many(night)
+            self.assertEqual(sheets, [four for four, _ in due])
+            read = [table for _, table in due if table]
+            self.assertEqual(last, read[-1] if read else None)
+
+    def test_refusals(self):
+        sheets, last = qelemvir.read_many([b"", b"K\x05.", b"\x80\x07.", b"N.N."])
+        self.assertEqual([sheet.number for sheet in sheets], [3, 0, 5, 11])
+        self.assertEqual((str(sheets[2].refused), sheets[1].refused), (str(qelemvir.Refused(5, 7)), None))
+        self.assertEqual(last.value(), 5)
+
+    def test_bytes_of_all_kinds(self):
+        sheets, last = qelemvir.read_many(iter((bytearray(SHARED), memoryview(SHARED), array.array("B", SHARED))))
+        self.assertEqual((sheets, last.value()), ([(0, 0, 12, 5)] * 3, ([5], [5])))
+        for night in ("N.", [b"N.", "N."], [5], None):
+            with self.assertRaises(TypeError):
+                qelemvir.read_many(night)
+
+
 class Inputs(unittest.TestCase):
     def test_bytes_of_all_kinds(self):
         for data in (SHARED, bytearray(SHARED), memoryview(SHARED), memoryview(b"x" + SHARED)[1:], array.array("B", SHARED),

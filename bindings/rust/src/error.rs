@@ -49,6 +49,8 @@ pub enum Error {
     FloatOutside,
     BadTable(Which),
     OutputFull,
+    /// The lengths of a night's sheets do not add up to their buffer's.
+    BadLengths,
     SheetShape,
     /// A module or a name has a newline or ends with CR, and is not written.
     UnwritableName,
@@ -89,6 +91,7 @@ impl Error {
             (21, 1) => Error::BadTable(Which::First),
             (21, 2) => Error::BadTable(Which::Second),
             (22, 0) => Error::OutputFull,
+            (23, 0) => Error::BadLengths,
             (24, 0) => Error::SheetShape,
             (25, 0) => Error::UnwritableName,
             _ => Error::Other { number, detail },
@@ -119,6 +122,7 @@ impl Error {
             Error::FloatOutside => 20,
             Error::BadTable(_) => 21,
             Error::OutputFull => 22,
+            Error::BadLengths => 23,
             Error::SheetShape => 24,
             Error::UnwritableName => 25,
             Error::Other { number, .. } => number,
@@ -170,6 +174,7 @@ impl fmt::Display for Error {
             Error::BadTable(Which::First) => "the table is not well formed",
             Error::BadTable(Which::Second) => "the second table is not well formed",
             Error::OutputFull => "the lent output is too short",
+            Error::BadLengths => "the lengths of the sheets do not add up to the bytes",
             Error::SheetShape => "the value is no sheet",
             Error::UnwritableName => "a module or a name has a newline or ends with CR, and could not be read back",
         };

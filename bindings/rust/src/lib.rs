@@ -5,7 +5,7 @@
 //! which says why the pickle is refused. `examples/show.rs` prints a sheet.
 //!
 //! All of `unsafe` stands in the modules `calls` and `rooms`, where slices are lent to the library. The repository's `tests/rooms` checks the
-//! declarations of the two readings against the library's source. Nothing checks those of the other calls: a change there must be made
+//! declarations of the readings against the library's source. Nothing checks those of the other calls: a change there must be made
 //! here too.
 
 mod calls;
@@ -16,6 +16,6 @@ pub mod rooms;
 mod value;
 
 pub use error::{Error, Wanted, Which};
-pub use reader::Reader;
+pub use reader::{Night, Read, Reader};
 pub use record::{Record, Records};
 pub use value::{Value, LONGEST_LISTING, LONGEST_PICKLE};

@@ -1,4 +1,4 @@
-//! The two readings.
+//! The readings: of one pickle, and of a night's sheets at once.
 
 use crate::calls::{text_len, Answer};
 use crate::error::Error;
@@ -8,6 +8,22 @@ use crate::value::Value;
 /// Owns the rooms that a reading works in, so that many pickles can be read in them one after the other.
 pub struct Reader {
     rooms: Rooms,
+}
+
+/// What was read of a sheet: its bytes, and the records of its value.
+#[derive(Clone, Copy, Debug, PartialEq, Eq)]
+pub struct Read {
+    pub length: usize,
+    pub count: usize,
+}
+
+/// What a night's sheets gave.
+#[derive(Clone, Debug, PartialEq, Eq)]
+pub struct Night {
+    /// Of each sheet, in order, what was read or why it is refused.
+    pub sheets: Vec<Result<Read, Error>>,
+    /// The value of the last one that was read, if one was.
+    pub last: Option<Value>,
 }
 
 impl Reader {
@@ -25,11 +41,29 @@ impl Reader {
         self.read(qelemvir_from_bytes, pickle).map(|(value, _)| value)
     }
 
+    /// The sheets that stand end to end in a buffer and have these lengths, each read as [`Reader::from_bytes`] reads it by itself.
+    /// [`Error::BadLengths`] if the lengths do not add up to the buffer's.
+    pub fn from_bytes_batch(&mut self, sheets: &[u8], lengths: &[u64]) -> Result<Night, Error> {
+        let mut answers = vec![0; 4 * lengths.len()];
+        self.rooms.lend_batch(sheets, lengths, &mut answers).accepted()?;
+        let sheets: Vec<_> = answers
+            .chunks_exact(4)
+            .map(|four| Answer { number: four[0], detail: four[1], length: four[2], count: four[3] }.accepted())
+            .map(|answer| answer.map(|Answer { length, count, .. }| Read { length: length as usize, count: count as usize }))
+            .collect();
+        let last = sheets.iter().rev().find_map(|sheet| sheet.ok()).map(|Read { count, .. }| self.value(count));
+        Ok(Night { sheets, last })
+    }
+
     fn read(&mut self, reading: Reading, pickle: &[u8]) -> Result<(Value, usize), Error> {
         let Answer { length, count, .. } = self.rooms.lend(reading, pickle).accepted()?;
-        let words = &self.rooms.table[..4 * count as usize];
-        let text = &self.rooms.text[..text_len(words)];
-        Ok((Value::read(words, text), length as usize))
+        Ok((self.value(count as usize), length as usize))
+    }
+
+    /// The value that was put at the start of table and text, of so many records.
+    fn value(&self, count: usize) -> Value {
+        let words = &self.rooms.table[..4 * count];
+        Value::read(words, &self.rooms.text[..text_len(words)])
     }
 }
 

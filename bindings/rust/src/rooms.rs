@@ -24,6 +24,11 @@ macro_rules! rooms {
             pub(crate) fn qelemvir_from_bytes(
                 pickle: *const u8, pickle_len: usize, $($name: *mut $element, _: usize),*
             ) -> Answer;
+
+            fn qelemvir_from_bytes_batch(
+                sheets: *const u8, sheets_len: usize, lengths: *const u64, lengths_len: usize, answers: *mut u64, answers_len: usize,
+                $($name: *mut $element, _: usize),*
+            ) -> Answer;
         }
 
         impl Rooms {
@@ -35,6 +40,17 @@ macro_rules! rooms {
                 // SAFETY: a slice passes as pointer and length, and the contract asks nothing of what is in it; the slices that the
                 // library writes to are our own, each a room of its own.
                 unsafe { reading(pickle.as_ptr(), pickle.len(), $(self.$name.as_mut_ptr(), self.$name.len()),*) }
+            }
+
+            /// For the sheets of a night, which stand end to end; the answers have four places a sheet.
+            pub(crate) fn lend_batch(&mut self, sheets: &[u8], lengths: &[u64], answers: &mut [u64]) -> Answer {
+                // SAFETY: as for lend.
+                unsafe {
+                    qelemvir_from_bytes_batch(
+                        sheets.as_ptr(), sheets.len(), lengths.as_ptr(), lengths.len(), answers.as_mut_ptr(), answers.len(),
+                        $(self.$name.as_mut_ptr(), self.$name.len()),*
+                    )
+                }
             }
         }
     };

@@ -12,6 +12,7 @@ ghost use Rattle.reading.specs.Reading.{prefix, whole};
 ghost use Rattle.table.specs.Compare.{Compares};
 ghost use Rattle.table.specs.Length.{textLength};
 ghost use Rattle.de.specs.Call.{ReadCall};
+ghost use Rattle.batch.specs.Batch.{BatchCall};
 ghost use Rattle.ser.specs.Call.{WriteCall};
 ghost use Rattle.scorer.specs.Call.{Scores};
 ghost use Rattle.pickle.specs.List.{ListCall};
@@ -96,6 +97,59 @@ pub extern "C" fn qelemvir_from_bytes(
     de::reading(
         true,
         pickle,
+        nodes,
+        owners,
+        children,
+        stack,
+        marks,
+        keys,
+        held,
+        unescaped,
+        starts,
+        sorted,
+        measures,
+        table,
+        text,
+    )
+}
+
+// A night's sheets, end to end in one buffer, each read as whole data: four places of `answers` for each (number, detail, length, count), and
+// the last accepted one's table and text.
+#[no_mangle]
+pub extern "C" fn qelemvir_from_bytes_batch(
+    sheets: &[u8],
+    lengths: &[u64],
+    answers: &mut [u64],
+    nodes: &mut [u64],
+    owners: &mut [u16],
+    children: &mut [u16],
+    stack: &mut [u16],
+    marks: &mut [u16],
+    keys: &mut [u32],
+    held: &mut [u16],
+    unescaped: &mut [u8],
+    starts: &mut [u16],
+    sorted: &mut [u16],
+    measures: &mut [u64],
+    table: &mut [u64],
+    text: &mut [u8],
+) -> Answer
+    ensures { λ a.
+        ⌜ BatchCall (now (sheets .entry)) (now (lengths .entry)) (now (answers .entry))
+        (now (nodes .entry) ∷ now (owners .entry) ∷ now (children .entry) ∷ now (stack .entry)
+        ∷ now (marks .entry) ∷ now (keys .entry) ∷ now (held .entry)
+        ∷ now (unescaped .entry) ∷ now (starts .entry) ∷ now (sorted .entry) ∷ now (measures .entry)
+        ∷ now (table .entry) ∷ now (text .entry) ∷ [])
+        (now (answers .exit))
+        (now (nodes .exit) ∷ now (owners .exit) ∷ now (children .exit) ∷ now (stack .exit)
+        ∷ now (marks .exit) ∷ now (keys .exit) ∷ now (held .exit)
+        ∷ now (unescaped .exit) ∷ now (starts .exit) ∷ now (sorted .exit) ∷ now (measures .exit)
+        ∷ now (table .exit) ∷ now (text .exit) ∷ []) a ⌝ }
+{
+    batch::from_bytes_batch(
+        sheets,
+        lengths,
+        answers,
         nodes,
         owners,
         children,

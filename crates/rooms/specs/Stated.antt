@@ -1,11 +1,11 @@
 -- What a reading is lent besides the pickle: eleven rooms and the two outputs, table and text, in one order, each with a stated length in
 -- elements. Slices are a list of their contents in this order, and what is said of all of them goes by the list of lengths.
-use Prim.Native.Nat.{ℕ, _+_, _≤_}
+use Prim.Native.Nat.{ℕ, suc, zero, _+_, _≤_}
 use mathlib.Core.Bool.{Bool, true, false, cond, _||_, or-false, or-assoc}
 use mathlib.Core.List.{List, [], _∷_, _++_}
 use mathlib.Core.Path.{_≡_, refl, sym, _∙_, ap, ap₂, subst}
 use lib.ListN.{length, getD, set, take, drop, replicate, length-append, length-drop, length-replicate, length-set}
-use lib.Seq.{take-at, drop-at, getD-drop, getD-set-same, getD-set-other, set-getD}
+use lib.Seq.{take-at, drop-at, getD-drop, getD-set-same, getD-set-other, set-getD, take-set-le}
 use lib.Dec.{ltb}
 use borrow.Author.Tests.{ltb-false, le-ltb}
 use native.Mathlib.Omega.{arith}
@@ -194,3 +194,53 @@ module _ (words bytes : List ℕ) (l : Slices) (e : short stated l ≡ false) wh
   pub text-filled : textOf (filled words bytes (blank roomLengths l)) ≡ begun bytes (textOf l)
   unfolding filled
   text-filled = text-set (blank roomLengths l) (begun words (tableOf (blank roomLengths l))) _ all-there ∙ ap (begun bytes) (output-kept 1)
+
+-- ---- filled slices are ready again
+
+-- a slice behind the lengths that has become another
+blank-set : (ns : List ℕ) (l : Slices) (i : ℕ) (x : List ℕ) → length ns ≤ i → blank ns (set l i x) ≡ set (blank ns l) i x
+unfolding blank
+blank-set [] l i x h = refl
+blank-set (n ∷ ns) [] i x h = refl
+blank-set (n ∷ ns) (s ∷ l) zero x h = absurd (omega arith)
+blank-set (n ∷ ns) (s ∷ l) (suc i) x h = same refl (blank-set ns l i x (omega arith))
+
+-- a slice that has become one as long, or longer
+long-set : (ns : List ℕ) (l : Slices) (i : ℕ) (x : List ℕ) → length (getD l i []) ≤ length x → short ns l ≡ false → short ns (set l i x) ≡ false
+unfolding short
+long-set [] l i x h e = refl
+long-set (n ∷ ns) [] i x h e = e
+long-set (n ∷ ns) (s ∷ l) zero x h e =
+    let y = neither (ltb (length s) n) (short ns l) e in
+    let z = ltb-false (length s) n (y .0) in
+    rw (le-ltb (length x) n (omega arith)) (y .1)
+long-set (n ∷ ns) (s ∷ l) (suc i) x h e = let y = neither (ltb (length s) n) (short ns l) e in rw (y .0) (long-set ns l i x h (y .1))
+
+begun-long : (w s : List ℕ) → length s ≤ length (begun w s)
+begun-long w s = rw (length-append, length-drop) (omega arith)
+
+module _ (words bytes : List ℕ) (l : Slices) where
+  text-other : getD (set l 11 (begun words (tableOf l))) 12 [] ≡ textOf l
+  text-other = getD-set-other l 11 12 (begun words (tableOf l)) [] (λ q. omega arith)
+
+  pub filled-ready : Ready l → Ready (filled words bytes l)
+  unfolding filled
+  filled-ready r = record {
+    long = long-set stated (set l 11 (begun words (tableOf l))) 12 (begun bytes (textOf l)) (rw text-other (begun-long bytes (textOf l))) (long-set stated l 11 (begun words (tableOf l)) (begun-long words (tableOf l)) (r .long));
+    zero =
+        blank-set roomLengths (set l 11 (begun words (tableOf l))) 12 (begun bytes (textOf l)) (omega arith)
+        ∙ ap (λ (m : Slices). set m 12 (begun bytes (textOf l))) (blank-set roomLengths l 11 (begun words (tableOf l)) (omega arith) ∙ ap (λ (m : Slices). set m 11 (begun words (tableOf l))) (r .zero));
+  }
+
+  -- the rooms are as they were
+  pub rooms-filled : take 11 (filled words bytes l) ≡ take 11 l
+  unfolding filled
+  rooms-filled = take-set-le 11 (set l 11 (begun words (tableOf l))) 12 (begun bytes (textOf l)) (omega arith) ∙ take-set-le 11 l 11 (begun words (tableOf l)) (omega arith)
+
+  -- and the outputs begin anew
+  module _ (r : Ready l) where
+    pub table-again : tableOf (filled words bytes l) ≡ begun words (tableOf l)
+    table-again = ap (λ (m : Slices). tableOf (filled words bytes m)) (sym (r .zero)) ∙ table-filled words bytes l (r .long)
+
+    pub text-again : textOf (filled words bytes l) ≡ begun bytes (textOf l)
+    text-again = ap (λ (m : Slices). textOf (filled words bytes m)) (sym (r .zero)) ∙ text-filled words bytes l (r .long)

@@ -9,13 +9,15 @@ mod stored;
 
 use std::cmp::Ordering;
 
-use qelemvir::{rooms, Error, Reader, Record, Value, Wanted, Which};
+use qelemvir::{rooms, Error, Night, Read, Reader, Record, Value, Wanted, Which};
 use stored::{Case, Due};
 
 #[no_mangle]
 extern "C" fn main() -> i32 {
     let cases = stored::cases();
     let values = readings(&cases);
+    nights(&cases);
+    lengths_of_nights();
     limits_of_length();
     whole_reading_wants_all();
     reads_back(&values);
@@ -60,6 +62,37 @@ fn readings(cases: &[Case]) -> Vec<Value> {
     }
     assert!(values.len() > 100 && values.len() < cases.len());
     values
+}
+
+/// Stored pickles as nights: each as it is read by itself, and the value of the last that was read.
+fn nights(cases: &[Case]) {
+    let (mut reader, mut alone) = (Reader::new(), Reader::new());
+    for night in [cases, &cases[..cases.len() / 2], &cases[..1], &[]] {
+        let pickles: Vec<&[u8]> = night.iter().map(|case| &case.pickle[..]).collect();
+        let lengths: Vec<u64> = pickles.iter().map(|pickle| pickle.len() as u64).collect();
+        let Night { sheets, last } = reader.from_bytes_batch(&pickles.concat(), &lengths).unwrap();
+        assert_eq!(sheets.len(), pickles.len());
+        let mut due = None;
+        for (pickle, sheet) in pickles.iter().zip(sheets) {
+            let read = alone.from_bytes(pickle);
+            let count = |value: &Value| Read { length: pickle.len(), count: value.words().len() / 4 };
+            assert_eq!(sheet, read.as_ref().map(count).map_err(|why| *why), "{pickle:02x?}");
+            due = read.ok().or(due);
+        }
+        assert_eq!(last, due);
+    }
+}
+
+fn lengths_of_nights() {
+    let mut reader = Reader::new();
+    for lengths in [&[][..], &[1], &[3], &[1, 2], &[u64::MAX, 3], &[u64::MAX, 1, 2]] {
+        assert_eq!(reader.from_bytes_batch(b"N.", lengths), Err(Error::BadLengths), "{lengths:?}");
+    }
+    let night = reader.from_bytes_batch(b"N.", &[0, 2, 0]).unwrap();
+    assert_eq!(night.sheets, [Err(Error::EndOfInput), Ok(Read { length: 2, count: 1 }), Err(Error::EndOfInput)]);
+    assert_eq!(night.last, reader.from_bytes(b"N.").ok());
+    assert_eq!(reader.from_bytes_batch(b"N", &[1]).unwrap().last, None);
+    assert_eq!((Error::BadLengths.number(), Error::of(23, 0)), (23, Error::BadLengths));
 }
 
 fn limits_of_length() {

@@ -1,4 +1,4 @@
--- `read::run_in` meets its contract: the parts that are lent are put back, and the memo is cleared. Assumes nothing.
+-- `de::run_in` meets its contract: the parts that are lent are put back, and the memo is cleared. Assumes nothing.
 use borrow.Author.Needs.{needs}
 use mathlib.Core.List.{_++_}
 use mathlib.Core.Path.{_∙_, ap}
@@ -7,9 +7,9 @@ use lib.ListN.{drop}
 use lib.Seq.{length-front}
 use Rattle.decoder.specs.declared.Counts.{Counts}
 use Rattle.machine.specs.Ran.{countsOf}
-use Rattle.read.specs.Inner.{Back, Runs, back-fits, back-again, part-fits, begins, runs, keys-back, held-back}
-use Rattle.read.proofs.run_in.Statement.{statement}
-use Rattle.read.proofs.run_in.Tie as tie
+use Rattle.de.specs.Inner.{Back, Runs, back-fits, back-again, part-fits, begins, runs, keys-back, held-back}
+use Rattle.de.proofs.run_in.Statement.{statement}
+use Rattle.de.proofs.run_in.Tie as tie
 
 -- the run's end
 abbrev called : tie.After-slice-known16 → tie.After-run

@@ -1,4 +1,4 @@
--- `read::read` meets its contract: the run, its answer, and what was used cleared. Assumes nothing.
+-- `de::read` meets its contract: the run, its answer, and what was used cleared. Assumes nothing.
 use borrow.Author.Needs.{needs}
 use Prim.Native.Nat.{_*_}
 use mathlib.Core.List.{[], _∷_}
@@ -8,9 +8,9 @@ use lib.Seq.{length-front}
 use Rattle.rooms.specs.Stated.{roomLengths, AllZero, filled, same, rooms-zero}
 use Rattle.decoder.specs.declared.Counts.{Counts}
 use Rattle.machine.specs.Ran.{countsOf}
-use Rattle.read.specs.Inner.{back-fits, back-again, part-fits, part-cleared, machine-zero, working}
-use Rattle.read.proofs.read.Statement.{statement}
-use Rattle.read.proofs.read.Tie as tie
+use Rattle.de.specs.Inner.{back-fits, back-again, part-fits, part-cleared, machine-zero, working}
+use Rattle.de.proofs.read.Statement.{statement}
+use Rattle.de.proofs.read.Tie as tie
 
 -- the rooms are zero
 zero : (s : tie.Start) → AllZero roomLengths (s .args .nodes .now ∷ s .args .owners .now ∷ s .args .children .now ∷ s .args .stack .now ∷ s .args .marks .now ∷ s .args .keys .now ∷ s .args .held .now ∷ s .args .unescaped .now ∷ s .args .starts .now ∷ s .args .sorted .now ∷ s .args .measures .now ∷ s .args .table .now ∷ s .args .text .now ∷ [])

@@ -1,8 +1,7 @@
--- `read::counts` meets its contract. Assumes nothing.
--- HEADER
+-- `de::counts` meets its contract. Assumes nothing.
 use borrow.Author.Needs.{needs}
-use Rattle.read.proofs.counts.Statement.{statement}
-use Rattle.read.proofs.counts.Tie as tie
+use Rattle.de.proofs.counts.Statement.{statement}
+use Rattle.de.proofs.counts.Tie as tie
 use Rattle.machine.specs.Ran.{countsOf}
 
 enum-known-outcome : tie.Need-enum-known-outcome

@@ -1,2 +1,0 @@
--- What the inner reading asks and leaves.
-pub mod Inner
