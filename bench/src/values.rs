@@ -23,6 +23,7 @@ pub fn cases() -> Vec<Case> {
         compare("compare, dicts, equal", inputs::dicts(), inputs::dicts()),
         compare("compare, dicts, the last differs", inputs::dicts(), inputs::dicts_and_more()),
         compare("compare, tuple of ints, equal", inputs::flat(), inputs::flat()),
+        compare("compare, 1,000 strings, equal", inputs::strings(), inputs::strings()),
         list("list, 40,000 bytes of text", inputs::strings()),
         score("score, 200 answers", inputs::answered()),
     ]

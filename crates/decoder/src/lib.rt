@@ -99,9 +99,9 @@ const KIND_GLOBAL: u64 = 11;
 
 const KIND_OBJECT: u64 = 12;
 
-const KIND_ESCAPED: u64 = 13;
+pub const KIND_ESCAPED: u64 = 13;
 
-const KIND_UNICODE: u64 = 14;
+pub const KIND_UNICODE: u64 = 14;
 
 // The counts with place, stack and marks moved.
 fn cut(c: Counts, at: usize, stack: usize, marks: usize) -> Counts

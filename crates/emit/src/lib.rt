@@ -69,10 +69,10 @@ fn is_placed(first: u64) -> bool
 {
     let head = value::head_of(first);
     let kind = head.kind;
-    if kind == 4 {
+    if kind == value::BYTES {
         return true;
     }
-    if kind == 5 {
+    if kind == value::STRING {
         return true;
     }
     10 < kind
@@ -120,14 +120,14 @@ fn kind_of(first: u64) -> u64
     ensures { λ r. ⌜ r ≡ kindOf first ⌝ }
 {
     let kind = first % 16;
-    if kind < 13 {
+    if kind < decoder::KIND_ESCAPED {
         return kind;
     }
-    if kind == 13 {
-        return 4;
+    if kind == decoder::KIND_ESCAPED {
+        return value::BYTES;
     }
-    if kind == 14 {
-        return 5;
+    if kind == decoder::KIND_UNICODE {
+        return value::STRING;
     }
     0
 }
@@ -136,13 +136,13 @@ fn kind_of(first: u64) -> u64
 fn is_box(kind: u64) -> bool
     ensures { λ r. ⌜ r ≡ boxed kind ⌝ }
 {
-    if kind < 6 {
+    if kind < value::LIST {
         return false;
     }
-    if kind < 11 {
+    if kind < value::GLOBAL {
         return true;
     }
-    kind == 12
+    kind == value::OBJECT
 }
 
 // The record of a node with these words: its text's lengths and place, the values directly in it, its records in all.
@@ -151,7 +151,7 @@ fn record_of(first: u64, second: u64, lengths: u64, at: u64, values: u64, size: 
     ensures { λ r. ⌜ r .0 ∷ r .1 ∷ r .2 ∷ r .3 ∷ [] ≡ recordFrom (kindOf first) (newIn first) second lengths at values size ⌝ }
 {
     let kind = kind_of(first);
-    if kind == 12 {
+    if kind == value::OBJECT {
         let head = value::head_of(first);
         let word = value::word_of(Head {
             kind,
@@ -165,22 +165,22 @@ fn record_of(first: u64, second: u64, lengths: u64, at: u64, values: u64, size: 
         new: false,
         state: false,
     });
-    if kind == 0 {
+    if kind == value::NONE {
         return Record(word, 0, 0, 0);
     }
-    if kind == 1 {
+    if kind == value::BOOL {
         return Record(word, (second == 1) as u64, 0, 0);
     }
-    if kind < 4 {
+    if kind < value::BYTES {
         return Record(word, second, 0, 0);
     }
-    if kind < 6 {
+    if kind < value::LIST {
         return Record(word, at, lengths, 0);
     }
-    if kind < 10 {
+    if kind < value::DICT {
         return Record(word, values, size, 0);
     }
-    if kind == 10 {
+    if kind == value::DICT {
         return Record(word, values / 2, size, 0);
     }
     Record(word, at, lengths, 0)
@@ -201,15 +201,15 @@ fn put_text<'a>(
 {
     let i = node.0;
     let kind = kind_of(nodes[2 * i]);
-    if kind < 4 {
+    if kind < value::BYTES {
         return 0;
     }
-    if kind < 6 {
+    if kind < value::LIST {
         let bytes = texts::lead_part(node, pickle, decoded, nodes, marks);
         put_bytes(bytes, text, at);
         return bytes.len() as u64;
     }
-    if kind < 11 {
+    if kind < value::GLOBAL {
         return 0;
     }
     let module = texts::lead_part(node, pickle, decoded, nodes, marks);

@@ -2,20 +2,20 @@
 use Prim.Native.Nat.{ℕ, suc, zero, _+_, _-_, _*_, _^_, _/_, _%_, _≤_, _<_}
 use mathlib.Core.Bool.{Bool, true, false}
 use mathlib.Core.List.{List, [], _∷_, _++_}
-use mathlib.Core.Path.{_≡_, refl, ap, subst}
+use mathlib.Core.Path.{_≡_, refl, sym, _∙_, ap, subst}
 use native.Mathlib.Nat.{add-zero}
 use native.Mathlib.Omega.{arith}
 use lib.Dec.{eqb, lit≤}
-use lib.ListN.{getD, take, drop}
+use lib.ListN.{length, length-append, getD, take, drop}
 use lib.Seq.{drop-drop}
 use Rattle.value.specs.declared.Head.{Head}
 use Rattle.value.specs.Value.{bit, half}
 use Rattle.value.specs.Shape.{kindIn, newIn, stateIn, headOf, labelOf, arityOf}
 use Rattle.value.specs.Stands.{wordAt, labelAt, arityAt, Reads}
 use Rattle.value.specs.Left.{kind-at}
-use Rattle.list.specs.Decimal.{decimalText, signedText, figures, either}
-use Rattle.list.specs.Listing.{plain, listedByte, listedText, names, kindName, flag, listedNames, namesAt, contentOf, line, tab, newline}
-use Rattle.list.specs.Put.{Room, room-first}
+use Rattle.output.specs.Decimal.{decimalText, signedText, figures, either}
+use Rattle.list.specs.Listing.{plain, listedByte, listedText, names, kindName, flag, listedNames, namesAt, contentOf, line, tab}
+use Rattle.output.specs.Put.{newline, Room, room-first}
 
 -- a fact of each number below a bound
 abbrev Below : (ℕ → Type 0) → ℕ → Type 0
@@ -86,8 +86,21 @@ module _ (w t : List ℕ) (i : ℕ) (r : Reads w t i) (h : Head) (q : h ≡ head
       let s : stateIn (wordAt w i 0) ≡ h .state = rw (add-zero, q) in
       rw (kind₀, e, n, s, half-state (h .state))
 
+  -- None and Bool have one byte
+  pub content-one : h .kind < 2 → 1 ≡ length content
+  content-one g =
+      either (h .kind) 1 (λ l. sym (ap length (content-none (omega arith)))) (λ l. sym (ap length (content-bool (omega arith))))
+
+  pub content-flags : h .kind ≡ 12 → length content ≡ length (namesAt t (wordAt w i 1) (wordAt w i 2)) + 4
+  content-flags e = ap length (content-object e) ∙ length-append (namesAt t (wordAt w i 1) (wordAt w i 2)) _
+
+  -- a module and a name take no more
+  pub names-few : 10 < h .kind → length (namesAt t (wordAt w i 1) (wordAt w i 2)) ≤ length content
+  names-few g =
+      either (h .kind) 12 (λ l. omega (arith, ap length (content-global (omega arith)))) (λ l. omega (arith, content-flags (omega (arith, known))))
+
   -- a module and a name stand first in both
-  pub names-room : {at : ℕ} → 10 < h .kind → Room at content → Room at (namesAt t (wordAt w i 1) (wordAt w i 2))
+  pub names-room : {o : List ℕ} {at : ℕ} → 10 < h .kind → Room o at content → Room o at (namesAt t (wordAt w i 1) (wordAt w i 2))
   names-room g m =
       either (h .kind) 12 (λ l. rw (content-global (omega arith)) at m)
       (λ l. room-first _ (rw (content-object (omega (arith, known))) at m))
@@ -97,10 +110,18 @@ module _ (w t : List ℕ) (i : ℕ) (r : Reads w t i) (h : Head) (q : h ≡ head
   unfolding line
   line-parts d = rw (kind-at w t i r, kind₀)
 
+  pub line-length : (d : ℕ) → length (line d (labelAt w t i) (arityAt w i)) ≡ length (decimalText d) + length (kindName (h .kind)) + length content + 3
+  line-length d =
+      ap length (line-parts d) ∙ length-append (decimalText d) _
+      ∙ omega (arith, length-append (kindName (h .kind)) ((tab ∷ []) ++ (content ++ (newline ∷ []))), length-append content (newline ∷ []))
+
 -- a module and a name, one behind the other
 pub names-parts : (t : List ℕ) (b c : ℕ) → namesAt t b c ≡ listedText (take (c / 2 ^ 32) (drop b t)) ++ ((tab ∷ []) ++ listedText (take (c % 2 ^ 32) (drop (b + c / 2 ^ 32) t)))
 unfolding namesAt listedNames
 names-parts t b c = rw drop-drop
+
+pub names-length : (t : List ℕ) (b c : ℕ) → length (namesAt t b c) ≡ length (listedText (take (c / 2 ^ 32) (drop b t))) + 1 + length (listedText (take (c % 2 ^ 32) (drop (b + c / 2 ^ 32) t)))
+names-length t b c = ap length (names-parts t b c) ∙ length-append (listedText (take (c / 2 ^ 32) (drop b t))) _ ∙ omega arith
 
 -- ---- the names side by side, and where each begins
 
@@ -114,9 +135,13 @@ abbrev pub Named : ℕ → Type 0
 Named k =
     let from = getD starts k 0 in
     let end = getD starts (k + 1) 0 in
-    (from ≤ end) × (from + (end - from) ≤ 64) × (listedText (take (end - from) (drop from nameBytes)) ≡ kindName k)
+    (from ≤ end) × (from + (end - from) ≤ 64) × (take (end - from) (drop from nameBytes) ≡ kindName k) × (end - from ≡ length (kindName k))
 
 pub named : (k : ℕ) → k < 13 → Named k
-unfolding names kindName plain listedByte listedText
+unfolding names kindName
 named =
-    below Named 13 (((((((((((((tt, (lit≤ tt, lit≤ tt, refl)), (lit≤ tt, lit≤ tt, refl)), (lit≤ tt, lit≤ tt, refl)), (lit≤ tt, lit≤ tt, refl)), (lit≤ tt, lit≤ tt, refl)), (lit≤ tt, lit≤ tt, refl)), (lit≤ tt, lit≤ tt, refl)), (lit≤ tt, lit≤ tt, refl)), (lit≤ tt, lit≤ tt, refl)), (lit≤ tt, lit≤ tt, refl)), (lit≤ tt, lit≤ tt, refl)), (lit≤ tt, lit≤ tt, refl)), (lit≤ tt, lit≤ tt, refl))
+    below Named 13 (((((((((((((tt, (lit≤ tt, lit≤ tt, refl, refl)), (lit≤ tt, lit≤ tt, refl, refl)), (lit≤ tt, lit≤ tt, refl, refl)), (lit≤ tt, lit≤ tt, refl, refl)), (lit≤ tt, lit≤ tt, refl, refl)), (lit≤ tt, lit≤ tt, refl, refl)), (lit≤ tt, lit≤ tt, refl, refl)), (lit≤ tt, lit≤ tt, refl, refl)), (lit≤ tt, lit≤ tt, refl, refl)), (lit≤ tt, lit≤ tt, refl, refl)), (lit≤ tt, lit≤ tt, refl, refl)), (lit≤ tt, lit≤ tt, refl, refl)), (lit≤ tt, lit≤ tt, refl, refl))
+
+-- the bytes of a name's length from where it begins on
+pub name-part : (k : ℕ) → k < 13 → (n : ℕ) (s : List ℕ) → n ≡ length (kindName k) → s ≡ take n (drop (getD starts k 0) nameBytes) → s ≡ kindName k
+name-part k h n s e q = let m = named k h in q ∙ rw (e, ← m .3) (m .2)

@@ -1,19 +1,16 @@
 -- The walk over values that stand side by side: one law for each step of a turn. Assumes nothing.
-use Prim.Native.Nat.{ℕ, suc, _+_, _-_, _*_, _≤_, _<_}
+use Prim.Native.Nat.{ℕ, suc, _+_, _-_, _*_, _^_, _≤_, _<_}
 use mathlib.Core.List.{List, [], _++_}
 use mathlib.Core.Path.{_≡_, refl, sym, _∙_}
 use native.Mathlib.Numerals.{add-one}
 use native.Mathlib.Omega.{arith}
-use lib.ListN.{length, drop}
-use lib.Seq.{sets-eq}
-use borrow.Author.Tests.{le-leb, lt-leb}
-use Rattle.value.specs.Value.{Label, Forest, one, count, size, depth, nil, node}
+use lib.ListN.{length}
+use lib.Seq.{sets}
+use Rattle.value.specs.Value.{Label, Forest, count, size, depth, nil, node}
 use Rattle.value.specs.Stands.{labelAt, arityAt, Reads, Says, Stands, stands-one}
-use Rattle.value.specs.WellFormed.{WellFormed}
+use Rattle.output.specs.Put.{Put, Room, Left, left-all, left-more, left-none, left-room, room-first, put-kept}
 use Rattle.list.specs.Listing.{line, listing}
-use Rattle.list.specs.Put.{Put, Room, Left, left-all, left-more, left-none, left-room, room-first}
-use Rattle.list.specs.Walk.{Ready, Wrote, whole-stands, whole-one, written, Lists}
-use Rattle.list.specs.declared.Listed.the-variants.{Written, Full}
+use Rattle.list.specs.Walk.{Ready, Walked, Wrote, Countable, Counted}
 
 -- n values stood from record `from` on, and of them `left` do from record i on; the listing of those is left
 pub record Going (w t : List ℕ) (from n d : ℕ) (o₀ : List ℕ) (at : ℕ) (o : List ℕ) (i left next : ℕ) : Type 0 where
@@ -21,7 +18,7 @@ pub record Going (w t : List ℕ) (from n d : ℕ) (o₀ : List ℕ) (at : ℕ) 
   pub rest : Forest
   pub was : Stands w t from whole
   pub all : count whole ≡ n
-  pub room : Room at (listing d whole)
+  pub room : Room o₀ at (listing d whole)
   pub stands : Stands w t i rest
   pub counted : count rest ≡ left
   pub few : size rest ≤ length w
@@ -37,7 +34,7 @@ pub record Turn (w t : List ℕ) (from n d : ℕ) (o₀ : List ℕ) (at : ℕ) (
   pub l : Label
   pub was : Stands w t from whole
   pub all : count whole ≡ n
-  pub room : Room at (listing d whole)
+  pub room : Room o₀ at (listing d whole)
   pub says : Says w t i l (count c)
   pub inside : Stands w t (i + 1) c
   pub after : Stands w t (i + 1 + size c) r
@@ -59,7 +56,7 @@ none-of nil e = refl
 none-of (node l c r) e = absurd (omega arith)
 
 module _ {w t : List ℕ} {from n d : ℕ} {o₀ : List ℕ} {at : ℕ} where
-  pub going-all : Ready w t from n d at → Going w t from n d o₀ at o₀ from n at
+  pub going-all : Ready w t from n d o₀ at → Going w t from n d o₀ at o₀ from n at
   going-all y =
       record {
         whole = y .values;
@@ -76,7 +73,7 @@ module _ {w t : List ℕ} {from n d : ℕ} {o₀ : List ℕ} {at : ℕ} where
       }
 
   module _ {o : List ℕ} {i left next : ℕ} where
-    turn-of : (whole rest : Forest) → Stands w t from whole → count whole ≡ n → Room at (listing d whole) → Stands w t i rest → count rest ≡ left → size rest ≤ length w → d + depth rest ≤ 64 → i + size rest ≡ from + size whole
+    turn-of : (whole rest : Forest) → Stands w t from whole → count whole ≡ n → Room o₀ at (listing d whole) → Stands w t i rest → count rest ≡ left → size rest ≤ length w → d + depth rest ≤ 64 → i + size rest ≡ from + size whole
         → Left o₀ at (listing d whole) o next (listing d rest) → 0 < left → Turn w t from n d o₀ at o i left next
     unfolding Stands count size depth listing
     turn-of whole nil was all room stands counted few shallow ends todo h = absurd (omega arith)
@@ -114,11 +111,14 @@ module _ {w t : List ℕ} {from n d : ℕ} {o₀ : List ℕ} {at : ℕ} where
         rw k (record { passed = omega arith; put = left-none todo })
 
     module _ (u : Turn w t from n d o₀ at o i left next) where
-      line-room : Room next (line d (labelAt w t i) (arityAt w i))
+      line-room : Room o next (line d (labelAt w t i) (arityAt w i))
       line-room = rw (u .says .label, u .says .arity) (room-first _ (left-room (u .room) (u .todo)))
 
+      pub turn-counted : {m : ℕ} → m ≡ arityAt w i → count (u .c) ≡ m
+      turn-counted many = sym (many ∙ u .says .arity)
+
       -- its line
-      pub turn-line : Reads w t i × Room next (line d (labelAt w t i) (arityAt w i))
+      pub turn-line : Reads w t i × Room o next (line d (labelAt w t i) (arityAt w i))
       turn-line = (u .says .reads, line-room)
 
       -- how many values stand directly in it
@@ -130,7 +130,7 @@ module _ {w t : List ℕ} {from n d : ℕ} {o₀ : List ℕ} {at : ℕ} where
         after-line = left-more _ (u .todo) (rw (u .says .label, u .says .arity) at lined)
 
         -- its contents
-        pub turn-inside : Ready w t (i + 1) m (d + 1) p
+        pub turn-inside : Ready w t (i + 1) m (d + 1) o₁ p
         turn-inside =
             record {
               values = u .c;
@@ -142,9 +142,8 @@ module _ {w t : List ℕ} {from n d : ℕ} {o₀ : List ℕ} {at : ℕ} where
             }
 
         -- the values after it
-        pub turn-again : {o₂ : List ℕ} {j q : ℕ} → Wrote w t (i + 1) m (d + 1) o₁ p o₂ j q → Going w t from n d o₀ at o₂ j (left - 1) q
-        turn-again {o₂} {j} {q} x =
-            let y = x (u .c) (u .inside) (sym (many ∙ u .says .arity)) in
+        pub turn-again : {o₂ : List ℕ} {j q : ℕ} → Walked (u .c) (i + 1) (d + 1) o₁ p o₂ j q → Going w t from n d o₀ at o₂ j (left - 1) q
+        turn-again {o₂} {j} {q} y =
             let put : Put o₁ p (listing (suc d) (u .c)) o₂ q = rw add-one at (y .put) in
             record {
               whole = u .whole;
@@ -160,25 +159,49 @@ module _ {w t : List ℕ} {from n d : ℕ} {o₀ : List ℕ} {at : ℕ} where
               todo = left-more (listing d (u .r)) after-line put;
             }
 
--- ---- the two walks of the list call
+-- ---- the same where only the places are counted
 
-module _ (w : List ℕ) (n : ℕ) (t o : List ℕ) (o₀ o₁ : List ℕ) (i m : ℕ) (measured : Wrote w t 0 1 0 o₀ 0 o₁ i m) where
-  measure : (f : WellFormed w n t) → m ≡ length (listing 0 (one (f .value)))
-  measure f = omega (arith, measured (one (f .value)) (whole-stands w n t f) (whole-one w n t f) .put .ends)
+pub record Measuring (w t : List ℕ) (from n d at i left next : ℕ) : Type 0 where
+  pub start : List ℕ
+  pub short : length start < 2 ^ 64
+  pub out : List ℕ
+  pub going : Going w t from n d start at out i left next
 
-  -- the output is too short
-  pub lists-full : length o < m → Lists w n t o o Full
-  unfolding written
-  lists-full h f = sym (rw (lt-leb (length (listing 0 (one (f .value)))) (length o) (omega (arith, measure f))))
+module _ {w t : List ℕ} {from n d at : ℕ} where
+  pub measuring-all : Countable w t from n d at → Measuring w t from n d at from n at
+  measuring-all y = record { start = y .out; short = y .short; out = y .out; going = going-all (y .ready) }
 
-  -- the listing goes to its front
-  pub lists-all : (o′ : List ℕ) (j p : ℕ) → m ≤ length o → Wrote w t 0 1 0 o 0 o′ j p → Lists w n t o o′ (Written p)
-  unfolding written
-  lists-all o′ j p h x f =
-      let b = listing 0 (one (f .value)) in
-      let put = x (one (f .value)) (whole-stands w n t f) (whole-one w n t f) .put in
-      let long : length b ≤ length o = omega (arith, measure f) in
-      let e : p ≡ length b = omega (arith, put .ends) in
-      let z : 0 + length b ≡ length b = omega arith in
-      let front : o′ ≡ b ++ drop (length b) o = put .wrote ∙ rw z at (sets-eq b o 0 (rw z long)) in
-      rw (le-leb (length b) (length o) long, e, front)
+  module _ {i left next : ℕ} (m : Measuring w t from n d at i left next) where
+    pub measuring-none : left ≤ 0 → Counted w t from n d at i next
+    measuring-none h f s e = let x = going-none (m .going) h f s e in (x .passed, x .put .ends)
+
+    module _ (h : 0 < left) where
+      pub measuring-line : Reads w t i × (next + length (line d (labelAt w t i) (arityAt w i)) < 2 ^ 64)
+      measuring-line = let x = turn-line (turn (m .going) h) in (x .0, omega (arith, x .1 .fits, m .short, m .going .todo .kept))
+
+      pub measuring-deeper : d < 64
+      measuring-deeper = omega (arith, turn (m .going) h .deeper)
+
+      pub measuring-arity : (4 * i + 4 ≤ length w) × (arityAt w i ≤ length w)
+      measuring-arity = turn-arity (turn (m .going) h)
+
+      module _ {p a : ℕ} (ends : p ≡ next + length (line d (labelAt w t i) (arityAt w i))) (many : a ≡ arityAt w i) where
+        abbrev lined : List ℕ
+        lined = sets (m .out) next (line d (labelAt w t i) (arityAt w i))
+
+        put : Put (m .out) next (line d (labelAt w t i) (arityAt w i)) lined p
+        put = record { wrote = refl; ends = ends }
+
+        pub measuring-inside : Countable w t (i + 1) a (d + 1) p
+        measuring-inside = record { out = lined; short = omega (arith, put-kept put, m .short, m .going .todo .kept); ready = turn-inside (turn (m .going) h) put many }
+
+        pub measuring-again : {j q : ℕ} → Counted w t (i + 1) a (d + 1) p j q → Measuring w t from n d at j (left - 1) q
+        measuring-again {j} {q} x =
+            let u = turn (m .going) h in
+            let y = x (u .c) (u .inside) (sym (many ∙ u .says .arity)) in
+            record {
+              start = m .start;
+              short = m .short;
+              out = sets lined p (listing (d + 1) (u .c));
+              going = turn-again u put many (record { passed = y .0; put = record { wrote = refl; ends = y .1 } });
+            }

@@ -14,8 +14,9 @@ use Rattle.number.specs.Space.{same}
 use Rattle.number.specs.Number.{digits, decimal}
 use Rattle.value.specs.Value.{Label, half, kind, textOf, words, NoneL, BoolL, I64L, F64L, BytesL, StringL, ListL, TupleL, SetL, FrozenSetL, DictL, GlobalL, ObjectL}
 use Rattle.value.specs.Shape.{fitting, and-l, and-r}
-use Rattle.list.specs.Decimal.{figure, figures, noZeros, decimalText, signedText, either-way, decimal-back, decimal-digits, decimal-some, digit-first}
-use Rattle.list.specs.Listing.{plain, listedByte, listedText, tab, newline, names, kindName, flag, listedNames, contentOf, line}
+use Rattle.output.specs.Decimal.{figure, figures, noZeros, decimalText, signedText, either-way, decimal-back, decimal-digits, decimal-some, digit-first}
+use Rattle.output.specs.Put.{newline}
+use Rattle.list.specs.Listing.{plain, listedByte, listedText, tab, names, kindName, flag, listedNames, contentOf, line}
 
 -- every number is below 2 ^ 64, as in a slice of u64
 abbrev pub Words : List ℕ → Type 0

@@ -4,7 +4,7 @@ use mathlib.Core.Bool.{true}
 use mathlib.Core.List.{[], _∷_}
 use mathlib.Core.Path.{_≡_, refl}
 use Rattle.value.specs.Value.{count, NoneL, BoolL, I64L, F64L, BytesL, ListL, TupleL, DictL, GlobalL, ObjectL, nil, node}
-use Rattle.list.specs.Decimal.{figure, figures, noZeros, decimalText, signedText}
+use Rattle.output.specs.Decimal.{figure, figures, noZeros, decimalText, signedText}
 use Rattle.list.specs.Listing.{plain, listedByte, listedText, names, kindName, flag, listedNames, contentOf, line, listing}
 
 -- what computes on given values

@@ -7,7 +7,8 @@ use lib.Dec.{eqb, leb, lit≤}
 use lib.ListN.{length, length-append, getD, drop}
 use Rattle.value.specs.Value.{Label, Forest, bit, half, kind, textOf, text, count, size, NoneL, BoolL, I64L, F64L, BytesL, StringL, ListL, TupleL, SetL, FrozenSetL, DictL, GlobalL, ObjectL, nil, node}
 use Rattle.value.specs.Shape.{moduleOf, nameOf}
-use Rattle.list.specs.Decimal.{figures, decimalText, signedText, figures-length, decimal-short, signed-short, either-way}
+use Rattle.output.specs.Put.{newline}
+use Rattle.output.specs.Decimal.{figures, decimalText, signedText, figures-length, decimal-short, signed-short, either-way}
 
 -- bytes 20 to 7E hex stand for themselves
 unfoldable pub plain : ℕ → Bool
@@ -22,12 +23,9 @@ unfoldable pub listedText : List ℕ → List ℕ
 listedText [] = []
 listedText (b ∷ s) = listedByte b ++ listedText s
 
--- what parts the fields, and what ends the line
+-- what parts the fields
 abbrev pub tab : ℕ
 tab = 0x09
-
-abbrev pub newline : ℕ
-newline = 0x0A
 
 -- the kinds' names in the table's order: none bool int float bytes string list tuple set frozenset dict global object
 unfoldable pub names : List (List ℕ)

@@ -18,10 +18,10 @@ pub struct Range {
 fn is_sorted(kind: u64) -> bool
     ensures { λ r. ⌜ r ≡ isSorted kind ⌝ }
 {
-    if kind < 8 {
+    if kind < value::SET {
         return false;
     }
-    kind < 11
+    kind < value::GLOBAL
 }
 
 // Where a container's list stands: a Set's or Dict's where its mark says, once it is in order.
@@ -35,7 +35,7 @@ pub fn range_of(node: NodeId, nodes: &[u64], starts: &[u16], marks: &[u64]) -> R
         let mark = marks[i];
         let at = (mark % 0x1_0000) as usize;
         return Range {
-            log: kind < 10,
+            log: kind < value::DICT,
             at,
             end: at + (mark / 0x1_0000 % 0x1_0000) as usize,
         };

@@ -19,9 +19,9 @@ use Rattle.input.specs.Long.{denotes, bits64, inI64, minus}
 use Rattle.number.specs.Space.{same}
 use Rattle.number.specs.Trims.{same-is}
 use Rattle.number.specs.Number.{whole, intLiteral, turned, parseI64, integer, natural, plus, digits, decimal}
-use Rattle.list.specs.Decimal.{signedText, signed-back, either}
-use Rattle.list.specs.Parse.{parse-back}
-use Rattle.list.specs.Listing.{newline}
+use Rattle.output.specs.Decimal.{signedText, signed-back, either}
+use Rattle.output.specs.Parse.{parse-back}
+use Rattle.output.specs.Put.{newline}
 use Rattle.value.specs.Value.{Label, NoneL, BoolL, I64L, F64L, BytesL, StringL, ListL, TupleL, DictL, GlobalL, nil}
 use Rattle.steps.specs.State.{State, _>>=_, leaf, withInput, push, plain}
 use Rattle.steps.specs.Opcodes.{lowBytes, binint, binint1, binint2, int, intLabel, binfloat, signedLength, binstring, shortBinstring, binunicode, global}

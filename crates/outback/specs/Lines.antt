@@ -13,8 +13,8 @@ use Rattle.utf8.specs.Rows.{and-left, and-right}
 use Rattle.input.specs.Bytes.{lastByte}
 use Rattle.input.specs.Line.{firstFrom, newlineOf, lessCr, lineOf}
 use Rattle.number.specs.Number.{digits}
-use Rattle.list.specs.Decimal.{decimalText, signedText, decimal-digits, either-way}
-use Rattle.list.specs.Listing.{newline}
+use Rattle.output.specs.Decimal.{decimalText, signedText, decimal-digits, either-way}
+use Rattle.output.specs.Put.{newline}
 use Rattle.steps.specs.State.{State, ok, _>>=_, leaf, withInput, line}
 use Rattle.ser.specs.Writable.{hasNewline, endsCr, writable}
 

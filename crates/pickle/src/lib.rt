@@ -1,9 +1,6 @@
 // The public calls (mod.rs's `pub use`), for Rattle and, exported, for other languages: numbers and slices go in, a slice as a
 // pointer and a length, and a struct comes back. Every input is accepted, and every call ends.
-use list::Listed;
 use refusal::Answer;
-use refusal::Refusal;
-use refusal::Which;
 use scorer::Scored;
 use table::Compared;
 ghost use mathlib.Core.List.{[], _∷_};
@@ -15,7 +12,7 @@ ghost use Rattle.de.specs.Call.{ReadCall};
 ghost use Rattle.batch.specs.Batch.{BatchCall};
 ghost use Rattle.ser.specs.Call.{WriteCall};
 ghost use Rattle.scorer.specs.Call.{Scores};
-ghost use Rattle.pickle.specs.List.{ListCall};
+ghost use Rattle.list.specs.Call.{ListCall};
 
 // The value at the start of the data: the bytes read, the records, and its table and text.
 #[no_mangle]
@@ -198,19 +195,7 @@ pub extern "C" fn qelemvir_list(
 ) -> Answer
     ensures { λ r. ⌜ ListCall (now (words .entry)) count (now (text .entry)) (now (output .entry)) (now (output .exit)) r ⌝ }
 {
-    if table::well_formed(words, count, text) {
-        match list::list_table(words, count, text, output) {
-            Listed::Written(length) => Answer {
-                number: 0,
-                detail: 0,
-                length: length as u64,
-                count: 0,
-            },
-            Listed::Full => refusal::refused(Refusal::OutputFull),
-        }
-    } else {
-        refusal::refused(Refusal::BadTable(Which::First))
-    }
+    list::list_table(words, count, text, output)
 }
 
 // A value as a pickle: BadTable, then UnwritableName, then OutputFull, else the bytes written.

@@ -117,24 +117,24 @@ fn text_len(pickle: &[u8], nodes: &[u64], node: NodeId) -> usize
     let place = b % 0x1_0000_0000;
     let len = b / 0x1_0000_0000;
     let kind = a % 16;
-    if kind == 4 {
+    if kind == value::BYTES {
         let bytes = cut(pickle, place, len);
         return bytes.len();
     }
-    if kind == 5 {
+    if kind == value::STRING {
         return repaired_len(cut(pickle, place, len));
     }
-    if kind == 11 {
+    if kind == value::GLOBAL {
         return names_len(pickle, a, b);
     }
-    if kind == 12 {
+    if kind == value::OBJECT {
         let class = (a / 64) as usize;
         return names_len(pickle, nodes[2 * class], nodes[2 * class + 1]);
     }
-    if kind == 13 {
+    if kind == decoder::KIND_ESCAPED {
         return string_text(cut(pickle, place, len));
     }
-    if kind == 14 {
+    if kind == decoder::KIND_UNICODE {
         return unicode_text(cut(pickle, place, len));
     }
     0
@@ -146,13 +146,13 @@ fn text_len(pickle: &[u8], nodes: &[u64], node: NodeId) -> usize
 fn is_container(kind: u64) -> bool
     ensures { λ r. ⌜ r ≡ containerKind kind ⌝ }
 {
-    if kind < 6 {
+    if kind < value::LIST {
         return false;
     }
-    if kind < 11 {
+    if kind < value::GLOBAL {
         return true;
     }
-    kind == 12
+    kind == value::OBJECT
 }
 
 // The word of a leaf.
@@ -172,7 +172,7 @@ fn known(node: NodeId, pickle: &[u8], nodes: &[u64], marks: &mut [u64]) -> Seen
 {
     let n = node.0;
     let kind = nodes[2 * n] % 16;
-    if kind < 4 {
+    if kind < value::BYTES {
         return Seen::Word(129);
     }
     let m = marks[n];
@@ -201,7 +201,7 @@ fn own_text(kind: u64, node: NodeId, pickle: &[u8], nodes: &[u64], marks: &mut [
     ensures { λ r.
         ⌜ Owns (now (pickle .entry)) (now (nodes .entry)) (now (marks .entry)) (now (marks .exit)) (node .0) r ⌝ }
 {
-    if kind != 12 {
+    if kind != value::OBJECT {
         return 0;
     }
     let n = node.0;
@@ -221,7 +221,7 @@ fn blocked(kind: u64, at: usize, end: usize, children: &[u16], marks: &[u64]) ->
     requires { ⌜ (at < end → getD (now children) at 0 < length (now marks)) ⌝ }
     ensures { λ r. ⌜ r ≡ held kind (slice at end (now (children .entry))) (now (marks .entry)) ⌝ }
 {
-    if kind != 12 {
+    if kind != value::OBJECT {
         false
     } else if at < end {
         let first = children[at] as usize;
@@ -236,7 +236,7 @@ fn note(kind: u64, node: NodeId, dues: &mut [u16])
     requires { ⌜ (node .0 < 65536) × (getD (now dues) 0 0 < 65535) × (getD (now dues) 0 0 + 1 < length (now dues)) ⌝ }
     ensures { λ r. ⌜ Notes kind (node .0) (now (dues .entry)) (now (dues .exit)) ⌝ }
 {
-    if kind < 8 {
+    if kind < value::SET {
         return;
     }
     if 10 < kind {

@@ -8,7 +8,7 @@ use lib.Dec.{T, eqb}
 use borrow.Author.Tests.{eq-eqb, ne-eqb}
 use native.Mathlib.Omega.{arith}
 use Rattle.value.specs.declared.Head.{Head}
-use Rattle.value.specs.Value.{Label, Forest, Value, one, half, kind, count, size, NoneL, BoolL, I64L, F64L, BytesL, StringL, ListL, TupleL, SetL, FrozenSetL, DictL, GlobalL, ObjectL, nil, node}
+use Rattle.value.specs.Value.{Label, Forest, Value, one, half, kind, count, size, count-size, NoneL, BoolL, I64L, F64L, BytesL, StringL, ListL, TupleL, SetL, FrozenSetL, DictL, GlobalL, ObjectL, nil, node}
 use Rattle.value.specs.Shape.{kindIn, headOf, arityOf, fitting, shaped, and-l, and-r}
 use Rattle.value.specs.Stands.{wordAt, arityAt, Says}
 use Rattle.value.specs.WellFormed.{WellFormed, ascending, keys, proper, settled}
@@ -30,11 +30,6 @@ dict-count {w} {t} {i} q k = let e : kindIn (wordAt w i 0) ≡ 10 = kind-says q 
 pub set-count : {w t : List ℕ} {i : ℕ} {l : Label} {n : ℕ} → Says w t i l n → kind l ≡ 8 → n ≡ wordAt w i 1
 unfolding arityAt arityOf
 set-count {w} {t} {i} q k = let e : kindIn (wordAt w i 0) ≡ 8 = kind-says q ∙ k in sym (q .arity) ∙ rw e
-
-count-size : (f : Forest) → count f ≤ size f
-unfolding count size
-count-size nil = omega arith
-count-size (node l c r) = let h = count-size r in omega arith
 
 under-size : (k : List ℕ) (f : Forest) → size (under k f .contents) ≤ size f
 unfolding under size

@@ -4,8 +4,14 @@ use refusal::Refusal;
 use refusal::Which;
 use refusal::detail;
 use refusal::number;
+use table::after;
 use table::well_formed;
+use value::BOOL;
+use value::BYTES;
+use value::DICT;
+use value::I64;
 use value::Order;
+use value::SET;
 use value::compare_bytes;
 use value::head_of;
 use value::part;
@@ -14,11 +20,8 @@ ghost use Prim.Native.Nat.{_+_, _*_, _≤_, _<_};
 ghost use lib.ListN.{length};
 ghost use lib.Dec.{eqb, isEq};
 ghost use Rattle.value.specs.Value.{bit};
-ghost use Rattle.value.specs.Shape.{kindIn};
 ghost use Rattle.value.specs.Stands.{labelAt, Reads};
 ghost use Rattle.value.specs.Told.{told as orderOf};
-ghost use Rattle.table.specs.Record.{sizeOf};
-ghost use Rattle.table.specs.Sound.{sizeAt};
 ghost use Rattle.scorer.specs.Sheet.{isKey, counted as countedAs};
 ghost use Rattle.scorer.specs.Steps.{betweenAt, hitAt, Tabled, Lain, Seeks, Both, AddsUp};
 ghost use Rattle.scorer.specs.Call.{unscored, Assesses, Scores};
@@ -41,32 +44,6 @@ pub enum Tally {
     Sum(u64, u64),
 }
 
-// How many records a record says that it has with itself.
-fn size(a: u64, c: u64, d: u64) -> u64
-    ensures { λ r. ⌜ r ≡ sizeOf (kindIn a) c d ⌝ }
-{
-    let kind = head_of(a).kind;
-    if kind < 6 {
-        return 1;
-    }
-    if kind < 11 {
-        return c;
-    }
-    if kind < 12 {
-        return 1;
-    }
-    d
-}
-
-// The record behind the value at record i.
-fn after(words: &[u64], i: usize) -> usize
-    requires { ⌜ 4 * i + 4 ≤ length (now words) ⌝ }
-    requires { ⌜ i + sizeAt (now words) i ≤ length (now words) ⌝ }
-    ensures { λ r. ⌜ r ≡ i + sizeAt (now (words .entry)) i ⌝ }
-{
-    i + size(words[4 * i], words[4 * i + 2], words[4 * i + 3]) as usize
-}
-
 fn equal(order: Order) -> bool
     ensures { λ r. ⌜ r ≡ isEq (orderOf order) ⌝ }
 {
@@ -83,7 +60,7 @@ fn is_key(words: &[u64], text: &[u8], i: usize, name: &[u8]) -> bool
     ensures { λ r. ⌜ r ≡ isKey (now (name .entry)) (labelAt (now (words .entry)) (now (text .entry)) i) ⌝ }
 {
     let kind = head_of(words[4 * i]).kind;
-    if kind != 4 {
+    if kind != BYTES {
         return false;
     }
     let at = words[4 * i + 1];
@@ -118,7 +95,7 @@ fn is_between(words: &[u64], i: usize, low: u64, high: u64) -> bool
     requires { ⌜ 4 * i + 4 ≤ length (now words) ⌝ }
     ensures { λ r. ⌜ r ≡ betweenAt (now (words .entry)) i low high ⌝ }
 {
-    if head_of(words[4 * i]).kind != 2 {
+    if head_of(words[4 * i]).kind != I64 {
         return false;
     }
     let value = words[4 * i + 1];
@@ -136,7 +113,7 @@ fn hit(words: &[u64], j: usize, left: u64, item: u64) -> u64
     if left == 0 {
         return 0;
     }
-    if head_of(words[4 * j]).kind != 2 {
+    if head_of(words[4 * j]).kind != I64 {
         return 0;
     }
     if item == words[4 * j + 1] {
@@ -206,23 +183,23 @@ fn assess(words: &[u64], text: &[u8]) -> Tally
     requires { ⌜ Tabled (now words) (now text) ⌝ }
     ensures { λ r. ⌜ Assesses (now (words .entry)) (now (text .entry)) r ⌝ }
 {
-    if head_of(words[0]).kind != 10 {
+    if head_of(words[0]).kind != DICT {
         return Tally::Off;
     }
     let entries = words[1];
-    let answers = seek(words, text, entries, b"answers", 10);
+    let answers = seek(words, text, entries, b"answers", DICT);
     if answers == 0 {
         return Tally::Off;
     }
-    let reverse = seek(words, text, entries, b"reverse", 8);
+    let reverse = seek(words, text, entries, b"reverse", SET);
     if reverse == 0 {
         return Tally::Off;
     }
-    let flipped = seek(words, text, entries, b"flipped", 1);
+    let flipped = seek(words, text, entries, b"flipped", BOOL);
     if flipped == 0 {
         return Tally::Off;
     }
-    let highest = seek(words, text, entries, b"max", 2);
+    let highest = seek(words, text, entries, b"max", I64);
     if highest == 0 {
         return Tally::Off;
     }

@@ -1,16 +1,16 @@
 -- One law for each turn and each end of the code's loops, and for each way that a function writes. Assumes nothing.
-use Prim.Native.Nat.{ℕ, suc, zero, _+_, _-_, _^_, _/_, _%_, _≤_, _<_}
+use Prim.Native.Nat.{ℕ, suc, zero, _+_, _-_, _*_, _^_, _/_, _%_, _≤_, _<_}
 use mathlib.Core.Bool.{Bool, true, false, not, cond, _&&_, _||_}
 use mathlib.Core.List.{List, [], _∷_, _++_}
 use mathlib.Core.Path.{_≡_, refl, sym, _∙_, ap}
-use native.Mathlib.Numerals.{add-one}
+use native.Mathlib.Nat.{add-zero}
 use native.Mathlib.Omega.{arith}
 use mathlib.Core.Logic.{_≢_}
-use lib.Dec.{eqb}
+use lib.Dec.{eqb, ltb}
 use borrow.Author.Tests.{le-leb, lt-leb, ne-eqb}
-use lib.ListN.{length, set, getD, take, drop, drop-of-length-le}
-use lib.Seq.{sets, drop-cons, drop-drop}
-use Rattle.list.specs.Put.{Put, Room, Left, left-more, left-room, left-none, room-first, sets-last}
+use lib.ListN.{length, set, getD, take, drop}
+use lib.Seq.{sets, drop-drop}
+use Rattle.output.specs.Put.{Put, Room, Left, left-more, left-room, left-none, room-first, sets-last}
 use Rattle.op.specs.Table.{numberOf, numberIn, isNamed, place}
 use Rattle.refusal.specs.Read.{Read, got, refused}
 use Rattle.input.specs.declared.LineEnd.{LineEnd}
@@ -18,29 +18,17 @@ use Rattle.input.specs.declared.LineEnd.the-variants.{At, End}
 use Rattle.input.specs.Bytes.{lastByte}
 use Rattle.input.specs.Line.{lineEnd, firstFrom, newlineOf}
 use Rattle.value.specs.Value.{bit}
-use Rattle.value.specs.Shape.{moduleOf, nameOf}
-use Rattle.value.specs.Stands.{labelAt}
-use Rattle.list.specs.Decimal.{signedText}
-use Rattle.list.specs.Listing.{newline}
+use Rattle.value.specs.declared.Head.{Head}
+use Rattle.value.specs.Shape.{kindIn, headOf, moduleOf, nameOf}
+use Rattle.table.specs.Record.{Below, below}
+use Rattle.value.specs.Stands.{wordAt, labelAt}
+use Rattle.output.specs.Decimal.{signedText, either, either-way}
+use Rattle.output.specs.Put.{newline}
 use Rattle.ser.specs.Image.{low, high, inI32, int, float, bytes, string, global, builtin, setOpening, bool, joined, listBatch, dictBatch, batch, batchesUpTo, batches, appends, tupleOpcode, tupleMark, tuple, objectOpcode, built, object, framed}
 use Rattle.ser.specs.Short.{high-length}
+use Rattle.ser.specs.Length.{batchesTake, appendsTake, tupleTakes, around, openingTakes, recordTakes, recordsTake, records-more}
 use Rattle.ser.specs.Writable.{hasNewline, endsCr, writable, writableLabel, writableFrom, from-more}
 use Rattle.ser.specs.Parts.{Same, Cuts, behind, ahead}
-
--- ---- write_all: the bytes from i on are left
-
-module _ {o₀ o : List ℕ} {at next : ℕ} (s : List ℕ) (i : ℕ) (l : Left o₀ at s o next (drop i s)) where
-  bytes-left : i < length s → Left o₀ at s o next ((getD s i 0 ∷ []) ++ drop (i + 1) s)
-  bytes-left h = rw (add-one) (rw (drop-cons s i 0 h) at l)
-
-  pub bytes-room : Room at s → i < length s → Room next (getD s i 0 ∷ [])
-  bytes-room r h = room-first (drop (i + 1) s) (left-room r (bytes-left h))
-
-  pub bytes-turn : {o′ : List ℕ} {q : ℕ} → i < length s → Put o next (getD s i 0 ∷ []) o′ q → Left o₀ at s o′ q (drop (i + 1) s)
-  bytes-turn h p = left-more (drop (i + 1) s) (bytes-left h) p
-
-  pub bytes-done : length s ≤ i → Put o₀ at s o next
-  bytes-done h = left-none (rw (drop-of-length-le s h) at l)
 
 -- ---- put_low: the low bytes of what is left are left
 
@@ -53,7 +41,7 @@ module _ {o₀ o b : List ℕ} {at next : ℕ} (k n : ℕ) (l : Left o₀ at b o
   low-left : 0 < k → Left o₀ at b o next ((n % 256 ∷ []) ++ low (k - 1) (n / 256))
   low-left h = rw (low-more k n h) at l
 
-  pub low-room : Room at b → 0 < k → Room next (n % 256 ∷ [])
+  pub low-room : Room o₀ at b → 0 < k → Room o next (n % 256 ∷ [])
   low-room r h = room-first (low (k - 1) (n / 256)) (left-room r (low-left h))
 
   pub low-turn : {o′ : List ℕ} {q : ℕ} → 0 < k → Put o next (n % 256 ∷ []) o′ q → Left o₀ at b o′ q (low (k - 1) (n / 256))
@@ -227,6 +215,98 @@ module _ (w t : List ℕ) (i n : ℕ) where
   pub names-end : n ≤ i → true ≡ writableFrom w t i (n - i)
   unfolding writableFrom
   names-end h = let e : n - i ≡ 0 = omega arith in rw e
+
+-- ---- the length
+
+pub head-kind : (w : List ℕ) (i : ℕ) (h : Head) → h ≡ headOf (getD w (4 * i) 0) → kindIn (wordAt w i 0) ≡ h .kind
+head-kind w i h q = rw (add-zero, q)
+
+module _ (k b c : ℕ) where
+  pub takes-low : k < 2 → openingTakes k b c ≡ 1
+  unfolding openingTakes
+  takes-low h = either k 1 (λ l. let e : k ≡ 0 = omega arith in rw e) (λ l. let e : k ≡ 1 = omega arith in rw e)
+
+  pub takes-int : k ≡ 2 → openingTakes k b c ≡ length (int b)
+  unfolding openingTakes
+  takes-int e = rw e
+
+  pub takes-float : k ≡ 3 → openingTakes k b c ≡ 9
+  unfolding openingTakes
+  takes-float e = rw e
+
+  pub takes-short : k ≡ 4 → c ≤ 255 → openingTakes k b c ≡ c + 2
+  unfolding openingTakes
+  takes-short e h = rw (e, le-leb c 255 h)
+
+  pub takes-long : k ≡ 4 → 255 < c → openingTakes k b c ≡ c + 5
+  unfolding openingTakes
+  takes-long e h = rw (e, lt-leb c 255 h)
+
+  pub takes-string : k ≡ 5 → openingTakes k b c ≡ c + 5
+  unfolding openingTakes
+  takes-string e = rw e
+
+  pub takes-held : 5 < k → k ≤ 10 → k ≢ 7 → k ≢ 8 → k ≢ 9 → openingTakes k b c ≡ 1
+  unfolding openingTakes
+  takes-held g h x y z = either k 7 (λ l. let e : k ≡ 6 = omega arith in rw e) (λ l. let e : k ≡ 10 = omega arith in rw e)
+
+  pub takes-tuple : k ≡ 7 → openingTakes k b c ≡ 0
+  unfolding openingTakes
+  takes-tuple e = rw e
+
+  pub takes-set : k ≡ 8 → openingTakes k b c ≡ 18
+  unfolding openingTakes
+  takes-set e = rw e
+
+  pub takes-frozenset : k ≡ 9 → openingTakes k b c ≡ 24
+  unfolding openingTakes
+  takes-frozenset e = rw e
+
+  pub takes-names : 10 < k → k < 13 → openingTakes k b c ≡ c / 2 ^ 32 + c % 2 ^ 32 + 3
+  unfolding openingTakes
+  takes-names g h = either k 12 (λ l. let e : k ≡ 11 = omega arith in rw e) (λ l. let e : k ≡ 12 = omega arith in rw e)
+
+module _ (k n : ℕ) where
+  pub around-leaf : k < 6 → around k n ≡ 0
+  unfolding around Below
+  around-leaf h = below 6 (λ j. around j n ≡ 0) (refl, (refl, (refl, (refl, (refl, (refl, tt)))))) k h
+
+  pub around-list : k ≡ 6 → around k n ≡ appendsTake n
+  unfolding around
+  around-list e = rw e
+
+  pub around-tuple : k ≡ 7 → around k n ≡ tupleTakes n
+  unfolding around
+  around-tuple e = rw e
+
+  pub around-set : 7 < k → k < 10 → around k n ≡ appendsTake n + 2
+  unfolding around
+  around-set g h = either k 9 (λ l. let e : k ≡ 8 = omega arith in rw e) (λ l. let e : k ≡ 9 = omega arith in rw e)
+
+  pub around-dict : k ≡ 10 → around k n ≡ batchesTake true n
+  unfolding around
+  around-dict e = rw e
+
+  pub around-names : 10 < k → k < 13 → around k n ≡ n
+  unfolding around
+  around-names g h = either k 12 (λ l. let e : k ≡ 11 = omega arith in rw e) (λ l. let e : k ≡ 12 = omega arith in rw e)
+
+pub appends-few : (n : ℕ) → n ≤ 2048 → appendsTake n < 4096
+unfolding appendsTake batchesTake
+appends-few n h = either-way (λ (x : ℕ). x < 4096) (ltb n 2) n ((n + 999) / 1000 * 2) (omega arith) (omega arith)
+
+-- the records from i on are left to add
+
+pub sum-none : (w : List ℕ) (n : ℕ) → 3 + recordsTake w 0 (n - 0) ≡ recordsTake w 0 n + 3
+sum-none w n = let e : n - 0 ≡ n = omega arith in rw e (omega arith)
+
+module _ (w : List ℕ) (i n sum m : ℕ) (l : sum + recordsTake w i (n - i) ≡ m) where
+  pub sum-turn : i < n → sum + recordTakes w i + recordsTake w (i + 1) (n - (i + 1)) ≡ m
+  sum-turn h = let e : n - i - 1 ≡ n - (i + 1) = omega arith in omega (arith, l, rw e at (records-more w i (n - i) (omega arith)))
+
+  pub sum-all : n ≤ i → sum ≡ m
+  unfolding recordsTake
+  sum-all h = let e : n - i ≡ 0 = omega arith in let z : sum + recordsTake w i 0 ≡ m = rw e at l in omega (arith, z)
 
 -- ---- what the functions of the cycle make of the values
 

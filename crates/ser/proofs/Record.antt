@@ -13,7 +13,7 @@ use Rattle.value.specs.Value.{Label, bit, NoneL}
 use Rattle.value.specs.Shape.{kindIn, newIn, stateIn, headOf, labelsOf, labelOf, arityOf, moduleOf, nameOf}
 use Rattle.value.specs.Stands.{wordAt, labelAt, arityAt, Reads}
 use Rattle.table.specs.Record.{Below, below}
-use Rattle.list.specs.Decimal.{either}
+use Rattle.output.specs.Decimal.{either}
 use Rattle.ser.specs.Image.{int, float, bytes, string, global, set, frozenset, setOpening, bool, opening, appends, tuple, object, batches, contents}
 use Rattle.ser.specs.Parts.{Same, ahead}
 use Rattle.ser.specs.Writable.{writable, writableLabel}

@@ -1,23 +1,22 @@
 -- The write call: a table's value as a pickle. 21, then 25 exactly where the value has a name that cannot be read back, then 22
 -- exactly where the pickle is longer than the lent output.
-use Prim.Native.Nat.{ℕ, _+_, _≤_, _<_}
+use Prim.Native.Nat.{ℕ, _+_, _^_, _≤_, _<_}
 use mathlib.Core.Bool.{true, false, cond}
-use mathlib.Core.List.{List, _++_}
+use mathlib.Core.List.{List}
 use mathlib.Core.Path.{_≡_, sym, _∙_}
 use native.Mathlib.Omega.{arith}
-use lib.ListN.{length, drop}
-use lib.Seq.{sets-eq}
+use lib.ListN.{length}
 use Rattle.refusal.specs.declared.Answer.{Answer}
 use Rattle.refusal.specs.declared.Refusal.the-variants.{OutputFull, UnwritableName}
 use Rattle.refusal.specs.Numbers.{refusedAnswer}
 use Rattle.value.specs.Value.{Value, one, size}
 use Rattle.value.specs.WellFormed.{WellFormed}
-use Rattle.table.specs.Call.{Told, told, done, answered, answered-full, answered-all, Call, call-one, call-good}
-use Rattle.list.specs.Put.{Put}
-use Rattle.list.specs.Walk.{whole-stands, whole-one}
+use Rattle.table.specs.Call.{Told, told, done, answered, answered-full, Call, call-one, call-good}
+use Rattle.output.specs.Whole.{whole-stands, whole-one, put-answered}
 use Rattle.ser.specs.Image.{framed, pickled}
 use Rattle.ser.specs.Walk.{Ready, Puts}
 use Rattle.ser.specs.Short.{written-short}
+use Rattle.ser.specs.Length.{recordsTake, pickled-length}
 use Rattle.ser.specs.Writable.{writableIn, writableFrom, from-values, Readable, values-read}
 
 -- of a well-formed table's value, and the output that is lent
@@ -34,18 +33,18 @@ write-one w n t o p q r s x y = call-one x y
 -- ---- the call looks at the names, measures, then writes
 
 module _ (w : List ℕ) (n : ℕ) (t : List ℕ) where
-  pub ready-all : WellFormed w n t → Ready framed w t 0 1 0
-  unfolding pickled
-  ready-all f = record { values = one (f .value); stands = whole-stands w n t f; counted = whole-one w n t f; room = record { counts = omega (arith, written-short w n t f) } }
-
-  put-pickled : (o o′ : List ℕ) (m : ℕ) → Puts framed w t 0 1 o 0 o′ m → (f : WellFormed w n t) → Put o 0 (pickled (f .value)) o′ m
-  unfolding pickled
-  put-pickled o o′ m x f = x (one (f .value)) (whole-stands w n t f) (whole-one w n t f)
-
-  -- every record can be looked at, and they say whether all names can be read back
+  -- every record can be looked at
   pub read-all : WellFormed w n t → Readable w t 0 n
-  read-all f = rw (f .counted) at (values-read w t (one (f .value)) 0 (whole-stands w n t f))
+  read-all f = rw (f .counted) at (values-read w t (one (f .value)) 0 (whole-stands w n t f) (omega (arith, f .counted, f .few, f .lent)))
 
+  pub length-few : WellFormed w n t → recordsTake w 0 n + 3 < 2 ^ 64
+  length-few f = omega (arith, pickled-length w n t f, written-short w n t f)
+
+  pub ready-all : (o : List ℕ) → WellFormed w n t → recordsTake w 0 n + 3 ≤ length o → Ready framed w t 0 1 o 0
+  unfolding pickled
+  ready-all o f h = record { values = one (f .value); stands = whole-stands w n t f; counted = whole-one w n t f; room = record { fits = omega (arith, pickled-length w n t f, h) } }
+
+  -- the records say whether all names can be read back
   names-all : (f : WellFormed w n t) → writableIn (one (f .value)) ≡ writableFrom w t 0 n
   names-all f = sym (from-values w t (one (f .value)) 0 (whole-stands w n t f)) ∙ rw (f .counted)
 
@@ -53,23 +52,11 @@ module _ (w : List ℕ) (n : ℕ) (t : List ℕ) where
   unfolding written
   write-unwritable o r f h e = call-good written w n t o o r f (λ g. rw (names-all g, h, e))
 
-  module _ (none none′ : List ℕ) (m : ℕ) (measured : Puts framed w t 0 1 none 0 none′ m) (f : WellFormed w n t) (names : writableFrom w t 0 n ≡ true) (o : List ℕ) where
-    pub write-full : (r : Answer) → length o < m → r ≡ refusedAnswer OutputFull → WriteCall w n t o o r
+  module _ (f : WellFormed w n t) (names : writableFrom w t 0 n ≡ true) (o : List ℕ) where
+    pub write-full : (r : Answer) → length o < recordsTake w 0 n + 3 → r ≡ refusedAnswer OutputFull → WriteCall w n t o o r
     unfolding written
-    write-full r h e =
-        call-good written w n t o o r f
-        (λ g. rw (names-all g, names, e) (sym (answered-full (pickled (g .value)) o (omega (arith, put-pickled none none′ m measured g .ends)))))
+    write-full r h e = call-good written w n t o o r f (λ g. rw (names-all g, names, e) (sym (answered-full (pickled (g .value)) o (omega (arith, pickled-length w n t g)))))
 
-    pub write-all : (o′ : List ℕ) (p : ℕ) → m ≤ length o → Puts framed w t 0 1 o 0 o′ p → WriteCall w n t o o′ (done p)
-    unfolding written
-    write-all o′ p h x = call-good written w n t o o′ (done p) f (λ g. rw (names-all g, names) (good g))
-      where
-        good : (g : WellFormed w n t) → told (done p) o′ ≡ answered (pickled (g .value)) o
-        good g =
-            let b = pickled (g .value) in
-            let put = put-pickled o o′ p x g in
-            let long : length b ≤ length o = omega (arith, put-pickled none none′ m measured g .ends) in
-            let e : p ≡ length b = omega (arith, put .ends) in
-            let z : 0 + length b ≡ length b = omega arith in
-            let front : o′ ≡ b ++ drop (length b) o = put .wrote ∙ rw z at (sets-eq b o 0 (rw z long)) in
-            rw (answered-all b o long, e, front)
+    pub write-all : (o′ : List ℕ) (p : ℕ) → recordsTake w 0 n + 3 ≤ length o → Puts framed w t 0 1 o 0 o′ p → WriteCall w n t o o′ (done p)
+    unfolding written pickled
+    write-all o′ p h x = call-good written w n t o o′ (done p) f (λ g. rw (names-all g, names) (put-answered (pickled (g .value)) o o′ p (omega (arith, pickled-length w n t g)) (x (one (g .value)) (whole-stands w n t g) (whole-one w n t g))))

@@ -6,7 +6,7 @@ use mathlib.Core.Path.{_≡_, refl}
 use lib.ListN.{replicate}
 use Rattle.op.specs.Table.{numberOf, numberIn, isNamed, place}
 use Rattle.value.specs.Value.{Forest, NoneL, I64L, ListL, TupleL, SetL, DictL, ObjectL, nil, node}
-use Rattle.list.specs.Decimal.{figure, figures, noZeros, decimalText, signedText}
+use Rattle.output.specs.Decimal.{figure, figures, noZeros, decimalText, signedText}
 use Rattle.ser.specs.Image.{low, high, inI32, int, float, bytes, string, global, setOpening, bool, opening, joined, listBatch, dictBatch, batch, batchSize, batchesUpTo, batches, appends, tupleMark, tupleOpcode, tuple, objectOpcode, built, object, contents, images, framed, pickled}
 
 -- what computes on given values

@@ -9,8 +9,8 @@ use Rattle.op.specs.Table.{numberOf}
 use Rattle.op.specs.declared.Opcode.{Opcode}
 use Rattle.op.specs.declared.Opcode.the-variants.{MARK, STOP, INT, BININT, BININT1, BININT2, NONE, REDUCE, BINSTRING, «SHORT_BINSTRING», BINUNICODE, APPEND, BUILD, GLOBAL, «EMPTY_DICT», APPENDS, «EMPTY_LIST», SETITEM, TUPLE, «EMPTY_TUPLE», SETITEMS, BINFLOAT, PROTO, NEWOBJ, TUPLE1, TUPLE2, TUPLE3, NEWTRUE, NEWFALSE}
 use Rattle.value.specs.Value.{Label, Forest, Value, one, NoneL, BoolL, I64L, F64L, BytesL, StringL, ListL, TupleL, SetL, FrozenSetL, DictL, GlobalL, ObjectL, nil, node}
-use Rattle.list.specs.Decimal.{signedText}
-use Rattle.list.specs.Listing.{newline}
+use Rattle.output.specs.Decimal.{signedText}
+use Rattle.output.specs.Put.{newline}
 
 -- an opcode alone
 abbrev pub op : Opcode → List ℕ

@@ -4,6 +4,7 @@ pub mod Examples
 pub mod Walk
 pub mod Parts
 pub mod Short
+pub mod Length
 pub mod Back
 pub mod Writable
 pub mod Call

@@ -9,8 +9,8 @@ use lib.ListN.{length, take, drop, length-drop, drop-of-length-le}
 use lib.Seq.{take-all, length-sets}
 use Rattle.value.specs.Value.{Label, Forest, count, size, nil, node}
 use Rattle.value.specs.Stands.{labelAt, arityAt, Reads, Says, Stands}
-use Rattle.list.specs.Decimal.{either}
-use Rattle.list.specs.Put.{Put, Room, put-same, put-then, put-none, room-first, room-then}
+use Rattle.output.specs.Decimal.{either}
+use Rattle.output.specs.Put.{Put, Room, put-same, put-then, put-none, room-first, room-then}
 use Rattle.ser.specs.Image.{opening, contents, images, joined, batch, batchSize, batchesUpTo, batches}
 use Rattle.ser.specs.Walk.{Maker, Ready, Wrote}
 
@@ -32,7 +32,7 @@ pub record Cuts (k n m : ℕ) (F G H : Maker) : Type 0 where
 
 -- n values stood from record `from` on; writing those that are left, from record i on, will have written them all
 pub record Going (F : Maker) (w t : List ℕ) (from n : ℕ) (o₀ : List ℕ) (at : ℕ) (o : List ℕ) (i left next : ℕ) : Type 0 where
-  pub ready : Ready F w t i left next
+  pub ready : Ready F w t i left o next
   pub later : from ≤ i
   pub kept : length o ≡ length o₀
   pub rest : (o′ : List ℕ) (j q : ℕ) → Wrote F w t i left o next o′ j q → Wrote F w t from n o₀ at o′ j q
@@ -50,19 +50,19 @@ record Cut (w t : List ℕ) (i k : ℕ) (f : Forest) : Type 0 where
   pub drops : images rest ≡ drop k (images f)
 
 -- the value at a record
-record Single (w t : List ℕ) (i at : ℕ) : Type 0 where
+record Single (w t : List ℕ) (i : ℕ) (o : List ℕ) (at : ℕ) : Type 0 where
   pub label : Label
   pub inside : Forest
   pub says : Says w t i label (count inside)
   pub stands : Stands w t (i + 1) inside
-  pub room : Room at (opening label ++ contents label (images inside))
+  pub room : Room o at (opening label ++ contents label (images inside))
 
 pub images-length : (f : Forest) → length (images f) ≡ count f
 unfolding images count
 images-length nil = refl
 images-length (node l c r) = ap suc (images-length r)
 
-count-size : (f : Forest) → count f ≤ size f
+pub count-size : (f : Forest) → count f ≤ size f
 unfolding count size
 count-size nil = omega arith
 count-size (node l c r) = omega (arith, count-size r)
@@ -115,13 +115,13 @@ module _ {w t : List ℕ} where
     cuts-at : (f : Forest) → count f ≡ n → (x : Cut w t i k f) → F (images f) ≡ G (images (x .first)) ++ H (images (x .rest))
     cuts-at f q x = e .cuts (images f) (images-length f ∙ q) ∙ rw (x .takes, x .drops)
 
-    pub ready-cut : {at : ℕ} → Ready F w t i n at → Ready G w t i k at
+    pub ready-cut : {o : List ℕ} {at : ℕ} → Ready F w t i n o at → Ready G w t i k o at
     ready-cut y =
         let x = cut w t k i (y .values) (y .stands) (omega (arith, y .counted, e .sum)) in
         record { values = x .first; stands = x .stands; counted = x .counted; room = room-first _ (rw (cuts-at (y .values) (y .counted) x) at (y .room)) }
 
     module _ {o o₁ : List ℕ} {at j p : ℕ} (a : Wrote G w t i k o at o₁ j p) where
-      pub ready-rest : Ready F w t i n at → Ready H w t j m p
+      pub ready-rest : Ready F w t i n o at → Ready H w t j m o₁ p
       ready-rest y =
           let x = cut w t k i (y .values) (y .stands) (omega (arith, y .counted, e .sum)) in
           let l : count (x .rest) ≡ m = omega (arith, x .others, y .counted, e .sum) in
@@ -152,7 +152,7 @@ module _ {w t : List ℕ} where
   -- ---- the same by another maker
 
   module _ {F G : Maker} {n : ℕ} (e : Same n F G) {i : ℕ} where
-    pub ready-as : {at : ℕ} → Ready F w t i n at → Ready G w t i n at
+    pub ready-as : {o : List ℕ} {at : ℕ} → Ready F w t i n o at → Ready G w t i n o at
     ready-as y = record { values = y .values; stands = y .stands; counted = y .counted; room = rw (e .same (images (y .values)) (images-length (y .values) ∙ y .counted)) at (y .room) }
 
     pub wrote-as : {o o′ : List ℕ} {at j p : ℕ} → Wrote G w t i n o at o′ j p → Wrote F w t i n o at o′ j p
@@ -161,11 +161,11 @@ module _ {w t : List ℕ} where
   -- ---- bytes before the values and behind them
 
   module _ (F : Maker) (b : List ℕ) {i n : ℕ} where
-    pub ready-front : {at : ℕ} → Ready (behind b F) w t i n at → Room at b
+    pub ready-front : {o : List ℕ} {at : ℕ} → Ready (behind b F) w t i n o at → Room o at b
     unfolding behind
     ready-front y = room-first _ (y .room)
 
-    pub ready-after : {at p : ℕ} {o o₁ : List ℕ} → Ready (behind b F) w t i n at → Put o at b o₁ p → Ready F w t i n p
+    pub ready-after : {at p : ℕ} {o o₁ : List ℕ} → Ready (behind b F) w t i n o at → Put o at b o₁ p → Ready F w t i n o₁ p
     unfolding behind
     ready-after y x = record { values = y .values; stands = y .stands; counted = y .counted; room = room-then _ x (y .room) }
 
@@ -173,11 +173,11 @@ module _ {w t : List ℕ} where
     unfolding behind
     wrote-after x a = record { puts = λ f s c. put-then x (a .puts f s c); passed = a .passed }
 
-    pub ready-before : {at : ℕ} → Ready (ahead F b) w t i n at → Ready F w t i n at
+    pub ready-before : {o : List ℕ} {at : ℕ} → Ready (ahead F b) w t i n o at → Ready F w t i n o at
     unfolding ahead
     ready-before y = record { values = y .values; stands = y .stands; counted = y .counted; room = room-first _ (y .room) }
 
-    pub ready-end : {at j p : ℕ} {o o₁ : List ℕ} → Ready (ahead F b) w t i n at → Wrote F w t i n o at o₁ j p → Room p b
+    pub ready-end : {at j p : ℕ} {o o₁ : List ℕ} → Ready (ahead F b) w t i n o at → Wrote F w t i n o at o₁ j p → Room o₁ p b
     unfolding ahead
     ready-end y a = room-then _ (a .puts (y .values) (y .stands) (y .counted)) (y .room)
 
@@ -186,10 +186,10 @@ module _ {w t : List ℕ} where
     wrote-before a x = record { puts = λ f s c. put-then (a .puts f s c) x; passed = a .passed }
 
   -- the next record is no earlier one
-  pub wrote-later : {F : Maker} {i n at j p : ℕ} {o o₁ : List ℕ} → Ready F w t i n at → Wrote F w t i n o at o₁ j p → i ≤ j
+  pub wrote-later : {F : Maker} {i n at j p : ℕ} {o o₁ : List ℕ} → Ready F w t i n o at → Wrote F w t i n o at o₁ j p → i ≤ j
   wrote-later y a = omega (arith, a .passed (y .values) (y .stands) (y .counted))
 
-  pub wrote-kept : {F : Maker} {i n at j p : ℕ} {o o₁ : List ℕ} → Ready F w t i n at → Wrote F w t i n o at o₁ j p → length o₁ ≡ length o
+  pub wrote-kept : {F : Maker} {i n at j p : ℕ} {o o₁ : List ℕ} → Ready F w t i n o at → Wrote F w t i n o at o₁ j p → length o₁ ≡ length o
   wrote-kept y a = ap length (a .puts (y .values) (y .stands) (y .counted) .wrote) ∙ simp length-sets
 
   -- no values
@@ -206,7 +206,7 @@ module _ {w t : List ℕ} where
   -- ---- a loop
 
   module _ {F : Maker} {from n at : ℕ} {o₀ : List ℕ} where
-    pub going-all : Ready F w t from n at → Going F w t from n o₀ at o₀ from n at
+    pub going-all : Ready F w t from n o₀ at → Going F w t from n o₀ at o₀ from n at
     going-all y = record { ready = y; later = omega arith; kept = refl; rest = λ o′ j q a. a }
 
     pub going-again : {G : Maker} {k m i left next j q : ℕ} {o o′ : List ℕ} → Cuts k left m F G F → Going F w t from n o₀ at o i left next → Wrote G w t i k o next o′ j q → Going F w t from n o₀ at o′ j m q
@@ -223,24 +223,24 @@ module _ {w t : List ℕ} where
 
   -- ---- a value
 
-  module _ {i at : ℕ} where
-    single-of : (f : Forest) → Stands w t i f → count f ≡ 1 → Room at (joined (images f)) → Single w t i at
+  module _ {i : ℕ} {o : List ℕ} {at : ℕ} where
+    single-of : (f : Forest) → Stands w t i f → count f ≡ 1 → Room o at (joined (images f)) → Single w t i o at
     unfolding Stands count images joined
     single-of nil s c r = absurd (omega arith)
     single-of (node l c nil) s q r = record { label = l; inside = c; says = s .0; stands = s .1; room = rw append-nil at r }
     single-of (node l c (node m d f)) s q r = absurd (omega arith)
 
-    module _ (y : Ready joined w t i 1 at) where
-      single : Single w t i at
+    module _ (y : Ready joined w t i 1 o at) where
+      single : Single w t i o at
       single = single-of (y .values) (y .stands) (y .counted) (y .room)
 
       pub value-reads : Reads w t i
       value-reads = single .says .reads
 
-      pub value-room : Room at (opening (labelAt w t i))
+      pub value-room : Room o at (opening (labelAt w t i))
       value-room = rw (single .says .label) (room-first _ (single .room))
 
-      pub value-inside : {o o₁ : List ℕ} {p : ℕ} → Put o at (opening (labelAt w t i)) o₁ p → Ready (contents (labelAt w t i)) w t (i + 1) (arityAt w i) p
+      pub value-inside : {o₁ : List ℕ} {p : ℕ} → Put o at (opening (labelAt w t i)) o₁ p → Ready (contents (labelAt w t i)) w t (i + 1) (arityAt w i) o₁ p
       value-inside x =
           record {
             values = single .inside;
@@ -263,7 +263,7 @@ module _ {w t : List ℕ} where
       passed (node l c nil) s e = omega (arith, a .passed c (s .1) (sym (s .0 .arity)))
       passed (node l c (node m d f)) s e = absurd (omega arith)
 
-  pub value-arity : {i at : ℕ} → Ready joined w t i 1 at → arityAt w i ≤ length w
+  pub value-arity : {i : ℕ} {o : List ℕ} {at : ℕ} → Ready joined w t i 1 o at → arityAt w i ≤ length w
   value-arity {i} y =
       let x = single y in
       omega (arith, x .says .arity, count-size (x .inside), inside w t (x .inside) (i + 1) (x .stands) (omega (arith, x .says .reads .inside)))

@@ -8,11 +8,11 @@ use lib.Dec.{eqb, leb}
 use lib.ListN.{length, length-append, length-drop, take, drop, take-append-drop}
 use Rattle.value.specs.Value.{Label, Forest, Value, one, textOf, text, count, size, NoneL, BoolL, I64L, F64L, BytesL, StringL, ListL, TupleL, SetL, FrozenSetL, DictL, GlobalL, ObjectL, nil, node}
 use Rattle.value.specs.WellFormed.{WellFormed}
-use Rattle.list.specs.Decimal.{signedText, signed-short, either-way}
+use Rattle.output.specs.Decimal.{signedText, signed-short, either-way}
 use Rattle.ser.specs.Image.{low, high, inI32, int, float, bytes, string, global, builtin, set, frozenset, setOpening, bool, opening, joined, listBatch, dictBatch, batch, batchSize, batchesUpTo, batches, appends, tupleMark, tuple, built, object, contents, images, framed, pickled}
 use Rattle.ser.specs.Parts.{images-length, size-some}
 
-low-length : (k n : ℕ) → length (low k n) ≡ k
+pub low-length : (k n : ℕ) → length (low k n) ≡ k
 unfolding low
 low-length zero n = refl
 low-length (suc k) n = ap suc (low-length k (n / 256))

@@ -5,19 +5,19 @@ use mathlib.Core.List.{List}
 use mathlib.Core.Path.{_≡_}
 use Rattle.value.specs.Value.{Forest, count, size}
 use Rattle.value.specs.Stands.{Stands}
-use Rattle.list.specs.Put.{Put, Room}
+use Rattle.output.specs.Put.{Put, Room}
 use Rattle.ser.specs.Image.{images}
 
 -- what is made of parts
 abbrev pub Maker : Type 0
 Maker = List (List ℕ) → List ℕ
 
--- n values stand from record i on, and what F makes of them can be put at `at`
-pub record Ready (F : Maker) (w t : List ℕ) (i n at : ℕ) : Type 0 where
+-- n values stand from record i on, and the output has room at `at` for what F makes of them
+pub record Ready (F : Maker) (w t : List ℕ) (i n : ℕ) (o : List ℕ) (at : ℕ) : Type 0 where
   pub values : Forest
   pub stands : Stands w t i values
   pub counted : count values ≡ n
-  pub room : Room at (F (images values))
+  pub room : Room o at (F (images values))
 
 -- whatever values they are, what F makes of them was put
 abbrev pub Puts : Maker → List ℕ → List ℕ → ℕ → ℕ → List ℕ → ℕ → List ℕ → ℕ → Type 0

@@ -1,16 +1,18 @@
 -- Document 02, Ask 5: the names that can be read back. A module and a name are written a line each: a newline in one ends its line
 -- too early, and a reader drops one CR at a line's end.
-use Prim.Native.Nat.{ℕ, suc, zero, _+_, _-_, _<_, _≤_}
+use Prim.Native.Nat.{ℕ, suc, zero, _+_, _-_, _<_, _≤_, min}
 use mathlib.Core.Bool.{Bool, true, false, not, _&&_, _||_, and-assoc}
 use mathlib.Core.List.{List, [], _∷_}
 use mathlib.Core.Path.{_≡_, refl, sym, _∙_, ap, ap₂}
 use mathlib.Core.Logic.{⊎-elim}
 use native.Mathlib.Omega.{arith}
 use lib.Dec.{eqb}
+use lib.ListN.{length}
 use Rattle.input.specs.Bytes.{lt-or-le, lastByte}
 use Rattle.value.specs.Value.{Label, Forest, size, NoneL, BoolL, I64L, F64L, BytesL, StringL, ListL, TupleL, SetL, FrozenSetL, DictL, GlobalL, ObjectL, nil, node}
-use Rattle.value.specs.Stands.{labelAt, Reads, Stands}
-use Rattle.list.specs.Listing.{newline}
+use Rattle.value.specs.Stands.{labelAt, arityAt, Reads, Stands}
+use Rattle.output.specs.Put.{newline}
+use Rattle.ser.specs.Parts.{count-size}
 
 unfoldable pub hasNewline : List ℕ → Bool
 hasNewline [] = false
@@ -93,13 +95,13 @@ module _ (w t : List ℕ) where
   from-values (node l c r) i s =
       ap₂ _&&_ (ap writableLabel (s .0 .label)) (from-both (size c) (size r) (i + 1) ∙ ap₂ _&&_ (from-values c (i + 1) (s .1)) (from-values r (i + 1 + size c) (s .2)))
 
-  -- each of n records from record i on can be read
+  -- each of n records from record i on can be read, with no more values in it than a table has records
   abbrev pub Readable : ℕ → ℕ → Type 0
-  Readable i n = (k : ℕ) → i ≤ k → k < i + n → Reads w t k
+  Readable i n = (k : ℕ) → i ≤ k → k < i + n → Reads w t k × (arityAt w k ≤ min 2048 (length w))
 
-  pub values-read : (f : Forest) (i : ℕ) → Stands w t i f → Readable i (size f)
+  pub values-read : (f : Forest) (i : ℕ) → Stands w t i f → i + size f ≤ min 2048 (length w) → Readable i (size f)
   unfolding Stands size
-  values-read nil i s k a b = absurd (omega arith)
-  values-read (node l c r) i s k a b =
-      ⊎-elim (λ h. let e : i ≡ k = omega arith in rw e at (s .0 .reads))
-      (λ h. ⊎-elim (λ g. values-read c (i + 1) (s .1) k (omega arith) (omega arith)) (λ g. values-read r (i + 1 + size c) (s .2) k (omega arith) (omega arith)) (lt-or-le k (i + 1 + size c))) (lt-or-le k (i + 1))
+  values-read nil i s m k a b = absurd (omega arith)
+  values-read (node l c r) i s m k a b =
+      ⊎-elim (λ h. let e : i ≡ k = omega arith in rw (← e) (s .0 .reads, omega (arith, s .0 .arity, count-size c)))
+      (λ h. ⊎-elim (λ g. values-read c (i + 1) (s .1) (omega arith) k (omega arith) (omega arith)) (λ g. values-read r (i + 1 + size c) (s .2) (omega arith) k (omega arith) (omega arith)) (lt-or-le k (i + 1 + size c))) (lt-or-le k (i + 1))

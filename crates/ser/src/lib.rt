@@ -1,5 +1,5 @@
-// Writing (ser.rs): a value's bytes, at protocol 2 as Python 2 writes it, without the memo. As in crate `list`, a function writes from
-// `at` on, as far as the output goes, and answers the next place; so the length is measured by writing to no output. `to_writer`
+// Writing (ser.rs): a value's bytes, at protocol 2 as Python 2 writes it, without the memo. The length is summed up over the records,
+// and what is written then has room; as in crate `output`, a function writes from `at` on and answers the next place. `to_writer`
 // is left out.
 use input::LineEnd;
 use refusal::Answer;
@@ -7,41 +7,29 @@ use refusal::Refusal;
 use refusal::Which;
 ghost use mathlib.Core.Path.{_≡_};
 ghost use mathlib.Core.Bool.{_&&_};
-ghost use Prim.Native.Nat.{_≤_, suc, min};
+ghost use Prim.Native.Nat.{_+_, _*_, _^_, _≤_, _<_, suc, min};
 ghost use lib.ListN.{length, drop};
 ghost use Rattle.value.specs.Value.{bit};
-ghost use Rattle.value.specs.Stands.{labelAt, Reads};
-ghost use Rattle.list.specs.Put.{Put, Room};
+ghost use Rattle.value.specs.Stands.{wordAt, labelAt, arityAt, Reads};
+ghost use Rattle.output.specs.Put.{Put, Room};
 ghost use Rattle.op.specs.Table.{numberOf};
-ghost use Rattle.value.specs.Shape.{namesEnd, moduleOf, nameOf};
+ghost use Rattle.value.specs.Shape.{kindIn, namesEnd, moduleOf, nameOf};
 ghost use Rattle.ser.specs.Image.{low, high, inI32, int, float, bytes, string, global, setOpening, bool, opening, joined, batch, batchSize, batches, appends, tupleMark, tupleOpcode, tuple, objectOpcode, object, framed};
 ghost use Rattle.ser.specs.Walk.{Ready, Puts, Wrote};
+ghost use Rattle.ser.specs.Length.{batchesTake, appendsTake, around, openingTakes, recordTakes, recordsTake};
 ghost use Rattle.ser.specs.Writable.{endsCr, writable, writableLabel, writableFrom, Readable};
 ghost use Rattle.ser.specs.Call.{WriteCall};
 
-fn write_all(bytes: &[u8], output: &mut [u8], at: usize) -> usize
-    requires { ⌜ Room at (now bytes) ⌝ }
-    ensures { λ r. ⌜ Put (now (output .entry)) at (now (bytes .entry)) (now (output .exit)) r ⌝ }
-{
-    let mut i = 0;
-    let mut next = at;
-    while i < bytes.len() {
-        next = list::put_byte(bytes[i], output, next);
-        i += 1;
-    }
-    next
-}
-
 // The low `count` bytes of a number, low byte first.
 fn put_low(n: u64, count: usize, output: &mut [u8], at: usize) -> usize
-    requires { ⌜ Room at (low count n) ⌝ }
+    requires { ⌜ Room (now output) at (low count n) ⌝ }
     ensures { λ r. ⌜ Put (now (output .entry)) at (low count n) (now (output .exit)) r ⌝ }
 {
     let mut rest = n;
     let mut left = count;
     let mut next = at;
     while left > 0 {
-        next = list::put_byte((rest % 256) as u8, output, next);
+        next = output::put_byte((rest % 256) as u8, output, next);
         rest /= 256;
         left -= 1;
     }
@@ -50,27 +38,27 @@ fn put_low(n: u64, count: usize, output: &mut [u8], at: usize) -> usize
 
 // The same, high byte first; the last one is stored first.
 fn put_high(n: u64, count: usize, output: &mut [u8], at: usize) -> usize
-    requires { ⌜ Room at (high count n) ⌝ }
+    requires { ⌜ Room (now output) at (high count n) ⌝ }
     ensures { λ r. ⌜ Put (now (output .entry)) at (high count n) (now (output .exit)) r ⌝ }
 {
     let mut rest = n;
     let mut places = count;
     while places > 0 {
         places -= 1;
-        list::store((rest % 256) as u8, output, at + places);
+        output[at + places] = (rest % 256) as u8;
         rest /= 256;
     }
     at + count
 }
 
 fn encode_bool(value: bool, output: &mut [u8], at: usize) -> usize
-    requires { ⌜ Room at (bool value) ⌝ }
+    requires { ⌜ Room (now output) at (bool value) ⌝ }
     ensures { λ r. ⌜ Put (now (output .entry)) at (bool value) (now (output .exit)) r ⌝ }
 {
     if value {
-        return list::put_byte(op::NEWTRUE, output, at);
+        return output::put_byte(op::NEWTRUE, output, at);
     }
-    list::put_byte(op::NEWFALSE, output, at)
+    output::put_byte(op::NEWFALSE, output, at)
 }
 
 // Whether the i64 of 64 bits is one of an i32.
@@ -85,82 +73,82 @@ fn in_i32(bits: u64) -> bool
 
 // An i64, from its 64 bits.
 fn encode_i64(bits: u64, output: &mut [u8], at: usize) -> usize
-    requires { ⌜ Room at (int bits) ⌝ }
+    requires { ⌜ Room (now output) at (int bits) ⌝ }
     ensures { λ r. ⌜ Put (now (output .entry)) at (int bits) (now (output .exit)) r ⌝ }
 {
     if bits <= 255 {
-        let next = list::put_byte(op::BININT1, output, at);
+        let next = output::put_byte(op::BININT1, output, at);
         return put_low(bits, 1, output, next);
     }
     if bits <= 65535 {
-        let next = list::put_byte(op::BININT2, output, at);
+        let next = output::put_byte(op::BININT2, output, at);
         return put_low(bits, 2, output, next);
     }
     if in_i32(bits) {
-        let next = list::put_byte(op::BININT, output, at);
+        let next = output::put_byte(op::BININT, output, at);
         return put_low(bits, 4, output, next);
     }
-    let next = list::put_byte(op::INT, output, at);
-    let end = list::put_signed(bits, output, next);
-    list::put_byte(b'\n', output, end)
+    let next = output::put_byte(op::INT, output, at);
+    let end = output::put_signed(bits, output, next);
+    output::put_byte(b'\n', output, end)
 }
 
 fn encode_f64(bits: u64, output: &mut [u8], at: usize) -> usize
-    requires { ⌜ Room at (float bits) ⌝ }
+    requires { ⌜ Room (now output) at (float bits) ⌝ }
     ensures { λ r. ⌜ Put (now (output .entry)) at (float bits) (now (output .exit)) r ⌝ }
 {
-    let next = list::put_byte(op::BINFLOAT, output, at);
+    let next = output::put_byte(op::BINFLOAT, output, at);
     put_high(bits, 8, output, next)
 }
 
 fn encode_bytes(value: &[u8], output: &mut [u8], at: usize) -> usize
-    requires { ⌜ Room at (bytes (now value)) ⌝ }
+    requires { ⌜ Room (now output) at (bytes (now value)) ⌝ }
     ensures { λ r. ⌜ Put (now (output .entry)) at (bytes (now (value .entry))) (now (output .exit)) r ⌝ }
 {
     let len = value.len();
     if len <= 255 {
-        let next = list::put_byte(op::SHORT_BINSTRING, output, at);
+        let next = output::put_byte(op::SHORT_BINSTRING, output, at);
         let end = put_low(len as u64, 1, output, next);
-        return write_all(value, output, end);
+        return output::put_run(value, output, end);
     }
-    let next = list::put_byte(op::BINSTRING, output, at);
+    let next = output::put_byte(op::BINSTRING, output, at);
     let end = put_low(len as u64, 4, output, next);
-    write_all(value, output, end)
+    output::put_run(value, output, end)
 }
 
 fn encode_string(value: &[u8], output: &mut [u8], at: usize) -> usize
-    requires { ⌜ Room at (string (now value)) ⌝ }
+    requires { ⌜ Room (now output) at (string (now value)) ⌝ }
     ensures { λ r. ⌜ Put (now (output .entry)) at (string (now (value .entry))) (now (output .exit)) r ⌝ }
 {
-    let next = list::put_byte(op::BINUNICODE, output, at);
+    let next = output::put_byte(op::BINUNICODE, output, at);
     let end = put_low(value.len() as u64, 4, output, next);
-    write_all(value, output, end)
+    output::put_run(value, output, end)
 }
 
 fn encode_global(module: &[u8], name: &[u8], output: &mut [u8], at: usize) -> usize
-    requires { ⌜ Room at (global (now «module») (now name)) ⌝ }
+    requires { ⌜ Room (now output) at (global (now «module») (now name)) ⌝ }
     ensures { λ r. ⌜ Put (now (output .entry)) at (global (now («module» .entry)) (now (name .entry))) (now (output .exit)) r ⌝ }
 {
-    let a = list::put_byte(op::GLOBAL, output, at);
-    let b = write_all(module, output, a);
-    let c = list::put_byte(b'\n', output, b);
-    let d = write_all(name, output, c);
-    list::put_byte(b'\n', output, d)
+    let a = output::put_byte(op::GLOBAL, output, at);
+    let b = output::put_run(module, output, a);
+    let c = output::put_byte(b'\n', output, b);
+    let d = output::put_run(name, output, c);
+    output::put_byte(b'\n', output, d)
 }
 
 // Python 2 has no set opcodes and pickles `set([items])`: the name, and the list that the items are appended to.
 fn encode_set(name: &[u8], output: &mut [u8], at: usize) -> usize
-    requires { ⌜ Room at (setOpening (now name)) ⌝ }
+    requires { ⌜ Room (now output) at (setOpening (now name)) ⌝ }
     ensures { λ r. ⌜ Put (now (output .entry)) at (setOpening (now (name .entry))) (now (output .exit)) r ⌝ }
 {
     let next = encode_global(b"__builtin__", name, output, at);
-    list::put_byte(op::EMPTY_LIST, output, next)
+    output::put_byte(op::EMPTY_LIST, output, next)
 }
 
 // A module and a name, whose texts stand side by side from `from` on; `lengths` has the module's in its upper half.
 fn encode_names(text: &[u8], from: u64, lengths: u64, output: &mut [u8], at: usize) -> usize
     requires { ⌜ namesEnd from lengths ≤ length (now text) ⌝ }
-    requires { ⌜ Room at (global (moduleOf lengths (drop from (now text))) (nameOf lengths (drop from (now text)))) ⌝ }
+    requires { ⌜ Room (now output) at (global (moduleOf lengths (drop from (now text))) (nameOf lengths (drop from (now text)))) ⌝ }
     ensures { λ r. ⌜ Put (now (output .entry)) at (global (moduleOf lengths (drop from (now (text .entry)))) (nameOf lengths (drop from (now (text .entry))))) (now (output .exit)) r ⌝ }
 {
     let start = from as usize;
@@ -177,7 +165,7 @@ fn encode_names(text: &[u8], from: u64, lengths: u64, output: &mut [u8], at: usi
 // What stands before the contents of record i.
 fn encode_opening(words: &[u64], text: &[u8], i: usize, output: &mut [u8], at: usize) -> usize
     requires { ⌜ Reads (now words) (now text) i ⌝ }
-    requires { ⌜ Room at (opening (labelAt (now words) (now text) i)) ⌝ }
+    requires { ⌜ Room (now output) at (opening (labelAt (now words) (now text) i)) ⌝ }
     ensures { λ r. ⌜ Put (now (output .entry)) at (opening (labelAt (now (words .entry)) (now (text .entry)) i)) (now (output .exit)) r ⌝ }
 {
     let kind = value::head_of(words[4 * i]).kind;
@@ -188,7 +176,7 @@ fn encode_opening(words: &[u64], text: &[u8], i: usize, output: &mut [u8], at: u
     }
     if kind > 5 {
         if kind == 6 {
-            return list::put_byte(op::EMPTY_LIST, output, at);
+            return output::put_byte(op::EMPTY_LIST, output, at);
         }
         if kind == 7 {
             return at;
@@ -199,10 +187,10 @@ fn encode_opening(words: &[u64], text: &[u8], i: usize, output: &mut [u8], at: u
         if kind == 9 {
             return encode_set(b"frozenset", output, at);
         }
-        return list::put_byte(op::EMPTY_DICT, output, at);
+        return output::put_byte(op::EMPTY_DICT, output, at);
     }
     if kind == 0 {
-        return list::put_byte(op::NONE, output, at);
+        return output::put_byte(op::NONE, output, at);
     }
     if kind == 1 {
         return encode_bool(second == 1, output, at);
@@ -253,7 +241,7 @@ fn batch_of(left: usize, entries: bool) -> usize
 // The value that begins at record i. This function and those below call one another; with each call fewer records are left, or as
 // many for a function that asks less of them.
 fn encode(words: &[u64], text: &[u8], i: usize, output: &mut [u8], at: usize) -> Place
-    requires { ⌜ Ready joined (now words) (now text) i 1 at ⌝ }
+    requires { ⌜ Ready joined (now words) (now text) i 1 (now output) at ⌝ }
     ensures { λ r. ⌜ Wrote joined (now (words .entry)) (now (text .entry)) i 1 (now (output .entry)) at (now (output .exit)) (r .record) (r .at) ⌝ }
 {
     let head = value::head_of(words[4 * i]);
@@ -285,10 +273,10 @@ fn encode(words: &[u64], text: &[u8], i: usize, output: &mut [u8], at: usize) ->
         return encode_batches(words, text, i + 1, count, true, output, next);
     }
     let end = encode_appends(words, text, i + 1, count, output, next);
-    let argument = list::put_byte(op::TUPLE1, output, end.at);
+    let argument = output::put_byte(op::TUPLE1, output, end.at);
     Place {
         record: end.record,
-        at: list::put_byte(op::REDUCE, output, argument),
+        at: output::put_byte(op::REDUCE, output, argument),
     }
 }
 
@@ -301,7 +289,7 @@ fn encode_items(
     output: &mut [u8],
     at: usize,
 ) -> Place
-    requires { ⌜ Ready joined (now words) (now text) from count at ⌝ }
+    requires { ⌜ Ready joined (now words) (now text) from count (now output) at ⌝ }
     ensures { λ r. ⌜ Wrote joined (now (words .entry)) (now (text .entry)) from count (now (output .entry)) at (now (output .exit)) (r .record) (r .at) ⌝ }
 {
     let mut i = from;
@@ -329,7 +317,7 @@ fn encode_batch(
     output: &mut [u8],
     at: usize,
 ) -> Place
-    requires { ⌜ Ready (batch entries) (now words) (now text) from count at ⌝ }
+    requires { ⌜ Ready (batch entries) (now words) (now text) from count (now output) at ⌝ }
     ensures { λ r. ⌜ Wrote (batch entries) (now (words .entry)) (now (text .entry)) from count (now (output .entry)) at (now (output .exit)) (r .record) (r .at) ⌝ }
 {
     if entries {
@@ -337,21 +325,21 @@ fn encode_batch(
             let entry = encode_items(words, text, from, count, output, at);
             return Place {
                 record: entry.record,
-                at: list::put_byte(op::SETITEM, output, entry.at),
+                at: output::put_byte(op::SETITEM, output, entry.at),
             };
         }
-        let next = list::put_byte(op::MARK, output, at);
+        let next = output::put_byte(op::MARK, output, at);
         let end = encode_items(words, text, from, count, output, next);
         return Place {
             record: end.record,
-            at: list::put_byte(op::SETITEMS, output, end.at),
+            at: output::put_byte(op::SETITEMS, output, end.at),
         };
     }
-    let next = list::put_byte(op::MARK, output, at);
+    let next = output::put_byte(op::MARK, output, at);
     let end = encode_items(words, text, from, count, output, next);
     Place {
         record: end.record,
-        at: list::put_byte(op::APPENDS, output, end.at),
+        at: output::put_byte(op::APPENDS, output, end.at),
     }
 }
 
@@ -365,7 +353,7 @@ fn encode_batches(
     output: &mut [u8],
     at: usize,
 ) -> Place
-    requires { ⌜ Ready (batches entries) (now words) (now text) from count at ⌝ }
+    requires { ⌜ Ready (batches entries) (now words) (now text) from count (now output) at ⌝ }
     ensures { λ r. ⌜ Wrote (batches entries) (now (words .entry)) (now (text .entry)) from count (now (output .entry)) at (now (output .exit)) (r .record) (r .at) ⌝ }
 {
     let mut i = from;
@@ -393,27 +381,27 @@ fn encode_appends(
     output: &mut [u8],
     at: usize,
 ) -> Place
-    requires { ⌜ Ready appends (now words) (now text) from count at ⌝ }
+    requires { ⌜ Ready appends (now words) (now text) from count (now output) at ⌝ }
     ensures { λ r. ⌜ Wrote appends (now (words .entry)) (now (text .entry)) from count (now (output .entry)) at (now (output .exit)) (r .record) (r .at) ⌝ }
 {
     if count == 1 {
         let item = encode_items(words, text, from, count, output, at);
         return Place {
             record: item.record,
-            at: list::put_byte(op::APPEND, output, item.at),
+            at: output::put_byte(op::APPEND, output, item.at),
         };
     }
     encode_batches(words, text, from, count, false, output, at)
 }
 
 fn tuple_mark(len: usize, output: &mut [u8], at: usize) -> usize
-    requires { ⌜ Room at (tupleMark len) ⌝ }
+    requires { ⌜ Room (now output) at (tupleMark len) ⌝ }
     ensures { λ r. ⌜ Put (now (output .entry)) at (tupleMark len) (now (output .exit)) r ⌝ }
 {
     if len <= 3 {
         return at;
     }
-    list::put_byte(op::MARK, output, at)
+    output::put_byte(op::MARK, output, at)
 }
 
 fn tuple_opcode(len: usize) -> u8
@@ -442,14 +430,14 @@ fn encode_tuple(
     output: &mut [u8],
     at: usize,
 ) -> Place
-    requires { ⌜ Ready tuple (now words) (now text) from count at ⌝ }
+    requires { ⌜ Ready tuple (now words) (now text) from count (now output) at ⌝ }
     ensures { λ r. ⌜ Wrote tuple (now (words .entry)) (now (text .entry)) from count (now (output .entry)) at (now (output .exit)) (r .record) (r .at) ⌝ }
 {
     let next = tuple_mark(count, output, at);
     let end = encode_items(words, text, from, count, output, next);
     Place {
         record: end.record,
-        at: list::put_byte(tuple_opcode(count), output, end.at),
+        at: output::put_byte(tuple_opcode(count), output, end.at),
     }
 }
 
@@ -472,16 +460,16 @@ fn encode_object(
     output: &mut [u8],
     at: usize,
 ) -> Place
-    requires { ⌜ Ready (object new) (now words) (now text) from (suc (bit state)) at ⌝ }
+    requires { ⌜ Ready (object new) (now words) (now text) from (suc (bit state)) (now output) at ⌝ }
     ensures { λ r. ⌜ Wrote (object new) (now (words .entry)) (now (text .entry)) from (suc (bit state)) (now (output .entry)) at (now (output .exit)) (r .record) (r .at) ⌝ }
 {
     let args = encode(words, text, from, output, at);
-    let made = list::put_byte(object_opcode(new), output, args.at);
+    let made = output::put_byte(object_opcode(new), output, args.at);
     if state {
         let end = encode(words, text, args.record, output, made);
         return Place {
             record: end.record,
-            at: list::put_byte(op::BUILD, output, end.at),
+            at: output::put_byte(op::BUILD, output, end.at),
         };
     }
     Place {
@@ -490,15 +478,150 @@ fn encode_object(
     }
 }
 
+// ---- the length, by arithmetic: no byte is looked at
+
+fn int_len(bits: u64) -> usize
+    ensures { λ r. ⌜ r ≡ length (int bits) ⌝ }
+{
+    if bits <= 255 {
+        return 2;
+    }
+    if bits <= 65535 {
+        return 3;
+    }
+    if in_i32(bits) {
+        return 5;
+    }
+    output::signed_len(bits) + 2
+}
+
+// What stands before the contents of a record, from its kind and its words 1 and 2.
+fn opening_len(kind: u64, second: u64, third: u64) -> usize
+    requires { ⌜ kind < 13 ⌝ }
+    requires { ⌜ openingTakes kind second third < 2 ^ 64 ⌝ }
+    ensures { λ r. ⌜ r ≡ openingTakes kind second third ⌝ }
+{
+    if kind > 10 {
+        return (third / 0x1_0000_0000) as usize + (third % 0x1_0000_0000) as usize + 3;
+    }
+    if kind > 5 {
+        if kind == 7 {
+            return 0;
+        }
+        if kind == 8 {
+            return 18;
+        }
+        if kind == 9 {
+            return 24;
+        }
+        return 1;
+    }
+    if kind == 2 {
+        return int_len(second);
+    }
+    if kind == 3 {
+        return 9;
+    }
+    if kind == 4 {
+        if third <= 255 {
+            return third as usize + 2;
+        }
+        return third as usize + 5;
+    }
+    if kind == 5 {
+        return third as usize + 5;
+    }
+    1
+}
+
+// What batches of so many values take beside those: MARK and an opcode each, but an entry alone one opcode.
+fn batches_len(count: usize, entries: bool) -> usize
+    requires { ⌜ count ≤ 2048 ⌝ }
+    ensures { λ r. ⌜ r ≡ batchesTake entries count ⌝ }
+{
+    if entries {
+        if count % 2000 == 2 {
+            return count / 2000 * 2 + 1;
+        }
+        return (count + 1999) / 2000 * 2;
+    }
+    (count + 999) / 1000 * 2
+}
+
+fn appends_len(count: usize) -> usize
+    requires { ⌜ count ≤ 2048 ⌝ }
+    ensures { λ r. ⌜ r ≡ appendsTake count ⌝ }
+{
+    if count < 2 {
+        return count;
+    }
+    batches_len(count, false)
+}
+
+// What the contents of a record of so many values take beside those.
+fn contents_len(kind: u64, count: usize) -> usize
+    requires { ⌜ kind < 13 ⌝ }
+    requires { ⌜ count ≤ 2048 ⌝ }
+    ensures { λ r. ⌜ r ≡ around kind count ⌝ }
+{
+    if kind < 6 {
+        return 0;
+    }
+    if kind == 6 {
+        return appends_len(count);
+    }
+    if kind == 7 {
+        if count <= 3 {
+            return 1;
+        }
+        return 2;
+    }
+    if kind < 10 {
+        return appends_len(count) + 2;
+    }
+    if kind == 10 {
+        return batches_len(count, true);
+    }
+    count
+}
+
+// What record i takes without the values in it.
+fn record_len(words: &[u64], i: usize) -> usize
+    requires { ⌜ 4 * i + 4 ≤ length (now words) ⌝ }
+    requires { ⌜ kindIn (wordAt (now words) i 0) < 13 ⌝ }
+    requires { ⌜ arityAt (now words) i ≤ min 2048 (length (now words)) ⌝ }
+    requires { ⌜ recordTakes (now words) i < 2 ^ 64 ⌝ }
+    ensures { λ r. ⌜ r ≡ recordTakes (now (words .entry)) i ⌝ }
+{
+    let kind = value::head_of(words[4 * i]).kind;
+    let beside = contents_len(kind, value::arity(words, i));
+    opening_len(kind, words[4 * i + 1], words[4 * i + 2]) + beside
+}
+
+// What all records take, and PROTO 2 and STOP.
+fn pickle_len(words: &[u64], count: usize, text: &[u8]) -> usize
+    requires { ⌜ Readable (now words) (now text) 0 count ⌝ }
+    requires { ⌜ recordsTake (now words) 0 count + 3 < 2 ^ 64 ⌝ }
+    ensures { λ r. ⌜ r ≡ recordsTake (now (words .entry)) 0 count + 3 ⌝ }
+{
+    let mut i = 0;
+    let mut sum = 3;
+    while i < count {
+        sum += record_len(words, i);
+        i += 1;
+    }
+    sum
+}
+
 // PROTO 2, the value, STOP.
 fn encode_pickle(words: &[u64], text: &[u8], output: &mut [u8]) -> usize
-    requires { ⌜ Ready framed (now words) (now text) 0 1 0 ⌝ }
+    requires { ⌜ Ready framed (now words) (now text) 0 1 (now output) 0 ⌝ }
     ensures { λ r. ⌜ Puts framed (now (words .entry)) (now (text .entry)) 0 1 (now (output .entry)) 0 (now (output .exit)) r ⌝ }
 {
-    let proto = list::put_byte(op::PROTO, output, 0);
-    let next = list::put_byte(2, output, proto);
+    let proto = output::put_byte(op::PROTO, output, 0);
+    let next = output::put_byte(2, output, proto);
     let end = encode(words, text, 0, output, next);
-    list::put_byte(op::STOP, output, end.at)
+    output::put_byte(op::STOP, output, end.at)
 }
 
 fn ends_with_cr(name: &[u8]) -> bool
@@ -571,9 +694,7 @@ pub fn to_bytes(words: &[u64], count: usize, text: &[u8], output: &mut [u8]) -> 
         if !is_writable(words, count, text) {
             return refusal::refused(Refusal::UnwritableName);
         }
-        let mut none: [u8; 0] = [];
-        let measured = encode_pickle(words, text, &mut none);
-        if output.len() < measured {
+        if output.len() < pickle_len(words, count, text) {
             return refusal::refused(Refusal::OutputFull);
         }
         let length = encode_pickle(words, text, output);

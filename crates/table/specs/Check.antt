@@ -8,15 +8,15 @@ use lib.ListN.{length, getD, drop, length-drop}
 use lib.Dec.{eqb, ltb}
 use borrow.Author.Tests.{eq-eqb, ne-eqb, lt-ltb, le-ltb}
 use native.Mathlib.Omega.{arith}
-use Rattle.value.specs.Value.{Forest, textOf, count, size, recordOf, nil, node}
-use Rattle.value.specs.Shape.{kindIn}
+use Rattle.value.specs.Value.{Forest, textOf, count, size, recordOf, count-size, nil, node}
+use Rattle.value.specs.Shape.{kindIn, holding}
 use Rattle.value.specs.Stands.{wordAt, labelAt, arityAt, Stands}
-use Rattle.value.specs.WellFormed.{proper}
+use Rattle.value.specs.WellFormed.{proper, ascending, keys}
 use Rattle.table.specs.Find.{Found, bad, good, same, close, join, row, find}
 use Rattle.table.specs.Record.{Below, below, right0, right1, right2, right3, spanOf, back0, back1, back2, back3, back-text, misfit, right-known, arity-object}
 use Rattle.table.specs.Sound.{find-placed, contents-placed, placed-stands}
 use Rattle.table.specs.Names.{validIn, proper-parts, namesRight, names-back}
-use Rattle.table.specs.Items.{Held, arrangedBy, ordered-back}
+use Rattle.table.specs.Items.{Held, picked, arrangedBy, ordered-back}
 use Rattle.table.specs.declared.Checked.{Checked}
 use Rattle.table.specs.declared.Checked.the-variants.{Bad, Good}
 use Rattle.table.specs.declared.Headed.{Headed}
@@ -53,6 +53,14 @@ pub record Header (w : List ℕ) (n : ℕ) (t : List ℕ) (i p s m : ℕ) : Type
 unfoldable pub HeadSays : List ℕ → ℕ → List ℕ → ℕ → ℕ → Headed → Type 0
 HeadSays w n t i p Wrong = (k : ℕ) → find w n t k i p ≡ bad
 HeadSays w n t i p (Right s m) = Header w n t i p s m
+
+-- what is found at a record with nothing in it, whatever the table's count and at any depth
+abbrev pub LeafSays : List ℕ → List ℕ → ℕ → ℕ → Checked → Type 0
+LeafSays w t i p r = (n k : ℕ) → Lent w n t → i < n → k ≢ 0 → r ≡ answer (find w n t k i p)
+
+-- record i is right for the m values behind it as far as record j: its sizes are, and their order
+abbrev pub Closes : List ℕ → List ℕ → ℕ → ℕ → ℕ → Bool → Type 0
+Closes w t i j m r = (f : Forest) → Stands w t (i + 1) f → count f ≡ m → r ≡ (sizesRight w i (j - i) && arrangedBy (kindIn (wordAt w i 0)) f)
 
 -- ---- an answer read back
 
@@ -115,11 +123,6 @@ module _ (g : ℕ → ℕ → Found) (m i p : ℕ) where
       go (suc x) l = let a : suc x - 1 ≡ x = omega arith in let b = was-good (g i p) q in rw (a, b .is, row) (sym (answer-join (b .forest) (row g x j e)))
 
 -- ---- a record's head
-
-count-size : (f : Forest) → count f ≤ size f
-unfolding count size
-count-size nil = omega arith
-count-size (node l c r) = let h = count-size r in omega arith
 
 -- a record has no text, or its text is where it says
 span-place : (a b c p : ℕ) → kindIn a < 13 → b ≡ right1 (kindIn a) b p → (spanOf (kindIn a) c ≡ 0) ⊎ (b ≡ p)
@@ -257,29 +260,37 @@ module _ (w : List ℕ) (n : ℕ) (t : List ℕ) (i p s m : ℕ) (h : Header w n
         go zero x = absurd (x refl)
         go (suc q) x = let e : suc q - 1 ≡ q = omega arith in let f = h .few in rw (lt-ltb i n (omega arith), ← h .arity, ← h .long, e)
 
-    pub inner-bad : answer (row (find w n t (k - 1)) m (i + 1) (p + s)) ≡ Bad → find w n t k i p ≡ bad
+    inner-bad : answer (row (find w n t (k - 1)) m (i + 1) (p + s)) ≡ Bad → find w n t k i p ≡ bad
     unfolding close inner
     inner-bad e = opened ∙ rw (was-bad inner e)
 
-    module _ (c : Forest) (j e : ℕ) (found : row (find w n t (k - 1)) m (i + 1) (p + s) ≡ good c j e) where
-      ended : answer (find w n t k i p) ≡ cond (sizesRight w i (suc (size c)) && arrangedBy (kindIn (wordAt w i 0)) c) (Good j e) Bad
-      unfolding close inner answer
-      ended =
-          let q : find w n t k i p ≡ cond (sizesRight w i (suc (size c)) && arrangedBy (kindIn (wordAt w i 0)) c) (good (node (labelAt w t i) c nil) j e) bad = opened ∙ rw (found, head-same (suc (size c)), head-proper c) in
-          ap answer q ∙ go (sizesRight w i (suc (size c)) && arrangedBy (kindIn (wordAt w i 0)) c)
-        where
-          go : (q : Bool) → answer (cond q (good (node (labelAt w t i) c nil) j e) bad) ≡ cond q (Good j e) Bad
-          go true = refl
-          go false = refl
+    -- where the contents are found, their sizes and their order decide
+    ended : (c : Forest) (j e : ℕ) → row (find w n t (k - 1)) m (i + 1) (p + s) ≡ good c j e → answer (find w n t k i p) ≡ cond (sizesRight w i (suc (size c)) && arrangedBy (kindIn (wordAt w i 0)) c) (Good j e) Bad
+    unfolding close inner answer
+    ended c j e found =
+        let q : find w n t k i p ≡ cond (sizesRight w i (suc (size c)) && arrangedBy (kindIn (wordAt w i 0)) c) (good (node (labelAt w t i) c nil) j e) bad = opened ∙ rw (found, head-same (suc (size c)), head-proper c) in
+        ap answer q ∙ go (sizesRight w i (suc (size c)) && arrangedBy (kindIn (wordAt w i 0)) c)
+      where
+        go : (q : Bool) → answer (cond q (good (node (labelAt w t i) c nil) j e) bad) ≡ cond q (Good j e) Bad
+        go true = refl
+        go false = refl
 
-      pub size-wrong : sizesRight w i (suc (size c)) ≡ false → Bad ≡ answer (find w n t k i p)
-      size-wrong q = sym (ended ∙ rw q)
+-- nothing has to be in order in a record with nothing in it
+nothing-arranged : (k : ℕ) → k < 13 → holding k ≡ false → arrangedBy k nil ≡ true
+unfolding arrangedBy picked ascending keys Below
+nothing-arranged =
+    below 13 (λ k. holding k ≡ false → arrangedBy k nil ≡ true)
+    ((λ e. refl), ((λ e. refl), ((λ e. refl), ((λ e. refl), ((λ e. refl), ((λ e. refl), ((λ e. refl), ((λ e. refl), ((λ e. refl), ((λ e. refl), ((λ e. refl), ((λ e. refl), ((λ e. sym e), tt)))))))))))))
 
-      pub order-wrong : sizesRight w i (suc (size c)) ≡ true → arrangedBy (kindIn (wordAt w i 0)) c ≡ false → Bad ≡ answer (find w n t k i p)
-      order-wrong q r = sym (ended ∙ rw (q, r))
-
-      pub all-right : sizesRight w i (suc (size c)) ≡ true → arrangedBy (kindIn (wordAt w i 0)) c ≡ true → Good j e ≡ answer (find w n t k i p)
-      all-right q r = sym (ended ∙ rw (q, r))
+-- a right head with nothing in it: its sizes decide
+module _ (w : List ℕ) (n : ℕ) (t : List ℕ) (i p s : ℕ) (h : Header w n t i p s 0) (none : holding (kindIn (wordAt w i 0)) ≡ false) (k : ℕ) (some : k ≢ 0) where
+  pub leaf-ended : (r : Bool) → r ≡ sizesRight w i 1 → cond r (Good (i + 1) (p + s)) Bad ≡ answer (find w n t k i p)
+  unfolding row size
+  leaf-ended r e = sym (ended w n t i p s 0 h k some nil (i + 1) (p + s) refl ∙ rw (nothing-arranged (kindIn (wordAt w i 0)) (h .known) none, ← e) (go r))
+    where
+      go : (b : Bool) → cond (b && true) (Good (i + 1) (p + s)) Bad ≡ cond b (Good (i + 1) (p + s)) Bad
+      go true = refl
+      go false = refl
 
 -- ---- a head and contents that the code was told of
 
@@ -316,6 +327,26 @@ inside w n t i p s m k j e lent h q =
       whole = omega arith;
       after = omega arith;
     }
+
+-- one law for each of the answers about a record with values in it
+module _ (w : List ℕ) (n : ℕ) (t : List ℕ) (i p k : ℕ) (lent : Lent w n t) (some : k ≢ 0) {r : Headed} (says : HeadSays w n t i p r) where
+  pub answer-wrong : r ≡ Wrong → Bad ≡ answer (find w n t k i p)
+  answer-wrong e = is-bad _ (told-wrong w n t i p says e k)
+
+  module _ {s m : ℕ} (e : r ≡ Right s m) where
+    pub right : Header w n t i p s m
+    right = told-right w n t i p says e
+
+    pub answer-bad : answer (row (find w n t (k - 1)) m (i + 1) (p + s)) ≡ Bad → Bad ≡ answer (find w n t k i p)
+    answer-bad q = is-bad _ (inner-bad w n t i p s m right k some q)
+
+    module _ {j u : ℕ} (q : answer (row (find w n t (k - 1)) m (i + 1) (p + s)) ≡ Good j u) where
+      pub held : Inside w n t i p s m k j u
+      held = inside w n t i p s m k j u lent right q
+
+      pub answer-closed : (b : Bool) → Closes w t i j m b → cond b (Good j u) Bad ≡ answer (find w n t k i p)
+      answer-closed b h =
+          sym (ended w n t i p s m right k some (held .contents) j u (held .found) ∙ rw (← held .whole, ← h (held .contents) (held .stands) (held .counted)))
 
 -- where a value is found its end is inside
 pub find-within : (w : List ℕ) (n : ℕ) (t : List ℕ) (k i p : ℕ) {j e : ℕ} → Lent w n t → i ≤ n → p ≤ length t → answer (find w n t k i p) ≡ Good j e → (j ≤ n) × (e ≤ length t)

@@ -11,28 +11,19 @@ use borrow.Author.Tests.{eq-eqb, eqb-true}
 use native.Mathlib.Omega.{arith}
 use Rattle.value.specs.Value.{Forest, one, text, count, size, table, table-length, nil, node}
 use Rattle.value.specs.WellFormed.{WellFormed}
-use Rattle.table.specs.Find.{Found, bad, good, join, row, find}
+use Rattle.table.specs.Find.{good, row, find}
 use Rattle.table.specs.Complete.{row-complete}
-use Rattle.table.specs.Sound.{Placed, find-placed}
+use Rattle.table.specs.Sound.{Placed, contents-placed}
 use Rattle.table.specs.Check.{Lent, answer, was-good}
 use Rattle.table.specs.Decides.{Decides, decides-no}
 use Rattle.table.specs.declared.Checked.the-variants.{Bad, Good}
-
--- a row of one is the value itself
-row-one : (g : ℕ → ℕ → Found) (i p j e : ℕ) → answer (row g 1 i p) ≡ Good j e → answer (g i p) ≡ Good j e
-unfolding row answer join
-row-one g i p j e h = go (g i p) h
-  where
-    go : (s : Found) → answer (elim s [ bad ↦ bad | good f b d ↦ join f (good nil b d) ]) ≡ Good j e → answer s ≡ Good j e
-    go bad q = q
-    go (good f b d) q = q
 
 module _ (w : List ℕ) (n : ℕ) (t : List ℕ) where
   pub well-lent : WellFormed w n t → Lent w n t
   well-lent a = record { room = a .lent; few = a .few; short = a .short }
 
   -- a well-formed table is found to be one
-  pub formed-found : WellFormed w n t → answer (find w n t 64 0 0) ≡ Good n (length t)
+  pub formed-found : WellFormed w n t → answer (row (find w n t 64) 1 0 0) ≡ Good n (length t)
   unfolding count answer
   formed-found a =
       let f = one (a .value) in
@@ -41,7 +32,7 @@ module _ (w : List ℕ) (n : ℕ) (t : List ℕ) where
       let s : 0 + size f ≡ n = let q = a .counted in omega arith in
       let u : 0 + length (text f) ≡ length t = let q = ap length (a .texts) in omega arith in
       let r : row (find w n t 64) 1 0 0 ≡ good f n (length t) = row-complete w n t f 64 0 0 (drop (4 * n) w) [] (a .shape) (a .settle) (a .shallow) e d (omega arith) (omega arith) ∙ rw (s, u) in
-      row-one (find w n t 64) 0 0 n (length t) (ap answer r)
+      ap answer r
 
   -- what is found and fills the table makes it well formed
   module _ (lent : Lent w n t) where
@@ -65,10 +56,10 @@ module _ (w : List ℕ) (n : ℕ) (t : List ℕ) where
           short = lent .short;
         }
 
-    pub found-formed : answer (find w n t 64 0 0) ≡ Good n (length t) → WellFormed w n t
+    pub found-formed : answer (row (find w n t 64) 1 0 0) ≡ Good n (length t) → WellFormed w n t
     found-formed h =
-        let a = was-good (find w n t 64 0 0) h in
-        single (a .forest) (find-placed w n t (lent .room) 64 0 0 (a .forest) n (length t) (omega arith) (a .is))
+        let a = was-good (row (find w n t 64) 1 0 0) h in
+        single (a .forest) (contents-placed w n t (lent .room) 64 1 0 0 (omega arith) (a .is))
 
   -- ---- the code's answers
 
@@ -81,10 +72,10 @@ module _ (w : List ℕ) (n : ℕ) (t : List ℕ) where
   pub too-long : 65536 < length t → Decides false (WellFormed w n t)
   too-long h = decides-no (λ a. let x = a .short in omega arith)
 
-  pub none-found : answer (find w n t 64 0 0) ≡ Bad → Decides false (WellFormed w n t)
+  pub none-found : answer (row (find w n t 64) 1 0 0) ≡ Bad → Decides false (WellFormed w n t)
   none-found e = decides-no (λ a. let x = formed-found a in let z : _≡_ {A = ℕ} 0 1 = cc in omega arith)
 
-  module _ (lent : Lent w n t) (j e : ℕ) (found : answer (find w n t 64 0 0) ≡ Good j e) where
+  module _ (lent : Lent w n t) (j e : ℕ) (found : answer (row (find w n t 64) 1 0 0) ≡ Good j e) where
     pub not-filled : j ≢ n → Decides false (WellFormed w n t)
     not-filled h = decides-no (λ a. let x = formed-found a in h (cc))
 

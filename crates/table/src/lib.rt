@@ -5,28 +5,45 @@ use refusal::Which;
 use refusal::detail;
 use refusal::number;
 use utf8::valid;
+use value::BOOL;
+use value::BYTES;
+use value::DICT;
+use value::GLOBAL;
 use value::Head;
+use value::I64;
+use value::LIST;
+use value::OBJECT;
 use value::Order;
+use value::SET;
+use value::STRING;
+use value::TUPLE;
 use value::compare_at;
 use value::head_of;
+use value::holds;
+use value::least;
 use value::word_of;
+ghost use mathlib.Core.Bool.{false};
+ghost use mathlib.Core.Logic.{_≢_};
 ghost use mathlib.Core.Path.{_≡_};
 ghost use Prim.Native.Nat.{_+_, _*_, _<_, _≤_, min};
 ghost use lib.ListN.{length, drop};
 ghost use Rattle.value.specs.Value.{Forest, count as countOf};
-ghost use Rattle.value.specs.Shape.{kindIn, stateIn, arityOf};
-ghost use Rattle.value.specs.Stands.{Stands};
+ghost use Rattle.value.specs.Shape.{kindIn, stateIn, holding, arityOf};
+ghost use Rattle.value.specs.Stands.{wordAt, Stands};
 ghost use Rattle.value.specs.WellFormed.{WellFormed, less, ascending};
 ghost use Rattle.table.specs.Find.{find, row};
 ghost use Rattle.table.specs.Record.{right0, right1, right2, right3, spanOf, sizeOf};
 ghost use Rattle.table.specs.Sound.{sizeAt};
 ghost use Rattle.table.specs.Names.{namesRight};
 ghost use Rattle.table.specs.Items.{Held, Steps, nextAt, picked, arrangedBy};
-ghost use Rattle.table.specs.Check.{Lent, HeadSays, sizesRight, answer};
+ghost use Rattle.table.specs.Check.{Lent, HeadSays, LeafSays, Closes, sizesRight, answer};
 ghost use Rattle.table.specs.Length.{hasText, endOf, textLength};
 ghost use Rattle.table.specs.Decides.{Decides};
 ghost use Rattle.value.specs.Told.{told};
 ghost use Rattle.table.specs.Compare.{badTable, ordered as orderedBy, Compares};
+
+// The kinds that there are have the numbers below this one.
+const KINDS: u64 = 13;
 
 // A record's head: wrong, or the length of its text and how many values are directly in it.
 enum Headed {
@@ -56,86 +73,86 @@ fn state(a: u64) -> bool
 
 // What each word of a record has to be, by its kind, the place of its text and its size.
 
-pub fn word0(a: u64) -> u64
+fn word0(a: u64) -> u64
     ensures { λ r. ⌜ r ≡ right0 a ⌝ }
 {
     let head = head_of(a);
     let k = head.kind;
-    if k < 12 {
+    if k < OBJECT {
         return word_of(Head {
             kind: k,
             new: false,
             state: false,
         });
     }
-    if k < 13 {
+    if k < KINDS {
         return word_of(head);
     }
     0
 }
 
-pub fn word1(a: u64, b: u64, at: u64) -> u64
+fn word1(a: u64, b: u64, at: u64) -> u64
     ensures { λ r. ⌜ r ≡ right1 (kindIn a) b at ⌝ }
 {
     let k = kind(a);
-    if k < 1 {
+    if k < BOOL {
         return 0;
     }
-    if k < 2 {
+    if k < I64 {
         if b == 1 {
             return 1;
         }
         return 0;
     }
-    if k < 4 {
+    if k < BYTES {
         return b;
     }
-    if k < 6 {
+    if k < LIST {
         return at;
     }
-    if k < 11 {
+    if k < GLOBAL {
         return b;
     }
     at
 }
 
-pub fn word2(a: u64, c: u64, size: u64) -> u64
+fn word2(a: u64, c: u64, size: u64) -> u64
     ensures { λ r. ⌜ r ≡ right2 (kindIn a) c size ⌝ }
 {
     let k = kind(a);
-    if k < 4 {
+    if k < BYTES {
         return 0;
     }
-    if k < 6 {
+    if k < LIST {
         return c;
     }
-    if k < 11 {
+    if k < GLOBAL {
         return size;
     }
     c
 }
 
-pub fn word3(a: u64, size: u64) -> u64
+fn word3(a: u64, size: u64) -> u64
     ensures { λ r. ⌜ r ≡ right3 (kindIn a) size ⌝ }
 {
-    if kind(a) < 12 {
+    if kind(a) < OBJECT {
         return 0;
     }
     size
 }
 
 // The length of a record's text.
-pub fn span(a: u64, c: u64) -> u64
+fn span(a: u64, c: u64) -> u64
     ensures { λ r. ⌜ r ≡ spanOf (kindIn a) c ⌝ }
 {
     let k = kind(a);
-    if k < 4 {
+    if k < BYTES {
         return 0;
     }
-    if k < 6 {
+    if k < LIST {
         return c;
     }
-    if k < 11 {
+    if k < GLOBAL {
         return 0;
     }
     c / 4294967296 + c % 4294967296
@@ -146,13 +163,13 @@ fn size(a: u64, c: u64, d: u64) -> u64
     ensures { λ r. ⌜ r ≡ sizeOf (kindIn a) c d ⌝ }
 {
     let k = kind(a);
-    if k < 6 {
+    if k < LIST {
         return 1;
     }
-    if k < 11 {
+    if k < GLOBAL {
         return c;
     }
-    if k < 12 {
+    if k < OBJECT {
         return 1;
     }
     d
@@ -164,22 +181,22 @@ fn arity(a: u64, b: u64) -> u64
     ensures { λ r. ⌜ r ≡ min 4096 (arityOf a b) ⌝ }
 {
     let k = kind(a);
-    if k < 6 {
+    if k < LIST {
         return 0;
     }
-    if k < 10 {
+    if k < DICT {
         if b > 4096 {
             return 4096;
         }
         return b;
     }
-    if k < 11 {
+    if k < GLOBAL {
         if b > 2048 {
             return 4096;
         }
         return b + b;
     }
-    if k < 12 {
+    if k < OBJECT {
         return 0;
     }
     if state(a) {
@@ -194,14 +211,14 @@ fn named(a: u64, c: u64, text: &[u8], at: usize) -> bool
     ensures { λ r. ⌜ r ≡ namesRight (kindIn a) c (drop at (now (text .entry))) ⌝ }
 {
     let k = kind(a);
-    if k < 5 {
+    if k < STRING {
         return true;
     }
-    if k < 6 {
+    if k < LIST {
         let end = at + c as usize;
         return valid(&text[at..end]);
     }
-    if k < 11 {
+    if k < GLOBAL {
         return true;
     }
     let mid = at + (c / 4294967296) as usize;
@@ -257,7 +274,7 @@ fn sized(words: &[u64], i: usize, size: u64) -> bool
 }
 
 // The record behind the value at record i.
-fn after(words: &[u64], i: usize) -> usize
+pub fn after(words: &[u64], i: usize) -> usize
     requires { ⌜ 4 * i + 4 ≤ length (now words) ⌝ }
     requires { ⌜ i + sizeAt (now words) i ≤ length (now words) ⌝ }
     ensures { λ r. ⌜ r ≡ i + sizeAt (now (words .entry)) i ⌝ }
@@ -316,19 +333,64 @@ fn arranged(words: &[u64], text: &[u8], a: u64, i: usize, m: usize) -> bool
     ensures { λ r. ⌜ ((f : Forest) → Stands (now (words .entry)) (now (text .entry)) i f → countOf f ≡ m → r ≡ arrangedBy (kindIn a) f) ⌝ }
 {
     let k = kind(a);
-    if k < 8 {
+    if k < SET {
         return true;
     }
-    if k < 10 {
+    if k < DICT {
         return ascends(words, text, i, m, 1);
     }
-    if k < 11 {
+    if k < GLOBAL {
         return ascends(words, text, i, m, 2);
     }
-    if k < 12 {
+    if k < OBJECT {
         return true;
     }
-    kind(words[4 * i]) == 7
+    kind(words[4 * i]) == TUPLE
+}
+
+// The record at i is right for the m values that stand behind it as far as record j.
+fn closes(words: &[u64], text: &[u8], i: usize, j: usize, m: usize) -> bool
+    requires { ⌜ 4 * i + 4 ≤ length (now words) ⌝ }
+    requires { ⌜ i ≤ j ⌝ }
+    requires { ⌜ Held (now words) (now text) (i + 1) m ⌝ }
+    requires { ⌜ (kindIn (wordAt (now words) i 0) ≡ 12 → 1 ≤ m) ⌝ }
+    requires { ⌜ kindIn (wordAt (now words) i 0) < 13 ⌝ }
+    ensures { λ r. ⌜ Closes (now (words .entry)) (now (text .entry)) i j m r ⌝ }
+{
+    if !sized(words, i, (j - i) as u64) {
+        return false;
+    }
+    arranged(words, text, words[4 * i], i + 1, m)
+}
+
+// A record with nothing in it, as it has to be in any table.
+fn leaf(words: &[u64], text: &[u8], i: usize, at: usize) -> Checked
+    requires { ⌜ 4 * i + 4 ≤ length (now words) ⌝ }
+    requires { ⌜ at ≤ length (now text) ⌝ }
+    requires { ⌜ length (now text) ≤ 65536 ⌝ }
+    requires { ⌜ holding (kindIn (wordAt (now words) i 0)) ≡ false ⌝ }
+    ensures { λ r. ⌜ LeafSays (now (words .entry)) (now (text .entry)) i at r ⌝ }
+{
+    let a = words[4 * i];
+    let b = words[4 * i + 1];
+    let c = words[4 * i + 2];
+    if a != word0(a) {
+        return Checked::Bad;
+    }
+    if b != word1(a, b, at as u64) {
+        return Checked::Bad;
+    }
+    let long = span(a, c);
+    if long > (text.len() - at) as u64 {
+        return Checked::Bad;
+    }
+    if !named(a, c, text, at) {
+        return Checked::Bad;
+    }
+    if !sized(words, i, 1) {
+        return Checked::Bad;
+    }
+    Checked::Good(i + 1, at + long as usize)
 }
 
 // The value at record i, with its text at `at`, at most so many levels deep.
@@ -344,6 +406,20 @@ fn check(words: &[u64], count: usize, text: &[u8], i: usize, at: usize, levels: 
     if i == count {
         return Checked::Bad;
     }
+    if holds(kind(words[4 * i])) {
+        return container(words, count, text, i, at, levels);
+    }
+    leaf(words, text, i, at)
+}
+
+// A record of a kind that holds values, and those in it.
+fn container(words: &[u64], count: usize, text: &[u8], i: usize, at: usize, levels: u64) -> Checked
+    requires { ⌜ Lent (now words) count (now text) ⌝ }
+    requires { ⌜ i < count ⌝ }
+    requires { ⌜ at ≤ length (now text) ⌝ }
+    requires { ⌜ levels ≢ 0 ⌝ }
+    ensures { λ r. ⌜ r ≡ answer (find (now (words .entry)) count (now (text .entry)) levels i at) ⌝ }
+{
     match head(words, count, text, i, at) {
         Headed::Wrong => Checked::Bad,
         Headed::Right(long, m) => match contents(
@@ -357,10 +433,7 @@ fn check(words: &[u64], count: usize, text: &[u8], i: usize, at: usize, levels: 
         ) {
             Checked::Bad => Checked::Bad,
             Checked::Good(j, end) => {
-                if !sized(words, i, (j - i) as u64) {
-                    return Checked::Bad;
-                }
-                if !arranged(words, text, words[4 * i], i + 1, m) {
+                if !closes(words, text, i, j, m) {
                     return Checked::Bad;
                 }
                 Checked::Good(j, end)
@@ -405,16 +478,16 @@ fn has_text(a: u64) -> bool
     ensures { λ r. ⌜ r ≡ hasText (kindIn a) ⌝ }
 {
     let k = kind(a);
-    if k < 4 {
+    if k < BYTES {
         return false;
     }
-    if k < 6 {
+    if k < LIST {
         return true;
     }
-    if k < 11 {
+    if k < GLOBAL {
         return false;
     }
-    k < 13
+    k < KINDS
 }
 
 // Where the text of a record ends; of a wrong record, no more than a usize holds.
@@ -427,15 +500,6 @@ fn text_end(a: u64, b: u64, c: u64) -> usize
         return most as usize;
     }
     (b + long) as usize
-}
-
-fn least(a: usize, b: usize) -> usize
-    ensures { λ r. ⌜ r ≡ min a b ⌝ }
-{
-    if a < b {
-        return a;
-    }
-    b
 }
 
 // The length of a table's text, which a reading does not return: where the last text of its records ends, or 0. A count past the
@@ -466,7 +530,7 @@ pub fn well_formed(words: &[u64], count: usize, text: &[u8]) -> bool
     if text.len() > 65536 {
         return false;
     }
-    match check(words, count, text, 0, 0, 64) {
+    match contents(words, count, text, 0, 0, 1, 64) {
         Checked::Bad => false,
         Checked::Good(j, end) => {
             if j != count {

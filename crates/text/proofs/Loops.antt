@@ -12,7 +12,8 @@ use Rattle.text.specs.declared.Piece.{Piece}
 use Rattle.text.specs.declared.Piece.the-variants.{One}
 use Rattle.utf8.specs.Utf8.{scalar, encode}
 use Rattle.text.specs.Escapes.{stringHead, unicodeHead}
-use Rattle.text.specs.Laws.{Bytes, Each, string-each, unicode-each, scalar-below, texts-piece}
+use Rattle.input.specs.Bytes.{Bytes}
+use Rattle.text.specs.Laws.{Each, string-each, unicode-each, scalar-below, texts-piece}
 use Rattle.text.specs.Pieces.{before, texts, reads, bytesOf, lengthOf, Wrote}
 
 bytes-from : (s : List ℕ) (i : ℕ) → Bytes s → Bytes (drop i s)

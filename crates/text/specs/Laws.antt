@@ -16,6 +16,7 @@ use Rattle.refusal.specs.Read.{Read, got, refused}
 use Rattle.refusal.specs.declared.Refusal.the-variants.{InvalidLiteral}
 use Rattle.text.specs.declared.Piece.{Piece}
 use Rattle.text.specs.declared.Piece.the-variants.{One, Bad}
+use Rattle.input.specs.Bytes.{Bytes}
 use Rattle.utf8.specs.Utf8.{scalar, trail, encode, valid, evaluates}
 use Rattle.utf8.specs.Laws.{valid-append}
 use Rattle.utf8.specs.Encode.{encode-one, encode-two, encode-three, encode-four, scalar-low, scalar-high, valid-encode}
@@ -23,10 +24,6 @@ use Rattle.text.specs.Pieces.{before, after, texts, reads, bytesOf}
 use Rattle.text.specs.Escapes.{within, hexDigit, hexFrom, hexDigits, hexNumber, hexPiece, hexEscape, octalDigit, octals, octalEscape}
 use Rattle.text.specs.Escapes.{letters, look, stringEscape, stringHead, scalarOf, scalarPiece, unicodeEscape, unicodeHead}
 use Rattle.text.specs.Text.{inner, byte, hasQuotes, hasEscape, unescapeString, unescapeUnicode}
-
--- every element is a byte, as those of a slice of bytes are
-abbrev pub Bytes : List ℕ → Type 0
-Bytes l = (i : ℕ) → getD l i 0 < 256
 
 bytes-append : (a b : List ℕ) → Bytes a → Bytes b → Bytes (a ++ b)
 bytes-append [] b h k i = k i

@@ -101,10 +101,10 @@ fn lead_place(node: NodeId, nodes: &[u64], marks: &[u64]) -> Place
     }
     let first = nodes[2 * i];
     let kind = first % 16;
-    if kind == 11 {
+    if kind == value::GLOBAL {
         return module_place(first);
     }
-    if kind == 12 {
+    if kind == value::OBJECT {
         let class = (first / 64) as usize;
         return module_place(nodes[2 * class]);
     }
@@ -126,10 +126,10 @@ fn trail_place(node: NodeId, nodes: &[u64], marks: &[u64]) -> Place
     }
     let first = nodes[2 * i];
     let kind = first % 16;
-    if kind == 11 {
+    if kind == value::GLOBAL {
         return text_place(nodes[2 * i + 1]);
     }
-    if kind == 12 {
+    if kind == value::OBJECT {
         let class = (first / 64) as usize;
         return text_place(nodes[2 * class + 1]);
     }
@@ -319,10 +319,10 @@ fn spell_node(
     let first = nodes[2 * i];
     let second = nodes[2 * i + 1];
     let kind = first % 16;
-    if kind == 5 {
+    if kind == value::STRING {
         return spell_text(own_text(pickle, second), mark, decoded, used);
     }
-    if kind == 11 {
+    if kind == value::GLOBAL {
         return spell_names(
             module_text(pickle, first),
             own_text(pickle, second),
@@ -331,7 +331,7 @@ fn spell_node(
             used,
         );
     }
-    if kind == 12 {
+    if kind == value::OBJECT {
         let class = (first / 64) as usize;
         return spell_names(
             module_text(pickle, nodes[2 * class]),
@@ -341,10 +341,10 @@ fn spell_node(
             used,
         );
     }
-    if kind == 13 {
+    if kind == decoder::KIND_ESCAPED {
         return spell_string(own_text(pickle, second), decoded, used);
     }
-    if kind == 14 {
+    if kind == decoder::KIND_UNICODE {
         return spell_unicode(own_text(pickle, second), decoded, used);
     }
     Spelling { mark, used }
@@ -354,13 +354,13 @@ fn spell_node(
 fn has_text(kind: u64) -> bool
     ensures { λ r. ⌜ r ≡ textKind kind ⌝ }
 {
-    if kind < 4 {
+    if kind < value::BYTES {
         return false;
     }
-    if kind < 6 {
+    if kind < value::LIST {
         return true;
     }
-    if kind < 11 {
+    if kind < value::GLOBAL {
         return false;
     }
     kind < 15
@@ -374,7 +374,7 @@ fn is_due(first: u64, mark: u64) -> bool
     if mark < 128 {
         return false;
     }
-    if kind == 12 {
+    if kind == value::OBJECT {
         return mark < 0x400_0000_0000;
     }
     if 0x200_0000_0000 <= mark {

@@ -1,5 +1,5 @@
 -- What the code finds at a place is the piece there, and the rest of the text follows from it. Assumes nothing.
-use Prim.Native.Nat.{ℕ, suc, _+_, _≤_, _<_}
+use Prim.Native.Nat.{ℕ, suc, zero, _+_, _-_, _≤_, _<_}
 use native.Mathlib.Omega.{arith}
 use native.Mathlib.Numerals.{add-one, one-add}
 use native.Mathlib.Nat.{add-zero}
@@ -9,13 +9,13 @@ use mathlib.Core.Path.{_≡_, refl, sym, ap, _∙_}
 use lib.ListN.{length, getD, set, take, drop, length-append, length-drop, drop-of-length-le}
 use lib.Seq.{drop-cons, drop-drop, sets}
 use lib.Dec.{ltb}
-use borrow.Author.Tests.{lt-ltb, le-ltb}
+use borrow.Author.Tests.{lt-ltb, le-ltb, ltb-true, ltb-false}
 use Rattle.utf8.specs.declared.Piece.{Piece}
 use Rattle.utf8.specs.declared.Piece.the-variants.{Whole, Part}
 use Rattle.utf8.specs.Utf8.{Row, within, whole, some, wellFormed, piece, valid, fffd, mend, repair, evaluates}
 use Rattle.utf8.specs.Rows.{Few, none, one, few, along, goes, piece-goes, well-formed-after, or-false}
 use Rattle.utf8.specs.Laws.{piece-pos, piece-within, piece-take, valid-step, repair-step}
-use Rattle.utf8.specs.Place.{pieceIs, pieceOf, secondOf, next}
+use Rattle.utf8.specs.Place.{Ascii, pieceIs, pieceOf, secondOf, next}
 use Rattle.utf8.proofs.Stores.{sets-append}
 use Rattle.utf8.proofs.Table.{more, lead, table-lead}
 
@@ -178,6 +178,22 @@ module _ (s : List ℕ) (i : ℕ) (h : i < length s) (a : getD s i 0 < 0x80) whe
   stored-ascii out n =
       let m : take 1 (drop i s) ≡ getD s i 0 ∷ [] = ap (λ (y : List ℕ). take 1 y) (here s i h) in
       rw m at (turn-ascii .stored out n)
+
+-- n bytes behind m others
+pub ascii-join : (s : List ℕ) (i m j n : ℕ) → j ≡ i + m → Ascii s i m → Ascii s j n → Ascii s i (m + n)
+ascii-join s i m j n e h g k l = go (ltb k m) refl
+  where
+    go : (b : Bool) → ltb k m ≡ b → getD s (i + k) 0 < 0x80
+    go true q = h k (ltb-true k m q)
+    go false q = let x = ltb-false k m q in let d : j + (k - m) ≡ i + k = omega arith in rw d at (g (k - m) (omega arith))
+
+-- ASCII bytes at the start do not matter
+pub after-ascii : (s : List ℕ) (n : ℕ) → n ≤ length s → Ascii s 0 n → valid (drop n s) ≡ valid s
+after-ascii s zero l h = refl
+after-ascii s (suc n) l h =
+    let e : 0 + n ≡ n = omega arith in
+    let t = turn-ascii s n (omega arith) (rw e at (h n (omega arith))) in
+    rw (← add-one) (sym (t .judged)) ∙ after-ascii s n (omega arith) (λ k g. h k (omega arith))
 
 -- where nothing is left
 module _ (s : List ℕ) (i : ℕ) (l : length s ≤ i) where

@@ -4,3 +4,4 @@ pub mod Rows
 pub mod Laws
 pub mod Encode
 pub mod Place
+pub mod Together

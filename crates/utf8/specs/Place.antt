@@ -1,8 +1,8 @@
 -- What the code finds at a place of a text: the piece, and byte by byte how far it goes.
-use Prim.Native.Nat.{ℕ}
+use Prim.Native.Nat.{ℕ, _+_, _<_}
 use mathlib.Core.Bool.{Bool, true, false, cond}
 use mathlib.Core.List.{List, [], _∷_}
-use lib.ListN.{length}
+use lib.ListN.{length, getD}
 use lib.Dec.{eqb}
 use Rattle.utf8.specs.declared.Piece.{Piece}
 use Rattle.utf8.specs.declared.Piece.the-variants.{Whole, Part}
@@ -30,3 +30,7 @@ secondOf b =
 unfoldable pub next : ℕ × ℕ → List ℕ → Bool
 next e [] = false
 next e (c ∷ t) = within e c
+
+-- the n bytes from i on are ASCII
+abbrev pub Ascii : List ℕ → ℕ → ℕ → Type 0
+Ascii s i n = (k : ℕ) → k < n → getD s (i + k) 0 < 0x80

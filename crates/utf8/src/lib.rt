@@ -1,11 +1,12 @@
 // UTF-8 as chapter 3 of the Unicode standard has it: whether bytes are well formed (Rust's `str::from_utf8`), and their repair
 // (`String::from_utf8_lossy`) with its length known before. One function decides the piece at a place, and the three go by it.
+ghost use mathlib.Core.Bool.{true};
 ghost use mathlib.Core.Path.{_≡_};
 ghost use Prim.Native.Nat.{_+_, _≤_, _<_};
 ghost use lib.ListN.{length, take, drop};
 ghost use lib.Seq.{sets};
 ghost use Rattle.utf8.specs.Utf8.{fffd, valid as validText, repair};
-ghost use Rattle.utf8.specs.Place.{pieceOf, secondOf, next};
+ghost use Rattle.utf8.specs.Place.{Ascii, pieceOf, secondOf, next};
 
 // A well-formed sequence, or a maximal subpart of an ill-formed one, by its length.
 enum Piece {
@@ -73,11 +74,54 @@ fn piece_at(s: &[u8], at: usize) -> Piece
     Piece::Whole(4)
 }
 
+// Eight bytes are ASCII: tested together, which is quicker than one by one.
+fn is_ascii(s: &[u8], i: usize) -> bool
+    requires { ⌜ i + 8 ≤ length (now s) ⌝ }
+    ensures { λ r. ⌜ (r ≡ true → Ascii (now (s .entry)) i 8) ⌝ }
+{
+    (s[i] < 0x80)
+        & (s[i + 1] < 0x80)
+        & (s[i + 2] < 0x80)
+        & (s[i + 3] < 0x80)
+        & (s[i + 4] < 0x80)
+        & (s[i + 5] < 0x80)
+        & (s[i + 6] < 0x80)
+        & (s[i + 7] < 0x80)
+}
+
+// How far the text is surely ASCII, by 32 bytes at a time.
+fn ascii_far(s: &[u8]) -> usize
+    ensures { λ r. ⌜ (r ≤ length (now (s .entry))) × Ascii (now (s .entry)) 0 r ⌝ }
+{
+    let mut i = 0;
+    while 32 <= s.len() - i {
+        if !(is_ascii(s, i) & is_ascii(s, i + 8) & is_ascii(s, i + 16) & is_ascii(s, i + 24)) {
+            return i;
+        }
+        i += 32;
+    }
+    i
+}
+
+// And from there on by eight.
+fn ascii_len(s: &[u8]) -> usize
+    ensures { λ r. ⌜ (r ≤ length (now (s .entry))) × Ascii (now (s .entry)) 0 r ⌝ }
+{
+    let mut i = ascii_far(s);
+    while 8 <= s.len() - i {
+        if !is_ascii(s, i) {
+            return i;
+        }
+        i += 8;
+    }
+    i
+}
+
 // Whether the text is well formed.
 pub fn valid(s: &[u8]) -> bool
     ensures { λ r. ⌜ r ≡ validText (now (s .entry)) ⌝ }
 {
-    let mut i = 0;
+    let mut i = ascii_len(s);
     while i < s.len() {
         if s[i] < 0x80 {
             i += 1;

@@ -1,20 +1,20 @@
 -- What is left of a comparison as it walks through two tables, and that each step of the walk keeps it.
-use Prim.Native.Nat.{ℕ, suc, zero, _+_, _-_, _*_, _≤_, _<_, compare, Ordering, Ordering·lt, Ordering·eq, Ordering·gt}
+use Prim.Native.Nat.{ℕ, suc, zero, _+_, _-_, _*_, _^_, _≤_, _<_, compare, Ordering, Ordering·lt, Ordering·eq, Ordering·gt}
 use mathlib.Core.Bool.{Bool, true, false, _&&_, not, Bool·beq}
-use mathlib.Core.List.{List, [], _∷_}
-use mathlib.Core.Path.{_≡_, refl, sym, _∙_, ap, ap₂, subst}
+use mathlib.Core.List.{List}
+use mathlib.Core.Path.{_≡_, refl, sym, _∙_, ap, ap₂}
 use mathlib.Core.Logic.{_≢_}
 use lib.ListN.{length, getD, drop}
-use lib.Dec.{eqb, eqb→eq, T}
+use lib.Dec.{eqb, eqb→eq}
 use native.Mathlib.Nat.{add-zero}
-use borrow.Author.Tests.{ne-eqb}
+use borrow.Author.Tests.{ne-eqb, eqb-true}
 use native.Mathlib.Omega.{arith}
-use Rattle.value.specs.Value.{Label, Forest, Value, one, bit, kind, count, size, NoneL, nil, node}
-use Rattle.value.specs.Order.{_then_, labels, forests, order, new}
+use Rattle.value.specs.Value.{Forest, bit, kind, count, size, count-size, NoneL, nil, node}
+use Rattle.value.specs.Order.{_then_, labels, forests, new}
 use Rattle.value.specs.OrderLaws.{then-eq, compare-eq}
-use Rattle.value.specs.Shape.{kindIn, newIn, stateIn, labelsOf, labelOf, arityOf, arity-dict}
-use Rattle.value.specs.Stands.{_⊕_, count-append, wordAt, labelAt, arityAt, Reads, Says, Stands, stands-append}
-use Rattle.value.specs.Walk.{first, count-first, stands-first, eq-then, lt-then, gt-then, compare-same, step-less, step-greater, step-same, step-shorter, step-longer, step-newer, step-first}
+use Rattle.value.specs.Shape.{kindIn, newIn, holding, labelsOf, labelOf, arityOf, arity-dict, nothing-held}
+use Rattle.value.specs.Stands.{_⊕_, count-append, wordAt, labelAt, arityAt, Reads, Stands, stands-append}
+use Rattle.value.specs.Walk.{first, count-first, stands-first, eq-then, compare-same, step-less, step-greater, step-same, step-shorter, step-longer, step-newer}
 use Rattle.value.specs.Labels.{kind-in}
 
 -- an Object's `new`, of the record at i
@@ -40,6 +40,16 @@ pub data Next (left : ℕ) (v : Ordering) (n m : ℕ) (x y : Bool) (left′ : �
   shorter : x ≡ y → n < m → left′ ≡ n → v′ ≡ Ordering·lt → Next left v n m x y left′ v′
   longer : x ≡ y → m < n → left′ ≡ m → v′ ≡ Ordering·gt → Next left v n m x y left′ v′
 
+-- two records of one kind, with so many values still to compare: what is in them fits
+pub record Matched (a b : List ℕ) (k l left : ℕ) : Type 0 where
+  pub some : 0 < left
+  pub inside₁ : 4 * k + 4 ≤ length a
+  pub inside₂ : 4 * l + 4 ≤ length b
+  pub arity₁ : arityAt a k ≤ length a
+  pub arity₂ : arityAt b l ≤ length b
+  pub room : left + arityAt a k < 2 ^ 64
+  pub kinds : kindIn (wordAt a k 0) ≡ kindIn (wordAt b l 0)
+
 -- ---- records
 
 stands-inside : (w t : List ℕ) (f : Forest) (i : ℕ) → Stands w t i f → 0 < size f → 4 * (i + size f) ≤ length w
@@ -48,11 +58,6 @@ stands-inside w t nil i h p = absurd (omega arith)
 stands-inside w t (node l nil nil) i h p = let r = h .0 .reads .inside in omega arith
 stands-inside w t (node l (node m d r) nil) i h p = let b = stands-inside w t (node m d r) (i + 1) (h .1) (omega arith) in omega arith
 stands-inside w t (node l c (node m d r)) i h p = let b = stands-inside w t (node m d r) (i + 1 + size c) (h .2) (omega arith) in omega arith
-
-count-size : (f : Forest) → count f ≤ size f
-unfolding count size
-count-size nil = omega arith
-count-size (node l c r) = let h = count-size r in omega arith
 
 -- `new` of a label, by the words of its record
 new-in : (a x p : ℕ) (s : List ℕ) (k : ℕ) → k < 13 → new (getD (labelsOf a x p s) k NoneL) ≡ bit (eqb k 12 && newIn a)
@@ -92,7 +97,7 @@ is-object w i e = go (eqb (kindIn (wordAt w i 0)) 12) refl
     go true d = eqb→eq _ _ (rw d tt)
     go false d = let z : false ≡ true = rw d at e in cc
 
-same-kind : (a s b t : List ℕ) (k l : ℕ) → Reads a s k → Reads b t l → labels (labelAt a s k) (labelAt b t l) ≡ Ordering·eq → kindIn (wordAt a k 0) ≡ kindIn (wordAt b l 0)
+pub same-kind : (a s b t : List ℕ) (k l : ℕ) → Reads a s k → Reads b t l → labels (labelAt a s k) (labelAt b t l) ≡ Ordering·eq → kindIn (wordAt a k 0) ≡ kindIn (wordAt b l 0)
 unfolding labels
 same-kind a s b t k l r q e =
     let d = compare-eq (kind (labelAt a s k)) (kind (labelAt b t l)) (then-eq _ _ e .0) in
@@ -256,6 +261,25 @@ module _ (w : List ℕ) (i k : ℕ) (e : k ≡ kindIn (getD w (4 * i) 0)) where
   pub new-other : k ≢ 12 → false ≡ newAt w i
   unfolding newAt
   new-other h = rw (add-zero, ← e, ne-eqb k 12 h)
+
+-- ---- what `step` answers
+
+no-object : (k : ℕ) → holding k ≡ false → eqb k 12 ≡ false
+no-object k h = go (eqb k 12) refl
+  where
+    go : (x : Bool) → eqb k 12 ≡ x → x ≡ false
+    go false e = refl
+    go true e = rw (eqb-true k 12 e) at h
+
+-- two records with nothing in them
+pub step-past : (a b : List ℕ) (k l left : ℕ) (v : Ordering) → Matched a b k l left → holding (kindIn (wordAt a k 0)) ≡ false → Next left v (arityAt a k) (arityAt b l) (newAt a k) (newAt b l) (left - 1) v
+unfolding arityAt newAt
+step-past a b k l left v m h =
+    let x = nothing-held (wordAt a k 0) (wordAt a k 1) h in
+    let y = nothing-held (wordAt b l 0) (wordAt b l 1) (rw (m .kinds) at h) in
+    let p = no-object (kindIn (wordAt a k 0)) h in
+    let q = no-object (kindIn (wordAt b l 0)) (rw (m .kinds) at h) in
+    same (rw (p, q)) (x ∙ sym y) (rw x (omega arith)) refl
 
 -- ---- what `next` answers
 

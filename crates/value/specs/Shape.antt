@@ -1,17 +1,17 @@
 -- Reading a record's words: the label and the number of values that they say.
 use Prim.Native.Nat.{ℕ, suc, zero, _+_, _*_, _^_, _/_, _%_, _≤_, _<_}
-use mathlib.Core.Bool.{Bool, true, false, cond, _&&_, _||_}
+use mathlib.Core.Bool.{Bool, true, false, cond, not, _&&_}
 use mathlib.Core.List.{List, [], _∷_, _++_, append-assoc}
-use mathlib.Core.Path.{_≡_, refl, sym, _∙_, ap, ap₂}
-use lib.ListN.{length, length-append, getD, take, drop, List·getD-append}
-use lib.Seq.{take-append-seam, drop-append-seam, drop-at}
-use lib.Dec.{T, eqb, ltb, eqb→eq, ltb→lt, lit<}
+use mathlib.Core.Path.{_≡_, refl, sym, ap, ap₂}
+use lib.ListN.{length, getD, take, drop}
+use lib.Seq.{take-append-seam, drop-append-seam}
+use lib.Dec.{T, eqb, ltb, eqb→eq, ltb→lt}
 use lib.Pow.{high, low}
 use mathlib.Core.Logic.{_≢_}
-use borrow.Author.Tests.{lt-ltb, le-ltb, ne-eqb}
+use borrow.Author.Tests.{lt-ltb, le-ltb, ne-eqb, eqb-true, ltb-false}
 use native.Mathlib.Omega.{arith}
 use Rattle.value.specs.declared.Head.{Head}
-use Rattle.value.specs.Value.{Label, Forest, bit, half, kind, textOf, text, count, size, word0, words, recordOf, words-length, record-length, table, NoneL, BoolL, I64L, F64L, BytesL, StringL, ListL, TupleL, SetL, FrozenSetL, DictL, GlobalL, ObjectL, nil, node}
+use Rattle.value.specs.Value.{Label, Forest, bit, half, kind, textOf, count, word0, words, NoneL, BoolL, I64L, F64L, BytesL, StringL, ListL, TupleL, SetL, FrozenSetL, DictL, GlobalL, ObjectL, nil, node}
 
 -- ---- word 0
 
@@ -80,6 +80,10 @@ arityOf a b =
     (cond (ltb (kindIn a) 10) b
     (cond (eqb (kindIn a) 10) (b + b)
     (cond (eqb (kindIn a) 12) (suc (bit (stateIn a))) 0)))
+
+-- a kind of values that have others in them
+abbrev pub holding : ℕ → Bool
+holding k = ltb 5 k && not (eqb k 11)
 
 -- where the text of a name that stands at b ends
 abbrev pub namesEnd : ℕ → ℕ → ℕ
@@ -176,6 +180,16 @@ label-back (ObjectL m k false) p (suc zero) z s h = object-back m k s false (obj
 label-back (ObjectL m k true) p (suc (suc zero)) z s h = object-back m k s true (object-name m k true 2 h)
 label-back (ObjectL m k false) p (suc (suc zero)) z s h = object-back m k s false (object-name m k false 2 h)
 label-back (ObjectL m k b) p (suc (suc (suc n))) z s h = absurd (object-few m k b n h)
+
+-- the others have none in them, and are no Object
+pub nothing-held : (a b : ℕ) → holding (kindIn a) ≡ false → arityOf a b ≡ 0
+unfolding arityOf
+nothing-held a b h = go (ltb 5 (kindIn a)) (eqb (kindIn a) 11) refl refl h
+  where
+    go : (x y : Bool) → ltb 5 (kindIn a) ≡ x → eqb (kindIn a) 11 ≡ y → (x && not y) ≡ false → cond (ltb (kindIn a) 6) 0 (cond (ltb (kindIn a) 10) b (cond (eqb (kindIn a) 10) (b + b) (cond (eqb (kindIn a) 12) (suc (bit (stateIn a))) 0))) ≡ 0
+    go false y p q e = let l = ltb-false 5 (kindIn a) p in rw (lt-ltb (kindIn a) 6 (omega arith))
+    go true true p q e = let d = eqb-true (kindIn a) 11 q in rw d
+    go true false p q e = let z : _≡_ {A = ℕ} 0 1 = cc in absurd (omega arith)
 
 -- ---- the number of values in a record, by its kind k
 module _ (a b k : ℕ) (e : k ≡ kindIn a) where

@@ -1,19 +1,20 @@
 -- What the comparison's answers mean, and the laws of numbers and keys that its leaves rest on.
-use Prim.Native.Nat.{ℕ, suc, zero, _+_, _-_, _*_, _^_, _/_, _%_, _≤_, _<_, compare, Ordering, Ordering·lt, Ordering·eq, Ordering·gt}
-use mathlib.Core.Bool.{Bool, true, false, cond, not}
+use Prim.Native.Nat.{ℕ, suc, zero, _+_, _-_, _^_, _/_, _%_, _≤_, _<_, compare, Ordering, Ordering·lt, Ordering·eq, Ordering·gt}
+use mathlib.Core.Bool.{Bool, true, false, not}
 use mathlib.Core.List.{List, [], _∷_}
 use mathlib.Core.Path.{_≡_, refl, sym, _∙_, ap}
-use mathlib.Core.Logic.{_≢_, _⊎_, inl, inr}
-use lib.Dec.{T, isLe, isEq, ltb, leb→le, nleb→lt, eqb→eq, le→leb, eqb-refl, ltb→lt, nltb→le, lit<}
+use mathlib.Core.Logic.{_⊎_, inl, inr}
+use lib.Dec.{T, isLe, isEq, ltb, nleb→lt, eqb→eq, ltb→lt, nltb→le, lit<}
 use lib.ListN.{length, getD, drop, drop-of-length-le}
 use lib.Seq.{drop-cons}
 use native.Mathlib.Omega.{arith}
+use native.Mathlib.Nat.{add-zero}
 use native.Mathlib.Numerals.{add-one}
 use borrow.Author.Tests.{lt-ltb, le-ltb}
 use Rattle.value.specs.declared.Order.{Order}
 use Rattle.value.specs.declared.Order.the-variants.{Less, Equal, Greater}
-use Rattle.value.specs.Order.{_then_, lex, byValue, totalOrder}
-use Rattle.value.specs.OrderLaws.{compare-eq, compare-swap, lex-swap, swap}
+use Rattle.value.specs.Order.{lex, byValue, totalOrder}
+use Rattle.value.specs.OrderLaws.{compare-swap, lex-swap, swap}
 use Rattle.value.specs.Walk.{compare-same, eq-then, lt-then, gt-then, then-end}
 
 unfoldable pub told : Order → Ordering
@@ -167,3 +168,14 @@ module _ (a b : List ℕ) (i : ℕ) where
 pub text-more : (a b : List ℕ) (i : ℕ) → i < length a → i < length b → getD b i 0 ≤ getD a i 0 → getD a i 0 ≤ getD b i 0 → lexFrom a b (i + 1) ≡ lexFrom a b i
 unfolding lexFrom lex
 text-more a b i h k l m = simp (drop-cons a i 0 h, drop-cons b i 0 k, ← (numbers-equal _ _ l m), eq-then, add-one)
+
+-- n bytes from i on are the same in both
+abbrev pub Alike : List ℕ → List ℕ → ℕ → ℕ → Type 0
+Alike a b i n = (k : ℕ) → k < n → getD a (i + k) 0 ≡ getD b (i + k) 0
+
+pub text-run : (a b : List ℕ) (i n : ℕ) → i + n ≤ length a → i + n ≤ length b → Alike a b i n → lexFrom a b (i + n) ≡ lexFrom a b i
+text-run a b i zero h k e = rw add-zero
+text-run a b i (suc n) h k e =
+    let q = e n (omega arith) in
+    let d : i + suc n ≡ i + n + 1 = omega arith in
+    rw d (text-more a b (i + n) (omega arith) (omega arith) (omega arith) (omega arith)) ∙ text-run a b i n (omega arith) (omega arith) (λ j l. e j (omega arith))

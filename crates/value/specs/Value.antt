@@ -1,6 +1,6 @@
 -- A value (value.rs), and document 01's table of it. One shape for all: a label over a forest, its contents in order, which is
 -- exactly the table's preorder. A Dict's contents alternate key and value; an Object's are its arguments, a Tuple, and any state.
-use Prim.Native.Nat.{ℕ, suc, zero, _+_, _*_, _^_, max}
+use Prim.Native.Nat.{ℕ, suc, zero, _+_, _*_, _^_, _≤_, max}
 use mathlib.Core.Bool.{Bool, true, false}
 use mathlib.Core.List.{List, [], _∷_, _++_}
 use mathlib.Core.Path.{_≡_, refl}
@@ -80,6 +80,11 @@ count (node l c r) = suc (count r)
 unfoldable pub size : Forest → ℕ
 size nil = 0
 size (node l c r) = suc (size c + size r)
+
+pub count-size : (f : Forest) → count f ≤ size f
+unfolding count size
+count-size nil = omega arith
+count-size (node l c r) = omega (arith, count-size r)
 
 -- how deep they nest, the outermost being depth 1
 unfoldable pub depth : Forest → ℕ

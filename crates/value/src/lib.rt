@@ -1,21 +1,48 @@
 // Values (value.rs): the words of a table's record, and the order of values that stand in tables. `Display`, the `From`
 // conversions, `Value::dict` and `Value::object` are left out.
 ghost use mathlib.Core.Path.{_≡_};
-ghost use mathlib.Core.Bool.{Bool};
-ghost use Prim.Native.Nat.{_+_, _*_, _^_, _≤_, _<_, compare};
+ghost use mathlib.Core.Bool.{Bool, true};
+ghost use Prim.Native.Nat.{_+_, _*_, _^_, _≤_, _<_, min, compare};
 ghost use lib.ListN.{length, getD, take, drop};
 ghost use Rattle.value.specs.Value.{Value, one};
 ghost use Rattle.value.specs.Order.{_then_, lex, byValue, totalOrder, labels, order};
-ghost use Rattle.value.specs.Shape.{headOf, wordOf, namesEnd, moduleOf, nameOf};
+ghost use Rattle.value.specs.Shape.{headOf, wordOf, holding, namesEnd, moduleOf, nameOf};
 ghost use Rattle.value.specs.Stands.{labelAt, arityAt, Reads, Begins, Stands};
-ghost use Rattle.value.specs.Told.{told};
-ghost use Rattle.value.specs.Left.{newAt, Next};
+ghost use Rattle.value.specs.Told.{told, Alike, lexFrom};
+ghost use Rattle.value.specs.Left.{newAt, Matched, Next};
 
 pub enum Order {
     Less,
     Equal,
     Greater,
 }
+
+// The kinds of values, as word 0 has them; in the order of kinds (document 01), which their tests by `<` rest on.
+pub const NONE: u64 = 0;
+
+pub const BOOL: u64 = 1;
+
+pub const I64: u64 = 2;
+
+pub const F64: u64 = 3;
+
+pub const BYTES: u64 = 4;
+
+pub const STRING: u64 = 5;
+
+pub const LIST: u64 = 6;
+
+pub const TUPLE: u64 = 7;
+
+pub const SET: u64 = 8;
+
+pub const FROZEN_SET: u64 = 9;
+
+pub const DICT: u64 = 10;
+
+pub const GLOBAL: u64 = 11;
+
+pub const OBJECT: u64 = 12;
 
 // What word 0 of a record says. Only `head_of` reads that word and only `word_of` makes it.
 pub struct Head {
@@ -50,6 +77,13 @@ pub fn word_of(head: Head) -> u64
     head.kind
 }
 
+// Whether values stand in a record of this kind.
+pub fn holds(kind: u64) -> bool
+    ensures { λ r. ⌜ r ≡ holding kind ⌝ }
+{
+    (STRING < kind) & (kind != GLOBAL)
+}
+
 pub fn compare_numbers(x: u64, y: u64) -> Order
     ensures { λ r. ⌜ told r ≡ compare x y ⌝ }
 {
@@ -66,6 +100,9 @@ pub fn compare_numbers(x: u64, y: u64) -> Order
 pub fn compare_ints(x: u64, y: u64) -> Order
     ensures { λ r. ⌜ told r ≡ lex (byValue x) (byValue y) ⌝ }
 {
+    if x == y {
+        return Order::Equal;
+    }
     if x < 0x8000_0000_0000_0000 {
         if y < 0x8000_0000_0000_0000 {
             return compare_numbers(x, y);
@@ -94,11 +131,51 @@ pub fn compare_floats(x: u64, y: u64) -> Order
     compare_numbers(y, x)
 }
 
+pub fn least(a: usize, b: usize) -> usize
+    ensures { λ r. ⌜ r ≡ min a b ⌝ }
+{
+    if a < b {
+        return a;
+    }
+    b
+}
+
+// Eight bytes of two texts are the same: tested together, which is quicker than one by one.
+fn same_eight(a: &[u8], b: &[u8], i: usize) -> bool
+    requires { ⌜ i + 8 ≤ length (now a) ⌝ }
+    requires { ⌜ i + 8 ≤ length (now b) ⌝ }
+    ensures { λ r. ⌜ (r ≡ true → Alike (now (a .entry)) (now (b .entry)) i 8) ⌝ }
+{
+    (a[i] == b[i])
+        & (a[i + 1] == b[i + 1])
+        & (a[i + 2] == b[i + 2])
+        & (a[i + 3] == b[i + 3])
+        & (a[i + 4] == b[i + 4])
+        & (a[i + 5] == b[i + 5])
+        & (a[i + 6] == b[i + 6])
+        & (a[i + 7] == b[i + 7])
+}
+
+// How far two texts are surely the same, by eight bytes at a time: what is left from there on decides.
+fn same_len(a: &[u8], b: &[u8]) -> usize
+    ensures { λ r. ⌜ (r ≤ length (now (a .entry))) × (lexFrom (now (a .entry)) (now (b .entry)) r ≡ lex (now (a .entry)) (now (b .entry))) ⌝ }
+{
+    let shorter = least(a.len(), b.len());
+    let mut i = 0;
+    while 8 <= shorter - i {
+        if !same_eight(a, b, i) {
+            return i;
+        }
+        i += 8;
+    }
+    i
+}
+
 // Text by bytes, a proper beginning before the longer.
 pub fn compare_bytes(a: &[u8], b: &[u8]) -> Order
     ensures { λ r. ⌜ told r ≡ lex (now (a .entry)) (now (b .entry)) ⌝ }
 {
-    let mut i = 0;
+    let mut i = same_len(a, b);
     while i < a.len() {
         if b.len() <= i {
             return Order::Greater;
@@ -157,27 +234,27 @@ fn compare_labels(a: &[u64], i: usize, s: &[u8], b: &[u64], j: usize, t: &[u8]) 
     }
     let x = a[4 * i + 1];
     let y = b[4 * j + 1];
-    if kind == 0 {
+    if kind == NONE {
         return Order::Equal;
     }
-    if kind == 1 {
+    if kind == BOOL {
         return compare_numbers((x == 1) as u64, (y == 1) as u64);
     }
-    if kind == 2 {
+    if kind == I64 {
         return compare_ints(x, y);
     }
-    if kind == 3 {
+    if kind == F64 {
         return compare_floats(x, y);
     }
     let p = a[4 * i + 2];
     let q = b[4 * j + 2];
-    if kind < 6 {
+    if kind < LIST {
         return compare_bytes(
             part(s, x as usize, p as usize),
             part(t, y as usize, q as usize),
         );
     }
-    if kind < 11 {
+    if kind < GLOBAL {
         return Order::Equal;
     }
     compare_names(s, x as usize, p, t, y as usize, q)
@@ -192,16 +269,16 @@ pub fn arity(words: &[u64], i: usize) -> usize
     let head = head_of(words[4 * i]);
     let kind = head.kind;
     let n = words[4 * i + 1] as usize;
-    if kind < 6 {
+    if kind < LIST {
         return 0;
     }
-    if kind < 10 {
+    if kind < DICT {
         return n;
     }
-    if kind == 10 {
+    if kind == DICT {
         return n + n;
     }
-    if kind == 12 {
+    if kind == OBJECT {
         if head.state {
             return 2;
         }
@@ -216,7 +293,7 @@ fn is_new(words: &[u64], i: usize) -> bool
     ensures { λ r. ⌜ r ≡ newAt (now (words .entry)) i ⌝ }
 {
     let head = head_of(words[4 * i]);
-    head.kind == 12 && head.new
+    head.kind == OBJECT && head.new
 }
 
 // What is left to compare: so many values, and what decides if they are equal.
@@ -261,6 +338,21 @@ fn next(walk: Walk, n: usize, m: usize, new: bool, other: bool) -> Walk
     }
 }
 
+// After two records of one kind with equal labels: most have nothing in them.
+fn step(walk: Walk, a: &[u64], k: usize, b: &[u64], l: usize) -> Walk
+    requires { ⌜ Matched (now a) (now b) k l (walk .left) ⌝ }
+    ensures { λ r. ⌜ Next (walk .left) (told (walk .verdict)) (arityAt (now (a .entry)) k) (arityAt (now (b .entry)) l) (newAt (now (a .entry)) k) (newAt (now (b .entry)) l) (r .left) (told (r .verdict)) ⌝ }
+{
+    if holds(head_of(a[4 * k]).kind) {
+        return next(walk, arity(a, k), arity(b, l), is_new(a, k), is_new(b, l));
+    }
+    let verdict = walk.verdict;
+    Walk {
+        left: walk.left - 1,
+        verdict,
+    }
+}
+
 // The order of the value that begins at record i of one table and the one at record j of another (or the same), by a walk
 // through both at once.
 pub fn compare_at(a: &[u64], i: usize, s: &[u8], b: &[u64], j: usize, t: &[u8]) -> Order
@@ -284,7 +376,7 @@ pub fn compare_at(a: &[u64], i: usize, s: &[u8], b: &[u64], j: usize, t: &[u8]) 
             Order::Greater => return Order::Greater,
             Order::Equal => {}
         }
-        walk = next(walk, arity(a, k), arity(b, l), is_new(a, k), is_new(b, l));
+        walk = step(walk, a, k, b, l);
         k += 1;
         l += 1;
     }

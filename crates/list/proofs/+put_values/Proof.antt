@@ -11,7 +11,7 @@ use Rattle.value.proofs.arity.Reads as arity-reads
 use Rattle.list.proofs.+put_values.{statement}
 use Rattle.list.proofs.+put_values.Tie.{close}
 use native.Mathlib.Omega.{arith}
-use Rattle.list.proofs.Walk.{Going, going-all, going-none, turn, turn-line, turn-arity, turn-inside, turn-again}
+use Rattle.list.proofs.Walk.{Going, going-all, going-none, turn, turn-line, turn-arity, turn-counted, turn-inside, turn-again}
 
 abbrev μ-put-values : Measures 3 put-values-kinds.ps ℕ
 μ-put-values κs a = 64 - a .1 .1 .1 .1 .0
@@ -65,7 +65,7 @@ put-values-loop-less t c = omega (arith, c .before .before .before .before .befo
 put-values-loop-again : (t : ℕ) → put-values-lts.Need-loop-again (put-line-reads.Asked, put-line-reads.Learnt, arity-reads.Asked, arity-reads.Learnt, put-values-below t, put-values.Post) (put-values-at t) put-values.Post put-values-Inv-loop put-values-μ-loop
 put-values-loop-again t c =
     let u = turn (c .before .before .before .before .before .before .before .before .before .before .loop .inv) (omega (arith, c .before .before .before .before .before .before .before .before .before .loop-test .taken)) in
-    turn-again u (c .before .before .before .before .before .before .before .put-line .ensures) (c .before .before .before .before .arity .ensures) (c .before .before .put-values .ensures)
+    turn-again u (c .before .before .before .before .before .before .before .put-line .ensures) (c .before .before .before .before .arity .ensures) (c .before .before .put-values .ensures (u .c) (u .inside) (turn-counted u (c .before .before .before .before .arity .ensures)))
 
 put-values-same-length : (t : ℕ) → put-values-lts.Need-same-length (put-line-reads.Asked, put-line-reads.Learnt, arity-reads.Asked, arity-reads.Learnt, put-values-below t, put-values.Post) (put-values-at t) put-values.Post put-values-Inv-loop put-values-μ-loop
 put-values-same-length t c = c .before .loop .inv .todo .kept

@@ -4,7 +4,7 @@ use mathlib.Core.Path.{ap}
 use native.Mathlib.Omega.{arith}
 use Rattle.value.specs.declared.Head.{Head}
 use Rattle.value.specs.Labels.{text-inside, names-inside}
-use Rattle.list.specs.Put.{put-then, room-then}
+use Rattle.output.specs.Put.{put-then, room-then}
 use Rattle.list.proofs.Record.{known, content-none, content-bool, content-int, content-float, content-text, content-count, content-global, content-object, names-room}
 use Rattle.list.proofs.put_content.Statement.{statement}
 use Rattle.list.proofs.put_content.Tie as tie

@@ -1,6 +1,6 @@
 -- `list::put_flags` meets its contract. Assumes nothing.
 use borrow.Author.Needs.{needs}
-use Rattle.list.specs.Put.{put-then}
+use Rattle.output.specs.Put.{put-then}
 use Rattle.list.proofs.put_flags.Statement.{statement}
 use Rattle.list.proofs.put_flags.Tie as tie
 

@@ -1,6 +1,6 @@
 -- `list::put_line` meets its contract: depth, kind and content, one behind the other. Assumes nothing.
 use borrow.Author.Needs.{needs}
-use Rattle.list.specs.Put.{put-then, room-first, room-then}
+use Rattle.output.specs.Put.{put-then, room-first, room-then}
 use Rattle.list.proofs.Record.{known, line-parts}
 use Rattle.list.proofs.put_line.Statement.{statement}
 use Rattle.list.proofs.put_line.Tie as tie

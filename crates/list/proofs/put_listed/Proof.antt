@@ -2,7 +2,7 @@
 use borrow.Author.Needs.{needs}
 use mathlib.Core.Path.{_∙_, sym}
 use native.Mathlib.Omega.{arith}
-use Rattle.list.specs.Put.{put-then, room-first, room-then}
+use Rattle.output.specs.Put.{put-then, room-first, room-then}
 use Rattle.list.proofs.Laws.{listed-slash, listed-plain, listed-escape}
 use Rattle.list.proofs.put_listed.Statement.{statement}
 use Rattle.list.proofs.put_listed.Tie as tie

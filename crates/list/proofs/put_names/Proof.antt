@@ -1,7 +1,7 @@
 -- `list::put_names` meets its contract: the module, a tab and the name, one behind the other. Assumes nothing.
 use borrow.Author.Needs.{needs}
 use native.Mathlib.Omega.{arith}
-use Rattle.list.specs.Put.{put-then, room-first, room-then}
+use Rattle.output.specs.Put.{put-then, room-first, room-then}
 use Rattle.list.proofs.Record.{names-parts}
 use Rattle.list.proofs.put_names.Statement.{statement}
 use Rattle.list.proofs.put_names.Tie as tie

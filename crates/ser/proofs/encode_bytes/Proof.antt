@@ -2,7 +2,7 @@
 use borrow.Author.Needs.{needs}
 use Rattle.ser.proofs.encode_bytes.Statement.{statement}
 use Rattle.ser.proofs.encode_bytes.Tie as tie
-use Rattle.list.specs.Put.{put-then, room-first, room-then}
+use Rattle.output.specs.Put.{put-then, room-first, room-then}
 use Rattle.ser.proofs.Laws.{bytes-short, bytes-long}
 
 put-byte-requires : tie.Need-put-byte-requires
@@ -15,18 +15,15 @@ put-low-requires c κs =
     let e = bytes-short (c .before .before .before .before .before .before .before .before .args .value .now) (c .before .before .before .before .before .if1 .taken) in
     room-first _ (room-then _ (c .before .before .before .put-byte .ensures) (rw e at (c .before .before .before .before .before .before .before .before .pre)))
 
-write-all-requires : tie.Need-write-all-requires
-write-all-requires c κs =
+put-run-requires : tie.Need-put-run-requires
+put-run-requires c κs =
     let e = bytes-short (c .before .before .before .before .before .before .before .before .before .before .before .before .args .value .now) (c .before .before .before .before .before .before .before .before .before .if1 .taken) in
     room-then _ (c .before .before .before .put-low .ensures) (room-then _ (c .before .before .before .before .before .before .before .put-byte .ensures) (rw e at (c .before .before .before .before .before .before .before .before .before .before .before .before .pre)))
-
-same-length : tie.Need-same-length
-same-length c = search needs
 
 returns : tie.Need-returns
 returns c =
     let e = bytes-short (c .before .before .before .before .before .before .before .before .before .before .before .before .before .before .before .args .value .now) (c .before .before .before .before .before .before .before .before .before .before .before .before .if1 .taken) in
-    rw e (put-then (c .before .before .before .before .before .before .before .before .before .before .put-byte .ensures) (put-then (c .before .before .before .before .before .before .put-low .ensures) (c .before .before .write-all .ensures)))
+    rw e (put-then (c .before .before .before .before .before .before .before .before .before .before .put-byte .ensures) (put-then (c .before .before .before .before .before .before .put-low .ensures) (c .before .before .put-run .ensures)))
 
 put-byte-requires-2 : tie.Need-put-byte-requires-2
 put-byte-requires-2 c κs =
@@ -38,18 +35,15 @@ put-low-requires-2 c κs =
     let e = bytes-long (c .before .before .before .before .before .before .before .before .args .value .now) (c .before .before .before .before .before .if1 .left) in
     room-first _ (room-then _ (c .before .before .before .put-byte2 .ensures) (rw e at (c .before .before .before .before .before .before .before .before .pre)))
 
-write-all-requires-2 : tie.Need-write-all-requires-2
-write-all-requires-2 c κs =
+put-run-requires-2 : tie.Need-put-run-requires-2
+put-run-requires-2 c κs =
     let e = bytes-long (c .before .before .before .before .before .before .before .before .before .before .before .before .args .value .now) (c .before .before .before .before .before .before .before .before .before .if1 .left) in
     room-then _ (c .before .before .before .put-low2 .ensures) (room-then _ (c .before .before .before .before .before .before .before .put-byte2 .ensures) (rw e at (c .before .before .before .before .before .before .before .before .before .before .before .before .pre)))
-
-same-length-2 : tie.Need-same-length-2
-same-length-2 c = search needs
 
 returns-2 : tie.Need-returns-2
 returns-2 c =
     let e = bytes-long (c .before .before .before .before .before .before .before .before .before .before .before .before .before .before .before .args .value .now) (c .before .before .before .before .before .before .before .before .before .before .before .before .if1 .left) in
-    rw e (put-then (c .before .before .before .before .before .before .before .before .before .before .put-byte2 .ensures) (put-then (c .before .before .before .before .before .before .put-low2 .ensures) (c .before .before .write-all2 .ensures)))
+    rw e (put-then (c .before .before .before .before .before .before .before .before .before .before .put-byte2 .ensures) (put-then (c .before .before .before .before .before .before .put-low2 .ensures) (c .before .before .put-run2 .ensures)))
 
 pub encode-bytes-spec : {M : Type 1} → statement M
-encode-bytes-spec = tie.close (tie.spec put-byte-requires put-low-requires write-all-requires same-length returns put-byte-requires-2 put-low-requires-2 write-all-requires-2 same-length-2 returns-2)
+encode-bytes-spec = tie.close (tie.spec put-byte-requires put-low-requires put-run-requires (λ c. search needs) returns put-byte-requires-2 put-low-requires-2 put-run-requires-2 (λ c. search needs) returns-2)

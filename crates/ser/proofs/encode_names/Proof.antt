@@ -2,26 +2,14 @@
 use borrow.Author.Needs.{needs}
 use Rattle.ser.proofs.encode_names.Statement.{statement}
 use Rattle.ser.proofs.encode_names.Tie as tie
-use Rattle.list.specs.Put.{put-same, room-same}
+use Rattle.output.specs.Put.{put-same, room-same}
 use Rattle.ser.proofs.Laws.{names-global}
-
-part-requires : tie.Need-part-requires
-part-requires c κs = search needs
-
-add-part : tie.Need-add-part
-add-part c = search needs
-
-part-requires-2 : tie.Need-part-requires-2
-part-requires-2 c κs = search needs
 
 encode-global-requires : tie.Need-encode-global-requires
 encode-global-requires c κs = room-same (names-global (c .before .before .before .before .before .args .text .now) (c .before .before .before .before .before .args .from) (c .before .before .before .before .before .args .lengths) _ _ (c .before .before .part .ensures) (c .before .part2 .ensures)) (c .before .before .before .before .before .pre .1)
-
-same-length : tie.Need-same-length
-same-length c = search needs
 
 returns : tie.Need-returns
 returns c = put-same (names-global (c .before .before .before .before .before .before .before .before .args .text .now) (c .before .before .before .before .before .before .before .before .args .from) (c .before .before .before .before .before .before .before .before .args .lengths) _ _ (c .before .before .before .before .before .part .ensures) (c .before .before .before .before .part2 .ensures)) (c .before .before .encode-global .ensures)
 
 pub encode-names-spec : {M : Type 1} → statement M
-encode-names-spec = tie.close (tie.spec part-requires add-part part-requires-2 encode-global-requires same-length returns)
+encode-names-spec = tie.close (tie.spec (λ c κs. search needs) (λ c. search needs) (λ c κs. search needs) encode-global-requires (λ c. search needs) returns)

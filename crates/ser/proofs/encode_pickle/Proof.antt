@@ -2,14 +2,14 @@
 use borrow.Author.Needs.{needs}
 use Rattle.ser.proofs.encode_pickle.Statement.{statement}
 use Rattle.ser.proofs.encode_pickle.Tie as tie
-use Rattle.ser.specs.Parts.{ready-as, wrote-as, ready-after, wrote-after, ready-before, ready-end, wrote-before}
+use Rattle.ser.specs.Parts.{ready-as, wrote-as, ready-front, ready-after, wrote-after, ready-before, ready-end, wrote-before}
 use Rattle.ser.proofs.Laws.{framed-parts}
 
 put-byte-requires : tie.Need-put-byte-requires
-put-byte-requires c κs = search needs
+put-byte-requires c κs = ready-front _ _ (ready-as framed-parts (c .before .before .before .before .pre))
 
 put-byte-requires-2 : tie.Need-put-byte-requires-2
-put-byte-requires-2 c κs = search needs
+put-byte-requires-2 c κs = ready-front _ _ (ready-after _ _ (ready-as framed-parts (c .before .before .before .before .before .before .before .before .pre)) (c .before .before .before .put-byte .ensures))
 
 encode-requires : tie.Need-encode-requires
 encode-requires c κs = ready-before _ _ (ready-after _ _ (ready-after _ _ (ready-as framed-parts (c .before .before .before .before .before .before .before .before .before .before .before .before .pre)) (c .before .before .before .before .before .before .before .put-byte .ensures)) (c .before .before .before .put-byte2 .ensures))
@@ -17,11 +17,8 @@ encode-requires c κs = ready-before _ _ (ready-after _ _ (ready-after _ _ (read
 put-byte-requires-3 : tie.Need-put-byte-requires-3
 put-byte-requires-3 c κs = ready-end _ _ (ready-after _ _ (ready-after _ _ (ready-as framed-parts (c .before .before .before .before .before .before .before .before .before .before .before .before .before .before .before .before .pre)) (c .before .before .before .before .before .before .before .before .before .before .before .put-byte .ensures)) (c .before .before .before .before .before .before .before .put-byte2 .ensures)) (c .before .before .before .encode .ensures)
 
-same-length : tie.Need-same-length
-same-length c = search needs
-
 returns : tie.Need-returns
 returns c = wrote-as framed-parts (wrote-after _ _ (c .before .before .before .before .before .before .before .before .before .before .before .before .before .before .put-byte .ensures) (wrote-after _ _ (c .before .before .before .before .before .before .before .before .before .before .put-byte2 .ensures) (wrote-before _ _ (c .before .before .before .before .before .before .encode .ensures) (c .before .before .put-byte3 .ensures)))) .puts
 
 pub encode-pickle-spec : {M : Type 1} → statement M
-encode-pickle-spec = tie.close (tie.spec put-byte-requires put-byte-requires-2 encode-requires put-byte-requires-3 same-length returns)
+encode-pickle-spec = tie.close (tie.spec put-byte-requires put-byte-requires-2 encode-requires put-byte-requires-3 (λ c. search needs) returns)

@@ -2,11 +2,8 @@
 use borrow.Author.Needs.{needs}
 use Rattle.ser.proofs.encode_set.Statement.{statement}
 use Rattle.ser.proofs.encode_set.Tie as tie
-use Rattle.list.specs.Put.{put-then, room-first, room-then}
+use Rattle.output.specs.Put.{put-then, room-first, room-then}
 use Rattle.ser.proofs.Laws.{set-parts}
-
-slice-aggregate-encode-global : tie.Need-slice-aggregate-encode-global
-slice-aggregate-encode-global c = search needs
 
 encode-global-requires : tie.Need-encode-global-requires
 encode-global-requires c κs =
@@ -18,13 +15,10 @@ put-byte-requires c κs =
     let e = set-parts (c .before .before .before .before .before .before .before .before .args .name .now) in
     room-then _ (c .before .before .before .encode-global .ensures) (rw e at (c .before .before .before .before .before .before .before .before .pre))
 
-same-length : tie.Need-same-length
-same-length c = search needs
-
 returns : tie.Need-returns
 returns c =
     let e = set-parts (c .before .before .before .before .before .before .before .before .before .before .before .args .name .now) in
     rw e (put-then (c .before .before .before .before .before .before .encode-global .ensures) (c .before .before .put-byte .ensures))
 
 pub encode-set-spec : {M : Type 1} → statement M
-encode-set-spec = tie.close (tie.spec slice-aggregate-encode-global encode-global-requires put-byte-requires same-length returns)
+encode-set-spec = tie.close (tie.spec (λ c. search needs) encode-global-requires put-byte-requires (λ c. search needs) returns)

@@ -9,15 +9,9 @@ use Rattle.ser.proofs.Laws.{empty-no-cr}
 returns : tie.Need-returns
 returns c = empty-no-cr (c .before .args .name .now) (c .if1 .taken)
 
-sub-result : tie.Need-sub-result
-sub-result c = search needs
-
-shared-slice-read-result : tie.Need-shared-slice-read-result
-shared-slice-read-result c = search needs
-
 returns-2 : tie.Need-returns-2
 unfolding endsCr lastByte
 returns-2 c = search needs
 
 pub ends-with-cr-spec : {M : Type 1} → statement M
-ends-with-cr-spec = tie.close (tie.spec returns sub-result shared-slice-read-result returns-2)
+ends-with-cr-spec = tie.close (tie.spec returns (λ c. search needs) (λ c. search needs) returns-2)

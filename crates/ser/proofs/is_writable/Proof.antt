@@ -18,16 +18,10 @@ loop-holds : tie.Need-loop-holds Inv-loop μ-loop
 loop-holds c = (omega arith, names-all (c .before .before .args .words .now) (c .before .before .args .text .now) (c .before .before .args .count))
 
 record-is-writable-requires : tie.Need-record-is-writable-requires Inv-loop μ-loop
-record-is-writable-requires c κs = c .before .before .before .before .pre (c .before .loop .i) (omega arith) (omega arith)
+record-is-writable-requires c κs = c .before .before .before .before .pre (c .before .loop .i) (omega arith) (omega arith) .0
 
 returns : tie.Need-returns Inv-loop μ-loop
 returns c = names-stop (c .before .before .before .before .before .before .args .words .now) (c .before .before .before .before .before .before .args .text .now) (c .before .before .before .loop .i) (c .before .before .before .before .before .before .args .count) (c .before .before .loop-test .taken) (sym (c .before .record-is-writable .ensures) ∙ not-true _ (c .if1 .taken)) ∙ c .before .before .before .loop .inv .1
-
-add-i : tie.Need-add-i Inv-loop μ-loop
-add-i c = omega arith
-
-loop-less : tie.Need-loop-less Inv-loop μ-loop
-loop-less c = omega arith
 
 loop-again : tie.Need-loop-again Inv-loop μ-loop
 loop-again c = (omega arith, names-turn (c .before .before .before .before .before .before .args .words .now) (c .before .before .before .before .before .before .args .text .now) (c .before .before .before .loop .i) (c .before .before .before .before .before .before .args .count) (c .before .before .loop-test .taken) (sym (c .before .record-is-writable .ensures) ∙ not-false _ (c .if1 .left)) ∙ c .before .before .before .loop .inv .1)
@@ -36,4 +30,4 @@ returns-2 : tie.Need-returns-2 Inv-loop μ-loop
 returns-2 c = names-end (c .before .before .before .before .args .words .now) (c .before .before .before .before .args .text .now) (c .before .loop .i) (c .before .before .before .before .args .count) (c .loop-test .left) ∙ c .before .loop .inv .1
 
 pub is-writable-spec : {M : Type 1} → statement M
-is-writable-spec = tie.close (tie.spec Inv-loop μ-loop loop-holds record-is-writable-requires returns add-i loop-less loop-again returns-2)
+is-writable-spec = tie.close (tie.spec Inv-loop μ-loop loop-holds record-is-writable-requires returns (λ c. omega arith) (λ c. omega arith) loop-again returns-2)

@@ -4,17 +4,8 @@ use Rattle.ser.proofs.name_is_writable.Statement.{statement}
 use Rattle.ser.proofs.name_is_writable.Tie as tie
 use Rattle.ser.proofs.Laws.{name-broken, name-whole}
 
-newline-requires : tie.Need-newline-requires
-newline-requires c κs = search needs
-
 enum-told : tie.Need-enum-told
 enum-told c = search needs
-
-enum-told-2 : tie.Need-enum-told-2
-enum-told-2 c = search needs
-
-ends-with-cr-requires : tie.Need-ends-with-cr-requires
-ends-with-cr-requires c κs = search needs
 
 returns : tie.Need-returns
 returns c = name-broken (c .before .before .before .before .args .name .now) (c .before .before .newline .result) (c .before .before .newline .ensures) (c .enum-told .given .1)
@@ -23,4 +14,4 @@ returns-2 : tie.Need-returns-2
 returns-2 c = name-whole (c .before .before .before .before .before .args .name .now) (c .before .before .before .newline .result) (c .before .before .before .newline .ensures) (c .before .enum-told2 .given .1) (c .ends-with-cr .ensures)
 
 pub name-is-writable-spec : {M : Type 1} → statement M
-name-is-writable-spec = tie.close (tie.spec newline-requires enum-told enum-told-2 ends-with-cr-requires returns returns-2)
+name-is-writable-spec = tie.close (tie.spec (λ c κs. search needs) enum-told (λ c. search needs) (λ c κs. search needs) returns returns-2)

@@ -6,26 +6,11 @@ use mathlib.Core.Path.{sym, _∙_}
 use borrow.Author.Tests.{not-true, not-false}
 use Rattle.ser.proofs.Laws.{module-not, module-and}
 
-part-requires : tie.Need-part-requires
-part-requires c κs = search needs
-
-name-is-writable-requires : tie.Need-name-is-writable-requires
-name-is-writable-requires c κs = search needs
-
 returns : tie.Need-returns
 returns c = module-not (c .before .before .before .before .args .text .now) (c .before .before .before .before .args .from) (c .before .before .before .before .args .lengths) (c .before .before .part .ensures) (sym (c .before .name-is-writable .ensures) ∙ not-true _ (c .if1 .taken))
-
-add-part : tie.Need-add-part
-add-part c = search needs
-
-part-requires-2 : tie.Need-part-requires-2
-part-requires-2 c κs = search needs
-
-name-is-writable-requires-2 : tie.Need-name-is-writable-requires-2
-name-is-writable-requires-2 c κs = search needs
 
 returns-2 : tie.Need-returns-2
 returns-2 c = c .name-is-writable2 .ensures ∙ module-and (c .before .before .before .before .before .before .args .text .now) (c .before .before .before .before .before .before .args .from) (c .before .before .before .before .before .before .args .lengths) (c .before .before .before .before .part .ensures) (sym (c .before .before .before .name-is-writable .ensures) ∙ not-false _ (c .before .before .if1 .left)) (c .before .part2 .ensures)
 
 pub names-are-writable-spec : {M : Type 1} → statement M
-names-are-writable-spec = tie.close (tie.spec part-requires name-is-writable-requires returns add-part part-requires-2 name-is-writable-requires-2 returns-2)
+names-are-writable-spec = tie.close (tie.spec (λ c κs. search needs) (λ c κs. search needs) returns (λ c. search needs) (λ c κs. search needs) (λ c κs. search needs) returns-2)

@@ -2,7 +2,7 @@
 use Rattle.ser.proofs.put_low.Statement.{statement}
 use Rattle.ser.proofs.put_low.Tie as tie
 use native.Mathlib.Omega.{arith}
-use Rattle.list.specs.Put.{Left, left-all}
+use Rattle.output.specs.Put.{Left, left-all}
 use Rattle.ser.specs.Image.{low}
 use Rattle.ser.proofs.Laws.{low-room, low-turn, low-done}
 
@@ -15,17 +15,8 @@ abbrev μ-loop : tie.MeasureT-loop
 loop-holds : tie.Need-loop-holds Inv-loop μ-loop
 loop-holds c = left-all
 
-cast-put-byte : tie.Need-cast-put-byte Inv-loop μ-loop
-cast-put-byte c = omega arith
-
 put-byte-requires : tie.Need-put-byte-requires Inv-loop μ-loop
 put-byte-requires c κs = low-room _ _ (c .before .before .loop .inv) (c .before .before .before .before .pre) (c .before .loop-test .taken)
-
-sub-left : tie.Need-sub-left Inv-loop μ-loop
-sub-left c = omega arith
-
-loop-less : tie.Need-loop-less Inv-loop μ-loop
-loop-less c = omega arith
 
 loop-again : tie.Need-loop-again Inv-loop μ-loop
 loop-again c = low-turn _ _ (c .before .before .before .before .before .loop .inv) (c .before .before .before .before .loop-test .taken) (c .before .before .put-byte .ensures)
@@ -37,4 +28,4 @@ returns : tie.Need-returns Inv-loop μ-loop
 returns c = low-done _ _ (c .before .loop .inv) (c .loop-test .left)
 
 pub put-low-spec : {M : Type 1} → statement M
-put-low-spec = tie.close (tie.spec Inv-loop μ-loop loop-holds cast-put-byte put-byte-requires sub-left loop-less loop-again same-length returns)
+put-low-spec = tie.close (tie.spec Inv-loop μ-loop loop-holds (λ c. omega arith) put-byte-requires (λ c. omega arith) (λ c. omega arith) loop-again same-length returns)

@@ -7,42 +7,6 @@ use Rattle.value.specs.declared.Head.{Head}
 use Rattle.value.specs.Labels.{names-inside}
 use Rattle.ser.proofs.Record.{names-writable, no-names}
 
-mul-head-of : tie.Need-mul-head-of
-mul-head-of c = search needs
-
-mul-head-of-2 : tie.Need-mul-head-of-2
-mul-head-of-2 c = search needs
-
-shared-slice-read-head-of : tie.Need-shared-slice-read-head-of
-shared-slice-read-head-of c = search needs
-
-head-of-requires : tie.Need-head-of-requires
-head-of-requires c κs = search needs
-
-mul-names-are-writable : tie.Need-mul-names-are-writable
-mul-names-are-writable c = search needs
-
-add-names-are-writable : tie.Need-add-names-are-writable
-add-names-are-writable c = search needs
-
-mul-names-are-writable-2 : tie.Need-mul-names-are-writable-2
-mul-names-are-writable-2 c = search needs
-
-shared-slice-read-names-are-writable : tie.Need-shared-slice-read-names-are-writable
-shared-slice-read-names-are-writable c = search needs
-
-mul-names-are-writable-3 : tie.Need-mul-names-are-writable-3
-mul-names-are-writable-3 c = search needs
-
-add-names-are-writable-2 : tie.Need-add-names-are-writable-2
-add-names-are-writable-2 c = search needs
-
-mul-names-are-writable-4 : tie.Need-mul-names-are-writable-4
-mul-names-are-writable-4 c = search needs
-
-shared-slice-read-names-are-writable-2 : tie.Need-shared-slice-read-names-are-writable-2
-shared-slice-read-names-are-writable-2 c = search needs
-
 names-are-writable-requires : tie.Need-names-are-writable-requires
 names-are-writable-requires c κs = names-inside (c .before .before .before .before .before .before .before .args .words .now) (c .before .before .before .before .before .before .before .args .text .now) (c .before .before .before .before .before .before .before .args .i) _ (c .before .before .before .before .before .before .before .pre) (ap (λ (x : Head). x .kind) (c .before .before .before .head-of .ensures)) (c .before .before .if1 .taken)
 
@@ -53,4 +17,4 @@ returns-2 : tie.Need-returns-2
 returns-2 c = no-names (c .before .before .before .before .before .args .words .now) (c .before .before .before .before .before .args .text .now) (c .before .before .before .before .before .args .i) (c .before .before .before .before .before .pre) (c .before .head-of .result) (c .before .head-of .ensures) (c .if1 .left)
 
 pub record-is-writable-spec : {M : Type 1} → statement M
-record-is-writable-spec = tie.close (tie.spec mul-head-of mul-head-of-2 shared-slice-read-head-of head-of-requires mul-names-are-writable add-names-are-writable mul-names-are-writable-2 shared-slice-read-names-are-writable mul-names-are-writable-3 add-names-are-writable-2 mul-names-are-writable-4 shared-slice-read-names-are-writable-2 names-are-writable-requires returns returns-2)
+record-is-writable-spec = tie.close (tie.spec (λ c. search needs) (λ c. search needs) (λ c. search needs) (λ c κs. search needs) (λ c. search needs) (λ c. search needs) (λ c. search needs) (λ c. search needs) (λ c. search needs) (λ c. search needs) (λ c. search needs) (λ c. search needs) names-are-writable-requires returns returns-2)

@@ -6,9 +6,6 @@ use mathlib.Core.Path.{sym, _∙_}
 use native.Mathlib.Omega.{arith}
 use Rattle.value.specs.Shape.{arity-none, arity-items, arity-dict, arity-state, arity-alone, arity-other}
 
-kind-requires : tie.Need-kind-requires
-kind-requires c κs = search needs
-
 returns : tie.Need-returns
 returns c = omega (arith, arity-none _ (c .before .before .args .b) _ (c .before .kind .ensures) (c .if1 .taken))
 
@@ -21,17 +18,11 @@ returns-3 c = omega (arith, arity-items _ (c .before .before .before .before .ar
 returns-4 : tie.Need-returns-4
 returns-4 c = omega (arith, arity-dict _ (c .before .before .before .before .before .args .b) _ (c .before .before .before .before .kind .ensures) (omega arith))
 
-add-result : tie.Need-add-result
-add-result c = search needs
-
 returns-5 : tie.Need-returns-5
 returns-5 c = omega (arith, arity-dict _ (c .before .before .before .before .before .args .b) _ (c .before .before .before .before .kind .ensures) (omega arith))
 
 returns-6 : tie.Need-returns-6
 returns-6 c = omega (arith, arity-other _ (c .before .before .before .before .before .args .b) _ (c .before .before .before .before .kind .ensures) (omega arith) (omega arith) (λ e. absurd (omega arith)) (λ e. absurd (omega arith)))
-
-state-requires : tie.Need-state-requires
-state-requires c κs = search needs
 
 returns-7 : tie.Need-returns-7
 returns-7 c =
@@ -46,4 +37,4 @@ returns-8 c =
     omega (arith, arity-alone _ (c .before .before .before .before .before .before .before .args .b) _ (c .before .before .before .before .before .before .kind .ensures) (omega arith) (sym (c .before .state .ensures) ∙ c .if7 .left))
 
 pub arity-spec : {M : Type 1} → statement M
-arity-spec = tie.close (tie.spec kind-requires returns returns-2 returns-3 returns-4 add-result returns-5 returns-6 state-requires returns-7 returns-8)
+arity-spec = tie.close (tie.spec (λ c κs. search needs) returns returns-2 returns-3 returns-4 (λ c. search needs) returns-5 returns-6 (λ c κs. search needs) returns-7 returns-8)

@@ -11,20 +11,11 @@ use Rattle.value.specs.Stands.{wordAt}
 use Rattle.table.specs.Sound.{first-word}
 use Rattle.table.specs.Items.{held-first, first-kind, arranged-none, arranged-items, arranged-keys, arranged-name, arranged-object}
 
-kind-requires : tie.Need-kind-requires
-kind-requires c κs = search needs
-
 returns : tie.Need-returns
 returns c = λ f s n. arranged-none (c .before .before .before .before .args .a) _ f (c .before .kind .ensures) (c .if1 .taken)
 
-ascends-requires : tie.Need-ascends-requires
-ascends-requires c κs = search needs
-
 returns-2 : tie.Need-returns-2
 returns-2 c = λ f s n. c .ascends .ensures f s n ∙ arranged-items (c .before .before .before .before .before .before .args .a) _ f (c .before .before .before .kind .ensures) (c .before .before .if1 .left) (c .before .if2 .taken)
-
-ascends-requires-2 : tie.Need-ascends-requires-2
-ascends-requires-2 c κs = search needs
 
 returns-3 : tie.Need-returns-3
 returns-3 c = λ f s n. c .ascends2 .ensures f s n ∙ arranged-keys (c .before .before .before .before .before .before .before .args .a) _ f (c .before .before .before .before .kind .ensures) (c .before .before .if2 .left) (c .before .if3 .taken)
@@ -65,9 +56,6 @@ shared-slice-read-kind c =
     let inside = held-first (a .words .now) (a .text .now) (a .i) (a .m) (s .pre .0) some in
     omega arith
 
-kind-requires-2 : tie.Need-kind-requires-2
-kind-requires-2 c κs = search needs
-
 returns-5 : tie.Need-returns-5
 returns-5 c =
     λ f s n.
@@ -81,4 +69,4 @@ returns-5 c =
     ap (λ (x : ℕ). eqb x 7) e ∙ sym (first-kind (a .words .now) (a .text .now) (a .i) f s (omega arith)) ∙ arranged-object (c .before .before .before .before .before .before .before .before .before .args .a) _ f (c .before .before .before .before .before .before .kind .ensures) big
 
 pub arranged-spec : {M : Type 1} → statement M
-arranged-spec = tie.close (tie.spec kind-requires returns ascends-requires returns-2 ascends-requires-2 returns-3 returns-4 mul-kind mul-kind-2 shared-slice-read-kind kind-requires-2 returns-5)
+arranged-spec = tie.close (tie.spec (λ c κs. search needs) returns (λ c κs. search needs) returns-2 (λ c κs. search needs) returns-3 returns-4 mul-kind mul-kind-2 shared-slice-read-kind (λ c κs. search needs) returns-5)

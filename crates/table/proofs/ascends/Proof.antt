@@ -35,18 +35,12 @@ compare-at-requires c κs =
     let x = rest-step (a .words .now) (a .text .now) (a .i) (a .m) (a .entry) (s .pre .1 .0) (s .pre .1 .1) (l .p) (l .left) (l .inv) (c .before .loop-test .taken) in
     (record { value = x .first; stands = x .first-stands }, record { value = x .second; stands = rw (c .next .ensures) (x .second-stands) })
 
-precedes-requires : tie.Need-precedes-requires Inv-loop μ-loop
-precedes-requires c κs = search needs
-
 returns : tie.Need-returns Inv-loop μ-loop
 returns c =
     let s = c .before .before .before .before .before .before .before .before in
     let a = s .args in
     let l = c .before .before .before .before .before .loop in
     rest-not (a .words .now) (a .text .now) (a .i) (a .m) (a .entry) (s .pre .1 .0) (s .pre .1 .1) (l .p) (l .left) (l .inv) (c .before .before .before .before .loop-test .taken) (told (c .before .before .compare-at .result)) (rw (← c .before .before .before .next .ensures) (c .before .before .compare-at .ensures)) (sym (c .before .precedes .ensures) ∙ not-true _ (c .if1 .taken))
-
-sub-left : tie.Need-sub-left Inv-loop μ-loop
-sub-left c = search needs
 
 loop-less : tie.Need-loop-less Inv-loop μ-loop
 loop-less c =
@@ -69,4 +63,4 @@ returns-2 c =
     rest-done (a .words .now) (a .text .now) (a .i) (a .m) (a .entry) (s .pre .1 .0) (s .pre .1 .1) (l .p) (l .left) (l .inv) (c .loop-test .left)
 
 pub ascends-spec : {M : Type 1} → statement M
-ascends-spec = tie.close (tie.spec Inv-loop μ-loop loop-holds next-requires compare-at-requires precedes-requires returns sub-left loop-less loop-again returns-2)
+ascends-spec = tie.close (tie.spec Inv-loop μ-loop loop-holds next-requires compare-at-requires (λ c κs. search needs) returns (λ c. search needs) loop-less loop-again returns-2)

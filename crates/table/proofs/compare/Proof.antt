@@ -7,22 +7,10 @@ use Rattle.value.specs.Told.{told}
 use Rattle.table.specs.Decides.{refuted}
 use Rattle.table.specs.Compare.{compares-first, compares-second, compares-both, formed-begins}
 
-well-formed-requires : tie.Need-well-formed-requires
-well-formed-requires c κs = search needs
-
-bad-table-requires : tie.Need-bad-table-requires
-bad-table-requires c κs = search needs
-
 returns : tie.Need-returns
 returns c =
     let a = c .before .before .before .before .before .before .before .args in
     compares-first (a .first .now) (a .first-count) (a .first-text .now) (a .second .now) (a .second-count) (a .second-text .now) _ (refuted (c .before .before .well-formed .ensures) (not-true _ (c .before .if1 .taken))) (c .bad-table .ensures)
-
-well-formed-requires-2 : tie.Need-well-formed-requires-2
-well-formed-requires-2 c κs = search needs
-
-bad-table-requires-2 : tie.Need-bad-table-requires-2
-bad-table-requires-2 c κs = search needs
 
 returns-2 : tie.Need-returns-2
 returns-2 c =
@@ -34,13 +22,10 @@ compare-at-requires c κs =
     let a = c .before .before .before .before .before .before .before .before .args in
     (formed-begins (a .first .now) (a .first-count) (a .first-text .now) (c .before .before .before .well-formed .ensures .yes (not-false _ (c .before .before .if1 .left))), formed-begins (a .second .now) (a .second-count) (a .second-text .now) (c .before .well-formed2 .ensures .yes (not-false _ (c .if2 .left))))
 
-ordered-requires : tie.Need-ordered-requires
-ordered-requires c κs = search needs
-
 returns-3 : tie.Need-returns-3
 returns-3 c =
     let a = c .before .before .before .before .before .before .before .before .before .before .args in
     compares-both (a .first .now) (a .first-count) (a .first-text .now) (a .second .now) (a .second-count) (a .second-text .now) _ (told (c .before .compare-at .result)) (c .before .before .before .before .before .well-formed .ensures .yes (not-false _ (c .before .before .before .before .if1 .left))) (c .before .before .before .well-formed2 .ensures .yes (not-false _ (c .before .before .if2 .left))) (c .ordered .ensures) (c .before .compare-at .ensures)
 
 pub compare-spec : {M : Type 1} → statement M
-compare-spec = tie.close (tie.spec well-formed-requires bad-table-requires returns well-formed-requires-2 bad-table-requires-2 returns-2 compare-at-requires ordered-requires returns-3)
+compare-spec = tie.close (tie.spec (λ c κs. search needs) (λ c κs. search needs) returns (λ c κs. search needs) (λ c κs. search needs) returns-2 compare-at-requires (λ c κs. search needs) returns-3)

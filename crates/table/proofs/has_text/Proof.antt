@@ -5,9 +5,6 @@ use Rattle.table.proofs.has_text.Tie as tie
 use borrow.Author.Tests.{lt-ltb, le-ltb}
 use Rattle.table.specs.Length.{hasText}
 
-kind-requires : tie.Need-kind-requires
-kind-requires c κs = search needs
-
 returns : tie.Need-returns
 unfolding hasText
 returns c = rw (← c .before .kind .ensures, lt-ltb _ _ (c .if1 .taken))
@@ -25,4 +22,4 @@ unfolding hasText
 returns-4 c = rw (← c .before .before .before .kind .ensures, le-ltb _ _ (c .before .before .if1 .left), le-ltb _ _ (c .before .if2 .left), le-ltb _ _ (c .if3 .left))
 
 pub has-text-spec : {M : Type 1} → statement M
-has-text-spec = tie.close (tie.spec kind-requires returns returns-2 returns-3 returns-4)
+has-text-spec = tie.close (tie.spec (λ c κs. search needs) returns returns-2 returns-3 returns-4)

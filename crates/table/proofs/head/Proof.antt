@@ -14,42 +14,6 @@ use Rattle.table.specs.Record.{spanOf}
 use Rattle.table.specs.Names.{namesRight}
 use Rattle.table.specs.Check.{HeadSays, wrong-first, wrong-second, wrong-span, wrong-many, wrong-names, header, known}
 
-mul-a : tie.Need-mul-a
-mul-a c = search needs
-
-mul-a-2 : tie.Need-mul-a-2
-mul-a-2 c = search needs
-
-shared-slice-read-a : tie.Need-shared-slice-read-a
-shared-slice-read-a c = search needs
-
-mul-b : tie.Need-mul-b
-mul-b c = search needs
-
-add-b : tie.Need-add-b
-add-b c = search needs
-
-mul-b-2 : tie.Need-mul-b-2
-mul-b-2 c = search needs
-
-shared-slice-read-b : tie.Need-shared-slice-read-b
-shared-slice-read-b c = search needs
-
-mul-c : tie.Need-mul-c
-mul-c c = search needs
-
-add-c : tie.Need-add-c
-add-c c = search needs
-
-mul-c-2 : tie.Need-mul-c-2
-mul-c-2 c = search needs
-
-shared-slice-read-c : tie.Need-shared-slice-read-c
-shared-slice-read-c c = search needs
-
-word0-requires : tie.Need-word0-requires
-word0-requires c κs = search needs
-
 returns : tie.Need-returns
 unfolding HeadSays
 returns c =
@@ -59,9 +23,6 @@ returns c =
     let i = a .i in
     let e0 : getD w (4 * i) 0 ≡ wordAt w i 0 = first-word w i in
     wrong-first w (a .count) (a .text .now) (s .pre .0) i (a .at) (s .pre .1 .1) (λ e. c .if1 .taken ((rw (← e0) at e) ∙ sym (c .before .word0 .ensures)))
-
-word1-requires : tie.Need-word1-requires
-word1-requires c κs = search needs
 
 returns-2 : tie.Need-returns-2
 unfolding HeadSays
@@ -73,12 +34,6 @@ returns-2 c =
     let e0 : getD w (4 * i) 0 ≡ wordAt w i 0 = first-word w i in
     let first = rw e0 at (c .before .before .if1 .left ∙ c .before .before .before .word0 .ensures) in
     wrong-second w (a .count) (a .text .now) (s .pre .0) i (a .at) (s .pre .1 .1) first (λ e. c .if2 .taken ((rw (← e0) at e) ∙ sym (c .before .word1 .ensures)))
-
-span-requires : tie.Need-span-requires
-span-requires c κs = search needs
-
-sub-if3 : tie.Need-sub-if3
-sub-if3 c = search needs
 
 returns-3 : tie.Need-returns-3
 unfolding HeadSays
@@ -103,12 +58,6 @@ arity-requires c κs =
     let e0 : getD w (4 * i) 0 ≡ wordAt w i 0 = first-word w i in
     let first = rw e0 at (c .before .before .before .before .if1 .left ∙ c .before .before .before .before .before .word0 .ensures) in
     rw e0 (known w (a .count) (a .text .now) (s .pre .0) i (a .at) (s .pre .1 .1) first)
-
-sub-if4 : tie.Need-sub-if4
-sub-if4 c = search needs
-
-sub-if4-2 : tie.Need-sub-if4-2
-sub-if4-2 c = search needs
 
 returns-4 : tie.Need-returns-4
 unfolding HeadSays arityAt
@@ -173,4 +122,4 @@ returns-6 c =
     header w (a .count) (a .text .now) (s .pre .0) i (a .at) (s .pre .1 .1) first second third span (omega arith) (omega arith) (sym names ∙ not-false _ (c .if5 .left))
 
 pub head-spec : {M : Type 1} → statement M
-head-spec = tie.close (tie.spec mul-a mul-a-2 shared-slice-read-a mul-b add-b mul-b-2 shared-slice-read-b mul-c add-c mul-c-2 shared-slice-read-c word0-requires returns word1-requires returns-2 span-requires sub-if3 returns-3 arity-requires sub-if4 sub-if4-2 returns-4 named-requires returns-5 returns-6)
+head-spec = tie.close (tie.spec (λ c. search needs) (λ c. search needs) (λ c. search needs) (λ c. search needs) (λ c. search needs) (λ c. search needs) (λ c. search needs) (λ c. search needs) (λ c. search needs) (λ c. search needs) (λ c. search needs) (λ c κs. search needs) returns (λ c κs. search needs) returns-2 (λ c κs. search needs) (λ c. search needs) returns-3 arity-requires (λ c. search needs) (λ c. search needs) returns-4 named-requires returns-5 returns-6)

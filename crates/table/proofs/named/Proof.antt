@@ -9,9 +9,6 @@ use Rattle.table.specs.Record.{span-text, span-names}
 use Rattle.table.specs.Names.{part-at, names-plain, names-string, names-items, names-module, names-name}
 use Rattle.utf8.specs.Utf8.{valid}
 
-kind-requires : tie.Need-kind-requires
-kind-requires c κs = search needs
-
 returns : tie.Need-returns
 returns c = names-plain _ _ _ _ (c .before .kind .ensures) (c .if1 .taken)
 
@@ -20,20 +17,11 @@ add-end c =
     let h = span-text _ (c .before .before .before .before .args .c) _ (c .before .before .kind .ensures) (omega arith) (c .if2 .taken) in
     omega arith
 
-sub-valid : tie.Need-sub-valid
-sub-valid c = search needs
-
-part-valid-start : tie.Need-part-valid-start
-part-valid-start c = search needs
-
 part-valid-end : tie.Need-part-valid-end
 part-valid-end c =
     let h = span-text _ (c .before .before .before .before .args .c) _ (c .before .before .kind .ensures) (omega arith) (c .if2 .taken) in
     let p = c .before .before .before .before .pre in
     omega arith
-
-valid-requires : tie.Need-valid-requires
-valid-requires c κs = search needs
 
 returns-2 : tie.Need-returns-2
 returns-2 c = c .valid .ensures ∙ ap valid (part-at (c .before .before .before .before .before .before .args .at) (c .before .before .before .before .before .before .args .c) (c .before .before .before .before .before .before .args .text .now)) ∙ sym (names-string _ _ _ _ (c .before .before .before .before .kind .ensures) (c .before .before .before .if1 .left) (c .before .before .if2 .taken))
@@ -41,35 +29,14 @@ returns-2 c = c .valid .ensures ∙ ap valid (part-at (c .before .before .before
 returns-3 : tie.Need-returns-3
 returns-3 c = names-items _ _ _ _ (c .before .before .before .kind .ensures) (c .before .if2 .left) (c .if3 .taken)
 
-add-mid : tie.Need-add-mid
-add-mid c = search needs
-
-add-end-2 : tie.Need-add-end-2
-add-end-2 c = search needs
-
-sub-valid-2 : tie.Need-sub-valid-2
-sub-valid-2 c = search needs
-
-part-valid-start-2 : tie.Need-part-valid-start-2
-part-valid-start-2 c = search needs
-
 part-valid-end-2 : tie.Need-part-valid-end-2
 part-valid-end-2 c =
     let h = span-names _ (c .before .before .before .before .before .args .c) _ (c .before .before .before .kind .ensures) (c .if3 .left) in
     let p = c .before .before .before .before .before .pre in
     omega arith
 
-valid-requires-2 : tie.Need-valid-requires-2
-valid-requires-2 c κs = search needs
-
 returns-4 : tie.Need-returns-4
 returns-4 c = names-module _ (c .before .before .before .before .before .before .before .before .args .c) _ (c .before .before .before .before .before .before .before .before .args .at) (c .before .before .before .before .before .before .before .before .args .text .now) (c .before .before .before .before .before .before .kind .ensures) (c .before .before .before .if3 .left) (sym (c .before .valid2 .ensures) ∙ not-true _ (c .if4 .taken))
-
-sub-valid-3 : tie.Need-sub-valid-3
-sub-valid-3 c = search needs
-
-part-valid-start-3 : tie.Need-part-valid-start-3
-part-valid-start-3 c = search needs
 
 part-valid-end-3 : tie.Need-part-valid-end-3
 part-valid-end-3 c =
@@ -77,11 +44,8 @@ part-valid-end-3 c =
     let p = c .before .before .before .before .before .before .before .before .pre in
     omega arith
 
-valid-requires-3 : tie.Need-valid-requires-3
-valid-requires-3 c κs = search needs
-
 returns-5 : tie.Need-returns-5
 returns-5 c = c .valid3 .ensures ∙ names-name _ (c .before .before .before .before .before .before .before .before .before .before .args .c) _ (c .before .before .before .before .before .before .before .before .before .before .args .at) (c .before .before .before .before .before .before .before .before .before .before .args .text .now) (c .before .before .before .before .before .before .before .before .kind .ensures) (c .before .before .before .before .before .if3 .left) (sym (c .before .before .before .valid2 .ensures) ∙ not-false _ (c .before .before .if4 .left))
 
 pub named-spec : {M : Type 1} → statement M
-named-spec = tie.close (tie.spec kind-requires returns add-end sub-valid part-valid-start part-valid-end valid-requires returns-2 returns-3 add-mid add-end-2 sub-valid-2 part-valid-start-2 part-valid-end-2 valid-requires-2 returns-4 sub-valid-3 part-valid-start-3 part-valid-end-3 valid-requires-3 returns-5)
+named-spec = tie.close (tie.spec (λ c κs. search needs) returns add-end (λ c. search needs) (λ c. search needs) part-valid-end (λ c κs. search needs) returns-2 returns-3 (λ c. search needs) (λ c. search needs) (λ c. search needs) (λ c. search needs) part-valid-end-2 (λ c κs. search needs) returns-4 (λ c. search needs) (λ c. search needs) part-valid-end-3 (λ c κs. search needs) returns-5)

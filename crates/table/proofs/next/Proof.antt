@@ -5,9 +5,6 @@ use Rattle.table.proofs.next.Tie as tie
 use borrow.Author.Tests.{eq-eqb, ne-eqb}
 use Rattle.table.specs.Items.{nextAt}
 
-after-requires : tie.Need-after-requires
-after-requires c κs = search needs
-
 returns : tie.Need-returns
 unfolding nextAt
 returns c = rw (eq-eqb _ _ (c .if1 .taken)) (c .before .after .ensures)
@@ -23,4 +20,4 @@ unfolding nextAt
 returns-2 c = rw (ne-eqb _ _ (c .before .if1 .left), ← c .before .before .after .ensures) (c .after2 .ensures)
 
 pub next-spec : {M : Type 1} → statement M
-next-spec = tie.close (tie.spec after-requires returns after-requires-2 returns-2)
+next-spec = tie.close (tie.spec (λ c κs. search needs) returns after-requires-2 returns-2)

@@ -10,42 +10,6 @@ use Rattle.table.specs.Sound.{first-word}
 use borrow.Author.Tests.{eq-eqb, ne-eqb}
 use Rattle.table.specs.Check.{sizesRight}
 
-mul-a : tie.Need-mul-a
-mul-a c = search needs
-
-mul-a-2 : tie.Need-mul-a-2
-mul-a-2 c = search needs
-
-shared-slice-read-a : tie.Need-shared-slice-read-a
-shared-slice-read-a c = search needs
-
-mul-c : tie.Need-mul-c
-mul-c c = search needs
-
-add-c : tie.Need-add-c
-add-c c = search needs
-
-mul-c-2 : tie.Need-mul-c-2
-mul-c-2 c = search needs
-
-shared-slice-read-c : tie.Need-shared-slice-read-c
-shared-slice-read-c c = search needs
-
-mul-d : tie.Need-mul-d
-mul-d c = search needs
-
-add-d : tie.Need-add-d
-add-d c = search needs
-
-mul-d-2 : tie.Need-mul-d-2
-mul-d-2 c = search needs
-
-shared-slice-read-d : tie.Need-shared-slice-read-d
-shared-slice-read-d c = search needs
-
-word2-requires : tie.Need-word2-requires
-word2-requires c κs = search needs
-
 returns : tie.Need-returns
 unfolding sizesRight
 returns c =
@@ -55,9 +19,6 @@ returns c =
     let i = a .i in
     let e0 : getD w (4 * i) 0 ≡ wordAt w i 0 = first-word w i in
     rw (← e0, ne-eqb _ _ (λ e. c .if1 .taken (e ∙ sym (c .before .word2 .ensures))))
-
-word3-requires : tie.Need-word3-requires
-word3-requires c κs = search needs
 
 returns-2 : tie.Need-returns-2
 unfolding sizesRight
@@ -70,4 +31,4 @@ returns-2 c =
     rw (← e0, eq-eqb _ _ (c .before .if1 .left ∙ c .before .before .word2 .ensures), c .word3 .ensures)
 
 pub sized-spec : {M : Type 1} → statement M
-sized-spec = tie.close (tie.spec mul-a mul-a-2 shared-slice-read-a mul-c add-c mul-c-2 shared-slice-read-c mul-d add-d mul-d-2 shared-slice-read-d word2-requires returns word3-requires returns-2)
+sized-spec = tie.close (tie.spec (λ c. search needs) (λ c. search needs) (λ c. search needs) (λ c. search needs) (λ c. search needs) (λ c. search needs) (λ c. search needs) (λ c. search needs) (λ c. search needs) (λ c. search needs) (λ c. search needs) (λ c κs. search needs) returns (λ c κs. search needs) returns-2)

@@ -5,9 +5,6 @@ use Rattle.table.proofs.span.Tie as tie
 use borrow.Author.Tests.{lt-ltb, le-ltb}
 use Rattle.table.specs.Record.{spanOf}
 
-kind-requires : tie.Need-kind-requires
-kind-requires c κs = search needs
-
 returns : tie.Need-returns
 unfolding spanOf
 returns c = rw (← c .before .kind .ensures, lt-ltb _ _ (c .if1 .taken))
@@ -20,12 +17,9 @@ returns-3 : tie.Need-returns-3
 unfolding spanOf
 returns-3 c = rw (← c .before .before .before .kind .ensures, le-ltb _ _ (c .before .before .if1 .left), le-ltb _ _ (c .before .if2 .left), lt-ltb _ _ (c .if3 .taken))
 
-add-result : tie.Need-add-result
-add-result c = search needs
-
 returns-4 : tie.Need-returns-4
 unfolding spanOf
 returns-4 c = rw (← c .before .before .before .kind .ensures, le-ltb _ _ (c .before .before .if1 .left), le-ltb _ _ (c .before .if2 .left), le-ltb _ _ (c .if3 .left))
 
 pub span-spec : {M : Type 1} → statement M
-span-spec = tie.close (tie.spec kind-requires returns returns-2 returns-3 add-result returns-4)
+span-spec = tie.close (tie.spec (λ c κs. search needs) returns returns-2 returns-3 (λ c. search needs) returns-4)

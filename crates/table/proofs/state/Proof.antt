@@ -5,11 +5,8 @@ use Rattle.table.proofs.state.Tie as tie
 use mathlib.Core.Path.{ap}
 use Rattle.value.specs.declared.Head.{Head}
 
-head-of-requires : tie.Need-head-of-requires
-head-of-requires c κs = search needs
-
 returns : tie.Need-returns
 returns c = ap (λ (h : Head). h .state) (c .head-of .ensures)
 
 pub state-spec : {M : Type 1} → statement M
-state-spec = tie.close (tie.spec head-of-requires returns)
+state-spec = tie.close (tie.spec (λ c κs. search needs) returns)

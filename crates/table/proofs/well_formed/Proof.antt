@@ -22,27 +22,18 @@ returns-3 c =
     let a = c .before .before .before .before .before .args in
     too-long (a .words .now) (a .count) (a .text .now) (c .if3 .taken)
 
-check-requires : tie.Need-check-requires
-check-requires c κs = search needs
-
-enum-told : tie.Need-enum-told
-enum-told c = search needs
-
-enum-known-j : tie.Need-enum-known-j
-enum-known-j c = search needs
-
 returns-4 : tie.Need-returns-4
 returns-4 c =
     let a = c .before .before .before .before .before .before .before .before .before .before .args in
     let few = c .before .before .before .before .before .before .before .if1 .left in
     let room = c .before .before .before .before .before .before .if2 .left in
     let lent : Lent (a .words .now) (a .count) (a .text .now) = record { room = omega arith; few = few; short = c .before .before .before .before .before .if3 .left } in
-    not-filled (a .words .now) (a .count) (a .text .now) lent (c .before .before .j .given .0 .0) (c .before .before .j .given .0 .1 .0) (sym (c .before .before .before .before .check .ensures) ∙ c .before .before .j .given .1) (c .if4 .taken)
+    not-filled (a .words .now) (a .count) (a .text .now) lent (c .before .before .j .given .0 .0) (c .before .before .j .given .0 .1 .0) (sym (c .before .before .before .before .contents .ensures) ∙ c .before .before .j .given .1) (c .if4 .taken)
 
 returns-5 : tie.Need-returns-5
 returns-5 c =
     let a = c .before .before .before .before .before .before .before .before .args in
-    none-found (a .words .now) (a .count) (a .text .now) (sym (c .before .before .check .ensures) ∙ c .enum-told .given .1)
+    none-found (a .words .now) (a .count) (a .text .now) (sym (c .before .before .contents .ensures) ∙ c .enum-told .given .1)
 
 returns-6 : tie.Need-returns-6
 returns-6 c =
@@ -50,7 +41,7 @@ returns-6 c =
     let few = c .before .before .before .before .before .before .before .if1 .left in
     let room = c .before .before .before .before .before .before .if2 .left in
     let lent : Lent (a .words .now) (a .count) (a .text .now) = record { room = omega arith; few = few; short = c .before .before .before .before .before .if3 .left } in
-    filled (a .words .now) (a .count) (a .text .now) lent (c .before .before .j .given .0 .0) (c .before .before .j .given .0 .1 .0) (sym (c .before .before .before .before .check .ensures) ∙ c .before .before .j .given .1) (c .if4 .left)
+    filled (a .words .now) (a .count) (a .text .now) lent (c .before .before .j .given .0 .0) (c .before .before .j .given .0 .1 .0) (sym (c .before .before .before .before .contents .ensures) ∙ c .before .before .j .given .1) (c .if4 .left)
 
 pub well-formed-spec : {M : Type 1} → statement M
-well-formed-spec = tie.close (tie.spec returns returns-2 returns-3 check-requires enum-told enum-known-j returns-4 returns-5 returns-6)
+well-formed-spec = tie.close (tie.spec returns returns-2 returns-3 (λ c κs. search needs) (λ c. search needs) (λ c. search needs) returns-4 returns-5 returns-6)

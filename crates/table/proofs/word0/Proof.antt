@@ -8,20 +8,11 @@ use borrow.Author.Tests.{lt-ltb, le-ltb}
 use Rattle.value.specs.declared.Head.{Head}
 use Rattle.table.specs.Record.{right0}
 
-head-of-requires : tie.Need-head-of-requires
-head-of-requires c κs = search needs
-
-word-of-requires : tie.Need-word-of-requires
-word-of-requires c κs = search needs
-
 returns : tie.Need-returns
 unfolding right0
 returns c =
     let e = ap (λ (h : Head). h .kind) (c .before .before .head-of .ensures) in
     rw (← e, lt-ltb _ _ (c .before .if1 .taken)) (c .word-of .ensures ∙ omega arith)
-
-word-of-requires-2 : tie.Need-word-of-requires-2
-word-of-requires-2 c κs = search needs
 
 returns-2 : tie.Need-returns-2
 unfolding right0
@@ -36,4 +27,4 @@ returns-3 c =
     rw (← e, le-ltb _ _ (c .before .if1 .left), le-ltb _ _ (c .if2 .left))
 
 pub word0-spec : {M : Type 1} → statement M
-word0-spec = tie.close (tie.spec head-of-requires word-of-requires returns word-of-requires-2 returns-2 returns-3)
+word0-spec = tie.close (tie.spec (λ c κs. search needs) (λ c κs. search needs) returns (λ c κs. search needs) returns-2 returns-3)

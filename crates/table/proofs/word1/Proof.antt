@@ -5,9 +5,6 @@ use Rattle.table.proofs.word1.Tie as tie
 use borrow.Author.Tests.{lt-ltb, le-ltb, eq-eqb, ne-eqb}
 use Rattle.table.specs.Record.{right1}
 
-kind-requires : tie.Need-kind-requires
-kind-requires c κs = search needs
-
 returns : tie.Need-returns
 unfolding right1
 returns c = rw (← c .before .kind .ensures, lt-ltb _ _ (c .if1 .taken))
@@ -37,4 +34,4 @@ unfolding right1
 returns-7 c = rw (← c .before .before .before .before .before .kind .ensures, le-ltb _ _ (c .before .before .before .before .if1 .left), le-ltb _ _ (c .before .before .before .if2 .left), le-ltb _ _ (c .before .before .if4 .left), le-ltb _ _ (c .before .if5 .left), le-ltb _ _ (c .if6 .left))
 
 pub word1-spec : {M : Type 1} → statement M
-word1-spec = tie.close (tie.spec kind-requires returns returns-2 returns-3 returns-4 returns-5 returns-6 returns-7)
+word1-spec = tie.close (tie.spec (λ c κs. search needs) returns returns-2 returns-3 returns-4 returns-5 returns-6 returns-7)

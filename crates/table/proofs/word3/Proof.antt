@@ -5,9 +5,6 @@ use Rattle.table.proofs.word3.Tie as tie
 use borrow.Author.Tests.{lt-ltb, le-ltb}
 use Rattle.table.specs.Record.{right3}
 
-kind-requires : tie.Need-kind-requires
-kind-requires c κs = search needs
-
 returns : tie.Need-returns
 unfolding right3
 returns c = rw (← c .before .kind .ensures, lt-ltb _ _ (c .if1 .taken))
@@ -17,4 +14,4 @@ unfolding right3
 returns-2 c = rw (← c .before .kind .ensures, le-ltb _ _ (c .if1 .left))
 
 pub word3-spec : {M : Type 1} → statement M
-word3-spec = tie.close (tie.spec kind-requires returns returns-2)
+word3-spec = tie.close (tie.spec (λ c κs. search needs) returns returns-2)

@@ -1,12 +1,13 @@
--- `utf8::valid` meets its contract: the text is valid exactly if what is left at i is. Assumes nothing.
+-- `utf8::valid` meets its contract: the text is valid exactly if what is left at i is, from the first bytes that are ASCII on.
+-- Assumes nothing.
 use Prim.Native.Nat.{_≤_, _-_}
 use mathlib.Core.Bool.{true, false}
-use mathlib.Core.Path.{_≡_, refl, sym, _∙_}
+use mathlib.Core.Path.{_≡_, sym, _∙_}
 use native.Mathlib.Omega.{arith}
 use lib.ListN.{length, drop}
 use borrow.Author.Needs.{needs}
 use Rattle.utf8.specs.Utf8.{valid}
-use Rattle.utf8.proofs.Pieces.{Turn, turn, turn-ascii, valid-end}
+use Rattle.utf8.proofs.Pieces.{Turn, turn, turn-ascii, after-ascii, valid-end}
 use Rattle.utf8.proofs.valid.Statement.{statement}
 use Rattle.utf8.proofs.valid.Tie as tie
 
@@ -19,7 +20,7 @@ abbrev μ-loop : tie.MeasureT-loop
 -- the piece in the arm of a well-formed one
 whole : (c : tie.After-known-told Inv-loop μ-loop) →
     let l = c .before .before .before .before .before .before in
-    Turn (l .before .before .before .args .s .now) (l .before .loop .i) true (c .before .p .given .0 .0)
+    Turn (l .before .before .before .before .args .s .now) (l .before .loop .i) true (c .before .p .given .0 .0)
 whole c =
     let l = c .before .before .before .before .before .before in
     turn _ _ (l .loop-test .taken) true _ (sym (c .before .p .given .1) ∙ c .before .before .before .piece-at .ensures)
@@ -49,7 +50,8 @@ valid-spec =
     (tie.spec
     Inv-loop
     μ-loop
-    (λ c. (omega arith, refl))
+    (λ c κs. search needs)
+    (λ c. let h = c .ascii-len .ensures in (h .0, after-ascii _ _ (h .0) (h .1)))
     (λ c. search needs)
     (λ c. omega arith)
     (λ c. omega arith)

@@ -1,10 +1,8 @@
 -- `value::compare_bytes` meets its contract. The loop's invariant: what is left to compare gives what there was. Assumes nothing.
 use Rattle.value.proofs.compare_bytes.Statement.{statement}
 use Rattle.value.proofs.compare_bytes.Tie as tie
-use Rattle.value.proofs.compare_bytes.Reads as reads
-use Rattle.value.proofs.compare_bytes.Lts as lts
 use borrow.Author.Needs.{needs}
-use mathlib.Core.Path.{_≡_, refl, sym, _∙_}
+use mathlib.Core.Path.{_≡_, _∙_}
 use Prim.Native.Nat.{_≤_, _-_}
 use native.Mathlib.Omega.{arith}
 use lib.ListN.{length}
@@ -18,18 +16,11 @@ abbrev μ-loop : tie.MeasureT-loop
 μ-loop a b i₀ i = length a - i
 
 loop-holds : tie.Need-loop-holds Inv-loop μ-loop
-unfolding lexFrom
-loop-holds c = (omega arith, refl)
+loop-holds c = c .same-len .ensures
 
 returns : tie.Need-returns Inv-loop μ-loop
 unfolding told
 returns c = text-ended _ _ _ (c .before .loop-test .taken) (c .if1 .taken) ∙ c .before .before .loop .inv .1
-
-shared-slice-read-x : tie.Need-shared-slice-read-x Inv-loop μ-loop
-shared-slice-read-x c = search needs
-
-shared-slice-read-y : tie.Need-shared-slice-read-y Inv-loop μ-loop
-shared-slice-read-y c = search needs
 
 returns-2 : tie.Need-returns-2 Inv-loop μ-loop
 unfolding told
@@ -38,12 +29,6 @@ returns-2 c = text-less _ _ _ (c .before .before .before .before .loop-test .tak
 returns-3 : tie.Need-returns-3 Inv-loop μ-loop
 unfolding told
 returns-3 c = text-greater _ _ _ (c .before .before .before .before .before .loop-test .taken) (c .before .before .before .before .if1 .left) (c .if3 .taken) ∙ c .before .before .before .before .before .before .loop .inv .1
-
-add-i : tie.Need-add-i Inv-loop μ-loop
-add-i c = search needs
-
-loop-less : tie.Need-loop-less Inv-loop μ-loop
-loop-less c = search needs
 
 loop-again : tie.Need-loop-again Inv-loop μ-loop
 loop-again c = (omega arith, text-more _ _ _ (c .before .before .before .before .before .loop-test .taken) (c .before .before .before .before .if1 .left) (c .before .if2 .left) (c .if3 .left) ∙ c .before .before .before .before .before .before .loop .inv .1)
@@ -57,4 +42,4 @@ unfolding told
 returns-5 c = text-equal _ _ _ (c .before .loop-test .left) (c .if4 .left) ∙ c .before .before .loop .inv .1
 
 pub compare-bytes-spec : {M : Type 1} → statement M
-compare-bytes-spec = tie.close (tie.spec Inv-loop μ-loop loop-holds returns shared-slice-read-x shared-slice-read-y returns-2 returns-3 add-i loop-less loop-again returns-4 returns-5)
+compare-bytes-spec = tie.close (tie.spec Inv-loop μ-loop (λ c κs. search needs) loop-holds returns (λ c. search needs) (λ c. search needs) returns-2 returns-3 (λ c. search needs) (λ c. search needs) loop-again returns-4 returns-5)

@@ -1,0 +1,2 @@
+-- What the proofs cite: the loops' turns.
+pub mod Laws
