@@ -79,7 +79,8 @@ enum qelemvir_refusal {
     QELEMVIR_OUTPUT_FULL = 22,         /* what is to be written is longer than the lent output */
     QELEMVIR_BAD_LENGTHS = 23,         /* the sheets' lengths do not add up to the buffer's (qelemvir_from_bytes_batch): nothing was touched */
     QELEMVIR_SHEET_SHAPE = 24,         /* a value is no sheet (qelemvir_score) */
-    QELEMVIR_UNWRITABLE_NAME = 25      /* to_bytes of a Global, or an Object's class, whose module or name has a newline or ends with CR */
+    QELEMVIR_UNWRITABLE_NAME = 25,     /* to_bytes of a Global, or an Object's class, whose module or name has a newline or ends with CR */
+    QELEMVIR_OUTSIDE_PROFILE = 26      /* an opcode that is not for plain data (the plain readings only); detail: the byte */
 };
 
 /* The details of QELEMVIR_INVALID. */
@@ -185,6 +186,12 @@ struct qelemvir_answer qelemvir_from_bytes(const uint8_t *pickle, size_t pickle_
 struct qelemvir_answer qelemvir_from_bytes_batch(const uint8_t *sheets, size_t sheets_len, const uint64_t *lengths, size_t lengths_len,
                                                  uint64_t *answers, size_t answers_len, QELEMVIR_LENT);
 
+/* from_bytes_prefix and from_bytes of plain data only: GLOBAL, REDUCE, NEWOBJ, BUILD and the text PUT and GET give QELEMVIR_OUTSIDE_PROFILE, before
+   their operand is read. What they accept, the two above accept with the same answer, table and text, and it contains no Set,
+   FrozenSet, Global or Object. */
+struct qelemvir_answer qelemvir_plain_from_bytes_prefix(const uint8_t *pickle, size_t pickle_len, QELEMVIR_LENT);
+struct qelemvir_answer qelemvir_plain_from_bytes(const uint8_t *pickle, size_t pickle_len, QELEMVIR_LENT);
+
 /* The length of a well-formed table's text, which a reading does not return and the calls below ask for. */
 size_t qelemvir_text_len(const uint64_t *words, size_t words_len, size_t count);
 
@@ -260,6 +267,20 @@ static inline struct qelemvir_answer qelemvir_read(struct qelemvir_rooms *rooms,
                                                    uint64_t *table, uint8_t *text)
 {
     return qelemvir_from_bytes(pickle, pickle_len, QELEMVIR_LEND(rooms, table, text));
+}
+
+/* plain_from_bytes_prefix in such rooms. */
+static inline struct qelemvir_answer qelemvir_read_plain_prefix(struct qelemvir_rooms *rooms, const uint8_t *pickle, size_t pickle_len,
+                                                                uint64_t *table, uint8_t *text)
+{
+    return qelemvir_plain_from_bytes_prefix(pickle, pickle_len, QELEMVIR_LEND(rooms, table, text));
+}
+
+/* plain_from_bytes in such rooms. */
+static inline struct qelemvir_answer qelemvir_read_plain(struct qelemvir_rooms *rooms, const uint8_t *pickle, size_t pickle_len,
+                                                         uint64_t *table, uint8_t *text)
+{
+    return qelemvir_plain_from_bytes(pickle, pickle_len, QELEMVIR_LEND(rooms, table, text));
 }
 
 /* from_bytes_batch in such rooms, of `count` sheets, with as many answers. */

@@ -38,6 +38,7 @@ benchmarks! {
     machine
     values
     reading
+    plain
     batch
     writing
 }

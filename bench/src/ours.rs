@@ -3,7 +3,7 @@
 
 use crate::calls::{self, Answer};
 use crate::error::Error;
-use crate::rooms::{qelemvir_from_bytes, qelemvir_from_bytes_prefix, Rooms};
+use crate::rooms::{qelemvir_from_bytes, qelemvir_from_bytes_prefix, qelemvir_plain_from_bytes_prefix, Rooms};
 use crate::table::Table;
 
 /// As crate `probe` has it.
@@ -59,6 +59,11 @@ pub fn score(table: &Table) -> Result<(u64, u64), Error> {
 /// The value at the start of a pickle, put at the start of the rooms' table and text.
 pub fn from_bytes_prefix(pickle: &[u8], rooms: &mut Rooms) -> Answer {
     rooms.lend(qelemvir_from_bytes_prefix, pickle)
+}
+
+/// The same of plain data only.
+pub fn plain_from_bytes_prefix(pickle: &[u8], rooms: &mut Rooms) -> Answer {
+    rooms.lend(qelemvir_plain_from_bytes_prefix, pickle)
 }
 
 /// The value that a pickle is, likewise.

@@ -4,6 +4,7 @@ use std::cell::RefCell;
 use std::hint::black_box;
 use std::rc::Rc;
 
+use crate::calls::Answer;
 use crate::cpython::{self, Python};
 use crate::measure::{side, Case};
 use crate::pickle::from_bytes_prefix;
@@ -25,6 +26,9 @@ pub struct Input {
     pub cpython: bool,
 }
 
+/// The prefix reading that is timed: the full one, or that of plain data only.
+pub type Reading = fn(&[u8], &mut Rooms) -> Answer;
+
 pub fn cases() -> Vec<Case> {
     let python = Python::start();
     let rooms = Rc::new(RefCell::new(Rooms::new()));
@@ -32,7 +36,7 @@ pub fn cases() -> Vec<Case> {
         println!("{name}: {} bytes.", pickle.len());
     }
     println!();
-    pickles().into_iter().map(|input| case(input, &rooms, python.as_ref())).collect()
+    pickles().into_iter().map(|input| case(input, ours::from_bytes_prefix, &rooms, python.as_ref())).collect()
 }
 
 /// All that are read.
@@ -40,8 +44,12 @@ pub fn pickles() -> Vec<Input> {
     sheets().into_iter().chain(hostile::pickles()).collect()
 }
 
+/// A pickle that all sides accept.
+pub fn sheet(name: &'static str, pickle: Vec<u8>) -> Input {
+    Input { name, pickle, number: 0, rust: true, cpython: true }
+}
+
 fn sheets() -> Vec<Input> {
-    let sheet = |name, pickle| Input { name, pickle, number: 0, rust: true, cpython: true };
     vec![
         sheet("None", b"N.".to_vec()),
         sheet("a small sheet", inputs::small_sheet().pickle),
@@ -52,8 +60,8 @@ fn sheets() -> Vec<Input> {
     ]
 }
 
-fn case(input: Input, rooms: &Rc<RefCell<Rooms>>, python: Option<&Rc<RefCell<Python>>>) -> Case {
-    let mut agree = same(&input, &mut rooms.borrow_mut());
+pub fn case(input: Input, read: Reading, rooms: &Rc<RefCell<Rooms>>, python: Option<&Rc<RefCell<Python>>>) -> Case {
+    let mut agree = same(&input, read, &mut rooms.borrow_mut());
     let cpython = python.filter(|_| input.cpython).and_then(|python| {
         cpython::side(python, &input.pickle).map_err(|why| agree = Err(why)).ok()
     });
@@ -64,7 +72,7 @@ fn case(input: Input, rooms: &Rc<RefCell<Rooms>>, python: Option<&Rc<RefCell<Pyt
         bytes: Some(pickle.len()),
         agree,
         ours: side(move || {
-            black_box(ours::from_bytes_prefix(black_box(&pickle), black_box(&mut rooms.borrow_mut())));
+            black_box(read(black_box(&pickle), black_box(&mut rooms.borrow_mut())));
         }),
         rust: rust.then(|| side(move || {
             let _ = black_box(from_bytes_prefix(black_box(&for_rust)));
@@ -74,8 +82,8 @@ fn case(input: Input, rooms: &Rc<RefCell<Rooms>>, python: Option<&Rc<RefCell<Pyt
 }
 
 /// Ours gives the number that is due, and where that is 0 the Rust's length, records and text.
-fn same(input: &Input, rooms: &mut Rooms) -> Result<(), String> {
-    let ours = ours::from_bytes_prefix(&input.pickle, rooms);
+fn same(input: &Input, read: Reading, rooms: &mut Rooms) -> Result<(), String> {
+    let ours = read(&input.pickle, rooms);
     if ours.number != input.number {
         return Err(format!("ours gives {}, detail {}, and not {}", ours.number, ours.detail, input.number));
     }

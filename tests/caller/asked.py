@@ -13,6 +13,7 @@ STREAM = 99                     # of the draws here, beside those of the kinds o
 SHORT, BROKEN = 1 / 8, 1 / 8    # how often a slice is too short, a table broken
 TWICE, TAIL = 1 / 4, 300        # how often a pickle stands behind itself; else at most so many random bytes do
 LONGEST = 65536
+OUTSIDE = b"cR\x81bpg"         # GLOBAL, REDUCE, NEWOBJ, BUILD, text PUT and GET: not for plain data (Ask 7)
 
 
 def told(line):
@@ -28,6 +29,29 @@ def told(line):
 def both_readings(pickles):
     """The lines due for each pickle: of the prefix and of the whole reading."""
     return list(zip(ask(TRACE, "expect", pickles), ask(TRACE, "expectwhole", pickles)))
+
+
+def first_outside(pickle, trace):
+    """The place of the first opcode that the Rust executes, or refuses, and that is not for plain data; None if there is none."""
+    steps = trace.rpartition("| steps")[2] if "| steps" in trace else ""
+    places = (int(step.split(":", 1)[0]) for step in steps.split())
+    return next((at for at in places if at < len(pickle) and pickle[at] in OUTSIDE), None)
+
+
+def plain_readings(pickles, full):
+    """The lines due for each pickle in the profile for plain data, by those of the full readings. Where there is an opcode outside, the
+    pickle that ends before it tells whether the full reader comes to it: that is 3, where an opcode should stand, and all else of this
+    pickle is an added refusal on the way."""
+    places = [first_outside(pickle, trace) for pickle, trace in zip(pickles, ask(TRACE, "trace", pickles))]
+    ends = ask(TRACE, "expect", [pickle[:at] for pickle, at in zip(pickles, places) if at is not None])
+    due = []
+    for pickle, at, lines in zip(pickles, places, full):
+        end = ends.pop(0) if at is not None else None
+        if end is None or len(pickle) > LONGEST:
+            due.append(lines)
+        else:
+            due.append(("refused 26 %d" % pickle[at] if end == "refused 3 0" else end,) * 2)
+    return due
 
 
 class Value:
@@ -95,7 +119,7 @@ class Asked:
         differences, done = wire.answered(self.requests)
         for tag, what in differences:
             self.differs(tag, what)
-        for call in (wire.PREFIX, wire.WHOLE, wire.WRITE, wire.LIST, wire.COMPARE):
+        for call in (wire.PREFIX, wire.WHOLE, wire.PLAIN_PREFIX, wire.PLAIN_WHOLE, wire.WRITE, wire.LIST, wire.COMPARE):
             self.counts["requests of " + wire.CALLS[call]] = done[call]
         tally = Tally(exact=True)
         for tag, (kind, data, line) in enumerate(self.cases):
@@ -104,11 +128,13 @@ class Asked:
 
 
 class Pickles(Asked):
-    """(kind, pickle) cases: both readings; of a value all the calls."""
+    """(kind, pickle) cases: both readings, of all and of plain data; of a value all the calls."""
 
     def __init__(self, seed, number, cases):
         super().__init__(seed, number)
-        lines = both_readings([pickle for _, pickle in cases])
+        pickles = [pickle for _, pickle in cases]
+        lines = both_readings(pickles)
+        plain = plain_readings(pickles, lines)
         values = [Value(prefix) if prefix.startswith("value ") else None for prefix, _ in lines]
         found = [v for v in values if v]
         images = written([v.asked for v in found])
@@ -116,16 +142,20 @@ class Pickles(Asked):
         forth = orders([(v.asked, w.asked) for v, w in zip(found, before)])
         back = orders([(w.asked, v.asked) for v, w in zip(found, before)])
         follows = zip(before, images, both_readings(images), forth, back)
-        for (kind, pickle), (prefix, whole), value in zip(cases, lines, values):
+        for (kind, pickle), (prefix, whole), of_plain, value in zip(cases, lines, plain, values):
             self.begin(kind, pickle, prefix)
-            self.ask_pickle(pickle, prefix, whole, value, *(next(follows) if value else []))
+            self.ask_pickle(pickle, prefix, whole, of_plain, value, *(next(follows) if value else []))
 
-    def ask_pickle(self, pickle, prefix, whole, value, before=None, image=None, again=None, forth=None, back=None):
+    def ask_pickle(self, pickle, prefix, whole, of_plain, value, before=None, image=None, again=None, forth=None, back=None):
         if value:
             self.give_value(before)
             self.give_value(value)
         self.ask_due(wire.PREFIX, pickle, prefix, value)
         self.ask_due(wire.WHOLE, pickle, whole, value)
+        self.ask_due(wire.PLAIN_PREFIX, pickle, of_plain[0], value)
+        self.ask_due(wire.PLAIN_WHOLE, pickle, of_plain[1], value)
+        if of_plain[0].startswith("refused 26 "):
+            self.count("pickles outside the profile" + (", of those that the full reader accepts" if value else ""))
         if whole != prefix:
             self.count("pickles with bytes left, 11 to the whole reading")
         if self.draw.chance(SHORT):
@@ -154,7 +184,7 @@ class Pickles(Asked):
         """One slice too short: by one, by some, or empty."""
         which = self.draw.below(len(wire.STATED))
         shorter = self.draw.pick([1, 1, 1 + self.draw.below(wire.STATED[which]), wire.STATED[which]])
-        self.ask_reading(self.draw.pick([wire.PREFIX, wire.WHOLE]), pickle, (1, 0, 0), which, -shorter)
+        self.ask_reading(self.draw.pick([wire.PREFIX, wire.WHOLE, wire.PLAIN_PREFIX, wire.PLAIN_WHOLE]), pickle, (1, 0, 0), which, -shorter)
         self.count("readings with a slice too short")
 
     def ask_back(self, value, image, prefix, whole):
@@ -187,7 +217,7 @@ class Pickles(Asked):
 
 class Slices(Asked):
     """Each slice of a reading one element short, as stated, one longer, and empty, for a pickle that is read, one that is refused, and
-    one that is too long."""
+    one that is too long; all three plain data."""
 
     def __init__(self, seed):
         super().__init__(seed, 0)
@@ -198,7 +228,7 @@ class Slices(Asked):
                     self.begin("slice", pickle, "refused 1 0" if longer < 0 else prefix)
                     if prefix.startswith("value "):
                         self.give_value(Value(prefix))
-                    for call, line in ((wire.PREFIX, prefix), (wire.WHOLE, whole)):
+                    for call, line in ((wire.PREFIX, prefix), (wire.WHOLE, whole), (wire.PLAIN_PREFIX, prefix), (wire.PLAIN_WHOLE, whole)):
                         self.ask_reading(call, pickle, (1, 0, 0) if longer < 0 else told(line), which, longer)
 
 

@@ -15,9 +15,9 @@
 
 #include "qelemvir.h"
 
-enum call { VALUE, PREFIX, WHOLE, WRITE, LIST, COMPARE, LAWS, SCORE, BATCH, CALLS };
+enum call { VALUE, PREFIX, WHOLE, WRITE, LIST, COMPARE, LAWS, SCORE, BATCH, PLAIN_PREFIX, PLAIN_WHOLE, CALLS };
 static const char *const names[CALLS] = {"value", "from_bytes_prefix", "from_bytes", "to_bytes", "list", "compare", "compare's laws", "score",
-                                         "from_bytes_batch"};
+                                         "from_bytes_batch", "plain_from_bytes_prefix", "plain_from_bytes"};
 
 /* A request; words and bytes follow it, filled up to a whole number of words. */
 struct request {
@@ -212,7 +212,16 @@ static struct qelemvir_answer reading(uint64_t call, const uint8_t *pickle, size
 {
 #define LENT(i, type, name, stated) , (type *)slices[i].memory.at, slices[i].length
 #define ALL EACH_ROOM(LENT) EACH_OUTPUT(LENT)
-    return call == PREFIX ? qelemvir_from_bytes_prefix(pickle, pickle_len ALL) : qelemvir_from_bytes(pickle, pickle_len ALL);
+    switch (call) {
+    case PREFIX:
+        return qelemvir_from_bytes_prefix(pickle, pickle_len ALL);
+    case WHOLE:
+        return qelemvir_from_bytes(pickle, pickle_len ALL);
+    case PLAIN_PREFIX:
+        return qelemvir_plain_from_bytes_prefix(pickle, pickle_len ALL);
+    default:
+        return qelemvir_plain_from_bytes(pickle, pickle_len ALL);
+    }
 }
 
 /* After ShortRoom, and BadLengths, every room is as it was; else it is zero up to its stated length, and as it was behind that. */
@@ -260,7 +269,7 @@ static void check_value(const struct request *r)
     }
 }
 
-/* The header's own reading, in its struct of rooms. */
+/* The header's own full reading, in its struct of rooms. */
 static void check_in_rooms(const struct request *r, const uint8_t *pickle, struct qelemvir_answer due)
 {
     static struct qelemvir_rooms rooms;
@@ -283,7 +292,7 @@ static void check_reading(const struct request *r, const uint8_t *pickle)
     check_answer(r, reading(r->call, pickle, r->bytes), due);
     check_rooms(r);
     check_value(r);
-    if (r->number != QELEMVIR_SHORT_ROOM && mix(r->seed) % 16 == 0)
+    if ((r->call == PREFIX || r->call == WHOLE) && r->number != QELEMVIR_SHORT_ROOM && mix(r->seed) % 16 == 0)
         check_in_rooms(r, pickle, due);
 }
 
@@ -464,6 +473,8 @@ static void answer_request(const struct request *r, const uint8_t *data)
         break;
     case PREFIX:
     case WHOLE:
+    case PLAIN_PREFIX:
+    case PLAIN_WHOLE:
         check_reading(r, data);
         break;
     case WRITE:

@@ -8,8 +8,9 @@ HERE = os.path.dirname(os.path.abspath(__file__))
 sys.path.insert(0, os.path.join(HERE, ".."))
 import stated  # noqa: E402
 
-VALUE, PREFIX, WHOLE, WRITE, LIST, COMPARE, LAWS, SCORE, BATCH = range(9)
-CALLS = ["value", "from_bytes_prefix", "from_bytes", "to_bytes", "list", "compare", "compare's laws", "score", "from_bytes_batch"]
+VALUE, PREFIX, WHOLE, WRITE, LIST, COMPARE, LAWS, SCORE, BATCH, PLAIN_PREFIX, PLAIN_WHOLE = range(11)
+CALLS = ["value", "from_bytes_prefix", "from_bytes", "to_bytes", "list", "compare", "compare's laws", "score", "from_bytes_batch",
+         "plain_from_bytes_prefix", "plain_from_bytes"]
 STATED = [slice.length for slice in stated.SLICES]
 ANSWERS = len(STATED)       # a batch's answers, as a slice behind those
 TABLE = stated.TABLE.length

@@ -14,12 +14,13 @@ __all__ = ["Global", "Object", "Record", "Refused", "Sheet", "Table", "Unholdabl
            "read_prefix"]
 
 
-def loads(data):
-    """The value that the bytes are, with none left over."""
-    return read(data).value()
+def loads(data, plain=False):
+    """The value that the bytes are, with none left over. `plain`: of plain data only; an opcode that names, calls or fills a class,
+    and the text PUT and GET, are Refused with OutsideProfile."""
+    return read(data, plain).value()
 
 
-def loads_prefix(data):
-    """The value at the start of the bytes, and how many of them it took."""
-    table, length = read_prefix(data)
+def loads_prefix(data, plain=False):
+    """The value at the start of the bytes, and how many of them it took. `plain` as for loads."""
+    table, length = read_prefix(data, plain)
     return table.value(), length

@@ -6,7 +6,7 @@ NAMES = dict(enumerate((
     "InvalidLiteral", "IntegerTooLarge", "Invalid", "TrailingData", "StackFull", "MarksFull", "MemoFull", "NodesFull",
     "LinksFull", "TooDeep", "TooManyValues", "TextFull", "FloatOutside", "BadTable", "OutputFull",
 ), 1))
-NAMES.update({23: "BadLengths", 24: "SheetShape", 25: "UnwritableName"})
+NAMES.update({23: "BadLengths", 24: "SheetShape", 25: "UnwritableName", 26: "OutsideProfile"})
 
 # By number and detail; None for those whose detail may be any.
 WORDS = {
@@ -42,6 +42,7 @@ WORDS = {
     (23, 0): "the lengths of the sheets do not add up to the bytes",
     (24, 0): "the value is no sheet",
     (25, 0): "a module or a name has a newline or ends with CR, and could not be read back",
+    (26, None): "the opcode with byte {:02x} is not for plain data",
 }
 
 

@@ -155,20 +155,36 @@ class Sheet(NamedTuple):
         return Refused(self.number, self.detail) if self.number else None
 
 
-def read_many(sheets):
+def read_many(sheets, plain=False):
     """A night's sheets, each the bytes of one, read as `read` reads it by itself: what was made of each, and the table of the last one that
     was read, or None."""
+    if plain:
+        return one_by_one(sheets)
     fours, last = library.batch(sheets)
     return [Sheet(*four) for four in fours], Table(*last) if last else None
 
 
-def read(data):
-    """The table of the value that the bytes are, with none left over."""
-    words, text, _ = library.reading(library.from_bytes, data)
+def one_by_one(sheets):
+    """`read_many` of plain data only, for which the library has no batch."""
+    made, last = [], None
+    for data in sheets:
+        try:
+            words, text, length = library.reading(library.plain_from_bytes, data)
+        except Refused as why:
+            made.append(Sheet(why.number, why.detail, 0, 0))
+        else:
+            last = Table(words, text)
+            made.append(Sheet(0, 0, length, last.count))
+    return made, last
+
+
+def read(data, plain=False):
+    """The table of the value that the bytes are, with none left over. `plain`: of plain data only, else OutsideProfile."""
+    words, text, _ = library.reading(library.plain_from_bytes if plain else library.from_bytes, data)
     return Table(words, text)
 
 
-def read_prefix(data):
-    """The table of the value at the start of the bytes, and how many of them it took."""
-    words, text, length = library.reading(library.from_bytes_prefix, data)
+def read_prefix(data, plain=False):
+    """The table of the value at the start of the bytes, and how many of them it took. `plain` as for read."""
+    words, text, length = library.reading(library.plain_from_bytes_prefix if plain else library.from_bytes_prefix, data)
     return Table(words, text), length

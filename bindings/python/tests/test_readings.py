@@ -71,6 +71,33 @@ class Nights(unittest.TestCase):
                 qelemvir.read_many(night)
 
 
+class PlainData(unittest.TestCase):
+    def test_the_six(self):
+        for data, byte in ((b"c", 0x63), (b"NR", 0x52), (b"N\x81", 0x81), (b"Nb", 0x62), (b"Np", 0x70), (b"g", 0x67)):
+            for call in (qelemvir.read, qelemvir.read_prefix, qelemvir.loads, qelemvir.loads_prefix):
+                self.assertEqual(refusal(lambda data: call(data, plain=True), data), (26, byte))
+
+    def test_stored(self):
+        """The same answer as the full reader's, or 26."""
+        for data, (words, text), length in stored_values():
+            with self.subTest(data.hex()):
+                why = refusal(lambda data: qelemvir.read_prefix(data, plain=True), data)
+                if why is None:
+                    self.assertEqual(qelemvir.read_prefix(data, plain=True), (qelemvir.Table(words, text), length))
+                    self.assertFalse({"set", "frozenset", "global", "object"} & {record.kind for record in qelemvir.read_prefix(data)[0].records()})
+                else:
+                    self.assertEqual(why[0], 26)
+                    self.assertIn(why[1], b"cR\x81bpg")
+
+    def test_behind_stop(self):
+        self.assertEqual(qelemvir.loads_prefix(b"N.cm\nC\n.", plain=True), (None, 2))
+
+    def test_many(self):
+        sheets, last = qelemvir.read_many([b"N.", b"c\n\n.", b"K\x05.", b"NN"], plain=True)
+        self.assertEqual(sheets, [(0, 0, 2, 1), (26, 0x63, 0, 0), (0, 0, 3, 1), (3, 0, 0, 0)])
+        self.assertEqual(last.value(), 5)
+
+
 class Inputs(unittest.TestCase):
     def test_bytes_of_all_kinds(self):
         for data in (SHARED, bytearray(SHARED), memoryview(SHARED), memoryview(b"x" + SHARED)[1:], array.array("B", SHARED),

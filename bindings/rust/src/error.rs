@@ -54,6 +54,8 @@ pub enum Error {
     SheetShape,
     /// A module or a name has a newline or ends with CR, and is not written.
     UnwritableName,
+    /// With the byte of an opcode that is not for plain data.
+    OutsideProfile(u8),
     /// A refusal of a later edition of the library, which this crate does not know.
     Other { number: u64, detail: u64 },
 }
@@ -94,6 +96,7 @@ impl Error {
             (23, 0) => Error::BadLengths,
             (24, 0) => Error::SheetShape,
             (25, 0) => Error::UnwritableName,
+            (26, 0..=0xFF) => Error::OutsideProfile(detail as u8),
             _ => Error::Other { number, detail },
         }
     }
@@ -125,13 +128,14 @@ impl Error {
             Error::BadLengths => 23,
             Error::SheetShape => 24,
             Error::UnwritableName => 25,
+            Error::OutsideProfile(_) => 26,
             Error::Other { number, .. } => number,
         }
     }
 
     pub fn detail(&self) -> u64 {
         match *self {
-            Error::UnsupportedOpcode(byte) | Error::UnsupportedProtocol(byte) => byte.into(),
+            Error::UnsupportedOpcode(byte) | Error::UnsupportedProtocol(byte) | Error::OutsideProfile(byte) => byte.into(),
             Error::MissingMemo(number) => number.into(),
             Error::Invalid(what) => what as u64 + 1,
             Error::BadTable(which) => which as u64 + 1,
@@ -146,6 +150,7 @@ impl fmt::Display for Error {
         let words = match *self {
             Error::UnsupportedOpcode(byte) => return write!(f, "the opcode with byte {byte:02x} is not read"),
             Error::UnsupportedProtocol(number) => return write!(f, "protocol {number} is not read"),
+            Error::OutsideProfile(byte) => return write!(f, "the opcode with byte {byte:02x} is not for plain data"),
             Error::MissingMemo(number) => return write!(f, "nothing was put under the memo number {number}"),
             Error::Other { number, detail } => return write!(f, "refused with number {number} and detail {detail}"),
             Error::ShortRoom => "a lent room is shorter than stated",

@@ -29,6 +29,14 @@ macro_rules! rooms {
                 sheets: *const u8, sheets_len: usize, lengths: *const u64, lengths_len: usize, answers: *mut u64, answers_len: usize,
                 $($name: *mut $element, _: usize),*
             ) -> Answer;
+
+            pub(crate) fn qelemvir_plain_from_bytes_prefix(
+                pickle: *const u8, pickle_len: usize, $($name: *mut $element, _: usize),*
+            ) -> Answer;
+
+            pub(crate) fn qelemvir_plain_from_bytes(
+                pickle: *const u8, pickle_len: usize, $($name: *mut $element, _: usize),*
+            ) -> Answer;
         }
 
         impl Rooms {

@@ -7,6 +7,7 @@ use lib.ListN.{getD, replicate}
 use native.Mathlib.Omega.{arith}
 use Rattle.refusal.specs.declared.Refusal.the-variants.{StackUnderflow}
 use Rattle.refusal.specs.declared.Answer.{Answer}
+use Rattle.op.specs.declared.Edition.the-variants.{Full}
 use Rattle.lengths.specs.Sum.{sum}
 use Rattle.rooms.specs.Stated.{Slices, roomLengths, stated, short, blank, filled, filled-none}
 use Rattle.value.specs.Value.{BoolL, nil, node, size, text, table}
@@ -40,15 +41,15 @@ nth i t = getD t i (refuses StackUnderflow)
 
 shared-read : whole shared ≡ reads 12 shared-forest
 unfolding leaves
-shared-read = let e : prefix shared ≡ reads 12 shared-forest = ap (nth 0) building-holds in whole-prefix shared (rw e refl) ∙ e
+shared-read = let e : prefix shared ≡ reads 12 shared-forest = ap (nth 0) building-holds in whole-prefix Full shared (rw e refl) ∙ e
 
 stop-refused : whole stop ≡ refuses StackUnderflow
 unfolding leaves
-stop-refused = let e : prefix stop ≡ refuses StackUnderflow = ap (nth 1) bench-holds in whole-prefix stop (rw e refl) ∙ e
+stop-refused = let e : prefix stop ≡ refuses StackUnderflow = ap (nth 1) bench-holds in whole-prefix Full stop (rw e refl) ∙ e
 
 yes-read : whole yes ≡ reads 5 (node (BoolL true) nil nil)
 unfolding leaves
-yes-read = let e : prefix yes ≡ reads 5 (node (BoolL true) nil nil) = ap (nth 3) bench-holds in whole-prefix yes (rw e refl) ∙ e
+yes-read = let e : prefix yes ≡ reads 5 (node (BoolL true) nil nil) = ap (nth 3) bench-holds in whole-prefix Full yes (rw e refl) ∙ e
 
 -- The batch, in slices that are long enough and thirteen places that held 7: success; the three sheets' numbers, and the last place as it was;
 -- the one record of True, behind it what the first sheet's five left, and behind them the table as it was.

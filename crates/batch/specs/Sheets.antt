@@ -12,6 +12,7 @@ use Rattle.refusal.specs.declared.Refusal.the-variants.{TooLong}
 use Rattle.refusal.specs.declared.Answer.{Answer}
 use Rattle.refusal.specs.Numbers.{refusedAnswer}
 use Rattle.lengths.specs.Sum.{sum, sum-drop}
+use Rattle.op.specs.declared.Edition.the-variants.{Full}
 use Rattle.rooms.specs.Stated.{Slices, begun, filled, Ready, filled-none, filled-ready}
 use Rattle.reading.specs.Reading.{Reading, refuses, whole, pickleLimit, stopped-long, prefix-refused}
 use Rattle.build.specs.Given.{due, due-refused}
@@ -116,11 +117,11 @@ module _ (s ns o₀ : List ℕ) (l₀ : Slices) where
 pub sheet-long : (p : List ℕ) (l : Slices) (a : Answer) → pickleLimit < length p → a ≡ refusedAnswer TooLong → Reads (whole p) l l a
 unfolding due
 sheet-long p l a h e =
-    let x : whole p ≡ refuses TooLong = due-refused p true TooLong (prefix-refused p TooLong (stopped-long p h)) in
+    let x : whole p ≡ refuses TooLong = due-refused Full p true TooLong (prefix-refused Full p TooLong (stopped-long Full p h)) in
     rw x (record { answer = e; slices = sym (filled-none l) })
 
 -- else the inner reading's own
-pub sheet-read : (p : List ℕ) (l l′ : Slices) (a : Answer) → Reads (due true p) l l′ a → Reads (whole p) l l′ a
+pub sheet-read : (p : List ℕ) (l l′ : Slices) (a : Answer) → Reads (due Full true p) l l′ a → Reads (whole p) l l′ a
 unfolding due
 sheet-read p l l′ a r = r
 

@@ -15,11 +15,12 @@ use Rattle.refusal.specs.declared.Answer.{Answer}
 use Rattle.refusal.specs.Numbers.{refusedAnswer}
 use Rattle.lengths.specs.Sum.{badLengths, sum}
 use Rattle.rooms.specs.Stated.{Slices, roomLengths, stated, tableOf, textOf, short, blank, begun, filled, Ready, ready, filled-none, filled-ready, table-filled, text-filled}
+use Rattle.op.specs.declared.Edition.the-variants.{Full}
 use Rattle.value.specs.Value.{Forest}
 use Rattle.steps.specs.State.{State, ok, last}
 use Rattle.steps.specs.Run.{run}
 use Rattle.reading.specs.Unfold.{WritesOut, NothingContainsItself}
-use Rattle.reading.specs.Reading.{Reading, refuses, told, consumed, whole, leaves, pickleLimit, sharing-never-shows}
+use Rattle.reading.specs.Reading.{Reading, refuses, told, consumed, whole, wholeIn, leaves, pickleLimit, sharing-never-shows}
 use Rattle.de.specs.Call.{ReadCall, call-reads}
 use Rattle.de.specs.Theorems.{call-answer, call-slices, call-table, call-text, Ends, refused, read, whole-ends}
 use Rattle.batch.specs.Batch.{sheetsOf, four, answersOf, after, Left, bare, batch, BatchCall, batch-one, batch-long, batch-places, batch-read}
@@ -158,10 +159,10 @@ orTrailing p x = cond (leaves p x) (refuses TrailingData) x
 
 -- A sheet that is read to STOP with a value left, nothing reachable from which contains itself: its reading is that of the value written out
 -- plainly, or 11, whatever is shared.
-module _ (p : List ℕ) (st : State) (fits : length p ≤ pickleLimit) (stops : run p ≡ ok st) (left : 0 < length (st .stack)) (apart : NothingContainsItself (st .nodes) (last (st .stack))) (f : Forest) (w : WritesOut (st .nodes) (last (st .stack) ∷ []) f) where
+module _ (p : List ℕ) (st : State) (fits : length p ≤ pickleLimit) (stops : run Full p ≡ ok st) (left : 0 < length (st .stack)) (apart : NothingContainsItself (st .nodes) (last (st .stack))) (f : Forest) (w : WritesOut (st .nodes) (last (st .stack) ∷ []) f) where
   pub whole-never-shows-sharing : whole p ≡ orTrailing p (told (consumed p st) f)
-  unfolding whole orTrailing
-  whole-never-shows-sharing = ap (λ (x : Reading). cond (leaves p x) (refuses TrailingData) x) (sharing-never-shows p st fits stops left f apart w)
+  unfolding wholeIn orTrailing
+  whole-never-shows-sharing = ap (λ (x : Reading). cond (leaves p x) (refuses TrailingData) x) (sharing-never-shows Full p st fits stops left f apart w)
 
   -- so are its four numbers
   pub sheet-never-shows-sharing : {s ns o : List ℕ} {l : Slices} {o′ : List ℕ} {l′ : Slices} {a : Answer} → Succeeds s ns o l o′ l′ a → (i : ℕ) → i < length ns → sheetAt s ns i ≡ p → fourAt o′ i ≡ four (orTrailing p (told (consumed p st) f) .answer)
@@ -175,9 +176,9 @@ Refuses p = whole p .answer .number ≡ 0 → ⊥
 
 -- then it leaves everything as it is
 refused-leaves : (p : List ℕ) (l : Slices) → Refuses p → filled (whole p .words) (whole p .bytes) l ≡ l
-refused-leaves p l d = go (whole-ends p)
+refused-leaves p l d = go (whole-ends Full p)
   where
-    go : Ends p (whole p) → filled (whole p .words) (whole p .bytes) l ≡ l
+    go : Ends Full p (whole p) → filled (whole p .words) (whole p .bytes) l ≡ l
     go (refused why e) = ap (λ (x : Reading). filled (x .words) (x .bytes) l) e ∙ filled-none l
     go (read st f e q) = absurd (d (ap (λ (x : Reading). x .answer .number) q))
 

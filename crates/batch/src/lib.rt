@@ -6,6 +6,7 @@ use de::is_short;
 use de::read;
 use lengths::BAD_LENGTHS;
 use lengths::add_up;
+use op::Edition;
 use refusal::Answer;
 use refusal::Refusal;
 use refusal::refused;
@@ -67,6 +68,7 @@ fn read_sheet(
         return refused(Refusal::TooLong);
     }
     read(
+        Edition::Full,
         true,
         sheet,
         nodes,

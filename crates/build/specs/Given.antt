@@ -12,6 +12,7 @@ use Rattle.refusal.specs.declared.Refusal.{Refusal}
 use Rattle.refusal.specs.declared.Refusal.the-variants.{StackUnderflow, TrailingData}
 use Rattle.refusal.specs.declared.Answer.{Answer}
 use Rattle.refusal.specs.Numbers.{numberOf, refusedAnswer}
+use Rattle.op.specs.declared.Edition.{Edition}
 use Rattle.value.specs.Value.{Forest, one, size, text, table, table-length}
 use Rattle.steps.specs.State.{Res, ok, no, _>>=_, need, last}
 use Rattle.decoder.specs.declared.Counts.{Counts}
@@ -28,15 +29,15 @@ use Rattle.machine.specs.declared.Outcome.the-variants as outcome
 use Rattle.reading.specs.Build.{tree}
 use Rattle.reading.specs.Settle.{settle}
 use Rattle.reading.specs.Measure.{measured}
-use Rattle.reading.specs.Reading.{Reading, refuses, reads, told, consumed, leaves, prefix, whole, pickleLimit, stopped-refused, stopped-empty, stopped-with, prefix-refused, prefix-told}
+use Rattle.reading.specs.Reading.{Reading, refuses, reads, told, consumed, leaves, prefixIn, wholeIn, pickleLimit, stopped-refused, stopped-empty, stopped-with, prefix-refused, prefix-told}
 use Rattle.reading.specs.Success.{refusal-number}
 use Rattle.build.specs.Building.{At, AtStop, dueOf, Comes, Builds}
 use Rattle.build.specs.declared.Built.{Built}
 use Rattle.build.specs.declared.Built.the-variants as built
 
--- the reading that is asked for
-unfoldable pub due : Bool → List ℕ → Reading
-due all p = cond all (whole p) (prefix p)
+-- the reading that is asked for, in an edition
+unfoldable pub due : Edition → Bool → List ℕ → Reading
+due ed all p = cond all (wholeIn ed p) (prefixIn ed p)
 
 pub record Gives (x : Reading) (a : Answer) (o q o′ q′ : List ℕ) : Type 0 where
   pub answer : a ≡ x .answer
@@ -44,11 +45,11 @@ pub record Gives (x : Reading) (a : Answer) (o q o′ q′ : List ℕ) : Type 0 
   pub text-is : q′ ≡ x .bytes ++ drop (length (x .bytes)) q
 
 -- the rooms that a run left, of which these are lent
-pub record RanIn (o : Outcome) (p nodes owners children stack : List ℕ) : Type 0 where
+pub record RanIn (ed : Edition) (o : Outcome) (p nodes owners children stack : List ℕ) : Type 0 where
   pub marks : List ℕ
   pub keys : List ℕ
   pub held : List ℕ
-  pub ran : Ran o p (roomsOf p nodes owners children stack marks keys held)
+  pub ran : Ran ed o p (roomsOf p nodes owners children stack marks keys held)
 
 -- ---- both readings from the prefix reading's answer
 
@@ -86,21 +87,21 @@ module _ (n : ℕ) (f : Forest) where
   unfolding told
   told-within m = rw (m, told)
 
-module _ (p : List ℕ) where
-  pub due-refused : (all : Bool) (why : Refusal) → prefix p ≡ refuses why → due all p ≡ refuses why
-  unfolding due whole leaves
+module _ (ed : Edition) (p : List ℕ) where
+  pub due-refused : (all : Bool) (why : Refusal) → prefixIn ed p ≡ refuses why → due ed all p ≡ refuses why
+  unfolding due wholeIn leaves
   due-refused false why e = e
   due-refused true why e = rw (e, ne-eqb (numberOf why .0) 0 (refusal-number why))
 
-  whole-reads : (n : ℕ) (f : Forest) → prefix p ≡ reads n f → whole p ≡ cond (ltb n (length p)) (refuses TrailingData) (reads n f)
-  unfolding whole leaves
+  whole-reads : (n : ℕ) (f : Forest) → prefixIn ed p ≡ reads n f → wholeIn ed p ≡ cond (ltb n (length p)) (refuses TrailingData) (reads n f)
+  unfolding wholeIn leaves
   whole-reads n f e = rw e
 
-  pub due-told : (all : Bool) (n : ℕ) (f : Forest) → prefix p ≡ told n f → due all p ≡ toldLeft (all && ltb n (length p)) n f
+  pub due-told : (all : Bool) (n : ℕ) (f : Forest) → prefixIn ed p ≡ told n f → due ed all p ≡ toldLeft (all && ltb n (length p)) n f
   unfolding due
   due-told all n f e = go (measured f) refl
     where
-      fits : measured f ≡ ok tt → (all : Bool) → due all p ≡ toldLeft (all && ltb n (length p)) n f
+      fits : measured f ≡ ok tt → (all : Bool) → due ed all p ≡ toldLeft (all && ltb n (length p)) n f
       fits m false = e ∙ told-within n f m ∙ sym (within n f m)
       fits m true = whole-reads n (settle f) (e ∙ told-within n f m) ∙ go (ltb n (length p))
         where
@@ -108,7 +109,7 @@ module _ (p : List ℕ) where
           go true = sym (trailing n f m)
           go false = sym (within n f m)
 
-      go : (r : Res (Unit {0})) → measured f ≡ r → due all p ≡ toldLeft (all && ltb n (length p)) n f
+      go : (r : Res (Unit {0})) → measured f ≡ r → due ed all p ≡ toldLeft (all && ltb n (length p)) n f
       go (no why) m = due-refused all why (e ∙ told-over n f why m) ∙ sym (over n f (all && ltb n (length p)) why m)
       go (ok u) m = fits m all
 
@@ -124,22 +125,22 @@ module _ (o q : List ℕ) where
 
 -- ---- by how the run ended
 
-module _ {p nodes owners children stack : List ℕ} where
-  abbrev pub rooms : {o : Outcome} → RanIn o p nodes owners children stack → Rooms
+module _ {ed : Edition} {p nodes owners children stack : List ℕ} where
+  abbrev pub rooms : {o : Outcome} → RanIn ed o p nodes owners children stack → Rooms
   rooms h = roomsOf p nodes owners children stack (h .marks) (h .keys) (h .held)
 
   module _ (all : Bool) (o q : List ℕ) where
     -- the machine refuses
-    pub gives-run : (c : Counts) (why : Refusal) → RanIn (outcome.Refused c why) p nodes owners children stack → Gives (due all p) (refusedAnswer why) o q o q
+    pub gives-run : (c : Counts) (why : Refusal) → RanIn ed (outcome.Refused c why) p nodes owners children stack → Gives (due ed all p) (refusedAnswer why) o q o q
     unfolding ended countsOf
-    gives-run c why h = gives-refused o q (due all p) why (due-refused p all why (prefix-refused p why (stopped-refused p why (h .ran .sound .firm .lengths .pickle) (sym (h .ran .means)))))
+    gives-run c why h = gives-refused o q (due ed all p) why (due-refused ed p all why (prefix-refused ed p why (stopped-refused ed p why (h .ran .sound .firm .lengths .pickle) (sym (h .ran .means)))))
 
   -- of its log, the links are used
-  pub refused-used : (c : Counts) (why : Refusal) → RanIn (outcome.Refused c why) p nodes owners children stack → UsedTo (c .links) owners × UsedTo (c .links) children
+  pub refused-used : (c : Counts) (why : Refusal) → RanIn ed (outcome.Refused c why) p nodes owners children stack → UsedTo (c .links) owners × UsedTo (c .links) children
   unfolding countsOf
   refused-used c why h = (owners-used (rooms h) c (h .ran .sound .firm), children-used (rooms h) c (h .ran .sound .firm))
 
-  module _ (c : Counts) (h : RanIn (outcome.Stopped c) p nodes owners children stack) where
+  module _ (c : Counts) (h : RanIn ed (outcome.Stopped c) p nodes owners children stack) where
     short : length p ≤ pickleLimit
     unfolding countsOf
     short = h .ran .sound .firm .lengths .pickle
@@ -148,7 +149,7 @@ module _ {p nodes owners children stack : List ℕ} where
     unfolding countsOf
     firm = h .ran .sound .firm
 
-    stops : run p ≡ ok (stateOf (rooms h) c)
+    stops : run ed p ≡ ok (stateOf (rooms h) c)
     unfolding ended
     stops = sym (h .ran .means)
 
@@ -159,8 +160,8 @@ module _ {p nodes owners children stack : List ℕ} where
     stopped-used = (owners-used (rooms h) c firm, children-used (rooms h) c firm)
 
     -- no value is left
-    pub gives-empty : (all : Bool) (o q : List ℕ) → c .stack ≡ 0 → Gives (due all p) (refusedAnswer StackUnderflow) o q o q
-    gives-empty all o q e = gives-refused o q (due all p) StackUnderflow (due-refused p all StackUnderflow (prefix-refused p StackUnderflow (stopped-empty p (stateOf (rooms h) c) short stops (omega (arith, deep, e)))))
+    pub gives-empty : (all : Bool) (o q : List ℕ) → c .stack ≡ 0 → Gives (due ed all p) (refusedAnswer StackUnderflow) o q o q
+    gives-empty all o q e = gives-refused o q (due ed all p) StackUnderflow (due-refused ed p all StackUnderflow (prefix-refused ed p StackUnderflow (stopped-empty ed p (stateOf (rooms h) c) short stops (omega (arith, deep, e)))))
 
     -- a value is left
     module _ (z : 0 < c .stack) where
@@ -187,20 +188,20 @@ module _ {p nodes owners children stack : List ℕ} where
       consumed-at : consumed p (stateOf (rooms h) c) ≡ c .at
       consumed-at = rw (input-of (rooms h) c, length-drop) (omega (arith, firm .at))
 
-      reads-to : prefix p ≡ told (c .at) (one (tree (stateOf (rooms h) c .nodes) root))
+      reads-to : prefixIn ed p ≡ told (c .at) (one (tree (stateOf (rooms h) c .nodes) root))
       reads-to =
-          prefix-told p (stateOf (rooms h) c) (last (stateOf (rooms h) c .stack)) (stopped-with p (stateOf (rooms h) c) short stops (omega (arith, deep)))
+          prefix-told ed p (stateOf (rooms h) c) (last (stateOf (rooms h) c .stack)) (stopped-with ed p (stateOf (rooms h) c) short stops (omega (arith, deep)))
           ∙ ap₂ (λ (n i : ℕ). told n (one (tree (stateOf (rooms h) c .nodes) i))) consumed-at top-is
 
       module _ (all : Bool) (o q o′ q′ : List ℕ) (b : Built) (B : Builds p nodes owners children (c .nodes) (c .links) root (all && ltb (c .at) (length p)) b o q o′ q′) where
-        pub gives-built-refused : (why : Refusal) → b ≡ built.Refused why → Gives (due all p) (refusedAnswer why) o q o′ q′
+        pub gives-built-refused : (why : Refusal) → b ≡ built.Refused why → Gives (due ed all p) (refusedAnswer why) o q o′ q′
         unfolding Builds Comes
         gives-built-refused why e =
             let x : Comes (all && ltb (c .at) (length p)) (one (tree (stateOf (rooms h) c .nodes) root)) (built.Refused why) o q o′ q′ = rw e at (B (rooms h) c stopped-at) in
-            rw (x .1, x .2) (gives-refused o q (due all p) why (due-told p all (c .at) _ reads-to ∙ left-refused _ (c .at) _ why (x .0)))
+            rw (x .1, x .2) (gives-refused o q (due ed all p) why (due-told ed p all (c .at) _ reads-to ∙ left-refused _ (c .at) _ why (x .0)))
 
-        pub gives-built : (n : ℕ) → b ≡ built.Made n → Gives (due all p) (record { number = 0; detail = 0; length = c .at; count = n }) o q o′ q′
+        pub gives-built : (n : ℕ) → b ≡ built.Made n → Gives (due ed all p) (record { number = 0; detail = 0; length = c .at; count = n }) o q o′ q′
         unfolding Builds Comes
         gives-built n e =
             let x : Comes (all && ltb (c .at) (length p)) (one (tree (stateOf (rooms h) c .nodes) root)) (built.Made n) o q o′ q′ = rw e at (B (rooms h) c stopped-at) in
-            gives-read o q (due all p) (c .at) _ n o′ q′ (due-told p all (c .at) _ reads-to ∙ left-read _ (c .at) _ (x .0)) (x .1) (x .2) (x .3)
+            gives-read o q (due ed all p) (c .at) _ n o′ q′ (due-told ed p all (c .at) _ reads-to ∙ left-read _ (c .at) _ (x .0)) (x .1) (x .2) (x .3)

@@ -1,10 +1,21 @@
-// What the programs that take a pickle on standard input share: reading it, the beginning of a buffer, and the line of a refusal.
+// What the programs that take pickles on standard input share: reading one, whether plain data only is asked for, the beginning of a buffer,
+// and the line of a refusal.
 use refusal::Answer;
 
+// Whether the program was started to read plain data only: with a word, whatever it is.
+pub fn asked_plain() -> bool {
+    os::arg_count() > 1
+}
+
 // Standard input as whole data. One byte more than a pickle may have is enough to know that it is too long.
-pub fn read(table: &mut [u64], text: &mut [u8]) -> Answer {
+pub fn read_input(plain: bool, table: &mut [u64], text: &mut [u8]) -> Answer {
     let mut input = [0u8; 65537];
     let n = io::read_full(0, &mut input);
+    read(plain, &input[0..n], table, text)
+}
+
+// A pickle as whole data, or as plain data only, in rooms that are made here.
+pub fn read(plain: bool, pickle: &[u8], table: &mut [u64], text: &mut [u8]) -> Answer {
     let mut nodes = [0u64; 8192];
     let mut owners = [0u16; 8192];
     let mut children = [0u16; 8192];
@@ -16,8 +27,26 @@ pub fn read(table: &mut [u64], text: &mut [u8]) -> Answer {
     let mut starts = [0u16; 4098];
     let mut sorted = [0u16; 16384];
     let mut measures = [0u64; 4096];
+    if plain {
+        return pickle::qelemvir_plain_from_bytes(
+            pickle,
+            &mut nodes,
+            &mut owners,
+            &mut children,
+            &mut stack,
+            &mut marks,
+            &mut keys,
+            &mut held,
+            &mut unescaped,
+            &mut starts,
+            &mut sorted,
+            &mut measures,
+            table,
+            text,
+        );
+    }
     pickle::qelemvir_from_bytes(
-        &input[0..n],
+        pickle,
         &mut nodes,
         &mut owners,
         &mut children,

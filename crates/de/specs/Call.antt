@@ -9,6 +9,7 @@ use Rattle.refusal.specs.declared.Answer.{Answer}
 use Rattle.refusal.specs.Numbers.{refusedAnswer}
 use Rattle.rooms.specs.Cleared.{cleared}
 use Rattle.rooms.specs.Stated.{Slices, roomLengths, stated, short, blank, filled, filled-none}
+use Rattle.op.specs.declared.Edition.{Edition}
 use Rattle.reading.specs.Reading.{Reading, refuses, pickleLimit, stopped-long, prefix-refused}
 use Rattle.build.specs.Given.{due, due-refused}
 
@@ -45,9 +46,9 @@ unfolding reading
 call-reads x l m l′ a e z f g = rw (e, f, g, z)
 
 -- 2
-pub call-long : (all : Bool) (p : List ℕ) (l m : Slices) (a : Answer) → short stated l ≡ false → m ≡ blank roomLengths l → pickleLimit < length p → a ≡ refusedAnswer TooLong → ReadCall (due all p) l m a
+pub call-long : (ed : Edition) (all : Bool) (p : List ℕ) (l m : Slices) (a : Answer) → short stated l ≡ false → m ≡ blank roomLengths l → pickleLimit < length p → a ≡ refusedAnswer TooLong → ReadCall (due ed all p) l m a
 unfolding reading
-call-long all p l m a e z h r = rw (e, r, z, due-refused p all TooLong (prefix-refused p TooLong (stopped-long p h)), filled-none (blank roomLengths l))
+call-long ed all p l m a e z h r = rw (e, r, z, due-refused ed p all TooLong (prefix-refused ed p TooLong (stopped-long ed p h)), filled-none (blank roomLengths l))
 
 -- ---- examples, of slices with one element or three
 

@@ -6,6 +6,7 @@ use lib.ListN.{length, length-append, take, drop, replicate, take-append-drop}
 use lib.Seq.{take-at, drop-at, length-take-le, drop-append-le}
 use native.Mathlib.Omega.{arith}
 use Rattle.refusal.specs.declared.Answer.{Answer}
+use Rattle.op.specs.declared.Edition.{Edition}
 use Rattle.rooms.specs.Cleared.{cleared}
 use Rattle.rooms.specs.Stated.{Slices, machineLengths, stated, AllZero, Ready, filled, long, rooms-zero}
 use Rattle.decoder.specs.Effects.{Sound, Firm}
@@ -37,8 +38,8 @@ module _ {k : ℕ} {s s′ : List ℕ} (b : Back k s s′) (j : ℕ) (e : j ≡ 
   back-again t q = q ∙ rw e (b .again)
 
 -- what a run leaves of the machine's rooms: what the answer asks of their stated parts, and how the rooms are zero again
-pub record Runs (o : Outcome) (p nodes owners children stack marks nodes′ owners′ children′ stack′ marks′ : List ℕ) : Type 0 where
-  pub ran : RanIn o p (take 8192 nodes′) (take 8192 owners′) (take 8192 children′) (take 2048 stack′)
+pub record Runs (ed : Edition) (o : Outcome) (p nodes owners children stack marks nodes′ owners′ children′ stack′ marks′ : List ℕ) : Type 0 where
+  pub ran : RanIn ed o p (take 8192 nodes′) (take 8192 owners′) (take 8192 children′) (take 2048 stack′)
   pub owners-behind : drop 8192 owners′ ≡ drop 8192 owners
   pub children-behind : drop 8192 children′ ≡ drop 8192 children
   pub nodes-back : Back (2 * countsOf o .nodes) nodes nodes′
@@ -89,12 +90,12 @@ module _ (p nodes owners children stack marks keys held : List ℕ) (z : AllZero
       (fresh p 8192 8192 8192 2048 256 2048 1024 h (omega arith) (omega arith) (omega arith) (omega arith) (omega arith) (omega arith) (omega arith))
 
   -- what it leaves
-  module _ (o : Outcome) (n w d s m k h : List ℕ) (r : Ran o p (roomsOf p n w d s m k h)) where
+  module _ (ed : Edition) (o : Outcome) (n w d s m k h : List ℕ) (r : Ran ed o p (roomsOf p n w d s m k h)) where
     firm : Firm (roomsOf p n w d s m k h) (countsOf o)
     firm = r .sound .firm
 
     pub runs : length n ≡ length (take 8192 nodes) → length w ≡ length (take 8192 owners) → length d ≡ length (take 8192 children) → length s ≡ length (take 2048 stack) → length m ≡ length (take 256 marks)
-        → Runs o p nodes owners children stack marks (n ++ drop 8192 nodes) (w ++ drop 8192 owners) (d ++ drop 8192 children) (s ++ drop 2048 stack) (m ++ drop 256 marks)
+        → Runs ed o p nodes owners children stack marks (n ++ drop 8192 nodes) (w ++ drop 8192 owners) (d ++ drop 8192 children) (s ++ drop 2048 stack) (m ++ drop 256 marks)
     runs en ew ed es em = record {
       ran = rw (part-is 8192 nodes (z .0) n en, part-is 8192 owners (z .1 .0) w ew, part-is 8192 children (z .1 .1 .0) d ed, part-is 2048 stack (z .1 .1 .1 .0) s es) (record { marks = m; keys = k; held = h; ran = r });
       owners-behind = part-behind 8192 owners (z .1 .0) w ew;

@@ -9,12 +9,14 @@ use native.Mathlib.Omega.{arith}
 use Rattle.refusal.specs.declared.Answer.{Answer}
 use Rattle.rooms.specs.Stated.{Slices}
 use Rattle.op.specs.Table.{rowIn, rowOf, knownName, opcodeOf}
+use Rattle.op.specs.Edition.{evaluates as edition-evaluates}
+use Rattle.op.specs.declared.Edition.the-variants.{Full}
 use Rattle.input.specs.Bytes.{lowFirst}
 use Rattle.value.specs.Value.{Label, Forest, I64L, ListL, TupleL, nil, node}
 use Rattle.steps.specs.State.{Node, State, ok, _>>=_, need, bytes, byte, pop, top, popMany, pushId, pushNode, push, link, extend, find, has, insert, get, put}
 use Rattle.steps.specs.Out.{Every}
 use Rattle.steps.specs.Opcodes.{proto, lowBytes, binint1, made, tupleN, added, append, getBytes, putBytes}
-use Rattle.steps.specs.Run.{going, does, decide, step, runs, start, run}
+use Rattle.steps.specs.Run.{going, does, decide, admit, step, runs, start, run}
 use Rattle.reading.specs.Build.{at}
 use Rattle.reading.specs.Unfold.{WritesOut, nothing, afresh, In, here, there, Contains, direct, through, Reachable, NothingContainsItself}
 use Rattle.reading.specs.Reading.{Reading, told, consumed, prefix}
@@ -31,7 +33,7 @@ rest [] = []
 rest (x ∷ l) = l
 
 unfoldable machine : Unit {0}
-unfolding lowFirst rowIn rowOf knownName opcodeOf _>>=_ need bytes byte pop top popMany pushId pushNode push link extend find has insert get put proto lowBytes binint1 made tupleN added append getBytes putBytes going does decide step runs start run
+unfolding lowFirst rowIn rowOf knownName opcodeOf edition-evaluates _>>=_ need bytes byte pop top popMany pushId pushNode push link extend find has insert get put proto lowBytes binint1 made tupleN added append getBytes putBytes going does decide admit step runs start run
 machine = tt
 
 abbrev node-of : Label → List ℕ → Node
@@ -46,7 +48,7 @@ abbrev shared-nodes : List Node
 shared-nodes = node-of ListL (1 ∷ []) ∷ node-of (I64L 5) [] ∷ node-of TupleL (0 ∷ 0 ∷ []) ∷ []
 
 -- the nodes at STOP, and the root
-pub shared-stops : (s : State) × (run shared ≡ ok s) × (s .nodes ≡ shared-nodes) × (s .stack ≡ 2 ∷ []) × (s .input ≡ [])
+pub shared-stops : (s : State) × (run Full shared ≡ ok s) × (s .nodes ≡ shared-nodes) × (s .stack ≡ 2 ∷ []) × (s .input ≡ [])
 unfolding machine
 shared-stops = (_, refl, refl, refl, refl)
 
@@ -95,7 +97,7 @@ shared-read l l′ a c =
     let x = shared-stops in
     let e : consumed shared (x .0) ≡ 12 = rw (x .4) refl in
     rw (← e)
-    (call-never-shows-sharing shared (x .0) (omega arith) (x .1) (rw (x .3) (omega arith)) (rw (x .2, x .3) shared-apart) shared-forest (rw (x .2, x .3) shared-written) l l′ a c)
+    (call-never-shows-sharing Full shared (x .0) (omega arith) (x .1) (rw (x .3) (omega arith)) (rw (x .2, x .3) shared-apart) shared-forest (rw (x .2, x .3) shared-written) l l′ a c)
 
 -- ---- two lists that contain each other
 
@@ -105,7 +107,7 @@ entwined = 0x5D ∷ 0x71 ∷ 0x00 ∷ 0x5D ∷ 0x71 ∷ 0x01 ∷ 0x68 ∷ 0x00 �
 abbrev entwined-nodes : List Node
 entwined-nodes = node-of ListL (1 ∷ []) ∷ node-of ListL (0 ∷ []) ∷ node-of TupleL (0 ∷ 1 ∷ []) ∷ []
 
-pub entwined-stops : (s : State) × (run entwined ≡ ok s) × (s .nodes ≡ entwined-nodes) × (s .stack ≡ 2 ∷ [])
+pub entwined-stops : (s : State) × (run Full entwined ≡ ok s) × (s .nodes ≡ entwined-nodes) × (s .stack ≡ 2 ∷ [])
 unfolding machine
 entwined-stops = (_, refl, refl, refl)
 

@@ -1,5 +1,5 @@
 -- What every reading by the public calls keeps to: sharing never shows, items added late show at each place, the answer and all slices are
--- determined, and what is filled is a well-formed table. ReadCall x l l′ a is a call's whole promise, with x the prefix or the whole reading.
+-- determined, and what is filled is a well-formed table. ReadCall x l l′ a is a call's whole promise, with x the prefix or the whole reading in any edition.
 use Prim.Native.Nat.{ℕ, _*_, _<_, _≤_}
 use mathlib.Core.Bool.{Bool, true, false, _&&_}
 use mathlib.Core.List.{List, [], _∷_, _++_}
@@ -15,6 +15,7 @@ use Rattle.refusal.specs.declared.Refusal.the-variants.{ShortRoom, TooLong, Sta
 use Rattle.refusal.specs.declared.Answer.{Answer}
 use Rattle.refusal.specs.Numbers.{refusedAnswer}
 use Rattle.rooms.specs.Stated.{Slices, roomLengths, stated, tableOf, textOf, begun, short, blank, filled, filled-none, table-filled, text-filled}
+use Rattle.op.specs.declared.Edition.{Edition}
 use Rattle.input.specs.Bytes.{Bytes}
 use Rattle.value.specs.Value.{Forest, node, one}
 use Rattle.value.specs.WellFormed.{WellFormed}
@@ -25,7 +26,7 @@ use Rattle.reading.specs.Build.{at, tree}
 use Rattle.reading.specs.Measure.{measured}
 use Rattle.reading.specs.Settle.{settle}
 use Rattle.reading.specs.Unfold.{WritesOut, afresh, In, here, there, Contains, direct, through, Reachable, NothingContainsItself, write-out-unique, write-out}
-use Rattle.reading.specs.Reading.{Reading, refuses, reads, told, consumed, consumed-rest, prefix, whole, leaves, whole-trailing, whole-prefix, pickleLimit, stopped-long, stopped-refused, stopped-empty, stopped-with, prefix-refused, prefix-told, told-fits, sharing-never-shows}
+use Rattle.reading.specs.Reading.{Reading, refuses, reads, told, consumed, consumed-rest, prefixIn, wholeIn, leaves, whole-trailing, whole-prefix, pickleLimit, stopped-long, stopped-refused, stopped-empty, stopped-with, prefix-refused, prefix-told, told-fits, sharing-never-shows}
 use Rattle.reading.specs.Success.{Formed, refusal-number, prefix-well-formed, whole-well-formed}
 use Rattle.de.specs.Call.{Left, reading, ReadCall}
 
@@ -33,9 +34,9 @@ use Rattle.de.specs.Call.{Left, reading, ReadCall}
 
 -- A pickle read to STOP with a value left, nothing reachable from which contains itself: number, detail, length, count and every slice
 -- are those of the value written out plainly, whatever is shared.
-module _ (p : List ℕ) (s : State) (fits : length p ≤ pickleLimit) (stops : run p ≡ ok s) (left : 0 < length (s .stack)) (apart : NothingContainsItself (s .nodes) (last (s .stack))) where
-  pub call-never-shows-sharing : (f : Forest) → WritesOut (s .nodes) (last (s .stack) ∷ []) f → (l l′ : Slices) (a : Answer) → ReadCall (prefix p) l l′ a → ReadCall (told (consumed p s) f) l l′ a
-  call-never-shows-sharing f w l l′ a c = c ∙ ap (λ (x : Reading). reading x l) (sharing-never-shows p s fits stops left f apart w)
+module _ (ed : Edition) (p : List ℕ) (s : State) (fits : length p ≤ pickleLimit) (stops : run ed p ≡ ok s) (left : 0 < length (s .stack)) (apart : NothingContainsItself (s .nodes) (last (s .stack))) where
+  pub call-never-shows-sharing : (f : Forest) → WritesOut (s .nodes) (last (s .stack) ∷ []) f → (l l′ : Slices) (a : Answer) → ReadCall (prefixIn ed p) l l′ a → ReadCall (told (consumed p s) f) l l′ a
+  call-never-shows-sharing f w l l′ a c = c ∙ ap (λ (x : Reading). reading x l) (sharing-never-shows ed p s fits stops left f apart w)
 
   -- there is one plain write-out, and only one
   pub one-write-out : (f : Forest) × WritesOut (s .nodes) (last (s .stack) ∷ []) f × ((g : Forest) → WritesOut (s .nodes) (last (s .stack) ∷ []) g → g ≡ f)
@@ -79,14 +80,14 @@ pub record LateItems (p : List ℕ) (s : State) (l l′ : Slices) (a : Answer) :
   pub placed : (i : ℕ) → Reachable (s .nodes) (last (s .stack)) i → (c : Forest) × Place i c (last (s .stack) ∷ []) forest written
   pub shown : (i : ℕ) (c : Forest) → Place i c (last (s .stack) ∷ []) forest written → WritesOut (s .nodes) (at (s .nodes) i .kids) c
 
-pub late-items-show : (p : List ℕ) (s : State) → length p ≤ pickleLimit → run p ≡ ok s → 0 < length (s .stack) → NothingContainsItself (s .nodes) (last (s .stack)) → (l l′ : Slices) (a : Answer) → ReadCall (prefix p) l l′ a → LateItems p s l l′ a
+pub late-items-show : (ed : Edition) (p : List ℕ) (s : State) → length p ≤ pickleLimit → run ed p ≡ ok s → 0 < length (s .stack) → NothingContainsItself (s .nodes) (last (s .stack)) → (l l′ : Slices) (a : Answer) → ReadCall (prefixIn ed p) l l′ a → LateItems p s l l′ a
 unfolding Reachable
-late-items-show p s fits stops left apart l l′ a c =
-    let o = one-write-out p s fits stops left apart in
+late-items-show ed p s fits stops left apart l l′ a c =
+    let o = one-write-out ed p s fits stops left apart in
     record {
       forest = o .0;
       written = o .1;
-      called = call-never-shows-sharing p s fits stops left apart (o .0) (o .1) l l′ a c;
+      called = call-never-shows-sharing ed p s fits stops left apart (o .0) (o .1) l l′ a c;
       placed = λ i r. from i (o .0) (o .1) r;
       shown = λ i d q. place-shows i d q;
     }
@@ -154,85 +155,85 @@ module _ (x : Reading) (l l′ : Slices) (a : Answer) (c : ReadCall x l l′ a) 
           rw (answer, call-table long, call-text long, n, take-append-seam (x .bytes) (drop (length (x .bytes)) (textOf l))) t
 
 -- both readings, of bytes
-module _ (p : List ℕ) (b : Bytes p) (l l′ : Slices) (a : Answer) (e : a .number ≡ 0) where
-  pub prefix-call-formed : ReadCall (prefix p) l l′ a → WellFormed (tableOf l′) (a .count) (take (textLength (tableOf l′) (a .count)) (textOf l′))
-  prefix-call-formed c = call-well-formed (prefix p) l l′ a c (prefix-well-formed p b) e
+module _ (ed : Edition) (p : List ℕ) (b : Bytes p) (l l′ : Slices) (a : Answer) (e : a .number ≡ 0) where
+  pub prefix-call-formed : ReadCall (prefixIn ed p) l l′ a → WellFormed (tableOf l′) (a .count) (take (textLength (tableOf l′) (a .count)) (textOf l′))
+  prefix-call-formed c = call-well-formed (prefixIn ed p) l l′ a c (prefix-well-formed ed p b) e
 
-  pub whole-call-formed : ReadCall (whole p) l l′ a → WellFormed (tableOf l′) (a .count) (take (textLength (tableOf l′) (a .count)) (textOf l′))
-  whole-call-formed c = call-well-formed (whole p) l l′ a c (whole-well-formed p b) e
+  pub whole-call-formed : ReadCall (wholeIn ed p) l l′ a → WellFormed (tableOf l′) (a .count) (take (textLength (tableOf l′) (a .count)) (textOf l′))
+  whole-call-formed c = call-well-formed (wholeIn ed p) l l′ a c (whole-well-formed ed p b) e
 
 -- ---- how a reading ends
 
 -- with a refusal, or with a value at the STOP that the machine comes to
-pub data Ends (p : List ℕ) (x : Reading) : Type 0 where
-  refused : (why : Refusal) → x ≡ refuses why → Ends p x
-  read : (s : State) (f : Forest) → run p ≡ ok s → x ≡ reads (consumed p s) (settle f) → Ends p x
+pub data Ends (ed : Edition) (p : List ℕ) (x : Reading) : Type 0 where
+  refused : (why : Refusal) → x ≡ refuses why → Ends ed p x
+  read : (s : State) (f : Forest) → run ed p ≡ ok s → x ≡ reads (consumed p s) (settle f) → Ends ed p x
 
-pub prefix-ends : (p : List ℕ) → Ends p (prefix p)
+pub prefix-ends : (ed : Edition) (p : List ℕ) → Ends ed p (prefixIn ed p)
 unfolding told
-prefix-ends p = go (leb (length p) pickleLimit) refl
+prefix-ends ed p = go (leb (length p) pickleLimit) refl
   where
-    built : (s : State) (f : Forest) → run p ≡ ok s → prefix p ≡ told (consumed p s) f → (r : Res (Unit {0})) → measured f ≡ r → Ends p (prefix p)
+    built : (s : State) (f : Forest) → run ed p ≡ ok s → prefixIn ed p ≡ told (consumed p s) f → (r : Res (Unit {0})) → measured f ≡ r → Ends ed p (prefixIn ed p)
     built s f e t (no why) m = refused why (t ∙ rw (m, told))
     built s f e t (ok u) m = read s f e (t ∙ told-fits (consumed p s) f m .0)
 
-    stack : (s : State) → length p ≤ pickleLimit → run p ≡ ok s → (b : Bool) → ltb 0 (length (s .stack)) ≡ b → Ends p (prefix p)
-    stack s h e true k = built s (one (tree (s .nodes) (last (s .stack)))) e (prefix-told p s (last (s .stack)) (stopped-with p s h e (ltb-true 0 (length (s .stack)) k))) (measured (one (tree (s .nodes) (last (s .stack))))) refl
-    stack s h e false k = refused StackUnderflow (prefix-refused p StackUnderflow (stopped-empty p s h e (ltb-false 0 (length (s .stack)) k)))
+    stack : (s : State) → length p ≤ pickleLimit → run ed p ≡ ok s → (b : Bool) → ltb 0 (length (s .stack)) ≡ b → Ends ed p (prefixIn ed p)
+    stack s h e true k = built s (one (tree (s .nodes) (last (s .stack)))) e (prefix-told ed p s (last (s .stack)) (stopped-with ed p s h e (ltb-true 0 (length (s .stack)) k))) (measured (one (tree (s .nodes) (last (s .stack))))) refl
+    stack s h e false k = refused StackUnderflow (prefix-refused ed p StackUnderflow (stopped-empty ed p s h e (ltb-false 0 (length (s .stack)) k)))
 
-    runs : length p ≤ pickleLimit → (r : Res State) → run p ≡ r → Ends p (prefix p)
-    runs h (no why) e = refused why (prefix-refused p why (stopped-refused p why h e))
+    runs : length p ≤ pickleLimit → (r : Res State) → run ed p ≡ r → Ends ed p (prefixIn ed p)
+    runs h (no why) e = refused why (prefix-refused ed p why (stopped-refused ed p why h e))
     runs h (ok s) e = stack s h e (ltb 0 (length (s .stack))) refl
 
-    go : (b : Bool) → leb (length p) pickleLimit ≡ b → Ends p (prefix p)
-    go true h = runs (leb-true (length p) pickleLimit h) (run p) refl
-    go false h = refused TooLong (prefix-refused p TooLong (stopped-long p (leb-false (length p) pickleLimit h)))
+    go : (b : Bool) → leb (length p) pickleLimit ≡ b → Ends ed p (prefixIn ed p)
+    go true h = runs (leb-true (length p) pickleLimit h) (run ed p) refl
+    go false h = refused TooLong (prefix-refused ed p TooLong (stopped-long ed p (leb-false (length p) pickleLimit h)))
 
-pub whole-ends : (p : List ℕ) → Ends p (whole p)
-whole-ends p = go (leaves p (prefix p)) refl
+pub whole-ends : (ed : Edition) (p : List ℕ) → Ends ed p (wholeIn ed p)
+whole-ends ed p = go (leaves p (prefixIn ed p)) refl
   where
-    same : whole p ≡ prefix p → Ends p (prefix p) → Ends p (whole p)
+    same : wholeIn ed p ≡ prefixIn ed p → Ends ed p (prefixIn ed p) → Ends ed p (wholeIn ed p)
     same e (refused why r) = refused why (e ∙ r)
     same e (read s f r t) = read s f r (e ∙ t)
 
-    go : (b : Bool) → leaves p (prefix p) ≡ b → Ends p (whole p)
-    go true e = refused TrailingData (whole-trailing p e)
-    go false e = same (whole-prefix p e) (prefix-ends p)
+    go : (b : Bool) → leaves p (prefixIn ed p) ≡ b → Ends ed p (wholeIn ed p)
+    go true e = refused TrailingData (whole-trailing ed p e)
+    go false e = same (whole-prefix ed p e) (prefix-ends ed p)
 
 -- ---- the length
 
 -- on success the length is that of the beginning which the machine read up to its STOP, one byte at least
-pub Read : List ℕ → Answer → Type 0
-Read p a = (s : State) × (run p ≡ ok s) × (s .input ≡ drop (a .length) p) × (0 < a .length) × (a .length ≤ length p)
+pub Read : Edition → List ℕ → Answer → Type 0
+Read ed p a = (s : State) × (run ed p ≡ ok s) × (s .input ≡ drop (a .length) p) × (0 < a .length) × (a .length ≤ length p)
 
-module _ (p : List ℕ) (x : Reading) (l l′ : Slices) (a : Answer) (z : a .number ≡ 0) (c : ReadCall x l l′ a) where
-  read-length : Ends p x → Read p a
+module _ (ed : Edition) (p : List ℕ) (x : Reading) (l l′ : Slices) (a : Answer) (z : a .number ≡ 0) (c : ReadCall x l l′ a) where
+  read-length : Ends ed p x → Read ed p a
   unfolding Read
   read-length (refused why e) = absurd (refusal-number why (ap (λ (y : Reading). y .answer .number) (sym e) ∙ ap (λ (y : Answer). y .number) (sym (call-answer x l l′ a c (call-long-enough x l l′ a c z))) ∙ z))
   read-length (read s f r e) =
-      let y = consumed-rest p s r in
+      let y = consumed-rest ed p s r in
       let n : a .length ≡ consumed p s = ap (λ (y : Answer). y .length) (call-answer x l l′ a c (call-long-enough x l l′ a c z)) ∙ ap (λ (y : Reading). y .answer .length) e in
       (s, r, rw n (y .2), rw n (y .0), rw n (y .1))
 
-module _ (p : List ℕ) (l l′ : Slices) (a : Answer) (z : a .number ≡ 0) where
-  pub prefix-call-length : ReadCall (prefix p) l l′ a → Read p a
-  prefix-call-length c = read-length p (prefix p) l l′ a z c (prefix-ends p)
+module _ (ed : Edition) (p : List ℕ) (l l′ : Slices) (a : Answer) (z : a .number ≡ 0) where
+  pub prefix-call-length : ReadCall (prefixIn ed p) l l′ a → Read ed p a
+  prefix-call-length c = read-length ed p (prefixIn ed p) l l′ a z c (prefix-ends ed p)
 
   -- the whole reading reads all
-  pub whole-call-length : ReadCall (whole p) l l′ a → Read p a × (a .length ≡ length p)
+  pub whole-call-length : ReadCall (wholeIn ed p) l l′ a → Read ed p a × (a .length ≡ length p)
   unfolding leaves Read
-  whole-call-length c = (read-length p (whole p) l l′ a z c (whole-ends p), go (leaves p (prefix p)) refl (read-length p (whole p) l l′ a z c (whole-ends p)))
+  whole-call-length c = (read-length ed p (wholeIn ed p) l l′ a z c (whole-ends ed p), go (leaves p (prefixIn ed p)) refl (read-length ed p (wholeIn ed p) l l′ a z c (whole-ends ed p)))
     where
-      answer : a ≡ whole p .answer
-      answer = call-answer (whole p) l l′ a c (call-long-enough (whole p) l l′ a c z)
+      answer : a ≡ wholeIn ed p .answer
+      answer = call-answer (wholeIn ed p) l l′ a c (call-long-enough (wholeIn ed p) l l′ a c z)
 
       left : (n m : ℕ) → (eqb n 0 && ltb m (length p)) ≡ false → n ≡ 0 → length p ≤ m
       left n m e q = ltb-false m (length p) (sym (rw (q, eqb) refl) ∙ e)
 
-      go : (b : Bool) → leaves p (prefix p) ≡ b → Read p a → a .length ≡ length p
-      go true e r = absurd (refusal-number TrailingData (ap (λ (y : Reading). y .answer .number) (sym (whole-trailing p e)) ∙ ap (λ (y : Answer). y .number) (sym answer) ∙ z))
+      go : (b : Bool) → leaves p (prefixIn ed p) ≡ b → Read ed p a → a .length ≡ length p
+      go true e r = absurd (refusal-number TrailingData (ap (λ (y : Reading). y .answer .number) (sym (whole-trailing ed p e)) ∙ ap (λ (y : Answer). y .number) (sym answer) ∙ z))
       go false e r =
-          let q : a ≡ prefix p .answer = answer ∙ ap (λ (y : Reading). y .answer) (whole-prefix p e) in
+          let q : a ≡ prefixIn ed p .answer = answer ∙ ap (λ (y : Reading). y .answer) (whole-prefix ed p e) in
           let k : length p ≤ a .length = left (a .number) (a .length) (rw q e) z in
           let h = r .4 in
           omega arith

@@ -5,6 +5,7 @@ use build::answer;
 use decoder::Counts;
 use machine::Outcome;
 use machine::run;
+use op::Edition;
 use refusal::Answer;
 use refusal::Refusal;
 use refusal::refused;
@@ -33,6 +34,7 @@ fn counts(outcome: Outcome) -> Counts
 
 // The run in the stated parts of the machine's rooms; its memo is zero again.
 fn run_in(
+    edition: Edition,
     pickle: &[u8],
     nodes: &mut [u64],
     owners: &mut [u16],
@@ -46,12 +48,13 @@ fn run_in(
     requires { ⌜ AllZero machineLengths
         (now nodes ∷ now owners ∷ now children ∷ now stack ∷ now marks ∷ now keys ∷ now held ∷ []) ⌝ }
     ensures { λ o.
-        ⌜ Runs o (now (pickle .entry))
+        ⌜ Runs edition o (now (pickle .entry))
         (now (nodes .entry)) (now (owners .entry)) (now (children .entry)) (now (stack .entry)) (now (marks .entry))
         (now (nodes .exit)) (now (owners .exit)) (now (children .exit)) (now (stack .exit)) (now (marks .exit)) ⌝ }
     ensures { λ _. ⌜ (now (keys .exit) ≡ now (keys .entry)) × (now (held .exit) ≡ now (held .entry)) ⌝ }
 {
     let outcome = run(
+        edition,
         pickle,
         &mut nodes[0..8192],
         &mut owners[0..8192],
@@ -69,6 +72,7 @@ fn run_in(
 
 // The inner reading: every slice as it came, but what table and text begin with.
 pub fn read(
+    edition: Edition,
     whole: bool,
     pickle: &[u8],
     nodes: &mut [u64],
@@ -90,7 +94,7 @@ pub fn read(
         (now nodes ∷ now owners ∷ now children ∷ now stack ∷ now marks ∷ now keys ∷ now held
         ∷ now unescaped ∷ now starts ∷ now sorted ∷ now measures ∷ now table ∷ now text ∷ []) ⌝ }
     ensures { λ a.
-        ⌜ Reads (due whole (now (pickle .entry)))
+        ⌜ Reads (due edition whole (now (pickle .entry)))
         (now (nodes .entry) ∷ now (owners .entry) ∷ now (children .entry) ∷ now (stack .entry)
         ∷ now (marks .entry) ∷ now (keys .entry) ∷ now (held .entry)
         ∷ now (unescaped .entry) ∷ now (starts .entry) ∷ now (sorted .entry) ∷ now (measures .entry)
@@ -100,8 +104,19 @@ pub fn read(
         ∷ now (unescaped .exit) ∷ now (starts .exit) ∷ now (sorted .exit) ∷ now (measures .exit)
         ∷ now (table .exit) ∷ now (text .exit) ∷ []) a ⌝ }
 {
-    let outcome = run_in(pickle, nodes, owners, children, stack, marks, keys, held);
+    let outcome = run_in(
+        edition,
+        pickle,
+        nodes,
+        owners,
+        children,
+        stack,
+        marks,
+        keys,
+        held,
+    );
     let a = answer(
+        edition,
         outcome,
         whole,
         pickle,
@@ -209,8 +224,9 @@ pub fn clear_builder(
     clear_words(measures, 4096);
 }
 
-// Either reading, of any slices: 1, then the rooms made zero, then 2, then the reading itself.
+// Either reading in an edition, of any slices: 1, then the rooms made zero, then 2, then the reading itself.
 pub fn reading(
+    edition: Edition,
     whole: bool,
     pickle: &[u8],
     nodes: &mut [u64],
@@ -228,7 +244,7 @@ pub fn reading(
     text: &mut [u8],
 ) -> Answer
     ensures { λ a.
-        ⌜ ReadCall (due whole (now (pickle .entry)))
+        ⌜ ReadCall (due edition whole (now (pickle .entry)))
         (now (nodes .entry) ∷ now (owners .entry) ∷ now (children .entry) ∷ now (stack .entry)
         ∷ now (marks .entry) ∷ now (keys .entry) ∷ now (held .entry)
         ∷ now (unescaped .entry) ∷ now (starts .entry) ∷ now (sorted .entry) ∷ now (measures .entry)
@@ -261,6 +277,7 @@ pub fn reading(
         return refused(Refusal::TooLong);
     }
     read(
+        edition,
         whole,
         pickle,
         nodes,

@@ -46,25 +46,25 @@ use Rattle.decoder.specs.Effects.{Sound, Lent, Decides, refusing}
 use Rattle.decoder.specs.Reads.{cutTo, bytes-short, bytes-got, line-none, line-got}
 use Rattle.decoder.specs.ReadsPickle.{Found, counted, counted-is, part, part-inside, part-ends, part-bad, part-push, same-step, makes-i64, Makes, refused-going, says-go, pushed-step, short, enough, ended, lined, first-byte, line-part, line-inside, makes-as, makes-bytes, makes-escaped, makes-unicode, makes-global}
 
--- ---- PROTO
+-- ---- PROTO, with v as the highest protocol
 
-module _ (c : Counts) (p : List ℕ) where
-  pub proto-ends : length p - c .at < 1 → Decides c (λ r. r .pickle ≡ p) (λ s. going (proto s)) (refusing c EndOfInput)
+module _ (c : Counts) (p : List ℕ) (v : ℕ) where
+  pub proto-ends : length p - c .at < 1 → Decides c (λ r. r .pickle ≡ p) (λ s. going (proto v s)) (refusing c EndOfInput)
   unfolding Decides proto byte _>>=_
-  proto-ends h r s q = refused-going r c s EndOfInput (proto (stateOf r c)) (rw (short c p 1 h r s q))
+  proto-ends h r s q = refused-going r c s EndOfInput (proto v (stateOf r c)) (rw (short c p 1 h r s q))
 
   module _ (h : 1 ≤ length p - c .at) where
     read : (r : Rooms) → Sound r c → r .pickle ≡ p → byte (stateOf r c) ≡ ok (getD p (c .at) 0, stateOf r (atTo c (c .at + 1)))
     unfolding byte _>>=_
     read r s q = rw (enough c p 1 h r s q, first-byte p (c .at))
 
-    pub proto-new : 2 < getD p (c .at) 0 → Decides c (λ r. r .pickle ≡ p) (λ s. going (proto s)) (refusing c (UnsupportedProtocol (getD p (c .at) 0)))
+    pub proto-new : v < getD p (c .at) 0 → Decides c (λ r. r .pickle ≡ p) (λ s. going (proto v s)) (refusing c (UnsupportedProtocol (getD p (c .at) 0)))
     unfolding Decides proto _>>=_ need
-    proto-new k r s q = refused-going r c s (UnsupportedProtocol (getD p (c .at) 0)) (proto (stateOf r c)) (rw (read r s q, lt-leb (getD p (c .at) 0) 2 k))
+    proto-new k r s q = refused-going r c s (UnsupportedProtocol (getD p (c .at) 0)) (proto v (stateOf r c)) (rw (read r s q, lt-leb (getD p (c .at) 0) v k))
 
-    pub proto-known : (c₁ : Counts) → getD p (c .at) 0 ≤ 2 → c₁ ≡ cutTo c (c .at + 1) (c .stack) (c .marks) → Decides c (λ r. r .pickle ≡ p) (λ s. going (proto s)) (Go c₁)
+    pub proto-known : (c₁ : Counts) → getD p (c .at) 0 ≤ v → c₁ ≡ cutTo c (c .at + 1) (c .stack) (c .marks) → Decides c (λ r. r .pickle ≡ p) (λ s. going (proto v s)) (Go c₁)
     unfolding Decides proto _>>=_ need
-    proto-known c₁ k e r s q = rw e (says-go r c s (c .at + 1) (proto (stateOf r c)) (rw (read r s q, le-leb (getD p (c .at) 0) 2 k)) (omega arith) (rw q (omega arith)))
+    proto-known c₁ k e r s q = rw e (says-go r c s (c .at + 1) (proto v (stateOf r c)) (rw (read r s q, le-leb (getD p (c .at) 0) v k)) (omega arith) (rw q (omega arith)))
 
 -- ---- what an answer of a literal's function says
 

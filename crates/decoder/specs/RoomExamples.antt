@@ -3,6 +3,7 @@ use Prim.Native.Nat.{_+_, _*_, _^_}
 use mathlib.Core.Bool.{true}
 use mathlib.Core.List.{[], _∷_}
 use mathlib.Core.Path.{_≡_, refl}
+use Rattle.op.specs.declared.Edition.the-variants.{Full}
 use Rattle.utf8.specs.Utf8.{evaluates as utf8-evaluates}
 use Rattle.text.specs.Pieces.{bytesOf}
 use Rattle.text.specs.Examples.{evaluates as text-evaluates}
@@ -35,7 +36,7 @@ sharedRooms = record {
 abbrev pub sharedCounts : Counts
 sharedCounts = record { at = 12; nodes = 3; links = 3; stack = 1; deepest = 2; marks = 0; most = 1; memo = 1; greatest = 0 }
 
-pub shared-rooms : run (sharedRooms .pickle) ≡ ok (stateOf sharedRooms sharedCounts)
+pub shared-rooms : run Full (sharedRooms .pickle) ≡ ok (stateOf sharedRooms sharedCounts)
 unfolding evaluates
 shared-rooms = shared
 

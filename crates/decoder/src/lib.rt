@@ -177,17 +177,17 @@ fn part4(pickle: &[u8], c: Counts) -> Part
     }
 }
 
-// PROTO: a protocol up to 2.
-pub fn proto(pickle: &[u8], c: Counts) -> Effect
+// PROTO: a protocol up to the highest that is accepted.
+pub fn proto(pickle: &[u8], c: Counts, highest: u8) -> Effect
     requires { ⌜ Lent c (λ r. r .pickle ≡ now pickle) ⌝ }
-    ensures { λ e. ⌜ Decides c (λ r. r .pickle ≡ now (pickle .entry)) (λ s. going (proto s)) e ⌝ }
+    ensures { λ e. ⌜ Decides c (λ r. r .pickle ≡ now (pickle .entry)) (λ s. going (proto highest s)) e ⌝ }
 {
     let at = c.at;
     if pickle.len() - at < 1 {
         return Effect::Refused(c, 0, 0, Refusal::EndOfInput);
     }
     let p = pickle[at];
-    if 2 < p {
+    if highest < p {
         return Effect::Refused(c, 0, 0, Refusal::UnsupportedProtocol(p));
     }
     Effect::Go(read_to(c, at + 1))

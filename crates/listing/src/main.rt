@@ -1,5 +1,6 @@
 // Lists the pickle on standard input, which it reads as whole data: a header `value`, the bytes read and the records, then a line a record
-// (document 01, 'The listing program'); of a refusal only the line `refused`, its number and its detail.
+// (document 01, 'The listing program'); of a refusal only the line `refused`, its number and its detail. Started with a word, it reads plain
+// data only (document 02, Ask 7).
 use refusal::Answer;
 
 fn show_header(read: Answer) {
@@ -27,7 +28,7 @@ fn main() {
     let mut table = [0u64; 8192];
     let mut text = [0u8; 65536];
     let mut output = [0u8; 65536];
-    let read = console::read(&mut table, &mut text);
+    let read = console::read_input(console::asked_plain(), &mut table, &mut text);
     if read.number != 0 {
         console::show_refusal(read.number, read.detail);
         return;

@@ -9,9 +9,13 @@ use lib.ListN.{length, getD, drop}
 use lib.Seq.{getD-take, getD-drop}
 use native.Mathlib.Decide.{ℕ-discrete}
 use native.Mathlib.Omega.{arith}
-use Rattle.refusal.specs.declared.Refusal.the-variants.{EndOfInput, UnsupportedOpcode}
+use Rattle.refusal.specs.declared.Refusal.the-variants.{EndOfInput, UnsupportedOpcode, OutsideProfile}
 use Rattle.op.specs.Table.{numberOf, numberIn, isNamed, place, opcodeOf}
 use Rattle.op.specs.Named.{named}
+use Rattle.op.specs.Edition.{against, highest}
+use Rattle.op.specs.declared.Edition.{Edition}
+use Rattle.op.specs.declared.Objection.{Objection}
+use Rattle.op.specs.declared.Objection.the-variants.{Nothing, Outside, Unknown}
 use Rattle.op.specs.declared.Opcode.{Opcode}
 use Rattle.op.specs.declared.Opcode.the-variants.{MARK, STOP, POP, «POP_MARK», DUP, FLOAT, INT, BININT, BININT1, LONG, BININT2, NONE, REDUCE, STRING, BINSTRING, «SHORT_BINSTRING», UNICODE, BINUNICODE, APPEND, BUILD, GLOBAL, DICT, «EMPTY_DICT», APPENDS, GET, BINGET, «LONG_BINGET», LIST, «EMPTY_LIST», PUT, BINPUT, «LONG_BINPUT», SETITEM, TUPLE, «EMPTY_TUPLE», SETITEMS, BINFLOAT, PROTO, NEWOBJ, TUPLE1, TUPLE2, TUPLE3, NEWTRUE, NEWFALSE, LONG1, LONG4}
 use Rattle.decoder.specs.declared.Counts.{Counts}
@@ -21,7 +25,7 @@ use Rattle.value.specs.Value.{Label, NoneL, BoolL, ListL, TupleL, DictL}
 use Rattle.value.specs.Shape.{kindIn}
 use Rattle.steps.specs.State.{State, _>>=_, byte, plain, push}
 use Rattle.steps.specs.Opcodes.{tupleN}
-use Rattle.steps.specs.Run.{going, does, decide, step}
+use Rattle.steps.specs.Run.{Next, goes, stops, going, does, decide, admit, step}
 use Rattle.decoder.specs.Rooms.{Rooms, stateOf}
 use Rattle.steps.specs.NodeWords.{nodeIs, HoldsLinks, aList, aTuple, aDict}
 use Rattle.decoder.specs.RoomKeeps.{class-none}
@@ -58,66 +62,83 @@ module _ (p n d s m k h : List ℕ) (c : Counts) where
   abbrev pub c₁ : Counts
   c₁ = cutTo c (c .at + 1) (c .stack) (c .marks)
 
-  -- at the end of the pickle
-  pub ended : length p ≤ c .at → Decides c Lists step (refusing c EndOfInput)
-  unfolding Decides step byte _>>=_ enacted Fits
-  ended l r z a =
-      let e : length (r .pickle) ≡ length p = ap length (a .pickle) in
-      let t = z .firm .at in
-      record { enacts = rw (bytes-short r c 1 t (omega arith)); fits = tt }
-
+  -- behind the opcode's byte
   module _ (l : c .at < length p) where
-    -- behind the opcode's byte
     next : (r : Rooms) → Sound r c → Lists r → Sound r c₁
     next r z a = let e : length (r .pickle) ≡ length p = ap length (a .pickle) in sound-read r c (c .at + 1) z (omega arith) (omega arith)
 
     pub lent : (Q : Rooms → Type 0) → Lent c Lists → ((r : Rooms) → Lists r → Q r) → Lent c₁ Q
     lent Q t f = record { rooms = t .rooms; sound = next (t .rooms) (t .sound) (t .agrees); agrees = f (t .rooms) (t .agrees) }
 
-    read : (r : Rooms) → Sound r c → Lists r → step (stateOf r c) ≡ decide (opcodeOf (getD p (c .at) 0)) (getD p (c .at) 0) (stateOf r c₁)
-    unfolding step byte _>>=_
-    read r z a =
+  module _ (ed : Edition) where
+    -- at the end of the pickle
+    pub ended : length p ≤ c .at → Decides c Lists (step ed) (refusing c EndOfInput)
+    unfolding Decides step byte _>>=_ enacted Fits
+    ended l r z a =
         let e : length (r .pickle) ≡ length p = ap length (a .pickle) in
         let t = z .firm .at in
-        let q : c .at + 0 ≡ c .at = omega arith in
-        rw (bytes-got r c 1 t (omega arith)) (ap (λ (b : ℕ). decide (opcodeOf b) b (stateOf r c₁)) (getD-take 1 (drop (c .at) (r .pickle)) 0 0 (omega arith) ∙ getD-drop (c .at) (r .pickle) 0 0 ∙ rw (q, a .pickle)))
+        record { enacts = rw (bytes-short r c 1 t (omega arith)); fits = tt }
 
-    -- the opcode o
-    pub arm : (o : Opcode) (Q : Rooms → Type 0) (e : Effect) → getD p (c .at) 0 ≡ numberOf o → ((r : Rooms) → Lists r → Q r) → Decides c₁ Q (does o) e → Decides c Lists step e
-    unfolding Decides decide
-    arm o Q e q f t r z a =
-        let x = t r (next r z a) (f r a) in
-        record { enacts = x .enacts ∙ sym (read r z a ∙ rw (q, named o)); fits = x .fits }
+    module _ (l : c .at < length p) where
+      -- the byte, and what the edition has against it
+      abbrev code : ℕ
+      code = getD p (c .at) 0
 
-    -- no opcode
-    pub unsupported : ((o : Opcode) → getD p (c .at) 0 ≢ numberOf o) → Decides c Lists step (refusing c (UnsupportedOpcode (getD p (c .at) 0)))
-    unfolding Decides decide enacted Fits
-    unsupported h r z a = record { enacts = sym (read r z a ∙ rw (unknown (getD p (c .at) 0) h)); fits = tt }
+      read : (r : Rooms) → Sound r c → Lists r → step ed (stateOf r c) ≡ admit (against ed code) code (decide (highest ed) (opcodeOf code) code (stateOf r c₁))
+      unfolding step byte _>>=_
+      read r z a =
+          let e : length (r .pickle) ≡ length p = ap length (a .pickle) in
+          let t = z .firm .at in
+          let q : c .at + 0 ≡ c .at = omega arith in
+          rw (bytes-got r c 1 t (omega arith)) (ap (λ (b : ℕ). admit (against ed b) b (decide (highest ed) (opcodeOf b) b (stateOf r c₁))) (getD-take 1 (drop (c .at) (r .pickle)) 0 0 (omega arith) ∙ getD-drop (c .at) (r .pickle) 0 0 ∙ rw (q, a .pickle)))
+
+      -- outside the edition, or unknown to it
+      pub outside-it : Outside ≡ against ed code → Decides c Lists (step ed) (refusing c (OutsideProfile code))
+      unfolding Decides admit enacted Fits
+      outside-it b r z a = record { enacts = sym (read r z a ∙ rw (← b)); fits = tt }
+
+      pub unknown-to-it : Unknown ≡ against ed code → Decides c Lists (step ed) (refusing c (UnsupportedOpcode code))
+      unfolding Decides admit enacted Fits
+      unknown-to-it b r z a = record { enacts = sym (read r z a ∙ rw (← b)); fits = tt }
+
+      -- nothing against it
+      module _ (free : Nothing ≡ against ed code) where
+        -- the opcode o
+        pub arm : (o : Opcode) (Q : Rooms → Type 0) (e : Effect) → code ≡ numberOf o → ((r : Rooms) → Lists r → Q r) → Decides c₁ Q (does (highest ed) o) e → Decides c Lists (step ed) e
+        unfolding Decides decide admit
+        arm o Q e q f t r z a =
+            let x = t r (next l r z a) (f r a) in
+            record { enacts = x .enacts ∙ sym (read r z a ∙ rw (← free, q, named o)); fits = x .fits }
+
+        -- no opcode
+        pub unsupported : ((o : Opcode) → code ≢ numberOf o) → Decides c Lists (step ed) (refusing c (UnsupportedOpcode code))
+        unfolding Decides decide admit enacted Fits
+        unsupported h r z a = record { enacts = sym (read r z a ∙ rw (← free, unknown code h)); fits = tt }
 
 -- ---- opcodes that read nothing more
 
-module _ (c : Counts) where
-  pub marks : Decides c (λ r. Unit {0}) (does MARK) (Mark c)
+module _ (v : ℕ) (c : Counts) where
+  pub marks : Decides c (λ r. Unit {0}) (does v MARK) (Mark c)
   unfolding Decides does enacted Fits
   marks r z a = record { enacts = refl; fits = z .firm }
 
-  pub stop : Decides c (λ r. Unit {0}) (does STOP) (Stop c)
+  pub stop : Decides c (λ r. Unit {0}) (does v STOP) (Stop c)
   unfolding Decides does enacted Fits
   stop r z a = record { enacts = refl; fits = z .firm }
 
   -- a value without contents, of the kind a
-  pushes : (o : Opcode) (l : Label) (a b : ℕ) → ((s : State) → does o s ≡ going (push l s)) → ((p ws : List ℕ) → nodeIs p ws [] a b ≡ plain l) → kindIn a < 11 → (HoldsLinks a → b ≡ 0) → Decides c (λ r. Unit {0}) (does o) (Push c a b)
+  pushes : (o : Opcode) (l : Label) (a b : ℕ) → ((s : State) → does v o s ≡ going (push l s)) → ((p ws : List ℕ) → nodeIs p ws [] a b ≡ plain l) → kindIn a < 11 → (HoldsLinks a → b ≡ 0) → Decides c (λ r. Unit {0}) (does v o) (Push c a b)
   unfolding Decides enacted Fits push
   pushes o l a b e n k t r z x = record {
     enacts = rw (e (stateOf r c), n (r .pickle) (r .nodes));
     fits = (z .firm, class-none (r .nodes) (c .nodes) a (λ q. omega arith), t);
   }
 
-  pub none-pushed : Decides c (λ r. Unit {0}) (does NONE) (Push c 0 0)
+  pub none-pushed : Decides c (λ r. Unit {0}) (does v NONE) (Push c 0 0)
   unfolding does nodeIs kindIn
   none-pushed = pushes NONE NoneL 0 0 (λ s. refl) (λ p ws. refl) (omega arith) (λ t. refl)
 
-  pub true-pushed : Decides c (λ r. Unit {0}) (does NEWTRUE) (Push c 1 1)
+  pub true-pushed : Decides c (λ r. Unit {0}) (does v NEWTRUE) (Push c 1 1)
   unfolding does nodeIs kindIn
   true-pushed = pushes NEWTRUE (BoolL true) 1 1 (λ s. refl) (λ p ws. refl) (omega arith) bool
     where
@@ -126,36 +147,36 @@ module _ (c : Counts) where
       bool (aTuple e) = absurd (omega arith)
       bool (aDict e) = absurd (omega arith)
 
-  pub false-pushed : Decides c (λ r. Unit {0}) (does NEWFALSE) (Push c 1 0)
+  pub false-pushed : Decides c (λ r. Unit {0}) (does v NEWFALSE) (Push c 1 0)
   unfolding does nodeIs kindIn
   false-pushed = pushes NEWFALSE (BoolL false) 1 0 (λ s. refl) (λ p ws. refl) (omega arith) (λ t. refl)
 
-  pub list-pushed : Decides c (λ r. Unit {0}) (does «EMPTY_LIST») (Push c 6 0)
+  pub list-pushed : Decides c (λ r. Unit {0}) (does v «EMPTY_LIST») (Push c 6 0)
   unfolding does nodeIs kindIn
   list-pushed = pushes «EMPTY_LIST» ListL 6 0 (λ s. refl) (λ p ws. refl) (omega arith) (λ t. refl)
 
-  pub tuple-pushed : Decides c (λ r. Unit {0}) (does «EMPTY_TUPLE») (Push c 7 0)
+  pub tuple-pushed : Decides c (λ r. Unit {0}) (does v «EMPTY_TUPLE») (Push c 7 0)
   unfolding does nodeIs kindIn
   tuple-pushed = pushes «EMPTY_TUPLE» TupleL 7 0 (λ s. refl) (λ p ws. refl) (omega arith) (λ t. refl)
 
-  pub dict-pushed : Decides c (λ r. Unit {0}) (does «EMPTY_DICT») (Push c 10 0)
+  pub dict-pushed : Decides c (λ r. Unit {0}) (does v «EMPTY_DICT») (Push c 10 0)
   unfolding does nodeIs kindIn
   dict-pushed = pushes «EMPTY_DICT» DictL 10 0 (λ s. refl) (λ p ws. refl) (omega arith) (λ t. refl)
 
 -- ---- TUPLE1 to TUPLE3, and what no arm takes
 
-module _ (p n d s m k h : List ℕ) (c : Counts) (l : c .at < length p) where
-  pub tuples : (e : Effect) → 133 ≤ getD p (c .at) 0 → getD p (c .at) 0 < 136 → Decides (c₁ p n d s m k h c) (λ r. Unit {0}) (λ t. going (tupleN (getD p (c .at) 0 - 0x84) t)) e → Decides c (Agrees p n d s m k h) step e
+module _ (p n d s m k h : List ℕ) (c : Counts) (ed : Edition) (l : c .at < length p) (free : Nothing ≡ against ed (getD p (c .at) 0)) where
+  pub tuples : (e : Effect) → 133 ≤ getD p (c .at) 0 → getD p (c .at) 0 < 136 → Decides (c₁ p n d s m k h c) (λ r. Unit {0}) (λ t. going (tupleN (getD p (c .at) 0 - 0x84) t)) e → Decides c (Agrees p n d s m k h) (step ed) e
   unfolding does numberOf numberIn isNamed place
   tuples e a b t = go (getD p (c .at) 0) refl
     where
-      at : (o : Opcode) (i : ℕ) → getD p (c .at) 0 ≡ i → i ≡ numberOf o → Decides (c₁ p n d s m k h c) (λ r. Unit {0}) (does o) e → Decides c (Agrees p n d s m k h) step e
-      at o i q z y = arm p n d s m k h c l o (λ r. Unit {0}) e (q ∙ z) (λ r x. tt) y
+      at : (o : Opcode) (i : ℕ) → getD p (c .at) 0 ≡ i → i ≡ numberOf o → Decides (c₁ p n d s m k h c) (λ r. Unit {0}) (does (highest ed) o) e → Decides c (Agrees p n d s m k h) (step ed) e
+      at o i q z y = arm p n d s m k h c ed l free o (λ r. Unit {0}) e (q ∙ z) (λ r x. tt) y
 
-      go : (i : ℕ) → getD p (c .at) 0 ≡ i → Decides c (Agrees p n d s m k h) step e
+      go : (i : ℕ) → getD p (c .at) 0 ≡ i → Decides c (Agrees p n d s m k h) (step ed) e
       go i q = pick (ℕ-discrete i 133) (ℕ-discrete i 134)
         where
-          pick : Dec (i ≡ 133) → Dec (i ≡ 134) → Decides c (Agrees p n d s m k h) step e
+          pick : Dec (i ≡ 133) → Dec (i ≡ 134) → Decides c (Agrees p n d s m k h) (step ed) e
           pick (yes z) y = at TUPLE1 133 (q ∙ z) refl (rw (q ∙ z) at t)
           pick (no z) (yes y) = at TUPLE2 134 (q ∙ y) refl (rw (q ∙ y) at t)
           pick (no z) (no y) = let u : i ≡ 135 = omega arith in at TUPLE3 135 (q ∙ u) refl (rw (q ∙ u) at t)

@@ -5,6 +5,7 @@ use mathlib.Core.Path.{_≡_, refl, sym, _∙_, ap}
 use lib.ListN.{length, length-drop}
 use native.Mathlib.Omega.{arith}
 use Rattle.refusal.specs.declared.Refusal.{Refusal}
+use Rattle.op.specs.declared.Edition.{Edition}
 use Rattle.decoder.specs.declared.Counts.{Counts}
 use Rattle.steps.specs.State.{State, Res, ok, no, _>>=_}
 use Rattle.steps.specs.Run.{Next, goes, stops, step, run, start as begin}
@@ -27,8 +28,8 @@ abbrev pub start : Counts
 start = record { at = 0; nodes = 0; links = 0; stack = 0; deepest = 0; marks = 0; most = 0; memo = 0; greatest = 0 }
 
 -- a step in the rooms r with the counts c, which leaves the rooms r′
-abbrev pub Stepped : Step → Counts → Rooms → Rooms → Type 0
-Stepped t c r r′ = Done t r r′ (step (stateOf r c))
+abbrev pub Stepped : Edition → Step → Counts → Rooms → Rooms → Type 0
+Stepped ed t c r r′ = Done t r r′ (step ed (stateOf r c))
 
 -- what an outcome means
 unfoldable pub ended : Outcome → Rooms → Res State
@@ -40,9 +41,9 @@ unfoldable pub countsOf : Outcome → Counts
 countsOf (outcome.Stopped c) = c
 countsOf (outcome.Refused c why) = c
 
--- a run of the pickle p that leaves the rooms r
-pub record Ran (o : Outcome) (p : List ℕ) (r : Rooms) : Type 0 where
-  pub means : ended o r ≡ run p
+-- a run of the pickle p in an edition that leaves the rooms r
+pub record Ran (ed : Edition) (o : Outcome) (p : List ℕ) (r : Rooms) : Type 0 where
+  pub means : ended o r ≡ run ed p
   pub sound : Sound r (countsOf o)
   pub same : r .pickle ≡ p
 
@@ -61,83 +62,83 @@ as-long r = record { nodes = refl; owners = refl; children = refl; stack = refl;
 
 -- ---- one step
 
-module _ (r r′ : Rooms) (c : Counts) (s : Sound r c) where
-  module _ (d : Counts) (t : Done (step-of.Next d) r r′ (step (stateOf r c))) where
-    stepped : step (stateOf r c) ≡ ok (goes (stateOf r′ d))
+module _ (ed : Edition) (r r′ : Rooms) (c : Counts) (s : Sound r c) where
+  module _ (d : Counts) (t : Done (step-of.Next d) r r′ (step ed (stateOf r c))) where
+    stepped : step ed (stateOf r c) ≡ ok (goes (stateOf r′ d))
     unfolding meant
     stepped = sym (t .means)
 
     pub step-sound : Sound r′ d
     unfolding Stays after
-    step-sound = record { firm = t .stays; range = of-out (λ (n : Next). InRange (after n)) (step (stateOf r c)) (goes (stateOf r′ d)) (step-range (stateOf r c) (s .range)) stepped }
+    step-sound = record { firm = t .stays; range = of-out (λ (n : Next). InRange (after n)) (step ed (stateOf r c)) (goes (stateOf r′ d)) (step-range ed (stateOf r c) (s .range)) stepped }
 
     less : length (stateOf r′ d .input) < length (stateOf r c .input)
     unfolding after
-    less = of-out (λ (n : Next). length (after n .input) < length (stateOf r c .input)) (step (stateOf r c)) (goes (stateOf r′ d)) (step-less (stateOf r c)) stepped
+    less = of-out (λ (n : Next). length (after n .input) < length (stateOf r c .input)) (step ed (stateOf r c)) (goes (stateOf r′ d)) (step-less ed (stateOf r c)) stepped
 
     pub step-further : r′ .pickle ≡ r .pickle → length (r .pickle) - d .at < length (r .pickle) - c .at
     step-further e =
         let x : length (r′ .pickle) - d .at < length (r .pickle) - c .at = rw (input-of r′ d, input-of r c, length-drop, length-drop) at less in
         rw e at x
 
-    pub step-goes : finish (stateOf r c) ≡ finish (stateOf r′ d)
-    step-goes = finish-goes (stateOf r c) (stateOf r′ d) stepped
+    pub step-goes : finish ed (stateOf r c) ≡ finish ed (stateOf r′ d)
+    step-goes = finish-goes ed (stateOf r c) (stateOf r′ d) stepped
 
-  pub step-stops : (d : Counts) → Done (step-of.Stop d) r r′ (step (stateOf r c)) → (finish (stateOf r c) ≡ ok (stateOf r′ d)) × Sound r′ d
+  pub step-stops : (d : Counts) → Done (step-of.Stop d) r r′ (step ed (stateOf r c)) → (finish ed (stateOf r c) ≡ ok (stateOf r′ d)) × Sound r′ d
   unfolding meant Stays after
   step-stops d t =
-      (finish-stops (stateOf r c) (stateOf r′ d) (sym (t .means)), record { firm = t .stays; range = of-out (λ (n : Next). InRange (after n)) (step (stateOf r c)) (stops (stateOf r′ d)) (step-range (stateOf r c) (s .range)) (sym (t .means)) })
+      (finish-stops ed (stateOf r c) (stateOf r′ d) (sym (t .means)), record { firm = t .stays; range = of-out (λ (n : Next). InRange (after n)) (step ed (stateOf r c)) (stops (stateOf r′ d)) (step-range ed (stateOf r c) (s .range)) (sym (t .means)) })
 
-  pub step-refuses : (d : Counts) (why : Refusal) → Done (step-of.Refused d why) r r′ (step (stateOf r c)) → (finish (stateOf r c) ≡ no why) × (r′ ≡ r)
+  pub step-refuses : (d : Counts) (why : Refusal) → Done (step-of.Refused d why) r r′ (step ed (stateOf r c)) → (finish ed (stateOf r c) ≡ no why) × (r′ ≡ r)
   unfolding meant Stays
-  step-refuses d why t = (finish-refused (stateOf r c) (stateOf r c) why (sym (t .means)), t .stays)
+  step-refuses d why t = (finish-refused ed (stateOf r c) (stateOf r c) why (sym (t .means)), t .stays)
 
 -- ---- the loop: what is left is what there was
 
-pub record Running (p : List ℕ) (r : Rooms) (c : Counts) : Type 0 where
-  pub left : finish (stateOf r c) ≡ run p
+pub record Running (ed : Edition) (p : List ℕ) (r : Rooms) (c : Counts) : Type 0 where
+  pub left : finish ed (stateOf r c) ≡ run ed p
   pub sound : Sound r c
   pub same : r .pickle ≡ p
 
-pub running-start : (r : Rooms) → Sound r start → Running (r .pickle) r start
-running-start r s = record { left = rw (start-of r) (sym (run-finish (r .pickle))); sound = s; same = refl }
+pub running-start : (ed : Edition) (r : Rooms) → Sound r start → Running ed (r .pickle) r start
+running-start ed r s = record { left = rw (start-of r) (sym (run-finish ed (r .pickle))); sound = s; same = refl }
 
-module _ (p : List ℕ) (r r′ : Rooms) (c : Counts) (h : Running p r c) (e : r′ .pickle ≡ r .pickle) where
-  pub running-next : (d : Counts) → Done (step-of.Next d) r r′ (step (stateOf r c)) → Running p r′ d
-  running-next d t = record { left = sym (step-goes r r′ c (h .sound) d t) ∙ h .left; sound = step-sound r r′ c (h .sound) d t; same = e ∙ h .same }
+module _ (ed : Edition) (p : List ℕ) (r r′ : Rooms) (c : Counts) (h : Running ed p r c) (e : r′ .pickle ≡ r .pickle) where
+  pub running-next : (d : Counts) → Done (step-of.Next d) r r′ (step ed (stateOf r c)) → Running ed p r′ d
+  running-next d t = record { left = sym (step-goes ed r r′ c (h .sound) d t) ∙ h .left; sound = step-sound ed r r′ c (h .sound) d t; same = e ∙ h .same }
 
-  pub running-less : (d : Counts) → Done (step-of.Next d) r r′ (step (stateOf r c)) → length p - d .at < length p - c .at
-  running-less d t = rw (h .same) at (step-further r r′ c (h .sound) d t e)
+  pub running-less : (d : Counts) → Done (step-of.Next d) r r′ (step ed (stateOf r c)) → length p - d .at < length p - c .at
+  running-less d t = rw (h .same) at (step-further ed r r′ c (h .sound) d t e)
 
-  pub ran-stopped : (d : Counts) → Done (step-of.Stop d) r r′ (step (stateOf r c)) → Ran (outcome.Stopped d) p r′
+  pub ran-stopped : (d : Counts) → Done (step-of.Stop d) r r′ (step ed (stateOf r c)) → Ran ed (outcome.Stopped d) p r′
   unfolding ended countsOf
-  ran-stopped d t = let x = step-stops r r′ c (h .sound) d t in record { means = sym (x .0) ∙ h .left; sound = x .1; same = e ∙ h .same }
+  ran-stopped d t = let x = step-stops ed r r′ c (h .sound) d t in record { means = sym (x .0) ∙ h .left; sound = x .1; same = e ∙ h .same }
 
-  pub ran-refused : (d : Counts) (why : Refusal) → Done (step-of.Refused d why) r r′ (step (stateOf r c)) → Ran (outcome.Refused c why) p r′
+  pub ran-refused : (d : Counts) (why : Refusal) → Done (step-of.Refused d why) r r′ (step ed (stateOf r c)) → Ran ed (outcome.Refused c why) p r′
   unfolding ended countsOf
-  ran-refused d why t = let x = step-refuses r r′ c (h .sound) d why t in record { means = sym (x .0) ∙ h .left; sound = rw (x .1) (h .sound); same = e ∙ h .same }
+  ran-refused d why t = let x = step-refuses ed r r′ c (h .sound) d why t in record { means = sym (x .0) ∙ h .left; sound = rw (x .1) (h .sound); same = e ∙ h .same }
 
 -- ---- after n steps
 
 -- rooms and counts, one step after the other, as the code takes them
-pub record Steps (f : ℕ → Rooms) (g : ℕ → Counts) (n : ℕ) : Type 0 where
+pub record Steps (ed : Edition) (f : ℕ → Rooms) (g : ℕ → Counts) (n : ℕ) : Type 0 where
   pub first : stateOf (f 0) (g 0) ≡ begin (f 0 .pickle)
-  pub each : (i : ℕ) → i < n → Done (step-of.Next (g (suc i))) (f i) (f (suc i)) (step (stateOf (f i) (g i)))
+  pub each : (i : ℕ) → i < n → Done (step-of.Next (g (suc i))) (f i) (f (suc i)) (step ed (stateOf (f i) (g i)))
 
 -- a step behind a step: a machine that has stopped stays as it is
-unfoldable pub onward : Next → Res Next
-onward (goes s) = step s
-onward (stops s) = ok (stops s)
+unfoldable pub onward : Edition → Next → Res Next
+onward ed (goes s) = step ed s
+onward ed (stops s) = ok (stops s)
 
 -- the definition after n steps
-unfoldable pub afterSteps : ℕ → List ℕ → Res Next
-afterSteps zero p = ok (goes (begin p))
-afterSteps (suc n) p = afterSteps n p >>= onward
+unfoldable pub afterSteps : Edition → ℕ → List ℕ → Res Next
+afterSteps ed zero p = ok (goes (begin p))
+afterSteps ed (suc n) p = afterSteps ed n p >>= onward ed
 
 -- After n steps of the code that go on, its rooms and counts mean the definition's state after n.
-pub after-n-steps : (f : ℕ → Rooms) (g : ℕ → Counts) (n : ℕ) → Steps f g n → ok (goes (stateOf (f n) (g n))) ≡ afterSteps n (f 0 .pickle)
+pub after-n-steps : (ed : Edition) (f : ℕ → Rooms) (g : ℕ → Counts) (n : ℕ) → Steps ed f g n → ok (goes (stateOf (f n) (g n))) ≡ afterSteps ed n (f 0 .pickle)
 unfolding afterSteps meant onward _>>=_
-after-n-steps f g zero s = ap (λ (t : State). ok (goes t)) (s .first)
-after-n-steps f g (suc n) s =
-    let e = after-n-steps f g n (record { first = s .first; each = λ i h. s .each i (omega arith) }) in
+after-n-steps ed f g zero s = ap (λ (t : State). ok (goes t)) (s .first)
+after-n-steps ed f g (suc n) s =
+    let e = after-n-steps ed f g n (record { first = s .first; each = λ i h. s .each i (omega arith) }) in
     rw (← e) (s .each n (omega arith) .means)

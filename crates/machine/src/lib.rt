@@ -15,6 +15,8 @@ use effects::push_node;
 use effects::put_mark;
 use effects::remember;
 use effects::set_state;
+use op::Edition;
+use op::Objection;
 use refusal::Refusal;
 ghost use Rattle.steps.specs.Run.{step};
 ghost use Rattle.decoder.specs.Effects.{Lent, Decides, Sound};
@@ -55,8 +57,9 @@ fn apply(
     }
 }
 
-// The one match over the opcode byte. TUPLE1 to TUPLE3 are a range.
+// What the edition has against the opcode byte, then the one match over it. TUPLE1 to TUPLE3 are a range.
 fn decide(
+    edition: Edition,
     pickle: &[u8],
     nodes: &[u64],
     children: &[u16],
@@ -71,7 +74,7 @@ fn decide(
     ensures { λ e.
         ⌜ Decides c (Agrees
         (now (pickle .entry)) (now (nodes .entry)) (now (children .entry)) (now (stack .entry)) (now (marks .entry))
-        (now (keys .entry)) (now (held .entry))) step e ⌝ }
+        (now (keys .entry)) (now (held .entry))) (step edition) e ⌝ }
 {
     let at = c.at;
     if pickle.len() <= at {
@@ -89,57 +92,62 @@ fn decide(
         memo: c.memo,
         greatest: c.greatest,
     };
-    match code {
-        op::MARK => Effect::Mark(d),
-        op::STOP => Effect::Stop(d),
-        op::POP => decoder::pop(d),
-        op::POP_MARK => decoder::pop_mark(marks, d),
-        op::DUP => decoder::dup(stack, d),
-        op::FLOAT => decoder::float(pickle, d),
-        op::INT => decoder::int(pickle, d),
-        op::BININT => decoder::binint(pickle, d),
-        op::BININT1 => decoder::binint1(pickle, d),
-        op::LONG => decoder::long(pickle, d),
-        op::BININT2 => decoder::binint2(pickle, d),
-        op::NONE => Effect::Push(d, KIND_NONE, 0),
-        op::REDUCE => decoder::reduce(pickle, nodes, children, stack, d),
-        op::STRING => decoder::string(pickle, d),
-        op::BINSTRING => decoder::binstring(pickle, d),
-        op::SHORT_BINSTRING => decoder::short_binstring(pickle, d),
-        op::UNICODE => decoder::unicode(pickle, d),
-        op::BINUNICODE => decoder::binunicode(pickle, d),
-        op::APPEND => decoder::append(nodes, stack, d),
-        op::BUILD => decoder::build_state(nodes, stack, d),
-        op::GLOBAL => decoder::global(pickle, d),
-        op::DICT => decoder::dict(marks, d),
-        op::EMPTY_DICT => Effect::Push(d, KIND_DICT, 0),
-        op::APPENDS => decoder::appends(nodes, stack, marks, d),
-        op::GET => decoder::get_line(pickle, keys, held, d),
-        op::BINGET => decoder::binget(pickle, keys, held, d),
-        op::LONG_BINGET => decoder::long_binget(pickle, keys, held, d),
-        op::LIST => decoder::list(marks, d),
-        op::EMPTY_LIST => Effect::Push(d, KIND_LIST, 0),
-        op::PUT => decoder::put_line(pickle, stack, d),
-        op::BINPUT => decoder::binput(pickle, stack, d),
-        op::LONG_BINPUT => decoder::long_binput(pickle, stack, d),
-        op::SETITEM => decoder::setitem(nodes, stack, d),
-        op::TUPLE => decoder::tuple(marks, d),
-        op::EMPTY_TUPLE => Effect::Push(d, KIND_TUPLE, 0),
-        op::SETITEMS => decoder::setitems(nodes, stack, marks, d),
-        op::BINFLOAT => decoder::binfloat(pickle, d),
-        op::PROTO => decoder::proto(pickle, d),
-        op::NEWOBJ => decoder::newobj(nodes, stack, d),
-        op::NEWTRUE => Effect::Push(d, KIND_BOOL, 1),
-        op::NEWFALSE => Effect::Push(d, KIND_BOOL, 0),
-        op::LONG1 => decoder::long1(pickle, d),
-        op::LONG4 => decoder::long4(pickle, d),
-        0x85..=0x87 => decoder::small_tuple(d, code),
-        _ => Effect::Refused(c, 0, 0, Refusal::UnsupportedOpcode(code)),
+    match op::against(edition, code) {
+        Objection::Outside => Effect::Refused(c, 0, 0, Refusal::OutsideProfile(code)),
+        Objection::Unknown => Effect::Refused(c, 0, 0, Refusal::UnsupportedOpcode(code)),
+        Objection::Nothing => match code {
+            op::MARK => Effect::Mark(d),
+            op::STOP => Effect::Stop(d),
+            op::POP => decoder::pop(d),
+            op::POP_MARK => decoder::pop_mark(marks, d),
+            op::DUP => decoder::dup(stack, d),
+            op::FLOAT => decoder::float(pickle, d),
+            op::INT => decoder::int(pickle, d),
+            op::BININT => decoder::binint(pickle, d),
+            op::BININT1 => decoder::binint1(pickle, d),
+            op::LONG => decoder::long(pickle, d),
+            op::BININT2 => decoder::binint2(pickle, d),
+            op::NONE => Effect::Push(d, KIND_NONE, 0),
+            op::REDUCE => decoder::reduce(pickle, nodes, children, stack, d),
+            op::STRING => decoder::string(pickle, d),
+            op::BINSTRING => decoder::binstring(pickle, d),
+            op::SHORT_BINSTRING => decoder::short_binstring(pickle, d),
+            op::UNICODE => decoder::unicode(pickle, d),
+            op::BINUNICODE => decoder::binunicode(pickle, d),
+            op::APPEND => decoder::append(nodes, stack, d),
+            op::BUILD => decoder::build_state(nodes, stack, d),
+            op::GLOBAL => decoder::global(pickle, d),
+            op::DICT => decoder::dict(marks, d),
+            op::EMPTY_DICT => Effect::Push(d, KIND_DICT, 0),
+            op::APPENDS => decoder::appends(nodes, stack, marks, d),
+            op::GET => decoder::get_line(pickle, keys, held, d),
+            op::BINGET => decoder::binget(pickle, keys, held, d),
+            op::LONG_BINGET => decoder::long_binget(pickle, keys, held, d),
+            op::LIST => decoder::list(marks, d),
+            op::EMPTY_LIST => Effect::Push(d, KIND_LIST, 0),
+            op::PUT => decoder::put_line(pickle, stack, d),
+            op::BINPUT => decoder::binput(pickle, stack, d),
+            op::LONG_BINPUT => decoder::long_binput(pickle, stack, d),
+            op::SETITEM => decoder::setitem(nodes, stack, d),
+            op::TUPLE => decoder::tuple(marks, d),
+            op::EMPTY_TUPLE => Effect::Push(d, KIND_TUPLE, 0),
+            op::SETITEMS => decoder::setitems(nodes, stack, marks, d),
+            op::BINFLOAT => decoder::binfloat(pickle, d),
+            op::PROTO => decoder::proto(pickle, d, op::highest(edition)),
+            op::NEWOBJ => decoder::newobj(nodes, stack, d),
+            op::NEWTRUE => Effect::Push(d, KIND_BOOL, 1),
+            op::NEWFALSE => Effect::Push(d, KIND_BOOL, 0),
+            op::LONG1 => decoder::long1(pickle, d),
+            op::LONG4 => decoder::long4(pickle, d),
+            0x85..=0x87 => decoder::small_tuple(d, code),
+            _ => Effect::Refused(c, 0, 0, Refusal::UnsupportedOpcode(code)),
+        },
     }
 }
 
 // One step: the rooms and counts after it mean the definition's step of the state that they meant before, or its refusal.
 pub fn take_step(
+    edition: Edition,
     pickle: &[u8],
     nodes: &mut [u64],
     owners: &mut [u16],
@@ -153,11 +161,21 @@ pub fn take_step(
     requires { ⌜ Sound (roomsOf (now pickle)
         (now nodes) (now owners) (now children) (now stack) (now marks) (now keys) (now held)) c ⌝ }
     ensures { λ t.
-        ⌜ Stepped t c
+        ⌜ Stepped edition t c
         (roomsOf (now (pickle .entry)) (now (nodes .entry)) (now (owners .entry)) (now (children .entry)) (now (stack .entry)) (now (marks .entry)) (now (keys .entry)) (now (held .entry)))
         (roomsOf (now (pickle .entry)) (now (nodes .exit)) (now (owners .exit)) (now (children .exit)) (now (stack .exit)) (now (marks .exit)) (now (keys .exit)) (now (held .exit))) ⌝ }
 {
-    let e = decide(pickle, nodes, children, stack, marks, keys, held, c);
+    let e = decide(
+        edition,
+        pickle,
+        nodes,
+        children,
+        stack,
+        marks,
+        keys,
+        held,
+        c,
+    );
     apply(
         nodes,
         owners,
@@ -179,6 +197,7 @@ pub enum Outcome {
 
 // The run to STOP, in rooms that are all zero.
 pub fn run(
+    edition: Edition,
     pickle: &[u8],
     nodes: &mut [u64],
     owners: &mut [u16],
@@ -191,7 +210,7 @@ pub fn run(
     requires { ⌜ Sound (roomsOf (now pickle)
         (now nodes) (now owners) (now children) (now stack) (now marks) (now keys) (now held)) start ⌝ }
     ensures { λ o.
-        ⌜ Ran o (now (pickle .entry))
+        ⌜ Ran edition o (now (pickle .entry))
         (roomsOf (now (pickle .entry)) (now (nodes .exit)) (now (owners .exit)) (now (children .exit)) (now (stack .exit)) (now (marks .exit)) (now (keys .exit)) (now (held .exit))) ⌝ }
 {
     let mut c = Counts {
@@ -206,7 +225,18 @@ pub fn run(
         greatest: 0,
     };
     loop {
-        let t = take_step(pickle, nodes, owners, children, stack, marks, keys, held, c);
+        let t = take_step(
+            edition,
+            pickle,
+            nodes,
+            owners,
+            children,
+            stack,
+            marks,
+            keys,
+            held,
+            c,
+        );
         match t {
             Step::Next(d) => c = d,
             Step::Stop(d) => return Outcome::Stopped(d),

@@ -1,3 +1,4 @@
--- The table of opcodes.
+-- The table of opcodes, and the editions.
 pub mod Table
 pub mod Named
+pub mod Edition

@@ -1,7 +1,8 @@
 // The opcodes of protocols 0 to 2 (mod.rs's `op`), under the Rust's names and in its order. The `pickle!` macro is left out.
-// specs/ has their table from pickletools, and the decision over an opcode byte by it.
+// specs/ has their table from pickletools, the decision over an opcode byte by it, and the editions of the reader.
 ghost use mathlib.Core.Path.{_≡_};
 ghost use Rattle.op.specs.Table.{numberOf};
+ghost use Rattle.op.specs.Edition.{against, highest};
 
 pub const MARK: u8 = b'(';
 
@@ -196,5 +197,45 @@ pub fn number(name: Opcode) -> u8
         Opcode::NEWFALSE => NEWFALSE,
         Opcode::LONG1 => LONG1,
         Opcode::LONG4 => LONG4,
+    }
+}
+
+// Which reader: the full one, or the profile for plain data.
+pub enum Edition {
+    Full,
+    Plain,
+}
+
+// What an edition has against an opcode's byte.
+pub enum Objection {
+    Nothing,
+    Outside,
+    Unknown,
+}
+
+pub fn against(edition: Edition, code: u8) -> Objection
+    ensures { λ r. ⌜ r ≡ against edition code ⌝ }
+{
+    match edition {
+        Edition::Full => Objection::Nothing,
+        Edition::Plain => match code {
+            GLOBAL => Objection::Outside,
+            REDUCE => Objection::Outside,
+            NEWOBJ => Objection::Outside,
+            BUILD => Objection::Outside,
+            PUT => Objection::Outside,
+            GET => Objection::Outside,
+            _ => Objection::Nothing,
+        },
+    }
+}
+
+// The highest protocol that PROTO accepts.
+pub fn highest(edition: Edition) -> u8
+    ensures { λ r. ⌜ r ≡ highest edition ⌝ }
+{
+    match edition {
+        Edition::Full => 2,
+        Edition::Plain => 2,
     }
 }

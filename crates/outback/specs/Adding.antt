@@ -44,7 +44,7 @@ after-added R right why is v b i l ks e n r h = rw (top-ok v b i e, n, r) (after
 module _ {s t u : State} {mid rest : List ℕ} {l : Label} {c g : Forest} (x : OneMore s mid l c t) (marked : State) (same : marked .nodes ≡ t .nodes) where
   module _ (o : Opcode) (y : ManyMore marked (numberOf o ∷ rest) g u) (right : Label → Bool) (why : Refusal) (r : right l ≡ true) (ms : List ℕ) (w : ms ≡ s .marks) where
     -- an opcode that has taken the values off and adds them to the node below
-    add-on : does o (withInput u rest) ≡ going (added right why (y .ids) (withMarks (withStack (withInput u rest) (s .stack ++ (x .id ∷ []))) ms)) → Outcome u (OneMore s rest l (c ⊕ g))
+    add-on : does 2 o (withInput u rest) ≡ going (added right why (y .ids) (withMarks (withStack (withInput u rest) (s .stack ++ (x .id ∷ []))) ms)) → Outcome u (OneMore s rest l (c ⊕ g))
     add-on d =
         let n : at (u .nodes) (x .id) ≡ record { label = l; kids = x .kids } = y .old (x .id) (rw same (x .high)) ∙ ap (λ (v : List Node). at v (x .id)) same ∙ x .here in
         by-op o u rest (y .input) _ d

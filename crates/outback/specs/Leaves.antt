@@ -35,7 +35,7 @@ use Rattle.outback.specs.Outcome.{Outcome, OneMore, leaf-more}
 use Rattle.outback.specs.Steps.{by-op, after-push, bytes-ok}
 
 -- an opcode that does nothing but push
-pub pushes : (o : Opcode) (s : State) (r rest : List ℕ) (l : Label) → s .input ≡ numberOf o ∷ r → does o (withInput s r) ≡ going (push l (withInput s rest)) → Outcome s (OneMore s rest l nil)
+pub pushes : (o : Opcode) (s : State) (r rest : List ℕ) (l : Label) → s .input ≡ numberOf o ∷ r → does 2 o (withInput s r) ≡ going (push l (withInput s rest)) → Outcome s (OneMore s rest l nil)
 unfolding push
 pushes o s r rest l e d = by-op o s r e _ d (after-push (OneMore s rest l nil) (plain l) (withInput s rest) (leaf-more s rest l))
 

@@ -24,7 +24,7 @@ use Rattle.outback.specs.Adding.{markedOf, above}
 
 module _ {s u : State} {g : Forest} (rest : List ℕ) where
   -- one to three items
-  pub tuple-few : (n : ℕ) (o : Opcode) → ((v : State) → does o v ≡ going (tupleN n v)) → count g ≡ n → ManyMore s (numberOf o ∷ rest) g u → Outcome u (OneMore s rest TupleL g)
+  pub tuple-few : (n : ℕ) (o : Opcode) → ((v : State) → does 2 o v ≡ going (tupleN n v)) → count g ≡ n → ManyMore s (numberOf o ∷ rest) g u → Outcome u (OneMore s rest TupleL g)
   unfolding tupleN _>>=_
   tuple-few n o d h y =
       by-op o u rest (y .input) (made TupleL (y .ids) (withStack (withInput u rest) (s .stack)))
@@ -43,7 +43,7 @@ module _ {s u : State} {g : Forest} (rest : List ℕ) where
 -- ---- a class and its arguments
 
 module _ {s t u : State} {mid : List ℕ} {m k : List ℕ} {a : Forest} (rest : List ℕ) (o : Opcode) (x : OneMore s mid (GlobalL m k) nil t) (z : OneMore t (numberOf o ∷ rest) TupleL a u) where
-  called-on : (makes : List ℕ × List ℕ → ℕ → List ℕ → Node) (l : Label) (ks : List ℕ) (f : Forest) → ((v : State) → does o v ≡ going (called makes v))
+  called-on : (makes : List ℕ × List ℕ → ℕ → List ℕ → Node) (l : Label) (ks : List ℕ) (f : Forest) → ((v : State) → does 2 o v ≡ going (called makes v))
       → makes (m, k) (z .id) (z .kids) ≡ record { label = l; kids = ks } → WritesIn (u .nodes) (Between (length (s .nodes)) (length (u .nodes))) ks f → Outcome u (OneMore s rest l f)
   unfolding called need _>>=_
   called-on makes l ks f d q w =
@@ -57,13 +57,13 @@ module _ {s t u : State} {mid : List ℕ} {m k : List ℕ} {a : Forest} (rest : 
       (node-more s u rest l f (u .links) (u .marks) ks (z .marks ∙ x .marks) (omega (arith, x .low, x .high, z .low, z .high)) (λ i h. z .old i (omega (arith, x .low, x .high)) ∙ x .old i h) w))
 
   -- an Object holds the Tuple
-  pub object-on : (new : Bool) (makes : List ℕ × List ℕ → ℕ → List ℕ → Node) → ((v : State) → does o v ≡ going (called makes v)) → makes (m, k) (z .id) (z .kids) ≡ object (m, k) new (z .id) → Outcome u (OneMore s rest (ObjectL m k new) (node TupleL a nil))
+  pub object-on : (new : Bool) (makes : List ℕ × List ℕ → ℕ → List ℕ → Node) → ((v : State) → does 2 o v ≡ going (called makes v)) → makes (m, k) (z .id) (z .kids) ≡ object (m, k) new (z .id) → Outcome u (OneMore s rest (ObjectL m k new) (node TupleL a nil))
   object-on new makes d q =
       called-on makes (ObjectL m k new) (z .id ∷ []) (node TupleL a nil) d q
       (more (record { low = omega (arith, x .low, x .high, z .low); high = z .high }) (z .here) (writes-moved (λ j p. record { low = omega (arith, x .low, x .high, p .low); high = p .high }) (λ j p. refl) (z .inside)) none)
 
   -- a set holds the Tuple's one item
-  pub set-on : (l : Label) → ((v : State) → does o v ≡ going (called reduced v)) → count a ≡ 1 → ((i j : ℕ) → reduced (m, k) i (j ∷ []) ≡ record { label = l; kids = j ∷ [] }) → Outcome u (OneMore s rest l a)
+  pub set-on : (l : Label) → ((v : State) → does 2 o v ≡ going (called reduced v)) → count a ≡ 1 → ((i j : ℕ) → reduced (m, k) i (j ∷ []) ≡ record { label = l; kids = j ∷ [] }) → Outcome u (OneMore s rest l a)
   set-on l d n q = go (z .kids) refl (writes-count (z .inside) ∙ n)
     where
       go : (ks : List ℕ) → z .kids ≡ ks → length ks ≡ 1 → Outcome u (OneMore s rest l a)

@@ -9,6 +9,8 @@ use lib.ListN.{getD, replicate, length-append, length-replicate}
 use lib.Dec.{T, ltb, ltb→lt}
 use Rattle.refusal.specs.declared.Refusal.the-variants.{TooLong, EndOfInput}
 use Rattle.op.specs.Table as Table
+use Rattle.op.specs.Edition.{evaluates as edition-evaluates}
+use Rattle.op.specs.declared.Edition.the-variants.{Full}
 use Rattle.utf8.specs.Utf8 as utf8
 use Rattle.input.specs.Bytes.{lastByte, lowFirst}
 use Rattle.input.specs.Line as Line
@@ -26,7 +28,7 @@ use Rattle.steps.specs.Run as Run
 use Rattle.reading.specs.Build as Build
 use Rattle.reading.specs.Measure.{measured}
 use Rattle.reading.specs.Settle as Settle
-use Rattle.reading.specs.Reading.{refuses, reads, told, stopped, prefix, pickleLimit, stopped-long, prefix-refused}
+use Rattle.reading.specs.Reading.{refuses, reads, told, stopped, prefixIn, prefix, pickleLimit, stopped-long, prefix-refused}
 use Rattle.ser.specs.Image as Image
 use Rattle.ser.specs.Image.{pickled}
 use Rattle.ser.specs.Writable as Writable
@@ -49,11 +51,11 @@ unfolding lowFirst denotes Line.firstFrom Line.newlineOf Line.lessCr Line.lineOf
 literals = tt
 
 unfoldable running : Unit {0}
-unfolding Table.rowIn Table.rowOf Table.knownName Table.opcodeOf _>>=_ State.need State.leaf State.bytes State.byte State.line State.pop State.top State.popMark State.popMany State.pushId State.pushNode State.push State.link State.extend Opcodes.proto Opcodes.lowBytes Opcodes.binint1 Opcodes.binint Opcodes.binunicode Opcodes.global Opcodes.mark Opcodes.made Opcodes.tupleN Opcodes.added Opcodes.append Opcodes.appends Opcodes.pairs Opcodes.setitems Opcodes.called Opcodes.reduced Opcodes.reduce Run.going Run.does Run.decide Run.step Run.runs Run.start Run.run
+unfolding Table.rowIn Table.rowOf Table.knownName Table.opcodeOf edition-evaluates _>>=_ State.need State.leaf State.bytes State.byte State.line State.pop State.top State.popMark State.popMany State.pushId State.pushNode State.push State.link State.extend Opcodes.proto Opcodes.lowBytes Opcodes.binint1 Opcodes.binint Opcodes.binunicode Opcodes.global Opcodes.mark Opcodes.made Opcodes.tupleN Opcodes.added Opcodes.append Opcodes.appends Opcodes.pairs Opcodes.setitems Opcodes.called Opcodes.reduced Opcodes.reduce Run.going Run.does Run.decide Run.admit Run.step Run.runs Run.start Run.run
 running = tt
 
 unfoldable building : Unit {0}
-unfolding Build.firstTaken Build.blocked Build.finish Build.each Build.build Build.tree measured Settle.by Settle.insert Settle.asSet Settle.enter Settle.asDict Settle.items Settle.arrange Settle.settle told stopped prefix
+unfolding Build.firstTaken Build.blocked Build.finish Build.each Build.build Build.tree measured Settle.by Settle.insert Settle.asSet Settle.enter Settle.asDict Settle.items Settle.arrange Settle.settle told stopped prefixIn
 building = tt
 
 -- ---- all premises met
@@ -106,7 +108,7 @@ pub a-long-tail : prefix (pickled (record { label = NoneL; contents = nil }) ++ 
 unfolding writing
 a-long-tail =
     let p = pickled (record { label = NoneL; contents = nil }) in
-    prefix-refused (p ++ replicate pickleLimit 0) TooLong (stopped-long (p ++ replicate pickleLimit 0) (omega (arith, length-append p (replicate pickleLimit 0), length-replicate {A = ℕ} pickleLimit 0)))
+    prefix-refused Full (p ++ replicate pickleLimit 0) TooLong (stopped-long Full (p ++ replicate pickleLimit 0) (omega (arith, length-append p (replicate pickleLimit 0), length-replicate {A = ℕ} pickleLimit 0)))
 
 -- Room: without it nothing is written, and no bytes at all are 3.
 pub no-room : prefix [] ≡ refuses EndOfInput

@@ -9,6 +9,7 @@ use lib.Seq.{getD-append-seam, getD-set-same, getD-set-other}
 use lib.Dec.{T}
 use native.Mathlib.Omega.{arith}
 use Rattle.refusal.specs.declared.Refusal.{Refusal}
+use Rattle.op.specs.declared.Edition.the-variants.{Full}
 use Rattle.value.specs.Value.{Label, Forest, NoneL, nil, node}
 use Rattle.value.specs.Stands.{_⊕_}
 use Rattle.steps.specs.State.{Node, State, no, plain}
@@ -19,8 +20,8 @@ use Rattle.outback.specs.WriteOut.{WritesIn, none, more, writes-moved, w
 
 -- the run from s on is an added refusal, or it is that from t on, and R holds of t
 pub data Outcome (s : State) (R : State → Type 0) : Type 0 where
-  stops : (why : Refusal) → T (addedRefusal why) → finish s ≡ no why → Outcome s R
-  comes : (t : State) → finish s ≡ finish t → R t → Outcome s R
+  stops : (why : Refusal) → T (addedRefusal why) → finish Full s ≡ no why → Outcome s R
+  comes : (t : State) → finish Full s ≡ finish Full t → R t → Outcome s R
 
 pub onward : {s : State} {R Q : State → Type 0} → Outcome s R → ((t : State) → R t → Outcome t Q) → Outcome s Q
 onward (stops why a e) k = stops why a e

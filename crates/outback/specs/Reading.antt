@@ -11,6 +11,7 @@ use Rattle.refusal.specs.declared.Refusal.{Refusal}
 use Rattle.refusal.specs.declared.Refusal.the-variants.{TooLong, TooDeep, TooManyValues, TextFull}
 use Rattle.op.specs.Table.{numberOf}
 use Rattle.op.specs.declared.Opcode.the-variants.{PROTO, STOP}
+use Rattle.op.specs.declared.Edition.the-variants.{Full}
 use Rattle.input.specs.Bytes.{lt-or-le}
 use Rattle.value.specs.Value.{Forest, Value, one, depth, size, text}
 use Rattle.value.specs.WellFormed.{settled}
@@ -42,9 +43,9 @@ proto-on : (s : State) (r : List ℕ) → s .input ≡ numberOf PROTO ∷ 2 ∷ 
 unfolding does proto byte need _>>=_ After
 proto-on s r e = by-op PROTO s (2 ∷ r) e (ok (withInput s r)) (rw (bytes-ok (withInput s (2 ∷ r)) (2 ∷ []) r 1 refl refl)) refl
 
-stop-on : (t : State) (rest : List ℕ) → t .input ≡ numberOf STOP ∷ rest → finish t ≡ ok (withInput t rest)
+stop-on : (t : State) (rest : List ℕ) → t .input ≡ numberOf STOP ∷ rest → finish Full t ≡ ok (withInput t rest)
 unfolding does
-stop-on t rest e = finish-stops t (withInput t rest) (step-op STOP t rest e)
+stop-on t rest e = finish-stops Full t (withInput t rest) (step-op STOP t rest e)
 
 -- at STOP: the value alone on the stack
 record Stopped (v : Value) (rest : List ℕ) (t : State) : Type 0 where
@@ -89,12 +90,12 @@ module _ (v : Value) (good : AllReturnable (one v)) (rest : List ℕ) where
       go : (is : List ℕ) → t .stack ≡ is → WritesIn (t .nodes) (Between 0 (length (t .nodes))) is (unsettled (one v)) → Stopped v rest (withInput t rest)
       go is e (more {i} a q c none) = record { left = refl; root = i; stack = e; out = writes-moved (λ j x. tt) (λ j x. refl) (more {i = i} a q c none) }
 
-  run-back : RunBack v rest (run followed)
+  run-back : RunBack v rest (run Full followed)
   run-back = go runs-back
     where
-      go : Outcome (start followed) (ManyMore (withInput (start followed) afterProto) (numberOf STOP ∷ rest) (unsettled (one v))) → RunBack v rest (run followed)
-      go (stops why a e) = refused why a (run-finish followed ∙ e)
-      go (comes t e y) = stopped (withInput t rest) (run-finish followed ∙ e ∙ stop-on t rest (y .input)) (stopped-at t y)
+      go : Outcome (start followed) (ManyMore (withInput (start followed) afterProto) (numberOf STOP ∷ rest) (unsettled (one v))) → RunBack v rest (run Full followed)
+      go (stops why a e) = refused why a (run-finish Full followed ∙ e)
+      go (comes t e y) = stopped (withInput t rest) (run-finish Full followed ∙ e ∙ stop-on t rest (y .input)) (stopped-at t y)
 
   -- ---- after STOP
 
@@ -106,25 +107,25 @@ module _ (v : Value) (good : AllReturnable (one v)) (rest : List ℕ) where
       go (no why) f = refused why (measure-added (unsettled (one v)) why f) (q ∙ rw (f, told))
       go (ok u) f = back (q ∙ rw (f, told, settle-unsettled (one v) good h, e))
 
-  stopped-back : T (settled (one v)) → length followed ≤ pickleLimit → (t : State) → run followed ≡ ok t → Stopped v rest t → ReadBack v (prefix followed)
+  stopped-back : T (settled (one v)) → length followed ≤ pickleLimit → (t : State) → run Full followed ≡ ok t → Stopped v rest t → ReadBack v (prefix followed)
   unfolding followed
   stopped-back h l t e x =
       let w = writes-out (x .out) in
       let a : last (t .stack) ≡ x .root = rw (x .stack) in
       let z : 0 < length (t .stack) = rw (x .stack) (omega arith) in
       let n : consumed followed t ≡ length (pickled v) = rw (x .left) (omega (arith, length-append (pickled v) rest)) in
-      told-back (consumed followed t) n h (prefix followed) (sharing-never-shows followed t l e z (unsettled (one v)) (rw a (written-nothing-itself w)) (rw a w))
+      told-back (consumed followed t) n h (prefix followed) (sharing-never-shows Full followed t l e z (unsettled (one v)) (rw a (written-nothing-itself w)) (rw a w))
 
   answered : T (settled (one v)) → ReadBack v (prefix (pickled v ++ rest))
   unfolding followed
   answered h = go (lt-or-le pickleLimit (length followed))
     where
-      ran : length followed ≤ pickleLimit → RunBack v rest (run followed) → ReadBack v (prefix followed)
-      ran l (refused why a e) = refused why a (prefix-refused followed why (stopped-refused followed why l e))
+      ran : length followed ≤ pickleLimit → RunBack v rest (run Full followed) → ReadBack v (prefix followed)
+      ran l (refused why a e) = refused why a (prefix-refused Full followed why (stopped-refused Full followed why l e))
       ran l (stopped t e x) = stopped-back h l t e x
 
       go : (pickleLimit < length followed) ⊎ (length followed ≤ pickleLimit) → ReadBack v (prefix followed)
-      go (inl l) = refused TooLong tt (prefix-refused followed TooLong (stopped-long followed l))
+      go (inl l) = refused TooLong tt (prefix-refused Full followed TooLong (stopped-long Full followed l))
       go (inr l) = ran l run-back
 
 -- a reading meets no added refusal

@@ -1,4 +1,4 @@
--- A step by the opcode at hand, and the parts of steps: those that may meet an added refusal, and those that meet none where the stack and
+-- A step of the full edition by the opcode at hand, and the parts of steps: those that may meet an added refusal, and those that meet none where the stack and
 -- the marks are as the writer's bytes leave them.
 use Prim.Native.Nat.{ℕ, _+_, _-_}
 use mathlib.Core.Bool.{Bool, true, false}
@@ -13,11 +13,13 @@ use Rattle.refusal.specs.declared.Refusal.{Refusal}
 use Rattle.refusal.specs.declared.Refusal.the-variants.{StackFull, MarksFull, NodesFull, LinksFull}
 use Rattle.op.specs.Table.{numberOf}
 use Rattle.op.specs.Named.{named}
+use Rattle.op.specs.Edition.{against, outside, unknown, isOneOf, highest}
 use Rattle.op.specs.declared.Opcode.{Opcode}
+use Rattle.op.specs.declared.Edition.the-variants.{Full}
 use Rattle.value.specs.Value.{Label}
 use Rattle.steps.specs.State.{Node, State, Res, ok, no, _>>=_, need, withInput, withNodes, withStack, withMarks, withLinks, linksLimit, bytes, byte, pop, top, popMark, popMany, pushId, pushNode, link}
 use Rattle.steps.specs.Opcodes.{mark, made}
-use Rattle.steps.specs.Run.{going, does, decide, step}
+use Rattle.steps.specs.Run.{going, does, decide, admit, step}
 use Rattle.steps.specs.Fuel.{finish-goes, finish-refused}
 use Rattle.outback.specs.Added.{addedRefusal}
 use Rattle.outback.specs.Outcome.{Outcome, stops, comes}
@@ -28,8 +30,8 @@ bytes-ok s b r n e f =
     let y : length (b ++ r) ≡ length b + length r = length-append b r in
     rw (e, le-leb n (length (b ++ r)) (omega arith), take-at b r n f, drop-at b r n f)
 
-pub step-op : (o : Opcode) (s : State) (r : List ℕ) → s .input ≡ numberOf o ∷ r → step s ≡ does o (withInput s r)
-unfolding step byte _>>=_ decide
+pub step-op : (o : Opcode) (s : State) (r : List ℕ) → s .input ≡ numberOf o ∷ r → step Full s ≡ does 2 o (withInput s r)
+unfolding step byte _>>=_ decide admit against outside unknown isOneOf highest
 step-op o s r e = rw (bytes-ok s (numberOf o ∷ []) r 1 e refl, named o)
 
 -- R holds of the state that comes out, or an added refusal does
@@ -37,10 +39,10 @@ unfoldable pub After : (State → Type 0) → Res State → Type 0
 After R (ok t) = R t
 After R (no why) = T (addedRefusal why)
 
-pub by-op : {R : State → Type 0} (o : Opcode) (s : State) (r : List ℕ) → s .input ≡ numberOf o ∷ r → (x : Res State) → does o (withInput s r) ≡ going x → After R x → Outcome s R
+pub by-op : {R : State → Type 0} (o : Opcode) (s : State) (r : List ℕ) → s .input ≡ numberOf o ∷ r → (x : Res State) → does 2 o (withInput s r) ≡ going x → After R x → Outcome s R
 unfolding After going
-by-op o s r e (ok t) d h = comes t (finish-goes s t (step-op o s r e ∙ d)) h
-by-op o s r e (no why) d h = stops why h (finish-refused s s why (step-op o s r e ∙ d))
+by-op o s r e (ok t) d h = comes t (finish-goes Full s t (step-op o s r e ∙ d)) h
+by-op o s r e (no why) d h = stops why h (finish-refused Full s s why (step-op o s r e ∙ d))
 
 -- ---- parts with a limit
 

@@ -1,11 +1,13 @@
 // The public calls (mod.rs's `pub use`), for Rattle and, exported, for other languages: numbers and slices go in, a slice as a
 // pointer and a length, and a struct comes back. Every input is accepted, and every call ends.
+use op::Edition;
 use refusal::Answer;
 use scorer::Scored;
 use table::Compared;
 ghost use mathlib.Core.List.{[], _∷_};
 ghost use mathlib.Core.Path.{_≡_};
-ghost use Rattle.reading.specs.Reading.{prefix, whole};
+ghost use Rattle.op.specs.declared.Edition.the-variants.{Plain};
+ghost use Rattle.reading.specs.Reading.{prefix, whole, prefixIn, wholeIn};
 ghost use Rattle.table.specs.Compare.{Compares};
 ghost use Rattle.table.specs.Length.{textLength};
 ghost use Rattle.de.specs.Call.{ReadCall};
@@ -44,6 +46,7 @@ pub extern "C" fn qelemvir_from_bytes_prefix(
         ∷ now (table .exit) ∷ now (text .exit) ∷ []) a ⌝ }
 {
     de::reading(
+        Edition::Full,
         false,
         pickle,
         nodes,
@@ -92,6 +95,104 @@ pub extern "C" fn qelemvir_from_bytes(
         ∷ now (table .exit) ∷ now (text .exit) ∷ []) a ⌝ }
 {
     de::reading(
+        Edition::Full,
+        true,
+        pickle,
+        nodes,
+        owners,
+        children,
+        stack,
+        marks,
+        keys,
+        held,
+        unescaped,
+        starts,
+        sorted,
+        measures,
+        table,
+        text,
+    )
+}
+
+// The same two readings of plain data only: an opcode outside the profile is 26.
+#[no_mangle]
+pub extern "C" fn qelemvir_plain_from_bytes_prefix(
+    pickle: &[u8],
+    nodes: &mut [u64],
+    owners: &mut [u16],
+    children: &mut [u16],
+    stack: &mut [u16],
+    marks: &mut [u16],
+    keys: &mut [u32],
+    held: &mut [u16],
+    unescaped: &mut [u8],
+    starts: &mut [u16],
+    sorted: &mut [u16],
+    measures: &mut [u64],
+    table: &mut [u64],
+    text: &mut [u8],
+) -> Answer
+    ensures { λ a.
+        ⌜ ReadCall (prefixIn Plain (now (pickle .entry)))
+        (now (nodes .entry) ∷ now (owners .entry) ∷ now (children .entry) ∷ now (stack .entry)
+        ∷ now (marks .entry) ∷ now (keys .entry) ∷ now (held .entry)
+        ∷ now (unescaped .entry) ∷ now (starts .entry) ∷ now (sorted .entry) ∷ now (measures .entry)
+        ∷ now (table .entry) ∷ now (text .entry) ∷ [])
+        (now (nodes .exit) ∷ now (owners .exit) ∷ now (children .exit) ∷ now (stack .exit)
+        ∷ now (marks .exit) ∷ now (keys .exit) ∷ now (held .exit)
+        ∷ now (unescaped .exit) ∷ now (starts .exit) ∷ now (sorted .exit) ∷ now (measures .exit)
+        ∷ now (table .exit) ∷ now (text .exit) ∷ []) a ⌝ }
+{
+    de::reading(
+        Edition::Plain,
+        false,
+        pickle,
+        nodes,
+        owners,
+        children,
+        stack,
+        marks,
+        keys,
+        held,
+        unescaped,
+        starts,
+        sorted,
+        measures,
+        table,
+        text,
+    )
+}
+
+#[no_mangle]
+pub extern "C" fn qelemvir_plain_from_bytes(
+    pickle: &[u8],
+    nodes: &mut [u64],
+    owners: &mut [u16],
+    children: &mut [u16],
+    stack: &mut [u16],
+    marks: &mut [u16],
+    keys: &mut [u32],
+    held: &mut [u16],
+    unescaped: &mut [u8],
+    starts: &mut [u16],
+    sorted: &mut [u16],
+    measures: &mut [u64],
+    table: &mut [u64],
+    text: &mut [u8],
+) -> Answer
+    ensures { λ a.
+        ⌜ ReadCall (wholeIn Plain (now (pickle .entry)))
+        (now (nodes .entry) ∷ now (owners .entry) ∷ now (children .entry) ∷ now (stack .entry)
+        ∷ now (marks .entry) ∷ now (keys .entry) ∷ now (held .entry)
+        ∷ now (unescaped .entry) ∷ now (starts .entry) ∷ now (sorted .entry) ∷ now (measures .entry)
+        ∷ now (table .entry) ∷ now (text .entry) ∷ [])
+        (now (nodes .exit) ∷ now (owners .exit) ∷ now (children .exit) ∷ now (stack .exit)
+        ∷ now (marks .exit) ∷ now (keys .exit) ∷ now (held .exit)
+        ∷ now (unescaped .exit) ∷ now (starts .exit) ∷ now (sorted .exit) ∷ now (measures .exit)
+        ∷ now (table .exit) ∷ now (text .exit) ∷ []) a ⌝ }
+{
+    de::reading(
+        Edition::Plain,
         true,
         pickle,
         nodes,

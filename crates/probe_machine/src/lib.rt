@@ -1,5 +1,6 @@
 // For benchmarks only: the machine's run in rooms of its own, which it makes zero at each call, for a driver in another language.
 use machine::Outcome;
+use op::Edition;
 use refusal::Answer;
 use refusal::Refusal;
 
@@ -29,6 +30,7 @@ pub extern "C" fn probe_machine(pickle: &[u8]) -> Answer {
     let mut keys = [0u32; 1024];
     let mut held = [0u16; 1024];
     ended(machine::run(
+        Edition::Full,
         pickle,
         &mut nodes,
         &mut owners,

@@ -8,6 +8,7 @@ use mathlib.Core.Path.{_≡_, refl}
 use Rattle.refusal.specs.declared.Refusal.the-variants.{EndOfInput, StackUnderflow, IntegerTooLarge, Invalid}
 use Rattle.refusal.specs.declared.Wanted.the-variants.{Length}
 use Rattle.op.specs.Table.{rowIn, rowOf, knownName, opcodeOf}
+use Rattle.op.specs.Edition.{evaluates as edition-evaluates}
 use Rattle.utf8.specs.Utf8 as utf8
 use Rattle.input.specs.Line.{firstFrom, newlineOf, lessCr, lineOf}
 use Rattle.input.specs.Long.{evaluates as long-evaluates}
@@ -18,11 +19,11 @@ use Rattle.value.specs.Value.{text, count, size, depth, table, NoneL, BoolL, I6
 use Rattle.value.specs.Order.{_then_, lex, labels, forests, order}
 use Rattle.steps.specs.State.{_>>=_, need, leaf, bytes, byte, line, pop, top, popMark, popMany, pushId, pushNode, push, link, extend, find, has, insert, get, put}
 use Rattle.steps.specs.Opcodes.{builtin, setName, proto, popOne, intLabel, int, lowBytes, binint1, longN, string, signedLength, binstring, shortBinstring, unicode, binunicode, global, made, tupleN, pairs, added, append, setitems, getBytes, putBytes, reduced, called, reduce, buildState, mark}
-use Rattle.steps.specs.Run.{going, does, decide, step, runs, start, run}
+use Rattle.steps.specs.Run.{going, does, decide, admit, step, runs, start, run}
 use Rattle.reading.specs.Build as Build
 use Rattle.reading.specs.Measure.{measured}
 use Rattle.reading.specs.Settle as Settle
-use Rattle.reading.specs.Reading.{Reading, refuses, reads, told, stopped, prefix}
+use Rattle.reading.specs.Reading.{Reading, refuses, reads, told, stopped, prefixIn, prefix}
 
 -- opens what the pickles compute with: the leaves, the machine, the builder
 unfoldable literals : Unit {0}
@@ -30,11 +31,11 @@ unfolding utf8.evaluates firstFrom newlineOf lessCr lineOf long-evaluates whiteS
 literals = tt
 
 unfoldable machine : Unit {0}
-unfolding rowIn rowOf knownName opcodeOf _>>=_ need leaf bytes byte line pop top popMark popMany pushId pushNode push link extend find has insert get put proto popOne intLabel int lowBytes binint1 longN string signedLength binstring shortBinstring unicode binunicode global made tupleN pairs added append setitems getBytes putBytes reduced called reduce buildState mark going does decide step runs start run
+unfolding rowIn rowOf knownName opcodeOf edition-evaluates _>>=_ need leaf bytes byte line pop top popMark popMany pushId pushNode push link extend find has insert get put proto popOne intLabel int lowBytes binint1 longN string signedLength binstring shortBinstring unicode binunicode global made tupleN pairs added append setitems getBytes putBytes reduced called reduce buildState mark going does decide admit step runs start run
 machine = tt
 
 unfoldable builder : Unit {0}
-unfolding text count size depth table _then_ lex labels forests order Build.firstTaken Build.blocked Build.finish Build.each Build.build Build.tree measured Settle.by Settle.insert Settle.asSet Settle.enter Settle.asDict Settle.items Settle.arrange Settle.settle told stopped prefix
+unfolding text count size depth table _then_ lex labels forests order Build.firstTaken Build.blocked Build.finish Build.each Build.build Build.tree measured Settle.by Settle.insert Settle.asSet Settle.enter Settle.asDict Settle.items Settle.arrange Settle.settle told stopped prefixIn
 builder = tt
 
 -- a pickle and its prefix reading

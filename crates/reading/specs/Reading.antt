@@ -1,5 +1,5 @@
--- The two readings (`from_bytes_prefix`, `from_bytes`): from a pickle's bytes to number, detail, length, count, table and text. Then
--- demand 3 for the prefix reading. (ShortRoom, 1, is about the lent slices and is the code's affair.)
+-- The two readings (`from_bytes_prefix`, `from_bytes`) in any edition: from a pickle's bytes to number, detail, length, count, table and
+-- text. Then demand 3 for the prefix reading. (ShortRoom, 1, is about the lent slices and is the code's affair.)
 use Prim.Native.Nat.{ℕ, _-_, _*_, _<_, _≤_}
 use mathlib.Core.Bool.{Bool, true, false, cond, _&&_}
 use mathlib.Core.List.{List, [], _∷_}
@@ -12,6 +12,8 @@ use Rattle.refusal.specs.declared.Refusal.{Refusal}
 use Rattle.refusal.specs.declared.Refusal.the-variants.{TooLong, StackUnderflow, TrailingData}
 use Rattle.refusal.specs.declared.Answer.{Answer}
 use Rattle.refusal.specs.Numbers.{refusedAnswer}
+use Rattle.op.specs.declared.Edition.{Edition}
+use Rattle.op.specs.declared.Edition.the-variants.{Full}
 use Rattle.value.specs.Value.{Forest, one, size, depth, text, table, table-length}
 use Rattle.steps.specs.State.{State, Res, ok, no, _>>=_, need, last, pop}
 use Rattle.steps.specs.Run.{run}
@@ -46,10 +48,10 @@ pickleLimit = 65536
 
 -- The machine at STOP and the value left, the top of the stack whatever lies below it and whatever marks are open: 2 for more bytes than
 -- the limit, opcode by opcode, 6 for an empty stack.
-unfoldable pub stopped : List ℕ → Res (State × ℕ)
-stopped p = do
+unfoldable pub stopped : Edition → List ℕ → Res (State × ℕ)
+stopped ed p = do
   _ ← need (leb (length p) pickleLimit) TooLong
-  s ← run p
+  s ← run ed p
   (root, below) ← pop s
   ok (s, root)
 
@@ -58,57 +60,64 @@ abbrev pub consumed : List ℕ → State → ℕ
 consumed p s = length p - length (s .input)
 
 -- the prefix reading
-unfoldable pub prefix : List ℕ → Reading
-prefix p = elim (stopped p) [ no why ↦ refuses why | ok x ↦ told (consumed p (x .0)) (one (tree (x .0 .nodes) (x .1))) ]
+unfoldable pub prefixIn : Edition → List ℕ → Reading
+prefixIn ed p = elim (stopped ed p) [ no why ↦ refuses why | ok x ↦ told (consumed p (x .0)) (one (tree (x .0 .nodes) (x .1))) ]
 
 -- a reading that succeeds and leaves bytes
 unfoldable pub leaves : List ℕ → Reading → Bool
 leaves p r = eqb (r .answer .number) 0 && ltb (r .answer .length) (length p)
 
 -- the whole reading: as the prefix reading, but 11 exactly when that one succeeds and leaves bytes
-unfoldable pub whole : List ℕ → Reading
-whole p = cond (leaves p (prefix p)) (refuses TrailingData) (prefix p)
+unfoldable pub wholeIn : Edition → List ℕ → Reading
+wholeIn ed p = cond (leaves p (prefixIn ed p)) (refuses TrailingData) (prefixIn ed p)
+
+-- those of document 01: in the full edition
+abbrev pub prefix : List ℕ → Reading
+prefix p = prefixIn Full p
+
+abbrev pub whole : List ℕ → Reading
+whole p = wholeIn Full p
 
 -- ---- the readings, case by case
 
-module _ (p : List ℕ) where
-  pub stopped-long : pickleLimit < length p → stopped p ≡ no TooLong
+module _ (ed : Edition) (p : List ℕ) where
+  pub stopped-long : pickleLimit < length p → stopped ed p ≡ no TooLong
   unfolding stopped _>>=_ need
   stopped-long h = rw (lt-leb (length p) pickleLimit h)
 
-  pub stopped-refused : (why : Refusal) → length p ≤ pickleLimit → run p ≡ no why → stopped p ≡ no why
+  pub stopped-refused : (why : Refusal) → length p ≤ pickleLimit → run ed p ≡ no why → stopped ed p ≡ no why
   unfolding stopped _>>=_ need
   stopped-refused why l e = rw (le-leb (length p) pickleLimit l, e)
 
   -- read to STOP with no value left
-  pub stopped-empty : (s : State) → length p ≤ pickleLimit → run p ≡ ok s → length (s .stack) ≤ 0 → stopped p ≡ no StackUnderflow
+  pub stopped-empty : (s : State) → length p ≤ pickleLimit → run ed p ≡ ok s → length (s .stack) ≤ 0 → stopped ed p ≡ no StackUnderflow
   unfolding stopped pop _>>=_ need
   stopped-empty s l e h = rw (le-leb (length p) pickleLimit l, e, le-ltb 0 (length (s .stack)) h)
 
   -- read to STOP with a value left
-  pub stopped-with : (s : State) → length p ≤ pickleLimit → run p ≡ ok s → 0 < length (s .stack) → stopped p ≡ ok (s, last (s .stack))
+  pub stopped-with : (s : State) → length p ≤ pickleLimit → run ed p ≡ ok s → 0 < length (s .stack) → stopped ed p ≡ ok (s, last (s .stack))
   unfolding stopped pop _>>=_ need
   stopped-with s l e h = rw (le-leb (length p) pickleLimit l, e, lt-ltb 0 (length (s .stack)) h)
 
-  pub prefix-refused : (why : Refusal) → stopped p ≡ no why → prefix p ≡ refuses why
-  unfolding prefix
-  prefix-refused why e = rw (e, prefix)
+  pub prefix-refused : (why : Refusal) → stopped ed p ≡ no why → prefixIn ed p ≡ refuses why
+  unfolding prefixIn
+  prefix-refused why e = rw (e, prefixIn)
 
-  pub prefix-told : (s : State) (root : ℕ) → stopped p ≡ ok (s, root) → prefix p ≡ told (consumed p s) (one (tree (s .nodes) root))
-  unfolding prefix
-  prefix-told s root e = rw (e, prefix)
+  pub prefix-told : (s : State) (root : ℕ) → stopped ed p ≡ ok (s, root) → prefixIn ed p ≡ told (consumed p s) (one (tree (s .nodes) root))
+  unfolding prefixIn
+  prefix-told s root e = rw (e, prefixIn)
 
-  pub whole-trailing : leaves p (prefix p) ≡ true → whole p ≡ refuses TrailingData
-  unfolding whole
+  pub whole-trailing : leaves p (prefixIn ed p) ≡ true → wholeIn ed p ≡ refuses TrailingData
+  unfolding wholeIn
   whole-trailing e = rw e
 
-  pub whole-prefix : leaves p (prefix p) ≡ false → whole p ≡ prefix p
-  unfolding whole
+  pub whole-prefix : leaves p (prefixIn ed p) ≡ false → wholeIn ed p ≡ prefixIn ed p
+  unfolding wholeIn
   whole-prefix e = rw e
 
 -- the bytes consumed are the pickle's beginning, of one at least; what the machine has left is the rest
-pub consumed-rest : (p : List ℕ) (s : State) → run p ≡ ok s → (0 < consumed p s) × (consumed p s ≤ length p) × (s .input ≡ drop (consumed p s) p)
-consumed-rest p s e = let l : Later 1 p s = of-out (Later 1 p) (run p) s (run-later p) e in go (l .read) (l .enough) (l .inside) (l .left)
+pub consumed-rest : (ed : Edition) (p : List ℕ) (s : State) → run ed p ≡ ok s → (0 < consumed p s) × (consumed p s ≤ length p) × (s .input ≡ drop (consumed p s) p)
+consumed-rest ed p s e = let l : Later 1 p s = of-out (Later 1 p) (run ed p) s (run-later ed p) e in go (l .read) (l .enough) (l .inside) (l .left)
   where
     go : (r : ℕ) → 1 ≤ r → r ≤ length p → s .input ≡ drop r p → (0 < consumed p s) × (consumed p s ≤ length p) × (s .input ≡ drop (consumed p s) p)
     go r a b i =
@@ -134,10 +143,10 @@ told-fits n f e =
 
 -- Any pickle that is read to its STOP with a value left, where nothing reachable from that value contains itself: the prefix reading's
 -- answer is that of the value written out plainly, same value, length, and refusal for depth, values or text.
-module _ (p : List ℕ) (s : State) (short : length p ≤ pickleLimit) (stop : run p ≡ ok s) (left : 0 < length (s .stack)) where
-  pub sharing-never-shows : (f : Forest) → NothingContainsItself (s .nodes) (last (s .stack)) → WritesOut (s .nodes) (last (s .stack) ∷ []) f → prefix p ≡ told (consumed p s) f
-  sharing-never-shows f h w = rw (prefix-told p s (last (s .stack)) (stopped-with p s short stop left)) (ap (told (consumed p s)) (tree-is-write-out (s .nodes) (last (s .stack)) f h w))
+module _ (ed : Edition) (p : List ℕ) (s : State) (short : length p ≤ pickleLimit) (stop : run ed p ≡ ok s) (left : 0 < length (s .stack)) where
+  pub sharing-never-shows : (f : Forest) → NothingContainsItself (s .nodes) (last (s .stack)) → WritesOut (s .nodes) (last (s .stack) ∷ []) f → prefixIn ed p ≡ told (consumed p s) f
+  sharing-never-shows f h w = rw (prefix-told ed p s (last (s .stack)) (stopped-with ed p s short stop left)) (ap (told (consumed p s)) (tree-is-write-out (s .nodes) (last (s .stack)) f h w))
 
   -- and such a write-out there is
-  pub written-out : NothingContainsItself (s .nodes) (last (s .stack)) → (f : Forest) × WritesOut (s .nodes) (last (s .stack) ∷ []) f × (prefix p ≡ told (consumed p s) f)
-  written-out h = (one (tree (s .nodes) (last (s .stack))), tree-writes-out (s .nodes) (last (s .stack)) h, prefix-told p s (last (s .stack)) (stopped-with p s short stop left))
+  pub written-out : NothingContainsItself (s .nodes) (last (s .stack)) → (f : Forest) × WritesOut (s .nodes) (last (s .stack) ∷ []) f × (prefixIn ed p ≡ told (consumed p s) f)
+  written-out h = (one (tree (s .nodes) (last (s .stack))), tree-writes-out (s .nodes) (last (s .stack)) h, prefix-told ed p s (last (s .stack)) (stopped-with ed p s short stop left))

@@ -5,8 +5,9 @@ use mathlib.Core.List.{List}
 use mathlib.Core.Path.{_≡_, refl}
 use native.Mathlib.Omega.{arith}
 use Rattle.refusal.specs.declared.Refusal.{Refusal}
-use Rattle.refusal.specs.declared.Refusal.the-variants.{ShortRoom, TooLong, EndOfInput, UnsupportedOpcode, UnsupportedProtocol, StackUnderflow, MissingMemo, InvalidLiteral, IntegerTooLarge, Invalid, TrailingData, StackFull, MarksFull, MemoFull, NodesFull, LinksFull, TooDeep, TooManyValues, TextFull, FloatOutside, BadTable, OutputFull, UnwritableName}
+use Rattle.refusal.specs.declared.Refusal.the-variants.{ShortRoom, TooLong, EndOfInput, UnsupportedOpcode, UnsupportedProtocol, StackUnderflow, MissingMemo, InvalidLiteral, IntegerTooLarge, Invalid, TrailingData, StackFull, MarksFull, MemoFull, NodesFull, LinksFull, TooDeep, TooManyValues, TextFull, FloatOutside, BadTable, OutputFull, UnwritableName, OutsideProfile}
 use Rattle.refusal.specs.Numbers.{numberOf}
+use Rattle.op.specs.declared.Edition.{Edition}
 use Rattle.input.specs.Bytes.{Bytes}
 use Rattle.value.specs.Value.{one}
 use Rattle.value.specs.WellFormed.{WellFormed}
@@ -16,7 +17,7 @@ use Rattle.steps.specs.Out.{Out, out, bind, bind-any, bind-need}
 use Rattle.steps.specs.Shape.{Shaped, run-shaped}
 use Rattle.reading.specs.Build.{tree}
 use Rattle.reading.specs.Measure.{measured}
-use Rattle.reading.specs.Reading.{Reading, refuses, told, consumed, stopped, prefix, leaves, whole}
+use Rattle.reading.specs.Reading.{Reading, refuses, told, consumed, stopped, prefixIn, leaves, wholeIn}
 use Rattle.reading.specs.Well.{well-formed}
 use Rattle.reading.specs.Letters.{Lettered, lettered-at, run-lettered}
 
@@ -45,8 +46,9 @@ refusal-number FloatOutside e = omega arith
 refusal-number (BadTable which) e = omega arith
 refusal-number OutputFull e = omega arith
 refusal-number UnwritableName e = omega arith
+refusal-number (OutsideProfile code) e = omega arith
 
-both-out : {A : Type 0} (P Q : A → Type 0) (r : Res A) → Out P r → Out Q r → Out (λ (a : A). P a × Q a) r
+pub both-out : {A : Type 0} (P Q : A → Type 0) (r : Res A) → Out P r → Out Q r → Out (λ (a : A). P a × Q a) r
 unfolding Out
 both-out P Q (ok a) p q = (p, q)
 both-out P Q (no why) p q = tt
@@ -55,9 +57,9 @@ both-out P Q (no why) p q = tt
 Sound : State → Type 0
 Sound s = Shaped (s .nodes) × Lettered (s .nodes)
 
-stopped-sound : (p : List ℕ) → Bytes p → Out (λ (x : State × ℕ). Sound (x .0)) (stopped p)
+stopped-sound : (ed : Edition) (p : List ℕ) → Bytes p → Out (λ (x : State × ℕ). Sound (x .0)) (stopped ed p)
 unfolding stopped Sound
-stopped-sound p b = bind-need _ _ _ _ λ l. bind _ _ _ _ (both-out _ _ (run p) (run-shaped p) (run-lettered p b)) λ s h. bind-any _ _ _ λ q e. out _ _ h
+stopped-sound ed p b = bind-need _ _ _ _ λ l. bind _ _ _ _ (both-out _ _ (run ed p) (run-shaped ed p) (run-lettered ed p b)) λ s h. bind-any _ _ _ λ q e. out _ _ h
 
 unfoldable pub Formed : Reading → Type 0
 Formed r = r .answer .number ≡ 0 → WellFormed (r .words) (r .answer .count) (r .bytes)
@@ -74,18 +76,18 @@ told-formed n s root h = go (measured (one (tree (s .nodes) root))) refl
     go (no why) e = rw (e, told) (refused-formed why)
     go (ok u) e = rw (e, told) (λ z. well-formed (s .nodes) root (h .0) (λ i. lettered-at (s .nodes) i (h .1)) e)
 
-pub prefix-well-formed : (p : List ℕ) → Bytes p → Formed (prefix p)
-unfolding prefix Out
-prefix-well-formed p b = go (stopped p) refl (stopped-sound p b)
+pub prefix-well-formed : (ed : Edition) (p : List ℕ) → Bytes p → Formed (prefixIn ed p)
+unfolding prefixIn Out
+prefix-well-formed ed p b = go (stopped ed p) refl (stopped-sound ed p b)
   where
-    go : (r : Res (State × ℕ)) → stopped p ≡ r → Out (λ (x : State × ℕ). Sound (x .0)) r → Formed (prefix p)
-    go (no why) e h = rw (e, prefix) (refused-formed why)
-    go (ok x) e h = rw (e, prefix) (told-formed (consumed p (x .0)) (x .0) (x .1) h)
+    go : (r : Res (State × ℕ)) → stopped ed p ≡ r → Out (λ (x : State × ℕ). Sound (x .0)) r → Formed (prefixIn ed p)
+    go (no why) e h = rw (e, prefixIn) (refused-formed why)
+    go (ok x) e h = rw (e, prefixIn) (told-formed (consumed p (x .0)) (x .0) (x .1) h)
 
-pub whole-well-formed : (p : List ℕ) → Bytes p → Formed (whole p)
-unfolding whole
-whole-well-formed p b = go (leaves p (prefix p))
+pub whole-well-formed : (ed : Edition) (p : List ℕ) → Bytes p → Formed (wholeIn ed p)
+unfolding wholeIn
+whole-well-formed ed p b = go (leaves p (prefixIn ed p))
   where
-    go : (c : Bool) → Formed (cond c (refuses TrailingData) (prefix p))
+    go : (c : Bool) → Formed (cond c (refuses TrailingData) (prefixIn ed p))
     go true = refused-formed TrailingData
-    go false = prefix-well-formed p b
+    go false = prefix-well-formed ed p b

@@ -5,7 +5,7 @@ use Rattle.refusal.specs.declared.Wanted.the-variants.{Length, DictItems
 use Rattle.refusal.specs.declared.Which.{Which}
 use Rattle.refusal.specs.declared.Which.the-variants.{First, Second}
 use Rattle.refusal.specs.declared.Refusal.{Refusal}
-use Rattle.refusal.specs.declared.Refusal.the-variants.{ShortRoom, TooLong, EndOfInput, UnsupportedOpcode, UnsupportedProtocol, StackUnderflow, MissingMemo, InvalidLiteral, IntegerTooLarge, Invalid, TrailingData, StackFull, MarksFull, MemoFull, NodesFull, LinksFull, TooDeep, TooManyValues, TextFull, FloatOutside, BadTable, OutputFull, UnwritableName}
+use Rattle.refusal.specs.declared.Refusal.the-variants.{ShortRoom, TooLong, EndOfInput, UnsupportedOpcode, UnsupportedProtocol, StackUnderflow, MissingMemo, InvalidLiteral, IntegerTooLarge, Invalid, TrailingData, StackFull, MarksFull, MemoFull, NodesFull, LinksFull, TooDeep, TooManyValues, TextFull, FloatOutside, BadTable, OutputFull, UnwritableName, OutsideProfile}
 use Rattle.refusal.specs.declared.Answer.{Answer}
 
 -- the details of number 10
@@ -48,6 +48,7 @@ numberOf FloatOutside = (20, 0)
 numberOf (BadTable which) = (21, whichDetail which)
 numberOf OutputFull = (22, 0)
 numberOf UnwritableName = (25, 0)
+numberOf (OutsideProfile code) = (26, code)
 
 -- a refusal has length 0 and count 0
 abbrev pub refusedAnswer : Refusal → Answer

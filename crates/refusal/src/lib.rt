@@ -44,6 +44,7 @@ pub enum Refusal {
     BadTable(Which),
     OutputFull,
     UnwritableName,
+    OutsideProfile(u8),
 }
 
 // Number 0 is success. `length`: bytes read or written; `count`: a reading's records.
@@ -82,6 +83,7 @@ pub fn number(why: Refusal) -> u64
         Refusal::BadTable(_) => 21,
         Refusal::OutputFull => 22,
         Refusal::UnwritableName => 25,
+        Refusal::OutsideProfile(_) => 26,
     }
 }
 
@@ -135,6 +137,7 @@ pub fn detail(why: Refusal) -> u64
         Refusal::BadTable(which) => which_detail(which),
         Refusal::OutputFull => 0,
         Refusal::UnwritableName => 0,
+        Refusal::OutsideProfile(code) => code as u64,
     }
 }
 

@@ -5,6 +5,7 @@ use decoder::Counts;
 use effects::Step;
 use machine::Outcome;
 use machine::take_step;
+use op::Edition;
 ghost use Prim.Native.Nat.{_≤_};
 ghost use mathlib.Core.Path.{_≡_};
 ghost use lib.ListN.{length};
@@ -56,7 +57,18 @@ fn steps(
     };
     loop {
         show_step(c);
-        let t = take_step(pickle, nodes, owners, children, stack, marks, keys, held, c);
+        let t = take_step(
+            Edition::Full,
+            pickle,
+            nodes,
+            owners,
+            children,
+            stack,
+            marks,
+            keys,
+            held,
+            c,
+        );
         match t {
             Step::Next(d) => c = d,
             Step::Stop(d) => return Outcome::Stopped(d),

@@ -15,7 +15,7 @@ fn main() {
     let mut table = [0u64; 8192];
     let mut text = [0u8; 65536];
     let mut output = [0u8; 122883];
-    let read = console::read(&mut table, &mut text);
+    let read = console::read_input(false, &mut table, &mut text);
     if read.number != 0 {
         console::show_refusal(read.number, read.detail);
         return;

@@ -8,7 +8,8 @@ use mathlib.Core.Path.{_≡_, refl, sym, _∙_, ap}
 use lib.ListN.{length}
 use native.Mathlib.Omega.{arith}
 use Rattle.refusal.specs.declared.Answer.{Answer}
-use Rattle.reading.specs.Reading.{Reading, pickleLimit, prefix, whole}
+use Rattle.op.specs.declared.Edition.{Edition}
+use Rattle.reading.specs.Reading.{Reading, pickleLimit, prefixIn, wholeIn}
 use Rattle.rooms.specs.Stated.{Slices, stated, short}
 use Rattle.de.specs.Call.{Left, reading, ReadCall}
 use Rattle.run_laws.specs.Numbers.{LeavesBytes, prefix-two, prefix-never-one, prefix-never-eleven, whole-two, whole-eleven, whole-never-one}
@@ -40,24 +41,24 @@ module _ (x : Reading) (l l′ : Slices) (a : Answer) (c : ReadCall x l l′ a) 
   call-other : (k : ℕ) → ¬ (k ≡ 1) → (Rule : Type 0) → (x .answer .number ≡ k) ↔ Rule → (a .number ≡ k) ↔ ((short stated l ≡ false) × Rule)
   call-other k h Rule r = Iff·trans (is-other (short stated l) (x .answer .number) (a .number) (answered x l l′ a c) k h) (Iff·and Iff·rfl r)
 
--- ---- the two calls
+-- ---- the two calls, in any edition
 
-module _ (p : List ℕ) (l l′ : Slices) (a : Answer) (c : ReadCall (prefix p) l l′ a) where
+module _ (ed : Edition) (p : List ℕ) (l l′ : Slices) (a : Answer) (c : ReadCall (prefixIn ed p) l l′ a) where
   pub prefix-call-one : (a .number ≡ 1) ↔ (short stated l ≡ true)
-  prefix-call-one = call-one (prefix p) l l′ a c (prefix-never-one p)
+  prefix-call-one = call-one (prefixIn ed p) l l′ a c (prefix-never-one ed p)
 
   pub prefix-call-two : (a .number ≡ 2) ↔ ((short stated l ≡ false) × (pickleLimit < length p))
-  prefix-call-two = call-other (prefix p) l l′ a c 2 (λ q. omega arith) (pickleLimit < length p) (prefix-two p)
+  prefix-call-two = call-other (prefixIn ed p) l l′ a c 2 (λ q. omega arith) (pickleLimit < length p) (prefix-two ed p)
 
   pub prefix-call-never-eleven : ¬ (a .number ≡ 11)
-  prefix-call-never-eleven e = prefix-never-eleven p (is-other (short stated l) (prefix p .answer .number) (a .number) (answered (prefix p) l l′ a c) 11 (λ q. omega arith) .0 e .1)
+  prefix-call-never-eleven e = prefix-never-eleven ed p (is-other (short stated l) (prefixIn ed p .answer .number) (a .number) (answered (prefixIn ed p) l l′ a c) 11 (λ q. omega arith) .0 e .1)
 
-module _ (p : List ℕ) (l l′ : Slices) (a : Answer) (c : ReadCall (whole p) l l′ a) where
+module _ (ed : Edition) (p : List ℕ) (l l′ : Slices) (a : Answer) (c : ReadCall (wholeIn ed p) l l′ a) where
   pub whole-call-one : (a .number ≡ 1) ↔ (short stated l ≡ true)
-  whole-call-one = call-one (whole p) l l′ a c (whole-never-one p)
+  whole-call-one = call-one (wholeIn ed p) l l′ a c (whole-never-one ed p)
 
   pub whole-call-two : (a .number ≡ 2) ↔ ((short stated l ≡ false) × (pickleLimit < length p))
-  whole-call-two = call-other (whole p) l l′ a c 2 (λ q. omega arith) (pickleLimit < length p) (whole-two p)
+  whole-call-two = call-other (wholeIn ed p) l l′ a c 2 (λ q. omega arith) (pickleLimit < length p) (whole-two ed p)
 
-  pub whole-call-eleven : (a .number ≡ 11) ↔ ((short stated l ≡ false) × LeavesBytes p)
-  whole-call-eleven = call-other (whole p) l l′ a c 11 (λ q. omega arith) (LeavesBytes p) (whole-eleven p)
+  pub whole-call-eleven : (a .number ≡ 11) ↔ ((short stated l ≡ false) × LeavesBytes ed p)
+  whole-call-eleven = call-other (wholeIn ed p) l l′ a c 11 (λ q. omega arith) (LeavesBytes ed p) (whole-eleven ed p)

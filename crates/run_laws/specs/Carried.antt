@@ -9,6 +9,7 @@ use lib.ListN.{length, getD, take, length-take}
 use lib.Seq.{take-append-le, take-length, getD-take}
 use lib.Dec.{T}
 use native.Mathlib.Omega.{arith}
+use Rattle.op.specs.declared.Edition.{Edition}
 use Rattle.input.specs.Bytes.{lt-or-le}
 use Rattle.value.specs.Value.{Label, NoneL, BoolL, I64L, F64L, BytesL, StringL, ListL, TupleL, SetL, FrozenSetL, DictL, GlobalL, ObjectL}
 use Rattle.steps.specs.State.{Node, State, ok, nodeAt}
@@ -73,37 +74,37 @@ module _ (i : ℕ) (l : Label) (ks : List ℕ) (g : T (listOrDict l)) where
       let c = changed-begins (nodeAt s i) (nodeAt t i) ks h (b .kids) (effect-changes s t e .each i (labelled (λ (x : Label). T (listOrDict x)) (s .nodes) i (λ u. u) h)) in
       record { label = c .0 ∙ b .label; kids = c .1 }
 
-  pub step-begins : (s : State) → Begins i l ks s → Out (λ (n : Next). Begins i l ks (after n)) (step s)
+  pub step-begins : (ed : Edition) (s : State) → Begins i l ks s → Out (λ (n : Next). Begins i l ks (after n)) (step ed s)
   step-begins = step-keeps (Begins i l ks) (λ s j b. record { label = b .label; kids = b .kids }) effect-begins
 
-  onward-begins : (x : Next) → Begins i l ks (after x) → Out (λ (n : Next). Begins i l ks (after n)) (onward x)
+  onward-begins : (ed : Edition) (x : Next) → Begins i l ks (after x) → Out (λ (n : Next). Begins i l ks (after n)) (onward ed x)
   unfolding onward after Out
-  onward-begins (goes s) b = step-begins s b
-  onward-begins (stops s) b = b
+  onward-begins ed (goes s) b = step-begins ed s b
+  onward-begins ed (stops s) b = b
 
   -- ---- any number of steps
 
-  begun : (p : List ℕ) (k : ℕ) (x : Next) → afterSteps k p ≡ ok x → Begins i l ks (after x) → (m : ℕ) → k ≡ m → Out (λ (n : Next). Begins i l ks (after n)) (afterSteps m p)
-  begun p k x e b m q = rw (← q, e) (out (λ (n : Next). Begins i l ks (after n)) x b)
+  begun : (ed : Edition) (p : List ℕ) (k : ℕ) (x : Next) → afterSteps ed k p ≡ ok x → Begins i l ks (after x) → (m : ℕ) → k ≡ m → Out (λ (n : Next). Begins i l ks (after n)) (afterSteps ed m p)
+  begun ed p k x e b m q = rw (← q, e) (out (λ (n : Next). Begins i l ks (after n)) x b)
 
-  begins-later : (p : List ℕ) (k : ℕ) (x : Next) → afterSteps k p ≡ ok x → Begins i l ks (after x) → (m : ℕ) → k ≤ m → Out (λ (n : Next). Begins i l ks (after n)) (afterSteps m p)
+  begins-later : (ed : Edition) (p : List ℕ) (k : ℕ) (x : Next) → afterSteps ed k p ≡ ok x → Begins i l ks (after x) → (m : ℕ) → k ≤ m → Out (λ (n : Next). Begins i l ks (after n)) (afterSteps ed m p)
   unfolding afterSteps
-  begins-later p k x e b zero h = let q : k ≡ 0 = omega arith in begun p k x e b 0 q
-  begins-later p k x e b (suc m) h = go (lt-or-le m k) (begins-later p k x e b m)
+  begins-later ed p k x e b zero h = let q : k ≡ 0 = omega arith in begun ed p k x e b 0 q
+  begins-later ed p k x e b (suc m) h = go (lt-or-le m k) (begins-later ed p k x e b m)
     where
-      go : (m < k) ⊎ (k ≤ m) → (k ≤ m → Out (λ (n : Next). Begins i l ks (after n)) (afterSteps m p)) → Out (λ (n : Next). Begins i l ks (after n)) (afterSteps (suc m) p)
-      go (inl u) more = begun p k x e b (suc m) (omega arith)
-      go (inr u) more = bind _ _ (afterSteps m p) onward (more (omega arith)) onward-begins
+      go : (m < k) ⊎ (k ≤ m) → (k ≤ m → Out (λ (n : Next). Begins i l ks (after n)) (afterSteps ed m p)) → Out (λ (n : Next). Begins i l ks (after n)) (afterSteps ed (suc m) p)
+      go (inl u) more = begun ed p k x e b (suc m) (omega arith)
+      go (inr u) more = bind _ _ (afterSteps ed m p) (onward ed) (more (omega arith)) (onward-begins ed)
 
 -- x after k steps, y after as many or more: a list or dict of x has its label in y, and begins there with all that it contains in x
-pub contents-stay : (p : List ℕ) (k m : ℕ) (x y : Next) → k ≤ m → afterSteps k p ≡ ok x → afterSteps m p ≡ ok y → (i : ℕ) → T (listOrDict (nodeAt (after x) i .label)) → Begins i (nodeAt (after x) i .label) (nodeAt (after x) i .kids) (after y)
-contents-stay p k m x y h e f i g = of-out _ (afterSteps m p) y (begins-later i (nodeAt (after x) i .label) (nodeAt (after x) i .kids) g p k x e (begins-itself (after x) i) m h) f
+pub contents-stay : (ed : Edition) (p : List ℕ) (k m : ℕ) (x y : Next) → k ≤ m → afterSteps ed k p ≡ ok x → afterSteps ed m p ≡ ok y → (i : ℕ) → T (listOrDict (nodeAt (after x) i .label)) → Begins i (nodeAt (after x) i .label) (nodeAt (after x) i .kids) (after y)
+contents-stay ed p k m x y h e f i g = of-out _ (afterSteps ed m p) y (begins-later i (nodeAt (after x) i .label) (nodeAt (after x) i .kids) g ed p k x e (begins-itself (after x) i) m h) f
 
 -- the same of the machine at STOP
-pub contents-at-stop : (p : List ℕ) (k : ℕ) (x : Next) (z : State) → afterSteps k p ≡ ok x → run p ≡ ok z → (i : ℕ) → T (listOrDict (nodeAt (after x) i .label)) → Begins i (nodeAt (after x) i .label) (nodeAt (after x) i .kids) z
+pub contents-at-stop : (ed : Edition) (p : List ℕ) (k : ℕ) (x : Next) (z : State) → afterSteps ed k p ≡ ok x → run ed p ≡ ok z → (i : ℕ) → T (listOrDict (nodeAt (after x) i .label)) → Begins i (nodeAt (after x) i .label) (nodeAt (after x) i .kids) z
 unfolding after atEnd
-contents-at-stop p k x z e stop i g =
-    let t = in-steps p in
+contents-at-stop ed p k x z e stop i g =
+    let t = in-steps ed p in
     let m = k + t .steps in
-    let f : afterSteps m p ≡ ok (stops z) = from-then-on p (t .steps) m (t .takes) (omega arith) ∙ ap atEnd stop in
-    contents-stay p k m x (stops z) (omega arith) e f i g
+    let f : afterSteps ed m p ≡ ok (stops z) = from-then-on ed p (t .steps) m (t .takes) (omega arith) ∙ ap atEnd stop in
+    contents-stay ed p k m x (stops z) (omega arith) e f i g

@@ -13,11 +13,15 @@ use Rattle.refusal.specs.declared.Wanted.the-variants.{DictItems, List as AList
 use Rattle.op.specs.Table.{opcodeOf}
 use Rattle.op.specs.declared.Opcode.{Opcode}
 use Rattle.op.specs.declared.Opcode.the-variants.{MARK, STOP, POP, «POP_MARK», DUP, FLOAT, INT, BININT, BININT1, LONG, BININT2, NONE, REDUCE, STRING, BINSTRING, «SHORT_BINSTRING», UNICODE, BINUNICODE, APPEND, BUILD, GLOBAL, DICT, «EMPTY_DICT», APPENDS, GET, BINGET, «LONG_BINGET», LIST, «EMPTY_LIST», PUT, BINPUT, «LONG_BINPUT», SETITEM, TUPLE, «EMPTY_TUPLE», SETITEMS, BINFLOAT, PROTO, NEWOBJ, TUPLE1, TUPLE2, TUPLE3, NEWTRUE, NEWFALSE, LONG1, LONG4}
+use Rattle.op.specs.Edition.{against, highest}
+use Rattle.op.specs.declared.Edition.{Edition}
+use Rattle.op.specs.declared.Objection.{Objection}
+use Rattle.op.specs.declared.Objection.the-variants.{Nothing, Outside, Unknown}
 use Rattle.input.specs.Long.{denotes}
 use Rattle.value.specs.Value.{Label, NoneL, BoolL, I64L, F64L, BytesL, StringL, ListL, TupleL, SetL, FrozenSetL, DictL, GlobalL, ObjectL, Forest}
 use Rattle.steps.specs.State.{Node, State, Res, ok, no, _>>=_, need, leaf, bytes, byte, line, pop, top, popMark, popMany, pushId, pushNode, push, link, nodeAt, find, get, put}
 use Rattle.steps.specs.Opcodes.{isList, isDict, classOf, proto, mark, popOne, popToMark, dup, int, lowBytes, binint, binint1, binint2, long, longN, float, binfloat, string, signedLength, binstring, shortBinstring, unicode, binunicode, global, made, list, tuple, tupleN, pairs, dict, added, append, appends, setitem, setitems, getLine, getBytes, putLine, putBytes, called, reduce, newobj, buildState}
-use Rattle.steps.specs.Run.{Next, goes, stops, going, does, decide, step, runs, start, run}
+use Rattle.steps.specs.Run.{Next, goes, stops, going, does, decide, admit, step, runs, start, run}
 use Rattle.reading.specs.Measure.{measured}
 use Rattle.run_laws.specs.Inner.{Inner, InnerRead, newline-inner, longOf-inner, parseU32-inner, intLiteral-inner, longLiteral-inner, parseF64-inner, unescapeString-inner, unescapeUnicode-inner}
 
@@ -161,9 +165,9 @@ called-inner makes s = joined _ _ (pop-inner s) λ p. joined _ _ (pop-inner (p .
 -- ---- the opcodes
 
 module _ (s : State) where
-  proto-inner : InnerOnly (proto s)
+  proto-inner : (v : ℕ) → InnerOnly (proto v s)
   unfolding proto
-  proto-inner = joined _ _ (byte-inner s) λ p. after-check _ (UnsupportedProtocol (p .0)) _ tt (fine _)
+  proto-inner v = joined _ _ (byte-inner s) λ p. after-check _ (UnsupportedProtocol (p .0)) _ tt (fine _)
 
   mark-inner : InnerOnly (mark s)
   unfolding mark
@@ -302,79 +306,85 @@ unfolding InnerOnly going
 going-inner (ok s) h = tt
 going-inner (no why) h = h
 
-pub does-inner : (o : Opcode) (s : State) → InnerOnly (does o s)
+pub does-inner : (v : ℕ) (o : Opcode) (s : State) → InnerOnly (does v o s)
 unfolding does
-does-inner MARK s = going-inner _ (mark-inner s)
-does-inner STOP s = fine _
-does-inner POP s = going-inner _ (popOne-inner s)
-does-inner «POP_MARK» s = going-inner _ (popToMark-inner s)
-does-inner DUP s = going-inner _ (dup-inner s)
-does-inner FLOAT s = going-inner _ (float-inner s)
-does-inner INT s = going-inner _ (int-inner s)
-does-inner BININT s = going-inner _ (binint-inner s)
-does-inner BININT1 s = going-inner _ (binint1-inner s)
-does-inner LONG s = going-inner _ (long-inner s)
-does-inner BININT2 s = going-inner _ (binint2-inner s)
-does-inner NONE s = going-inner _ (push-inner NoneL s)
-does-inner REDUCE s = going-inner _ (reduce-inner s)
-does-inner STRING s = going-inner _ (string-inner s)
-does-inner BINSTRING s = going-inner _ (binstring-inner s)
-does-inner «SHORT_BINSTRING» s = going-inner _ (shortBinstring-inner s)
-does-inner UNICODE s = going-inner _ (unicode-inner s)
-does-inner BINUNICODE s = going-inner _ (binunicode-inner s)
-does-inner APPEND s = going-inner _ (append-inner s)
-does-inner BUILD s = going-inner _ (build-inner s)
-does-inner GLOBAL s = going-inner _ (global-inner s)
-does-inner DICT s = going-inner _ (dict-inner s)
-does-inner «EMPTY_DICT» s = going-inner _ (push-inner DictL s)
-does-inner APPENDS s = going-inner _ (appends-inner s)
-does-inner GET s = going-inner _ (getLine-inner s)
-does-inner BINGET s = going-inner _ (getBytes-inner s 1)
-does-inner «LONG_BINGET» s = going-inner _ (getBytes-inner s 4)
-does-inner LIST s = going-inner _ (list-inner s)
-does-inner «EMPTY_LIST» s = going-inner _ (push-inner ListL s)
-does-inner PUT s = going-inner _ (putLine-inner s)
-does-inner BINPUT s = going-inner _ (putBytes-inner s 1)
-does-inner «LONG_BINPUT» s = going-inner _ (putBytes-inner s 4)
-does-inner SETITEM s = going-inner _ (setitem-inner s)
-does-inner TUPLE s = going-inner _ (tuple-inner s)
-does-inner «EMPTY_TUPLE» s = going-inner _ (push-inner TupleL s)
-does-inner SETITEMS s = going-inner _ (setitems-inner s)
-does-inner BINFLOAT s = going-inner _ (binfloat-inner s)
-does-inner PROTO s = going-inner _ (proto-inner s)
-does-inner NEWOBJ s = going-inner _ (newobj-inner s)
-does-inner TUPLE1 s = going-inner _ (tupleN-inner s 1)
-does-inner TUPLE2 s = going-inner _ (tupleN-inner s 2)
-does-inner TUPLE3 s = going-inner _ (tupleN-inner s 3)
-does-inner NEWTRUE s = going-inner _ (push-inner (BoolL true) s)
-does-inner NEWFALSE s = going-inner _ (push-inner (BoolL false) s)
-does-inner LONG1 s = going-inner _ (longN-inner s 1)
-does-inner LONG4 s = going-inner _ (longN-inner s 4)
+does-inner v MARK s = going-inner _ (mark-inner s)
+does-inner v STOP s = fine _
+does-inner v POP s = going-inner _ (popOne-inner s)
+does-inner v «POP_MARK» s = going-inner _ (popToMark-inner s)
+does-inner v DUP s = going-inner _ (dup-inner s)
+does-inner v FLOAT s = going-inner _ (float-inner s)
+does-inner v INT s = going-inner _ (int-inner s)
+does-inner v BININT s = going-inner _ (binint-inner s)
+does-inner v BININT1 s = going-inner _ (binint1-inner s)
+does-inner v LONG s = going-inner _ (long-inner s)
+does-inner v BININT2 s = going-inner _ (binint2-inner s)
+does-inner v NONE s = going-inner _ (push-inner NoneL s)
+does-inner v REDUCE s = going-inner _ (reduce-inner s)
+does-inner v STRING s = going-inner _ (string-inner s)
+does-inner v BINSTRING s = going-inner _ (binstring-inner s)
+does-inner v «SHORT_BINSTRING» s = going-inner _ (shortBinstring-inner s)
+does-inner v UNICODE s = going-inner _ (unicode-inner s)
+does-inner v BINUNICODE s = going-inner _ (binunicode-inner s)
+does-inner v APPEND s = going-inner _ (append-inner s)
+does-inner v BUILD s = going-inner _ (build-inner s)
+does-inner v GLOBAL s = going-inner _ (global-inner s)
+does-inner v DICT s = going-inner _ (dict-inner s)
+does-inner v «EMPTY_DICT» s = going-inner _ (push-inner DictL s)
+does-inner v APPENDS s = going-inner _ (appends-inner s)
+does-inner v GET s = going-inner _ (getLine-inner s)
+does-inner v BINGET s = going-inner _ (getBytes-inner s 1)
+does-inner v «LONG_BINGET» s = going-inner _ (getBytes-inner s 4)
+does-inner v LIST s = going-inner _ (list-inner s)
+does-inner v «EMPTY_LIST» s = going-inner _ (push-inner ListL s)
+does-inner v PUT s = going-inner _ (putLine-inner s)
+does-inner v BINPUT s = going-inner _ (putBytes-inner s 1)
+does-inner v «LONG_BINPUT» s = going-inner _ (putBytes-inner s 4)
+does-inner v SETITEM s = going-inner _ (setitem-inner s)
+does-inner v TUPLE s = going-inner _ (tuple-inner s)
+does-inner v «EMPTY_TUPLE» s = going-inner _ (push-inner TupleL s)
+does-inner v SETITEMS s = going-inner _ (setitems-inner s)
+does-inner v BINFLOAT s = going-inner _ (binfloat-inner s)
+does-inner v PROTO s = going-inner _ (proto-inner s v)
+does-inner v NEWOBJ s = going-inner _ (newobj-inner s)
+does-inner v TUPLE1 s = going-inner _ (tupleN-inner s 1)
+does-inner v TUPLE2 s = going-inner _ (tupleN-inner s 2)
+does-inner v TUPLE3 s = going-inner _ (tupleN-inner s 3)
+does-inner v NEWTRUE s = going-inner _ (push-inner (BoolL true) s)
+does-inner v NEWFALSE s = going-inner _ (push-inner (BoolL false) s)
+does-inner v LONG1 s = going-inner _ (longN-inner s 1)
+does-inner v LONG4 s = going-inner _ (longN-inner s 4)
 
 -- ---- a step, the run, the measures
 
-decide-inner : (o : Option Opcode) (b : ℕ) (s : State) → InnerOnly (decide o b s)
+decide-inner : (v : ℕ) (o : Option Opcode) (b : ℕ) (s : State) → InnerOnly (decide v o b s)
 unfolding decide InnerOnly
-decide-inner none b s = tt
-decide-inner (some o) b s = does-inner o s
+decide-inner v none b s = tt
+decide-inner v (some o) b s = does-inner v o s
 
-pub step-inner : (s : State) → InnerOnly (step s)
+admit-inner : (x : Objection) (b : ℕ) (r : Res Next) → InnerOnly r → InnerOnly (admit x b r)
+unfolding admit InnerOnly
+admit-inner Nothing b r h = h
+admit-inner Outside b r h = tt
+admit-inner Unknown b r h = tt
+
+pub step-inner : (ed : Edition) (s : State) → InnerOnly (step ed s)
 unfolding step
-step-inner s = joined _ _ (byte-inner s) λ p. decide-inner (opcodeOf (p .0)) (p .0) (p .1)
+step-inner ed s = joined _ _ (byte-inner s) λ p. admit-inner (against ed (p .0)) (p .0) _ (decide-inner (highest ed) (opcodeOf (p .0)) (p .0) (p .1))
 
-pub runs-inner : (k : ℕ) (s : State) → InnerOnly (runs k s)
+pub runs-inner : (ed : Edition) (k : ℕ) (s : State) → InnerOnly (runs ed k s)
 unfolding runs InnerOnly
-runs-inner zero s = tt
-runs-inner (suc k) s = go (step s) refl (step-inner s) (runs-inner k)
+runs-inner ed zero s = tt
+runs-inner ed (suc k) s = go (step ed s) refl (step-inner ed s) (runs-inner ed k)
   where
-    go : (r : Res Next) → step s ≡ r → InnerOnly r → ((t : State) → InnerOnly (runs k t)) → InnerOnly (runs (suc k) s)
+    go : (r : Res Next) → step ed s ≡ r → InnerOnly r → ((t : State) → InnerOnly (runs ed k t)) → InnerOnly (runs ed (suc k) s)
     go (no why) e h more = rw (e, runs) h
     go (ok (stops t)) e h more = rw (e, runs) tt
     go (ok (goes t)) e h more = rw (e, runs) (more t)
 
-pub run-inner : (p : List ℕ) → InnerOnly (run p)
+pub run-inner : (ed : Edition) (p : List ℕ) → InnerOnly (run ed p)
 unfolding run
-run-inner p = runs-inner _ (start p)
+run-inner ed p = runs-inner ed _ (start p)
 
 pub measured-inner : (f : Forest) → InnerOnly (measured f)
 unfolding measured

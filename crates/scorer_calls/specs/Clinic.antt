@@ -11,6 +11,8 @@ use borrow.Author.Tests.{le-ltb}
 use native.Mathlib.Omega.{arith}
 use Rattle.refusal.specs.declared.Answer.{Answer}
 use Rattle.op.specs.Table as Table
+use Rattle.op.specs.Edition.{evaluates as edition-evaluates}
+use Rattle.op.specs.declared.Edition.the-variants.{Full}
 use Rattle.utf8.specs.Utf8 as utf8
 use Rattle.input.specs.Bytes.{Bytes, lastByte, lowFirst}
 use Rattle.input.specs.Line as Line
@@ -46,7 +48,7 @@ use Rattle.scorer_calls.specs.Sharing.{ScoresLeft, ScoresPlain, shared-s
 -- ---- what computes
 
 unfoldable running : Unit {0}
-unfolding lastByte lowFirst utf8.evaluates Line.firstFrom Line.newlineOf Line.lessCr Line.lineOf Space.same Table.rowIn Table.rowOf Table.knownName Table.opcodeOf _>>=_ State.need State.leaf State.bytes State.byte State.line State.pop State.top State.popMark State.popMany State.pushId State.pushNode State.push State.link State.extend State.find State.has State.insert State.get State.put Opcodes.proto Opcodes.mark Opcodes.lowBytes Opcodes.binint1 Opcodes.shortBinstring Opcodes.global Opcodes.made Opcodes.tupleN Opcodes.pairs Opcodes.added Opcodes.append Opcodes.setitems Opcodes.getBytes Opcodes.putBytes Opcodes.called Opcodes.reduced Opcodes.reduce Run.going Run.does Run.decide Run.step Run.runs Run.start Run.run
+unfolding lastByte lowFirst utf8.evaluates Line.firstFrom Line.newlineOf Line.lessCr Line.lineOf Space.same Table.rowIn Table.rowOf Table.knownName Table.opcodeOf edition-evaluates _>>=_ State.need State.leaf State.bytes State.byte State.line State.pop State.top State.popMark State.popMany State.pushId State.pushNode State.push State.link State.extend State.find State.has State.insert State.get State.put Opcodes.proto Opcodes.mark Opcodes.lowBytes Opcodes.binint1 Opcodes.shortBinstring Opcodes.global Opcodes.made Opcodes.tupleN Opcodes.pairs Opcodes.added Opcodes.append Opcodes.setitems Opcodes.getBytes Opcodes.putBytes Opcodes.called Opcodes.reduced Opcodes.reduce Run.going Run.does Run.decide Run.admit Run.step Run.runs Run.start Run.run
 running = tt
 
 unfoldable shaping : Unit {0}
@@ -118,7 +120,7 @@ nodes mark =
 -- the nodes at STOP; the sheet that is scored is the root
 record Stops (mark : Bool) : Type 0 where
   state : State
-  runs : run (sheet mark) ≡ ok state
+  runs : run Full (sheet mark) ≡ ok state
   made : state .nodes ≡ nodes mark
   root : state .stack ≡ 0 ∷ []
   whole : state .input ≡ []
@@ -240,7 +242,7 @@ pub record Reads (p : List ℕ) (due : Scored) : Type 0 where
 -- each of the two sheets is scored right: 3 of two items where the mark is set, and 7 where it is not
 pub each-right : (mark : Bool) → Reads (sheet mark) (scored (due mark) 2)
 unfolding leaves
-each-right mark = record { accepted = λ l l′ a long c. read l l′ a long c; scores = λ l l′ a r long c q. shared-scores p (sheet-bytes mark) s fits (e .runs) left apart f w l l′ a (read l l′ a long c) c q (plainly-scored mark); both = whole-prefix p ends }
+each-right mark = record { accepted = λ l l′ a long c. read l l′ a long c; scores = λ l l′ a r long c q. shared-scores p (sheet-bytes mark) s fits (e .runs) left apart f w l l′ a (read l l′ a long c) c q (plainly-scored mark); both = whole-prefix Full p ends }
   where
     p : List ℕ
     p = sheet mark
@@ -268,10 +270,10 @@ each-right mark = record { accepted = λ l l′ a long c. read l l′ a long c; 
 
     read : (l l′ : Slices) (a : Answer) → short stated l ≡ false → ReadCall (prefix p) l l′ a → a .number ≡ 0
     read l l′ a long c =
-        let call = call-never-shows-sharing p s fits (e .runs) left apart f w l l′ a c in
+        let call = call-never-shows-sharing Full p s fits (e .runs) left apart f w l l′ a c in
         ap (λ (y : Answer). y .number) (call-answer (readingOf (consumed p s) f) l l′ a call long) ∙ ap (λ (y : Reading). y .answer .number) (told-fits (consumed p s) f (within mark) .0)
 
     ends : leaves p (prefix p) ≡ false
     ends =
-        let x : prefix p ≡ reads (consumed p s) (settle f) = sharing-never-shows p s fits (e .runs) left f apart w ∙ told-fits (consumed p s) f (within mark) .0 in
+        let x : prefix p ≡ reads (consumed p s) (settle f) = sharing-never-shows Full p s fits (e .runs) left f apart w ∙ told-fits (consumed p s) f (within mark) .0 in
         rw (x, e .whole) (le-ltb (length p) (length p) (omega arith))

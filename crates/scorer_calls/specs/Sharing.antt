@@ -9,6 +9,7 @@ use lib.Seq.{take-append-seam, take-append-le}
 use Rattle.refusal.specs.declared.Refusal.{Refusal}
 use Rattle.refusal.specs.declared.Refusal.the-variants.{TrailingData}
 use Rattle.refusal.specs.declared.Answer.{Answer}
+use Rattle.op.specs.declared.Edition.the-variants.{Full}
 use Rattle.input.specs.Bytes.{Bytes}
 use Rattle.value.specs.Value.{Forest, one, size, table, text}
 use Rattle.value.specs.WellFormed.{WellFormed}
@@ -59,14 +60,14 @@ not-refused x l l′ a why c z e =
     refusal-number why (ap (λ (y : Reading). y .answer .number) (sym e) ∙ ap (λ (y : Answer). y .number) (sym o) ∙ z)
 
 -- Bytes that are read to STOP with a value left, nothing reachable from which contains itself, and whose plain write-out is f.
-module _ (p : List ℕ) (b : Bytes p) (s : State) (fits : length p ≤ pickleLimit) (stops : run p ≡ ok s) (left : 0 < length (s .stack)) (apart : NothingContainsItself (s .nodes) (last (s .stack))) (f : Forest) (w : WritesOut (s .nodes) (last (s .stack) ∷ []) f) (l l′ : Slices) (a : Answer) (z : a .number ≡ 0) where
+module _ (p : List ℕ) (b : Bytes p) (s : State) (fits : length p ≤ pickleLimit) (stops : run Full p ≡ ok s) (left : 0 < length (s .stack)) (apart : NothingContainsItself (s .nodes) (last (s .stack))) (f : Forest) (w : WritesOut (s .nodes) (last (s .stack) ∷ []) f) (l l′ : Slices) (a : Answer) (z : a .number ≡ 0) where
   -- what the prefix reading left scores as the write-out does
   pub shared-scores : {r q : Scored} → ReadCall (prefix p) l l′ a → ScoresLeft l′ a r → ScoresPlain f q → r ≡ q
   unfolding told Formed
   shared-scores {r} {q} c scored plain = go (measured f) refl
     where
       call : ReadCall (told (consumed p s) f) l l′ a
-      call = call-never-shows-sharing p s fits stops left apart f w l l′ a c
+      call = call-never-shows-sharing Full p s fits stops left apart f w l l′ a c
 
       go : (m : Res (Unit {0})) → measured f ≡ m → r ≡ q
       go (no why) e = absurd (not-refused (told (consumed p s) f) l l′ a why call z (rw (e, told)))
@@ -75,11 +76,11 @@ module _ (p : List ℕ) (b : Bytes p) (s : State) (fits : length p ≤ pickleLim
           let more = drop (length (table g 0)) (tableOf l) in
           let x : told (consumed p s) f ≡ reads (consumed p s) g = told-fits (consumed p s) f e .0 in
           let long = call-long-enough (told (consumed p s) f) l l′ a call z in
-          let formed : WellFormed (table g 0) (size g) (text g) = subst Formed (sharing-never-shows p s fits stops left f apart w ∙ x) (prefix-well-formed p b) refl in
+          let formed : WellFormed (table g 0) (size g) (text g) = subst Formed (sharing-never-shows Full p s fits stops left f apart w ∙ x) (prefix-well-formed Full p b) refl in
           let words : tableOf l′ ≡ table g 0 ++ more = call-table (told (consumed p s) f) l l′ a call long ∙ ap (λ (y : Reading). begun (y .words) (tableOf l)) x in
           let bytes : textOf l′ ≡ begun (text g) (textOf l) = call-text (told (consumed p s) f) l l′ a call long ∙ ap (λ (y : Reading). begun (y .bytes) (textOf l)) x in
           let counted : a .count ≡ size g = ap (λ (y : Answer). y .count) (call-answer (told (consumed p s) f) l l′ a call long ∙ ap (λ (y : Reading). y .answer) x) in
-          let left-formed = prefix-call-formed p b l l′ a z c in
+          let left-formed = prefix-call-formed Full p b l l′ a z c in
           let same-words : take (4 * a .count) (tableOf l′) ≡ take (4 * size g) (table g 0) = rw (words, counted) (take-append-le (4 * size g) (table g 0) more (formed .lent)) in
           let same-text : take (textLength (tableOf l′) (a .count)) (textOf l′) ≡ text g = text-left (drop (length (text g)) (textOf l)) left-formed formed counted same-words bytes in
           words-behind left-formed formed same-words same-text scored plain
@@ -89,5 +90,5 @@ module _ (p : List ℕ) (b : Bytes p) (s : State) (fits : length p ≤ pickleLim
   whole-shared-scores {r} {q} c scored plain = go (leaves p (prefix p)) refl
     where
       go : (x : Bool) → leaves p (prefix p) ≡ x → r ≡ q
-      go true e = absurd (not-refused (whole p) l l′ a TrailingData c z (whole-trailing p e))
-      go false e = shared-scores (c ∙ ap (λ (x : Reading). reading x l) (whole-prefix p e)) scored plain
+      go true e = absurd (not-refused (whole p) l l′ a TrailingData c z (whole-trailing Full p e))
+      go false e = shared-scores (c ∙ ap (λ (x : Reading). reading x l) (whole-prefix Full p e)) scored plain

@@ -193,9 +193,9 @@ module _ (s : State) where
       bind _ _ _ _ (line-read s) λ p h. bind _ _ _ _ (line-read (p .1)) λ q u.
       claim «stringnl_noescape_pair» (values 0) (values 1) s (q .1) _ (reads-more _ _ s (p .1) (q .1) h (subst (λ (x : List ℕ). Reads (lineLength x) (p .1) (q .1)) (ap (λ (x : State). x .input) (h .rest)) u)) (push-did (GlobalL _ _) (q .1) refl)
 
-  pub proto-claim : Out (Claim uint1 (values 0) (values 0) s) (proto s)
+  pub proto-claim : (v : ℕ) → Out (Claim uint1 (values 0) (values 0) s) (proto v s)
   unfolding proto taken
-  proto-claim = bind _ _ _ _ (byte-read s) λ p h. bind-need _ _ _ _ λ v. claim uint1 (values 0) (values 0) s (p .1) _ (h .1) (out _ _ (same-did (p .1)))
+  proto-claim v = bind _ _ _ _ (byte-read s) λ p r. bind-need _ _ _ _ λ u. claim uint1 (values 0) (values 0) s (p .1) _ (r .1) (out _ _ (same-did (p .1)))
 
   pub getLine-claim : Out (Claim «decimalnl_short» (values 0) (values 1) s) (getLine s)
   unfolding getLine taken

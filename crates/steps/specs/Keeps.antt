@@ -8,6 +8,7 @@ use lib.ListN.{length, drop}
 use native.Mathlib.Omega.{arith}
 use Rattle.op.specs.Table.{Row, numberOf, rowOf}
 use Rattle.op.specs.declared.Opcode.{Opcode}
+use Rattle.op.specs.declared.Edition.{Edition}
 use Rattle.steps.specs.State.{State, Res, ok, no, withInput}
 use Rattle.steps.specs.Run.{Next, goes, stops, does, step, runs, start, run}
 use Rattle.steps.specs.Out.{Out, weaken}
@@ -33,11 +34,11 @@ effected none s n f = absurd f
 effected (some r) s (goes t) f = record { read = taken (r .form) (s .input); enough = omega arith; inside = f .reads .fits; effect = rw (f .reads .rest) at (f .did .effect) }
 effected (some r) s (stops t) f = record { read = 0; enough = omega arith; inside = omega arith; effect = rw (f .1) same }
 
-pub does-effected : (o : Opcode) (s : State) → Out (λ (n : Next). Effected 0 s (after n)) (does o s)
-does-effected o s = weaken _ _ _ (does-fits o s) (λ n f. effected (rowOf (numberOf o)) s n f)
+pub does-effected : (v : ℕ) (o : Opcode) (s : State) → Out (λ (n : Next). Effected 0 s (after n)) (does v o s)
+does-effected v o s = weaken _ _ _ (does-fits v o s) (λ n f. effected (rowOf (numberOf o)) s n f)
 
-pub step-effected : (s : State) → Out (λ (n : Next). Effected 1 s (after n)) (step s)
-step-effected s = weaken _ _ _ (step-fits s) λ n f.
+pub step-effected : (ed : Edition) (s : State) → Out (λ (n : Next). Effected 1 s (after n)) (step ed s)
+step-effected ed s = weaken _ _ _ (step-fits ed s) λ n f.
     let e = effected (rowOf (f .code)) (withInput s (f .rest)) n (f .fits) in
     let i = e .inside in
     record { read = suc (e .read); enough = omega arith; inside = rw (f .input-is) (omega arith); effect = rw (f .input-is) (e .effect) }
@@ -50,22 +51,22 @@ module _
     keeps : {n : ℕ} (s t : State) → P s → Effected n s t → P t
     keeps s t p e = effects (withInput s (drop (e .read) (s .input))) t (reads s (drop (e .read) (s .input)) p) (e .effect)
 
-    pub does-keeps : (o : Opcode) (s : State) → P s → Out (λ (n : Next). P (after n)) (does o s)
-    does-keeps o s p = weaken _ _ _ (does-effected o s) (λ n e. keeps s (after n) p e)
+    pub does-keeps : (v : ℕ) (o : Opcode) (s : State) → P s → Out (λ (n : Next). P (after n)) (does v o s)
+    does-keeps v o s p = weaken _ _ _ (does-effected v o s) (λ n e. keeps s (after n) p e)
 
-    pub step-keeps : (s : State) → P s → Out (λ (n : Next). P (after n)) (step s)
-    step-keeps s p = weaken _ _ _ (step-effected s) (λ n e. keeps s (after n) p e)
+    pub step-keeps : (ed : Edition) (s : State) → P s → Out (λ (n : Next). P (after n)) (step ed s)
+    step-keeps ed s p = weaken _ _ _ (step-effected ed s) (λ n e. keeps s (after n) p e)
 
-    pub runs-keeps : (k : ℕ) (s : State) → P s → Out P (runs k s)
+    pub runs-keeps : (ed : Edition) (k : ℕ) (s : State) → P s → Out P (runs ed k s)
     unfolding runs Out after
-    runs-keeps zero s p = tt
-    runs-keeps (suc k) s p = go (step s) refl (step-keeps s p) (runs-keeps k)
+    runs-keeps ed zero s p = tt
+    runs-keeps ed (suc k) s p = go (step ed s) refl (step-keeps ed s p) (runs-keeps ed k)
       where
-        go : (r : Res Next) → step s ≡ r → Out (λ (n : Next). P (after n)) r → ((t : State) → P t → Out P (runs k t)) → Out P (runs (suc k) s)
+        go : (r : Res Next) → step ed s ≡ r → Out (λ (n : Next). P (after n)) r → ((t : State) → P t → Out P (runs ed k t)) → Out P (runs ed (suc k) s)
         go (no why) e h more = rw (e, runs) tt
         go (ok (stops t)) e h more = rw (e, runs) h
         go (ok (goes t)) e h more = rw (e, runs) (more t h)
 
-    pub run-keeps : (p : List ℕ) → P (start p) → Out P (run p)
+    pub run-keeps : (ed : Edition) (p : List ℕ) → P (start p) → Out P (run ed p)
     unfolding run
-    run-keeps p h = runs-keeps _ (start p) h
+    run-keeps ed p h = runs-keeps ed _ (start p) h

@@ -85,10 +85,11 @@ classOf (ObjectL m n b) = no (Invalid Class)
 
 -- ---- marks and the stack
 
-unfoldable pub proto : State → Res State
-proto s = do
+-- v is the highest protocol that is accepted
+unfoldable pub proto : ℕ → State → Res State
+proto v s = do
   (p, s₁) ← byte s
-  _ ← need (leb p 2) (UnsupportedProtocol p)
+  _ ← need (leb p v) (UnsupportedProtocol p)
   ok s₁
 
 -- a mark is the stack's length

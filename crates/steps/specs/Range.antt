@@ -6,6 +6,7 @@ use mathlib.Core.Path.{_≡_}
 use lib.ListN.{length, getD, set, length-append, length-set}
 use lib.Dec.{eqb}
 use native.Mathlib.Omega.{arith}
+use Rattle.op.specs.declared.Edition.{Edition}
 use Rattle.value.specs.Value.{NoneL}
 use Rattle.steps.specs.State.{Node, State, ok, plain, withInput, nodeAt, find, insert}
 use Rattle.steps.specs.Run.{Next, step, start, run}
@@ -122,8 +123,8 @@ pub start-range : (p : List ℕ) → InRange (start p)
 unfolding start Every
 start-range p = record { on-stack = tt; in-memo = tt; in-nodes = tt }
 
-pub step-range : (s : State) → InRange s → Out (λ (n : Next). InRange (after n)) (step s)
+pub step-range : (ed : Edition) (s : State) → InRange s → Out (λ (n : Next). InRange (after n)) (step ed s)
 step-range = step-keeps InRange range-reads range-effect
 
-pub run-range : (p : List ℕ) → Out InRange (run p)
-run-range p = run-keeps InRange range-reads range-effect p (start-range p)
+pub run-range : (ed : Edition) (p : List ℕ) → Out InRange (run ed p)
+run-range ed p = run-keeps InRange range-reads range-effect ed p (start-range p)

@@ -9,6 +9,7 @@ use lib.Seq.{getD-append-seam}
 use lib.Dec.{T}
 use native.Mathlib.Nat.{add-mod}
 use native.Mathlib.Omega.{arith}
+use Rattle.op.specs.declared.Edition.{Edition}
 use Rattle.input.specs.Bytes.{lt-or-le}
 use Rattle.value.specs.Value.{Label, NoneL, BoolL, I64L, F64L, BytesL, StringL, ListL, TupleL, SetL, FrozenSetL, DictL, GlobalL, ObjectL}
 use Rattle.steps.specs.State.{Node, State, plain}
@@ -117,9 +118,9 @@ shaped-effect s t h (grown o is st ms a b k g d e) = shaped-all (s .nodes) _ (ef
 shaped-effect s t h (built o i st a b c d) = shaped-all (s .nodes) _ (effect-changes s t (built o i st a b c d)) (simp length-set) h
 shaped-effect s t h (noted k i a b) = h
 
-pub step-shaped : (s : State) → Shaped (s .nodes) → Out (λ (n : Next). Shaped (after n .nodes)) (step s)
+pub step-shaped : (ed : Edition) (s : State) → Shaped (s .nodes) → Out (λ (n : Next). Shaped (after n .nodes)) (step ed s)
 step-shaped = step-keeps (λ (s : State). Shaped (s .nodes)) (λ s i h. h) shaped-effect
 
-pub run-shaped : (p : List ℕ) → Out (λ (t : State). Shaped (t .nodes)) (run p)
+pub run-shaped : (ed : Edition) (p : List ℕ) → Out (λ (t : State). Shaped (t .nodes)) (run ed p)
 unfolding start Shaped
-run-shaped p = run-keeps (λ (s : State). Shaped (s .nodes)) (λ s i h. h) shaped-effect p (λ i u. absurd (omega arith))
+run-shaped ed p = run-keeps (λ (s : State). Shaped (s .nodes)) (λ s i h. h) shaped-effect ed p (λ i u. absurd (omega arith))

@@ -6,6 +6,7 @@ use lib.ListN.{length, drop, length-drop}
 use lib.Seq.{drop-drop}
 use native.Mathlib.Omega.{arith}
 use Rattle.op.specs.declared.Opcode.{Opcode}
+use Rattle.op.specs.declared.Edition.{Edition}
 use Rattle.steps.specs.State.{State, Res, ok, no, withInput}
 use Rattle.steps.specs.Run.{Next, goes, stops, does, step, runs, start, run}
 use Rattle.steps.specs.Out.{Out, weaken}
@@ -23,15 +24,15 @@ later : {least : ℕ} (s t : State) → Effected least s t → Later least (s .i
 later s t e = record { read = e .read; enough = e .enough; inside = e .inside; left = effect-input (withInput s (drop (e .read) (s .input))) t (e .effect) }
 
 -- an opcode whose byte has been read: no bytes, or some
-pub does-later : (o : Opcode) (s : State) → Out (λ (n : Next). Later 0 (s .input) (after n)) (does o s)
-does-later o s = weaken _ _ _ (does-effected o s) (λ n e. later s (after n) e)
+pub does-later : (v : ℕ) (o : Opcode) (s : State) → Out (λ (n : Next). Later 0 (s .input) (after n)) (does v o s)
+does-later v o s = weaken _ _ _ (does-effected v o s) (λ n e. later s (after n) e)
 
 -- a step: a byte at least
-pub step-later : (s : State) → Out (λ (n : Next). Later 1 (s .input) (after n)) (step s)
-step-later s = weaken _ _ _ (step-effected s) (λ n e. later s (after n) e)
+pub step-later : (ed : Edition) (s : State) → Out (λ (n : Next). Later 1 (s .input) (after n)) (step ed s)
+step-later ed s = weaken _ _ _ (step-effected ed s) (λ n e. later s (after n) e)
 
-pub step-less : (s : State) → Out (λ (n : Next). length (after n .input) < length (s .input)) (step s)
-step-less s = weaken _ _ _ (step-later s) λ n l. rw (l .left, length-drop) (let a = l .enough in let b = l .inside in omega arith)
+pub step-less : (ed : Edition) (s : State) → Out (λ (n : Next). length (after n .input) < length (s .input)) (step ed s)
+step-less ed s = weaken _ _ _ (step-later ed s) λ n l. rw (l .left, length-drop) (let a = l .enough in let b = l .inside in omega arith)
 
 -- ---- the whole run
 
@@ -45,18 +46,18 @@ later-later i s t x y =
     record { read = x .read + y .read; enough = omega arith; inside = omega arith; left = y .left ∙ rw (e, drop-drop) }
 
 -- what is left at STOP is a pickle's end, less a byte at least
-pub runs-later : (i : List ℕ) (k : ℕ) (s : State) → Later 0 i s → Out (Later 1 i) (runs k s)
+pub runs-later : (ed : Edition) (i : List ℕ) (k : ℕ) (s : State) → Later 0 i s → Out (Later 1 i) (runs ed k s)
 unfolding runs Out after
-runs-later i zero s l = tt
-runs-later i (suc k) s l = go (step s) refl (step-later s) (runs-later i k)
+runs-later ed i zero s l = tt
+runs-later ed i (suc k) s l = go (step ed s) refl (step-later ed s) (runs-later ed i k)
   where
-    go : (r : Res Next) → step s ≡ r → Out (λ (n : Next). Later 1 (s .input) (after n)) r → ((t : State) → Later 0 i t → Out (Later 1 i) (runs k t)) → Out (Later 1 i) (runs (suc k) s)
+    go : (r : Res Next) → step ed s ≡ r → Out (λ (n : Next). Later 1 (s .input) (after n)) r → ((t : State) → Later 0 i t → Out (Later 1 i) (runs ed k t)) → Out (Later 1 i) (runs ed (suc k) s)
     go (no why) e h more = rw (e, runs) tt
     go (ok (stops t)) e h more = rw (e, runs) (later-later i s t l h)
     go (ok (goes t)) e h more =
         let m = later-later i s t l h in
         rw (e, runs) (more t (record { read = m .read; enough = omega arith; inside = m .inside; left = m .left }))
 
-pub run-later : (p : List ℕ) → Out (Later 1 p) (run p)
+pub run-later : (ed : Edition) (p : List ℕ) → Out (Later 1 p) (run ed p)
 unfolding run start
-run-later p = runs-later p (suc (length p)) (start p) (record { read = 0; enough = omega arith; inside = omega arith; left = refl })
+run-later ed p = runs-later ed p (suc (length p)) (start p) (record { read = 0; enough = omega arith; inside = omega arith; left = refl })

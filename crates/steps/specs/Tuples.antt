@@ -11,6 +11,7 @@ use lib.Dec.{eqb, T}
 use native.Mathlib.Omega.{arith}
 use borrow.Author.Tests.{eqb-true, eqb-false}
 use Rattle.op.specs.declared.Opcode.{Opcode}
+use Rattle.op.specs.declared.Edition.{Edition}
 use Rattle.value.specs.Value.{Label, NoneL, TupleL}
 use Rattle.steps.specs.State.{Node, State, plain, nodeAt}
 use Rattle.steps.specs.Opcodes.{isList, isDict, isObject}
@@ -49,11 +50,11 @@ effect-changes s t (grown o is st ms a b c d e f) = set-change (s .nodes) o _ (g
 effect-changes s t (built o i st a b c d) = set-change (s .nodes) o _ (object-inside (s .nodes) o d) (stated i d)
 effect-changes s t (noted k i a b) = no-change (s .nodes)
 
-pub does-changes : (o : Opcode) (s : State) → Out (λ (n : Next). Changes (s .nodes) (after n .nodes)) (does o s)
-does-changes o s = weaken _ _ _ (does-effected o s) (λ n e. effect-changes _ (after n) (e .effect))
+pub does-changes : (v : ℕ) (o : Opcode) (s : State) → Out (λ (n : Next). Changes (s .nodes) (after n .nodes)) (does v o s)
+does-changes v o s = weaken _ _ _ (does-effected v o s) (λ n e. effect-changes _ (after n) (e .effect))
 
-pub step-changes : (s : State) → Out (λ (n : Next). Changes (s .nodes) (after n .nodes)) (step s)
-step-changes s = weaken _ _ _ (step-effected s) (λ n e. effect-changes _ (after n) (e .effect))
+pub step-changes : (ed : Edition) (s : State) → Out (λ (n : Next). Changes (s .nodes) (after n .nodes)) (step ed s)
+step-changes ed s = weaken _ _ _ (step-effected ed s) (λ n e. effect-changes _ (after n) (e .effect))
 
 -- ---- what stays for good
 
@@ -100,15 +101,15 @@ module _ (i : ℕ) (n : Node) (f : T (fixed (n .label))) where
       let l = h .0 in
       (omega arith, changed-fixed n (nodeAt t i) f (rw (h .1) at (c .each i (h .0))))
 
-  pub step-stands : (s : State) → Stands i n s → Out (λ (x : Next). Stands i n (after x)) (step s)
+  pub step-stands : (ed : Edition) (s : State) → Stands i n s → Out (λ (x : Next). Stands i n (after x)) (step ed s)
   unfolding Stands
   step-stands = step-keeps (Stands i n) (λ s j h. h) stands-effect
 
-  pub runs-stands : (k : ℕ) (s : State) → Stands i n s → Out (Stands i n) (runs k s)
+  pub runs-stands : (ed : Edition) (k : ℕ) (s : State) → Stands i n s → Out (Stands i n) (runs ed k s)
   unfolding Stands
   runs-stands = runs-keeps (Stands i n) (λ s j h. h) stands-effect
 
 -- a tuple's contents never change
-pub step-tuple : (i : ℕ) (ks : List ℕ) (s : State) → Stands i (record { label = TupleL; kids = ks }) s → Out (λ (x : Next). Stands i (record { label = TupleL; kids = ks }) (after x)) (step s)
+pub step-tuple : (ed : Edition) (i : ℕ) (ks : List ℕ) (s : State) → Stands i (record { label = TupleL; kids = ks }) s → Out (λ (x : Next). Stands i (record { label = TupleL; kids = ks }) (after x)) (step ed s)
 unfolding fixed
-step-tuple i ks = step-stands i (record { label = TupleL; kids = ks }) tt
+step-tuple ed i ks = step-stands i (record { label = TupleL; kids = ks }) tt ed

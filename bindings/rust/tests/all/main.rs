@@ -20,6 +20,7 @@ extern "C" fn main() -> i32 {
     lengths_of_nights();
     limits_of_length();
     whole_reading_wants_all();
+    plain_data(&cases);
     reads_back(&values);
     listings(&values);
     orders(&values);
@@ -113,6 +114,33 @@ fn whole_reading_wants_all() {
     assert_eq!((value.records().next(), read), (Some((0, Record::Int(5))), 3));
     assert_eq!(reader.from_bytes(b"K\x05.K\x06."), Err(Error::TrailingData));
     assert_eq!(reader.from_bytes(b"K\x05."), Ok(value));
+}
+
+/// The reader of plain data gives what the full one gives, or the byte of one of the six opcodes.
+fn plain_data(cases: &[Case]) {
+    let mut reader = Reader::plain();
+    let mut full = Reader::new();
+    for Case { pickle, due } in cases {
+        let prefix = reader.from_bytes_prefix(pickle);
+        if let Err(Error::OutsideProfile(byte)) = prefix {
+            assert!(b"cR\x81bpg".contains(&byte), "{pickle:02x?}");
+        } else {
+            assert_eq!(prefix, full.from_bytes_prefix(pickle), "{pickle:02x?}");
+            assert_eq!(reader.from_bytes(pickle), full.from_bytes(pickle), "{pickle:02x?}");
+            if let Due::Value { .. } = due {
+                let classes = |r: &Record| matches!(r, Record::Set(_) | Record::FrozenSet(_) | Record::Global { .. } | Record::Object { .. });
+                assert!(!prefix.unwrap().0.records().any(|(_, r)| classes(&r)), "{pickle:02x?}");
+            }
+        }
+    }
+    assert_eq!(reader.from_bytes(b"c"), Err(Error::OutsideProfile(0x63)));
+    assert_eq!(reader.from_bytes_prefix(b"N.cm\nC\n.").map(|(_, n)| n), Ok(2));
+    let Night { sheets, last } = reader.from_bytes_batch(b"N.c\n\n.K\x05.NN", &[2, 4, 3, 2]).unwrap();
+    assert_eq!(sheets, [Ok(Read { length: 2, count: 1 }), Err(Error::OutsideProfile(0x63)), Ok(Read { length: 3, count: 1 }), Err(Error::EndOfInput)]);
+    assert_eq!(last, full.from_bytes(b"K\x05.").ok());
+    for lengths in [&[1][..], &[3], &[u64::MAX, 3], &[]] {
+        assert_eq!(reader.from_bytes_batch(b"N.", lengths), Err(Error::BadLengths), "{lengths:?}");
+    }
 }
 
 /// What is written is read as the same value; a value with a name that would not be, of which some are here, is not written.

@@ -24,49 +24,49 @@ read-requires : tie.Need-read-requires
 read-requires c κs = (c .before .before .before .before .before .before .before .before .before .before .before .before .before .if1 .left, c .before .before .before .before .before .before .before .before .before .before .before .before .before .before .before .before .before .before .before .before .before .before .before .before .before .before .before .before .pre)
 
 same-length : tie.Need-same-length
-same-length c = called c .read .kept .1 .1 .0
+same-length c = called c .read .kept .1 .1 .1 .0
 
 same-length-2 : tie.Need-same-length-2
-same-length-2 c = called c .read .kept .1 .1 .1 .0
+same-length-2 c = called c .read .kept .1 .1 .1 .1 .0
 
 same-length-3 : tie.Need-same-length-3
-same-length-3 c = called c .read .kept .1 .1 .1 .1 .0
+same-length-3 c = called c .read .kept .1 .1 .1 .1 .1 .0
 
 same-length-4 : tie.Need-same-length-4
-same-length-4 c = called c .read .kept .1 .1 .1 .1 .1 .0
+same-length-4 c = called c .read .kept .1 .1 .1 .1 .1 .1 .0
 
 same-length-5 : tie.Need-same-length-5
-same-length-5 c = called c .read .kept .1 .1 .1 .1 .1 .1 .0
+same-length-5 c = called c .read .kept .1 .1 .1 .1 .1 .1 .1 .0
 
 same-length-6 : tie.Need-same-length-6
-same-length-6 c = called c .read .kept .1 .1 .1 .1 .1 .1 .1 .0
+same-length-6 c = called c .read .kept .1 .1 .1 .1 .1 .1 .1 .1 .0
 
 same-length-7 : tie.Need-same-length-7
-same-length-7 c = called c .read .kept .1 .1 .1 .1 .1 .1 .1 .1 .0
+same-length-7 c = called c .read .kept .1 .1 .1 .1 .1 .1 .1 .1 .1 .0
 
 same-length-8 : tie.Need-same-length-8
-same-length-8 c = called c .read .kept .1 .1 .1 .1 .1 .1 .1 .1 .1 .0
+same-length-8 c = called c .read .kept .1 .1 .1 .1 .1 .1 .1 .1 .1 .1 .0
 
 same-length-9 : tie.Need-same-length-9
-same-length-9 c = called c .read .kept .1 .1 .1 .1 .1 .1 .1 .1 .1 .1 .0
+same-length-9 c = called c .read .kept .1 .1 .1 .1 .1 .1 .1 .1 .1 .1 .1 .0
 
 same-length-10 : tie.Need-same-length-10
-same-length-10 c = called c .read .kept .1 .1 .1 .1 .1 .1 .1 .1 .1 .1 .1 .0
+same-length-10 c = called c .read .kept .1 .1 .1 .1 .1 .1 .1 .1 .1 .1 .1 .1 .0
 
 same-length-11 : tie.Need-same-length-11
-same-length-11 c = called c .read .kept .1 .1 .1 .1 .1 .1 .1 .1 .1 .1 .1 .1 .0
+same-length-11 c = called c .read .kept .1 .1 .1 .1 .1 .1 .1 .1 .1 .1 .1 .1 .1 .0
 
 same-length-12 : tie.Need-same-length-12
-same-length-12 c = called c .read .kept .1 .1 .1 .1 .1 .1 .1 .1 .1 .1 .1 .1 .1 .0
+same-length-12 c = called c .read .kept .1 .1 .1 .1 .1 .1 .1 .1 .1 .1 .1 .1 .1 .1 .0
 
 same-length-13 : tie.Need-same-length-13
-same-length-13 c = called c .read .kept .1 .1 .1 .1 .1 .1 .1 .1 .1 .1 .1 .1 .1 .1 .0
+same-length-13 c = called c .read .kept .1 .1 .1 .1 .1 .1 .1 .1 .1 .1 .1 .1 .1 .1 .1 .0
 
 returns-2 : tie.Need-returns-2
 returns-2 c =
     let s = c .before .before .before .before .before .before .before .before .before .before .before .before .before .before .before .before .before .before .before .before .before .before .before .before .before .before .before .before .before .before .before .before .before .before .before .before .before .before .before .before .before .before .before .before .before .before .before .before .before .before .before .before .before .before .before in
     let r = called c .read in
-    sheet-read (s .args .sheet .now) (lent s) (r .last .1 .1 .0 ∷ r .last .1 .1 .1 .0 ∷ r .last .1 .1 .1 .1 .0 ∷ r .last .1 .1 .1 .1 .1 .0 ∷ r .last .1 .1 .1 .1 .1 .1 .0 ∷ r .last .1 .1 .1 .1 .1 .1 .1 .0 ∷ r .last .1 .1 .1 .1 .1 .1 .1 .1 .0 ∷ r .last .1 .1 .1 .1 .1 .1 .1 .1 .1 .0 ∷ r .last .1 .1 .1 .1 .1 .1 .1 .1 .1 .1 .0 ∷ r .last .1 .1 .1 .1 .1 .1 .1 .1 .1 .1 .1 .0 ∷ r .last .1 .1 .1 .1 .1 .1 .1 .1 .1 .1 .1 .1 .0 ∷ r .last .1 .1 .1 .1 .1 .1 .1 .1 .1 .1 .1 .1 .1 .0 ∷ r .last .1 .1 .1 .1 .1 .1 .1 .1 .1 .1 .1 .1 .1 .1 .0 ∷ []) _ (r .ensures)
+    sheet-read (s .args .sheet .now) (lent s) (r .last .1 .1 .1 .0 ∷ r .last .1 .1 .1 .1 .0 ∷ r .last .1 .1 .1 .1 .1 .0 ∷ r .last .1 .1 .1 .1 .1 .1 .0 ∷ r .last .1 .1 .1 .1 .1 .1 .1 .0 ∷ r .last .1 .1 .1 .1 .1 .1 .1 .1 .0 ∷ r .last .1 .1 .1 .1 .1 .1 .1 .1 .1 .0 ∷ r .last .1 .1 .1 .1 .1 .1 .1 .1 .1 .1 .0 ∷ r .last .1 .1 .1 .1 .1 .1 .1 .1 .1 .1 .1 .0 ∷ r .last .1 .1 .1 .1 .1 .1 .1 .1 .1 .1 .1 .1 .0 ∷ r .last .1 .1 .1 .1 .1 .1 .1 .1 .1 .1 .1 .1 .1 .0 ∷ r .last .1 .1 .1 .1 .1 .1 .1 .1 .1 .1 .1 .1 .1 .1 .0 ∷ r .last .1 .1 .1 .1 .1 .1 .1 .1 .1 .1 .1 .1 .1 .1 .1 .0 ∷ []) _ (r .ensures)
 
 pub read-sheet-spec : {M : Type 1} → statement M
 read-sheet-spec = tie.close (tie.spec refused-requires returns read-requires same-length same-length-2 same-length-3 same-length-4 same-length-5 same-length-6 same-length-7 same-length-8 same-length-9 same-length-10 same-length-11 same-length-12 same-length-13 returns-2)

@@ -45,20 +45,20 @@ returns c =
 sub-top : tie.Need-sub-top
 sub-top c = omega (arith, c .before .if1 .left)
 
-mul-t36 : tie.Need-mul-t36
-mul-t36 c =
+mul-t37 : tie.Need-mul-t37
+mul-t37 c =
     let n = c .before .before .before .before .outcome2 .given .0 .0 in
     let h = rw (c .before .before .before .before .outcome2 .given .1) at (c .before .before .before .before .before .before .before .before .before .before .before .before .before .before .before .before .before .before .pre .0) in
     omega (arith, firm n h .stack, firm n h .deepest)
 
-shared-slice-read-t38 : tie.Need-shared-slice-read-t38
-shared-slice-read-t38 c =
+shared-slice-read-t39 : tie.Need-shared-slice-read-t39
+shared-slice-read-t39 c =
     let n = c .before .before .before .before .before .outcome2 .given .0 .0 in
     let h = rw (c .before .before .before .before .before .outcome2 .given .1) at (c .before .before .before .before .before .before .before .before .before .before .before .before .before .before .before .before .before .before .before .pre .0) in
     omega (arith, c .before .before .if1 .left, firm n h .stack, firm n h .deepest, firm n h .lengths .stack)
 
-cast-t39 : tie.Need-cast-t39
-cast-t39 c = omega (arith, c .shared-slice-known4 .given (c .before .before .before .before .before .outcome2 .given .0 .0 .stack - 1))
+cast-t40 : tie.Need-cast-t40
+cast-t40 c = omega (arith, c .shared-slice-known4 .given (c .before .before .before .before .before .outcome2 .given .0 .0 .stack - 1))
 
 build-requires : tie.Need-build-requires
 build-requires c κs =
@@ -153,4 +153,4 @@ returns-4 c =
     (gives-built n h (omega (arith, c .before .before .before .before .before .before .before .before .before .before .before .before .before .before .before .before .before .before .before .before .before .before .before .before .before .before .before .before .before .before .before .before .before .before .if1 .left)) _ _ _ _ _ _ (c .before .before .before .before .before .before .before .before .before .before .before .before .before .before .before .before .before .before .before .before .before .build .ensures .0) _ (c .before .records .given .1), c .before .before .before .before .before .before .before .before .before .before .before .before .before .before .before .before .before .before .before .before .before .build .ensures .1)
 
 pub answer-spec : {M : Type 1} → statement M
-answer-spec = tie.close (tie.spec enum-known-outcome clear-log-requires refused-requires enum-known-outcome-2 clear-log-requires-2 refused-requires-2 same-length same-length-2 returns sub-top mul-t36 shared-slice-read-t38 cast-t39 build-requires enum-known-why refused-requires-3 enum-known-records same-length-3 same-length-4 returns-2 same-length-5 same-length-6 same-length-7 same-length-8 same-length-9 same-length-10 same-length-11 same-length-12 same-length-13 returns-3 same-length-14 same-length-15 same-length-16 same-length-17 same-length-18 same-length-19 same-length-20 same-length-21 same-length-22 returns-4)
+answer-spec = tie.close (tie.spec enum-known-outcome clear-log-requires refused-requires enum-known-outcome-2 clear-log-requires-2 refused-requires-2 same-length same-length-2 returns sub-top mul-t37 shared-slice-read-t39 cast-t40 build-requires enum-known-why refused-requires-3 enum-known-records same-length-3 same-length-4 returns-2 same-length-5 same-length-6 same-length-7 same-length-8 same-length-9 same-length-10 same-length-11 same-length-12 same-length-13 returns-3 same-length-14 same-length-15 same-length-16 same-length-17 same-length-18 same-length-19 same-length-20 same-length-21 same-length-22 returns-4)

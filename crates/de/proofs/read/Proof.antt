@@ -45,7 +45,7 @@ part-answer-start : tie.Need-part-answer-start
 part-answer-start c = omega arith
 
 part-answer-end : tie.Need-part-answer-end
-part-answer-end c = let r = c .before .before .before .before .before .before .before .before .before .before .before .before .before .before .before in rw (r .run-in .kept .1 .1 .1 .1 .0) (part-fits 2048 (start r .args .stack .now) (zero (start r) .1 .1 .1 .0))
+part-answer-end c = let r = c .before .before .before .before .before .before .before .before .before .before .before .before .before .before .before in rw (r .run-in .kept .1 .1 .1 .1 .1 .0) (part-fits 2048 (start r .args .stack .now) (zero (start r) .1 .1 .1 .0))
 
 sub-answer-2 : tie.Need-sub-answer-2
 sub-answer-2 c = omega arith
@@ -54,7 +54,7 @@ part-answer-start-2 : tie.Need-part-answer-start-2
 part-answer-start-2 c = omega arith
 
 part-answer-end-2 : tie.Need-part-answer-end-2
-part-answer-end-2 c = let r = c .before .before .before .before .before .before .before .before .before .before .before .before .before .before .before .before .before in rw (r .run-in .kept .1 .0) (part-fits 8192 (start r .args .nodes .now) (zero (start r) .0))
+part-answer-end-2 c = let r = c .before .before .before .before .before .before .before .before .before .before .before .before .before .before .before .before .before in rw (r .run-in .kept .1 .1 .0) (part-fits 8192 (start r .args .nodes .now) (zero (start r) .0))
 
 sub-answer-3 : tie.Need-sub-answer-3
 sub-answer-3 c = omega arith
@@ -63,7 +63,7 @@ part-answer-start-3 : tie.Need-part-answer-start-3
 part-answer-start-3 c = omega arith
 
 part-answer-end-3 : tie.Need-part-answer-end-3
-part-answer-end-3 c = let r = c .before .before .before .before .before .before .before .before .before .before .before .before .before .before .before .before .before .before in rw (r .run-in .kept .1 .1 .0) (part-fits 8192 (start r .args .owners .now) (zero (start r) .1 .0))
+part-answer-end-3 c = let r = c .before .before .before .before .before .before .before .before .before .before .before .before .before .before .before .before .before .before in rw (r .run-in .kept .1 .1 .1 .0) (part-fits 8192 (start r .args .owners .now) (zero (start r) .1 .0))
 
 sub-answer-4 : tie.Need-sub-answer-4
 sub-answer-4 c = omega arith
@@ -72,10 +72,10 @@ part-answer-start-4 : tie.Need-part-answer-start-4
 part-answer-start-4 c = omega arith
 
 part-answer-end-4 : tie.Need-part-answer-end-4
-part-answer-end-4 c = let r = c .before .before .before .before .before .before .before .before .before .before .before .before .before .before .before .before .before .before .before in rw (r .run-in .kept .1 .1 .1 .0) (part-fits 8192 (start r .args .children .now) (zero (start r) .1 .1 .0))
+part-answer-end-4 c = let r = c .before .before .before .before .before .before .before .before .before .before .before .before .before .before .before .before .before .before .before in rw (r .run-in .kept .1 .1 .1 .1 .0) (part-fits 8192 (start r .args .children .now) (zero (start r) .1 .1 .0))
 
 answer-requires : tie.Need-answer-requires
-answer-requires c κs = let r = c .before .before .before .before .before .before .before .before .before .before .before .before .before .before .before .before .before .before .before .before .before .before .before .before .before .before .before in let a = start r .args in (r .run-in .ensures .0 .ran, working (a .nodes .now) (a .owners .now) (a .children .now) (a .stack .now) (a .marks .now) (a .keys .now) (a .held .now) (a .unescaped .now) (a .starts .now) (a .sorted .now) (a .measures .now) (a .table .now) (a .text .now) (start r .pre .1) (r .run-in .last .1 .1 .1 .1 .1 .1 .0) (r .run-in .ensures .1 .0))
+answer-requires c κs = let r = c .before .before .before .before .before .before .before .before .before .before .before .before .before .before .before .before .before .before .before .before .before .before .before .before .before .before .before in let a = start r .args in (r .run-in .ensures .0 .ran, working (a .nodes .now) (a .owners .now) (a .children .now) (a .stack .now) (a .marks .now) (a .keys .now) (a .held .now) (a .unescaped .now) (a .starts .now) (a .sorted .now) (a .measures .now) (a .table .now) (a .text .now) (start r .pre .1) (r .run-in .last .1 .1 .1 .1 .1 .1 .1 .0) (r .run-in .ensures .1 .0))
 
 counts-requires : tie.Need-counts-requires
 counts-requires c κs = search needs
@@ -93,43 +93,43 @@ clear-shorts-requires-2 : tie.Need-clear-shorts-requires-2
 clear-shorts-requires-2 c κs = let k = c .before .before .before .before .before .before .before .before .before .before in back-fits (run (answer k) .run-in .ensures .0 .marks-back) _ (ap (λ (x : Counts). x .most) (counted k))
 
 same-length : tie.Need-same-length
-same-length c = c .before .before .before .before .before .before .before .before .before .before .clear-words .kept .0 ∙ run (answer (ended c)) .run-in .kept .1 .0
+same-length c = c .before .before .before .before .before .before .before .before .before .before .clear-words .kept .0 ∙ run (answer (ended c)) .run-in .kept .1 .1 .0
 
 same-length-2 : tie.Need-same-length-2
-same-length-2 c = length-front (run (answer (ended c)) .run-in .last .1 .1 .0) (answer (ended c) .answer .last .1 .1 .1 .1 .1 .0) 8192 (answer (ended c) .answer .kept .1 .1 .1 .1 .1 .0) ∙ run (answer (ended c)) .run-in .kept .1 .1 .0
+same-length-2 c = length-front (run (answer (ended c)) .run-in .last .1 .1 .1 .0) (answer (ended c) .answer .last .1 .1 .1 .1 .1 .1 .0) 8192 (answer (ended c) .answer .kept .1 .1 .1 .1 .1 .1 .0) ∙ run (answer (ended c)) .run-in .kept .1 .1 .1 .0
 
 same-length-3 : tie.Need-same-length-3
-same-length-3 c = length-front (run (answer (ended c)) .run-in .last .1 .1 .1 .0) (answer (ended c) .answer .last .1 .1 .1 .1 .1 .1 .0) 8192 (answer (ended c) .answer .kept .1 .1 .1 .1 .1 .1 .0) ∙ run (answer (ended c)) .run-in .kept .1 .1 .1 .0
+same-length-3 c = length-front (run (answer (ended c)) .run-in .last .1 .1 .1 .1 .0) (answer (ended c) .answer .last .1 .1 .1 .1 .1 .1 .1 .0) 8192 (answer (ended c) .answer .kept .1 .1 .1 .1 .1 .1 .1 .0) ∙ run (answer (ended c)) .run-in .kept .1 .1 .1 .1 .0
 
 same-length-4 : tie.Need-same-length-4
-same-length-4 c = c .before .before .before .before .before .before .clear-shorts .kept .0 ∙ run (answer (ended c)) .run-in .kept .1 .1 .1 .1 .0
+same-length-4 c = c .before .before .before .before .before .before .clear-shorts .kept .0 ∙ run (answer (ended c)) .run-in .kept .1 .1 .1 .1 .1 .0
 
 same-length-5 : tie.Need-same-length-5
-same-length-5 c = c .before .before .clear-shorts2 .kept .0 ∙ run (answer (ended c)) .run-in .kept .1 .1 .1 .1 .1 .0
+same-length-5 c = c .before .before .clear-shorts2 .kept .0 ∙ run (answer (ended c)) .run-in .kept .1 .1 .1 .1 .1 .1 .0
 
 same-length-6 : tie.Need-same-length-6
-same-length-6 c = answer (ended c) .answer .kept .1 .1 .1 .1 .1 .1 .1 .0 ∙ run (answer (ended c)) .run-in .kept .1 .1 .1 .1 .1 .1 .0
+same-length-6 c = answer (ended c) .answer .kept .1 .1 .1 .1 .1 .1 .1 .1 .0 ∙ run (answer (ended c)) .run-in .kept .1 .1 .1 .1 .1 .1 .1 .0
 
 same-length-7 : tie.Need-same-length-7
-same-length-7 c = run (answer (ended c)) .run-in .kept .1 .1 .1 .1 .1 .1 .1 .0
+same-length-7 c = run (answer (ended c)) .run-in .kept .1 .1 .1 .1 .1 .1 .1 .1 .0
 
 same-length-8 : tie.Need-same-length-8
-same-length-8 c = answer (ended c) .answer .kept .1 .1 .1 .1 .1 .1 .1 .1 .0
+same-length-8 c = answer (ended c) .answer .kept .1 .1 .1 .1 .1 .1 .1 .1 .1 .0
 
 same-length-9 : tie.Need-same-length-9
-same-length-9 c = answer (ended c) .answer .kept .1 .1 .1 .1 .1 .1 .1 .1 .1 .0
+same-length-9 c = answer (ended c) .answer .kept .1 .1 .1 .1 .1 .1 .1 .1 .1 .1 .0
 
 same-length-10 : tie.Need-same-length-10
-same-length-10 c = answer (ended c) .answer .kept .1 .1 .1 .1 .1 .1 .1 .1 .1 .1 .0
+same-length-10 c = answer (ended c) .answer .kept .1 .1 .1 .1 .1 .1 .1 .1 .1 .1 .1 .0
 
 same-length-11 : tie.Need-same-length-11
-same-length-11 c = answer (ended c) .answer .kept .1 .1 .1 .1 .1 .1 .1 .1 .1 .1 .1 .0
+same-length-11 c = answer (ended c) .answer .kept .1 .1 .1 .1 .1 .1 .1 .1 .1 .1 .1 .1 .0
 
 same-length-12 : tie.Need-same-length-12
-same-length-12 c = answer (ended c) .answer .kept .1 .1 .1 .1 .1 .1 .1 .1 .1 .1 .1 .1 .0
+same-length-12 c = answer (ended c) .answer .kept .1 .1 .1 .1 .1 .1 .1 .1 .1 .1 .1 .1 .1 .0
 
 same-length-13 : tie.Need-same-length-13
-same-length-13 c = answer (ended c) .answer .kept .1 .1 .1 .1 .1 .1 .1 .1 .1 .1 .1 .1 .1 .0
+same-length-13 c = answer (ended c) .answer .kept .1 .1 .1 .1 .1 .1 .1 .1 .1 .1 .1 .1 .1 .1 .0
 
 returns : tie.Need-returns
 unfolding filled
@@ -141,8 +141,8 @@ returns c =
     record {
       answer = a .0 .answer;
       slices = same (back-again (r .nodes-back) _ (ap (λ (x : Counts). 2 * x .nodes) (counted k)) _ (c .before .before .before .before .before .before .before .before .before .before .clear-words .ensures))
-          (same (part-cleared 8192 (s .args .owners .now) (zero s .1 .0) (run (answer (ended c)) .run-in .last .1 .1 .0) (answer (ended c) .answer .last .1 .1 .1 .1 .1 .0) (run (answer (ended c)) .run-in .kept .1 .1 .0) (r .owners-behind) (a .1 .0 .0))
-          (same (part-cleared 8192 (s .args .children .now) (zero s .1 .1 .0) (run (answer (ended c)) .run-in .last .1 .1 .1 .0) (answer (ended c) .answer .last .1 .1 .1 .1 .1 .1 .0) (run (answer (ended c)) .run-in .kept .1 .1 .1 .0) (r .children-behind) (a .1 .0 .1))
+          (same (part-cleared 8192 (s .args .owners .now) (zero s .1 .0) (run (answer (ended c)) .run-in .last .1 .1 .1 .0) (answer (ended c) .answer .last .1 .1 .1 .1 .1 .1 .0) (run (answer (ended c)) .run-in .kept .1 .1 .1 .0) (r .owners-behind) (a .1 .0 .0))
+          (same (part-cleared 8192 (s .args .children .now) (zero s .1 .1 .0) (run (answer (ended c)) .run-in .last .1 .1 .1 .1 .0) (answer (ended c) .answer .last .1 .1 .1 .1 .1 .1 .1 .0) (run (answer (ended c)) .run-in .kept .1 .1 .1 .1 .0) (r .children-behind) (a .1 .0 .1))
           (same (back-again (r .stack-back) _ (ap (λ (x : Counts). x .deepest) (counted k)) _ (c .before .before .before .before .before .before .clear-shorts .ensures))
           (same (back-again (r .marks-back) _ (ap (λ (x : Counts). x .most) (counted k)) _ (c .before .before .clear-shorts2 .ensures))
           (same (a .1 .1 .0 ∙ run (answer (ended c)) .run-in .ensures .1 .0)

@@ -91,7 +91,7 @@ same-length-13 : tie.Need-same-length-13
 same-length-13 c = refl
 
 returns : tie.Need-returns
-returns c = call-short (due (c .before .before .before .before .before .before .before .before .before .before .before .before .before .before .before .before .before .before .before .before .before .before .before .before .before .before .before .before .before .before .args .whole) (c .before .before .before .before .before .before .before .before .before .before .before .before .before .before .before .before .before .before .before .before .before .before .before .before .before .before .before .before .before .before .args .pickle .now)) (lent (c .before .before .before .before .before .before .before .before .before .before .before .before .before .before .before .before .before .before .before .before .before .before .before .before .before .before .before .before .before .before)) _ (sym (c .before .before .is-short .ensures) ∙ c .before .if1 .taken) (c .refused .ensures)
+returns c = call-short (due (c .before .before .before .before .before .before .before .before .before .before .before .before .before .before .before .before .before .before .before .before .before .before .before .before .before .before .before .before .before .before .args .edition) (c .before .before .before .before .before .before .before .before .before .before .before .before .before .before .before .before .before .before .before .before .before .before .before .before .before .before .before .before .before .before .args .whole) (c .before .before .before .before .before .before .before .before .before .before .before .before .before .before .before .before .before .before .before .before .before .before .before .before .before .before .before .before .before .before .args .pickle .now)) (lent (c .before .before .before .before .before .before .before .before .before .before .before .before .before .before .before .before .before .before .before .before .before .before .before .before .before .before .before .before .before .before)) _ (sym (c .before .before .is-short .ensures) ∙ c .before .if1 .taken) (c .refused .ensures)
 
 clear-machine-requires : tie.Need-clear-machine-requires
 clear-machine-requires c κs = let e = c .before .before .before .before .before .before .before in let h = long stated (lent (start e)) (enough e) in (h .0, (h .1 .0, (h .1 .1 .0, (h .1 .1 .1 .0, (h .1 .1 .1 .1 .0, (h .1 .1 .1 .1 .1 .0, (h .1 .1 .1 .1 .1 .1 .0, tt)))))))
@@ -145,7 +145,7 @@ returns-2 : tie.Need-returns-2
 returns-2 c =
     let z = c .before .before .before .before .before .before .before .before .before .before in
     let s = start (else1 z) in
-    call-long (s .args .whole) (s .args .pickle .now) (lent s) (zeroed z) _ (enough (else1 z)) (made-zero z) (c .before .if2 .taken) (c .refused2 .ensures)
+    call-long (s .args .edition) (s .args .whole) (s .args .pickle .now) (lent s) (zeroed z) _ (enough (else1 z)) (made-zero z) (c .before .if2 .taken) (c .refused2 .ensures)
 
 read-requires : tie.Need-read-requires
 read-requires c κs =
@@ -153,50 +153,50 @@ read-requires c κs =
     (c .before .before .before .before .before .before .before .before .before .before .before .before .before .if2 .left, ready (lent (start (else1 z))) (zeroed z) (enough (else1 z)) (made-zero z))
 
 same-length-27 : tie.Need-same-length-27
-same-length-27 c = called c .read .kept .1 .1 .0 ∙ machine (builder (called c)) .clear-machine .kept .0
+same-length-27 c = called c .read .kept .1 .1 .1 .0 ∙ machine (builder (called c)) .clear-machine .kept .0
 
 same-length-28 : tie.Need-same-length-28
-same-length-28 c = called c .read .kept .1 .1 .1 .0 ∙ machine (builder (called c)) .clear-machine .kept .1 .0
+same-length-28 c = called c .read .kept .1 .1 .1 .1 .0 ∙ machine (builder (called c)) .clear-machine .kept .1 .0
 
 same-length-29 : tie.Need-same-length-29
-same-length-29 c = called c .read .kept .1 .1 .1 .1 .0 ∙ machine (builder (called c)) .clear-machine .kept .1 .1 .0
+same-length-29 c = called c .read .kept .1 .1 .1 .1 .1 .0 ∙ machine (builder (called c)) .clear-machine .kept .1 .1 .0
 
 same-length-30 : tie.Need-same-length-30
-same-length-30 c = called c .read .kept .1 .1 .1 .1 .1 .0 ∙ machine (builder (called c)) .clear-machine .kept .1 .1 .1 .0
+same-length-30 c = called c .read .kept .1 .1 .1 .1 .1 .1 .0 ∙ machine (builder (called c)) .clear-machine .kept .1 .1 .1 .0
 
 same-length-31 : tie.Need-same-length-31
-same-length-31 c = called c .read .kept .1 .1 .1 .1 .1 .1 .0 ∙ machine (builder (called c)) .clear-machine .kept .1 .1 .1 .1 .0
+same-length-31 c = called c .read .kept .1 .1 .1 .1 .1 .1 .1 .0 ∙ machine (builder (called c)) .clear-machine .kept .1 .1 .1 .1 .0
 
 same-length-32 : tie.Need-same-length-32
-same-length-32 c = called c .read .kept .1 .1 .1 .1 .1 .1 .1 .0 ∙ machine (builder (called c)) .clear-machine .kept .1 .1 .1 .1 .1 .0
+same-length-32 c = called c .read .kept .1 .1 .1 .1 .1 .1 .1 .1 .0 ∙ machine (builder (called c)) .clear-machine .kept .1 .1 .1 .1 .1 .0
 
 same-length-33 : tie.Need-same-length-33
-same-length-33 c = called c .read .kept .1 .1 .1 .1 .1 .1 .1 .1 .0 ∙ machine (builder (called c)) .clear-machine .kept .1 .1 .1 .1 .1 .1 .0
+same-length-33 c = called c .read .kept .1 .1 .1 .1 .1 .1 .1 .1 .1 .0 ∙ machine (builder (called c)) .clear-machine .kept .1 .1 .1 .1 .1 .1 .0
 
 same-length-34 : tie.Need-same-length-34
-same-length-34 c = called c .read .kept .1 .1 .1 .1 .1 .1 .1 .1 .1 .0 ∙ builder (called c) .clear-builder .kept .0
+same-length-34 c = called c .read .kept .1 .1 .1 .1 .1 .1 .1 .1 .1 .1 .0 ∙ builder (called c) .clear-builder .kept .0
 
 same-length-35 : tie.Need-same-length-35
-same-length-35 c = called c .read .kept .1 .1 .1 .1 .1 .1 .1 .1 .1 .1 .0 ∙ builder (called c) .clear-builder .kept .1 .0
+same-length-35 c = called c .read .kept .1 .1 .1 .1 .1 .1 .1 .1 .1 .1 .1 .0 ∙ builder (called c) .clear-builder .kept .1 .0
 
 same-length-36 : tie.Need-same-length-36
-same-length-36 c = called c .read .kept .1 .1 .1 .1 .1 .1 .1 .1 .1 .1 .1 .0 ∙ builder (called c) .clear-builder .kept .1 .1 .0
+same-length-36 c = called c .read .kept .1 .1 .1 .1 .1 .1 .1 .1 .1 .1 .1 .1 .0 ∙ builder (called c) .clear-builder .kept .1 .1 .0
 
 same-length-37 : tie.Need-same-length-37
-same-length-37 c = called c .read .kept .1 .1 .1 .1 .1 .1 .1 .1 .1 .1 .1 .1 .0 ∙ builder (called c) .clear-builder .kept .1 .1 .1 .0
+same-length-37 c = called c .read .kept .1 .1 .1 .1 .1 .1 .1 .1 .1 .1 .1 .1 .1 .0 ∙ builder (called c) .clear-builder .kept .1 .1 .1 .0
 
 same-length-38 : tie.Need-same-length-38
-same-length-38 c = called c .read .kept .1 .1 .1 .1 .1 .1 .1 .1 .1 .1 .1 .1 .1 .0
+same-length-38 c = called c .read .kept .1 .1 .1 .1 .1 .1 .1 .1 .1 .1 .1 .1 .1 .1 .0
 
 same-length-39 : tie.Need-same-length-39
-same-length-39 c = called c .read .kept .1 .1 .1 .1 .1 .1 .1 .1 .1 .1 .1 .1 .1 .1 .0
+same-length-39 c = called c .read .kept .1 .1 .1 .1 .1 .1 .1 .1 .1 .1 .1 .1 .1 .1 .1 .0
 
 returns-3 : tie.Need-returns-3
 returns-3 c =
     let r = called c .read in
     let z = builder (called c) in
     let s = start (else1 z) in
-    call-reads (due (s .args .whole) (s .args .pickle .now)) (lent s) (zeroed z) (r .last .1 .1 .0 ∷ r .last .1 .1 .1 .0 ∷ r .last .1 .1 .1 .1 .0 ∷ r .last .1 .1 .1 .1 .1 .0 ∷ r .last .1 .1 .1 .1 .1 .1 .0 ∷ r .last .1 .1 .1 .1 .1 .1 .1 .0 ∷ r .last .1 .1 .1 .1 .1 .1 .1 .1 .0 ∷ r .last .1 .1 .1 .1 .1 .1 .1 .1 .1 .0 ∷ r .last .1 .1 .1 .1 .1 .1 .1 .1 .1 .1 .0 ∷ r .last .1 .1 .1 .1 .1 .1 .1 .1 .1 .1 .1 .0 ∷ r .last .1 .1 .1 .1 .1 .1 .1 .1 .1 .1 .1 .1 .0 ∷ r .last .1 .1 .1 .1 .1 .1 .1 .1 .1 .1 .1 .1 .1 .0 ∷ r .last .1 .1 .1 .1 .1 .1 .1 .1 .1 .1 .1 .1 .1 .1 .0 ∷ []) _ (enough (else1 z)) (made-zero z) (r .ensures .answer) (r .ensures .slices)
+    call-reads (due (s .args .edition) (s .args .whole) (s .args .pickle .now)) (lent s) (zeroed z) (r .last .1 .1 .1 .0 ∷ r .last .1 .1 .1 .1 .0 ∷ r .last .1 .1 .1 .1 .1 .0 ∷ r .last .1 .1 .1 .1 .1 .1 .0 ∷ r .last .1 .1 .1 .1 .1 .1 .1 .0 ∷ r .last .1 .1 .1 .1 .1 .1 .1 .1 .0 ∷ r .last .1 .1 .1 .1 .1 .1 .1 .1 .1 .0 ∷ r .last .1 .1 .1 .1 .1 .1 .1 .1 .1 .1 .0 ∷ r .last .1 .1 .1 .1 .1 .1 .1 .1 .1 .1 .1 .0 ∷ r .last .1 .1 .1 .1 .1 .1 .1 .1 .1 .1 .1 .1 .0 ∷ r .last .1 .1 .1 .1 .1 .1 .1 .1 .1 .1 .1 .1 .1 .0 ∷ r .last .1 .1 .1 .1 .1 .1 .1 .1 .1 .1 .1 .1 .1 .1 .0 ∷ r .last .1 .1 .1 .1 .1 .1 .1 .1 .1 .1 .1 .1 .1 .1 .1 .0 ∷ []) _ (enough (else1 z)) (made-zero z) (r .ensures .answer) (r .ensures .slices)
 
 pub reading-spec : {M : Type 1} → statement M
 reading-spec = tie.close (tie.spec is-short-requires refused-requires same-length same-length-2 same-length-3 same-length-4 same-length-5 same-length-6 same-length-7 same-length-8 same-length-9 same-length-10 same-length-11 same-length-12 same-length-13 returns clear-machine-requires clear-builder-requires refused-requires-2 same-length-14 same-length-15 same-length-16 same-length-17 same-length-18 same-length-19 same-length-20 same-length-21 same-length-22 same-length-23 same-length-24 same-length-25 same-length-26 returns-2 read-requires same-length-27 same-length-28 same-length-29 same-length-30 same-length-31 same-length-32 same-length-33 same-length-34 same-length-35 same-length-36 same-length-37 same-length-38 same-length-39 returns-3)

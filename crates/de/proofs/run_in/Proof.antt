@@ -20,15 +20,15 @@ start c = c .before .before .before .before .before .before .before .before .bef
 
 -- what it leaves
 ran : (c : tie.After-run)
-    → Runs (c .run .result) (start c .args .pickle .now) (start c .args .nodes .now) (start c .args .owners .now) (start c .args .children .now) (start c .args .stack .now) (start c .args .marks .now)
-    (c .run .last .1 .0 ++ drop 8192 (start c .args .nodes .now)) (c .run .last .1 .1 .0 ++ drop 8192 (start c .args .owners .now)) (c .run .last .1 .1 .1 .0 ++ drop 8192 (start c .args .children .now)) (c .run .last .1 .1 .1 .1 .0 ++ drop 2048 (start c .args .stack .now)) (c .run .last .1 .1 .1 .1 .1 .0 ++ drop 256 (start c .args .marks .now))
-ran c = let a = start c .args in let r = c .run in runs (a .pickle .now) (a .nodes .now) (a .owners .now) (a .children .now) (a .stack .now) (a .marks .now) (a .keys .now) (a .held .now) (start c .pre .1) (r .result) (r .last .1 .0) (r .last .1 .1 .0) (r .last .1 .1 .1 .0) (r .last .1 .1 .1 .1 .0) (r .last .1 .1 .1 .1 .1 .0) (r .last .1 .1 .1 .1 .1 .1 .0) (r .last .1 .1 .1 .1 .1 .1 .1 .0) (r .ensures) (r .kept .1 .0) (r .kept .1 .1 .0) (r .kept .1 .1 .1 .0) (r .kept .1 .1 .1 .1 .0) (r .kept .1 .1 .1 .1 .1 .0)
+    → Runs (start c .args .edition) (c .run .result) (start c .args .pickle .now) (start c .args .nodes .now) (start c .args .owners .now) (start c .args .children .now) (start c .args .stack .now) (start c .args .marks .now)
+    (c .run .last .1 .1 .0 ++ drop 8192 (start c .args .nodes .now)) (c .run .last .1 .1 .1 .0 ++ drop 8192 (start c .args .owners .now)) (c .run .last .1 .1 .1 .1 .0 ++ drop 8192 (start c .args .children .now)) (c .run .last .1 .1 .1 .1 .1 .0 ++ drop 2048 (start c .args .stack .now)) (c .run .last .1 .1 .1 .1 .1 .1 .0 ++ drop 256 (start c .args .marks .now))
+ran c = let a = start c .args in let r = c .run in runs (a .pickle .now) (a .nodes .now) (a .owners .now) (a .children .now) (a .stack .now) (a .marks .now) (a .keys .now) (a .held .now) (start c .pre .1) (start c .args .edition) (r .result) (r .last .1 .1 .0) (r .last .1 .1 .1 .0) (r .last .1 .1 .1 .1 .0) (r .last .1 .1 .1 .1 .1 .0) (r .last .1 .1 .1 .1 .1 .1 .0) (r .last .1 .1 .1 .1 .1 .1 .1 .0) (r .last .1 .1 .1 .1 .1 .1 .1 .1 .0) (r .ensures) (r .kept .1 .1 .0) (r .kept .1 .1 .1 .0) (r .kept .1 .1 .1 .1 .0) (r .kept .1 .1 .1 .1 .1 .0) (r .kept .1 .1 .1 .1 .1 .1 .0)
 
-keys : (c : tie.After-run) → Back (countsOf (c .run .result) .memo) (start c .args .keys .now) (c .run .last .1 .1 .1 .1 .1 .1 .0 ++ drop 2048 (start c .args .keys .now))
-keys c = let a = start c .args in let r = c .run in keys-back (a .pickle .now) (a .nodes .now) (a .owners .now) (a .children .now) (a .stack .now) (a .marks .now) (a .keys .now) (a .held .now) (start c .pre .1) (r .result) (r .last .1 .0) (r .last .1 .1 .0) (r .last .1 .1 .1 .0) (r .last .1 .1 .1 .1 .0) (r .last .1 .1 .1 .1 .1 .0) (r .last .1 .1 .1 .1 .1 .1 .0) (r .last .1 .1 .1 .1 .1 .1 .1 .0) (r .ensures) (r .kept .1 .1 .1 .1 .1 .1 .0)
+keys : (c : tie.After-run) → Back (countsOf (c .run .result) .memo) (start c .args .keys .now) (c .run .last .1 .1 .1 .1 .1 .1 .1 .0 ++ drop 2048 (start c .args .keys .now))
+keys c = let a = start c .args in let r = c .run in keys-back (a .pickle .now) (a .nodes .now) (a .owners .now) (a .children .now) (a .stack .now) (a .marks .now) (a .keys .now) (a .held .now) (start c .pre .1) (start c .args .edition) (r .result) (r .last .1 .1 .0) (r .last .1 .1 .1 .0) (r .last .1 .1 .1 .1 .0) (r .last .1 .1 .1 .1 .1 .0) (r .last .1 .1 .1 .1 .1 .1 .0) (r .last .1 .1 .1 .1 .1 .1 .1 .0) (r .last .1 .1 .1 .1 .1 .1 .1 .1 .0) (r .ensures) (r .kept .1 .1 .1 .1 .1 .1 .1 .0)
 
-held : (c : tie.After-run) → Back (countsOf (c .run .result) .memo) (start c .args .held .now) (c .run .last .1 .1 .1 .1 .1 .1 .1 .0 ++ drop 1024 (start c .args .held .now))
-held c = let a = start c .args in let r = c .run in held-back (a .pickle .now) (a .nodes .now) (a .owners .now) (a .children .now) (a .stack .now) (a .marks .now) (a .keys .now) (a .held .now) (start c .pre .1) (r .result) (r .last .1 .0) (r .last .1 .1 .0) (r .last .1 .1 .1 .0) (r .last .1 .1 .1 .1 .0) (r .last .1 .1 .1 .1 .1 .0) (r .last .1 .1 .1 .1 .1 .1 .0) (r .last .1 .1 .1 .1 .1 .1 .1 .0) (r .ensures) (r .kept .1 .1 .1 .1 .1 .1 .1 .0)
+held : (c : tie.After-run) → Back (countsOf (c .run .result) .memo) (start c .args .held .now) (c .run .last .1 .1 .1 .1 .1 .1 .1 .1 .0 ++ drop 1024 (start c .args .held .now))
+held c = let a = start c .args in let r = c .run in held-back (a .pickle .now) (a .nodes .now) (a .owners .now) (a .children .now) (a .stack .now) (a .marks .now) (a .keys .now) (a .held .now) (start c .pre .1) (start c .args .edition) (r .result) (r .last .1 .1 .0) (r .last .1 .1 .1 .0) (r .last .1 .1 .1 .1 .0) (r .last .1 .1 .1 .1 .1 .0) (r .last .1 .1 .1 .1 .1 .1 .0) (r .last .1 .1 .1 .1 .1 .1 .1 .0) (r .last .1 .1 .1 .1 .1 .1 .1 .1 .0) (r .ensures) (r .kept .1 .1 .1 .1 .1 .1 .1 .1 .0)
 
 sub-run : tie.Need-sub-run
 sub-run c = omega arith
@@ -106,25 +106,25 @@ clear-shorts-requires : tie.Need-clear-shorts-requires
 clear-shorts-requires c κs = back-fits (held (c .before .before .before .before .before .before .before .before .before .before .before .before .before .before .before .before .before .before .before .before)) _ (ap (λ (x : Counts). x .memo) (c .before .before .before .before .before .counts .ensures))
 
 same-length : tie.Need-same-length
-same-length c = length-front (start (called c) .args .nodes .now) (called c .run .last .1 .0) 8192 (called c .run .kept .1 .0)
+same-length c = length-front (start (called c) .args .nodes .now) (called c .run .last .1 .1 .0) 8192 (called c .run .kept .1 .1 .0)
 
 same-length-2 : tie.Need-same-length-2
-same-length-2 c = length-front (start (called c) .args .owners .now) (called c .run .last .1 .1 .0) 8192 (called c .run .kept .1 .1 .0)
+same-length-2 c = length-front (start (called c) .args .owners .now) (called c .run .last .1 .1 .1 .0) 8192 (called c .run .kept .1 .1 .1 .0)
 
 same-length-3 : tie.Need-same-length-3
-same-length-3 c = length-front (start (called c) .args .children .now) (called c .run .last .1 .1 .1 .0) 8192 (called c .run .kept .1 .1 .1 .0)
+same-length-3 c = length-front (start (called c) .args .children .now) (called c .run .last .1 .1 .1 .1 .0) 8192 (called c .run .kept .1 .1 .1 .1 .0)
 
 same-length-4 : tie.Need-same-length-4
-same-length-4 c = length-front (start (called c) .args .stack .now) (called c .run .last .1 .1 .1 .1 .0) 2048 (called c .run .kept .1 .1 .1 .1 .0)
+same-length-4 c = length-front (start (called c) .args .stack .now) (called c .run .last .1 .1 .1 .1 .1 .0) 2048 (called c .run .kept .1 .1 .1 .1 .1 .0)
 
 same-length-5 : tie.Need-same-length-5
-same-length-5 c = length-front (start (called c) .args .marks .now) (called c .run .last .1 .1 .1 .1 .1 .0) 256 (called c .run .kept .1 .1 .1 .1 .1 .0)
+same-length-5 c = length-front (start (called c) .args .marks .now) (called c .run .last .1 .1 .1 .1 .1 .1 .0) 256 (called c .run .kept .1 .1 .1 .1 .1 .1 .0)
 
 same-length-6 : tie.Need-same-length-6
-same-length-6 c = c .before .before .before .before .before .before .clear-ints .kept .0 ∙ length-front (start (called c) .args .keys .now) (called c .run .last .1 .1 .1 .1 .1 .1 .0) 2048 (called c .run .kept .1 .1 .1 .1 .1 .1 .0)
+same-length-6 c = c .before .before .before .before .before .before .clear-ints .kept .0 ∙ length-front (start (called c) .args .keys .now) (called c .run .last .1 .1 .1 .1 .1 .1 .1 .0) 2048 (called c .run .kept .1 .1 .1 .1 .1 .1 .1 .0)
 
 same-length-7 : tie.Need-same-length-7
-same-length-7 c = c .before .before .clear-shorts .kept .0 ∙ length-front (start (called c) .args .held .now) (called c .run .last .1 .1 .1 .1 .1 .1 .1 .0) 1024 (called c .run .kept .1 .1 .1 .1 .1 .1 .1 .0)
+same-length-7 c = c .before .before .clear-shorts .kept .0 ∙ length-front (start (called c) .args .held .now) (called c .run .last .1 .1 .1 .1 .1 .1 .1 .1 .0) 1024 (called c .run .kept .1 .1 .1 .1 .1 .1 .1 .1 .0)
 
 returns : tie.Need-returns
 returns c =

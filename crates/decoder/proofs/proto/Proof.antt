@@ -10,13 +10,13 @@ sub-if1 : tie.Need-sub-if1
 sub-if1 c = let h = lent-at _ _ (c .before .pre) in omega arith
 
 returns : tie.Need-returns
-returns c = proto-ends _ _ (c .if1 .taken)
+returns c = proto-ends _ _ _ (c .if1 .taken)
 
 returns-2 : tie.Need-returns-2
-returns-2 c = proto-new _ _ (omega arith) (omega arith)
+returns-2 c = proto-new _ _ _ (omega arith) (omega arith)
 
 returns-3 : tie.Need-returns-3
-returns-3 c = proto-known _ _ (omega arith) _ (omega arith) (c .read-to .ensures)
+returns-3 c = proto-known _ _ _ (omega arith) _ (omega arith) (c .read-to .ensures)
 
 pub proto-spec : {M : Type 1} → statement M
 proto-spec = tie.close (tie.spec sub-if1 returns (λ c. search needs) returns-2 (λ c. search needs) (λ c κs. search needs) returns-3)

@@ -1,0 +1,1 @@
+// The profile for plain data against the full reader: definitions and laws only, in specs/.
