@@ -114,13 +114,13 @@ x86_64_rust() {
     fi
 }
 
-# The archive of a crate, target/staticlib/libNAME.a, made anew only if something has changed since this began to make it. After
-# find_kit.
+# archive NAME: the archive of a crate, target/staticlib/libNAME.a, made anew only if something has changed since this began to make
+# it. archive NAME native: target/native/libNAME.a, for this machine's processor. After find_kit.
 archive() (
-    folder=$root/target/staticlib
+    folder=$root/target/${2:-staticlib}
     began=$folder/$1.began
-    mkdir -p "$folder"
-    exec 8> "$folder/lock"
+    mkdir -p "$root/target/staticlib" "$folder"
+    exec 8> "$root/target/staticlib/lock"
     flock 8
     if [ -f "$folder/lib$1.a" ] && [ -f "$began" ] &&
         [ -z "$(find "$root/crates" "$root/crates.txt" "$kit/KIT-ID" -newer "$began" -print -quit)" ]; then
@@ -128,9 +128,36 @@ archive() (
     fi
     say "proving and compiling $1, a minute or two"
     touch "$began.new"
+    if [ "$folder" = "$root/target/native" ]; then native_kit; fi
     (cd "$root" && rt staticlib "$1") > "$folder/$1.log" 2>&1 || { cat "$folder/$1.log" >&2; fail "rt staticlib $1 failed"; }
+    if [ "$folder" = "$root/target/native" ]; then native_archive "$1"; fi
     mv "$began.new" "$began"
 )
+
+# Let rt compile with bench/clang, which compiles the compiler's module for this machine's processor too: a folder that has all that
+# the kit has, but for clang. On x86-64 there is nothing to do.
+native_kit() {
+    [ "$machine" = x86_64 ] && return
+    export RATTLE_HOME=$root/target/native/kit
+    local bin=on/$machine/toolchain/bin entry
+    mkdir -p "$RATTLE_HOME/$bin/of-kit"
+    for entry in "$kit"/* "$kit/on/$machine"/* "$tools"/* "$tools"/bin/*; do
+        [ -e "$RATTLE_HOME/${entry#"$kit/"}" ] || ln -s "$entry" "$RATTLE_HOME/${entry#"$kit/"}"
+    done
+    ln -sf "$tools/bin/clang" "$RATTLE_HOME/$bin/of-kit/clang"
+    rm "$RATTLE_HOME/$bin/clang"
+    cp "$root/bench/clang" "$RATTLE_HOME/$bin/clang"
+}
+
+# The archive of what native_kit's clang left.
+native_archive() {
+    if [ "$machine" = x86_64 ]; then
+        cp "$root/target/staticlib/lib$1.a" "$folder/lib$1.a"
+    else
+        rm -f "$folder/lib$1.a"
+        "$tools/bin/llvm-ar" rcs "$folder/lib$1.a" "$RATTLE_HOME/on/$machine/toolchain/bin/module.o"
+    fi || fail "no archive of $1 for this processor"
+}
 
 # Copy only what differs, so that cargo sees nothing new when nothing is.
 copy() {

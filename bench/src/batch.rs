@@ -20,14 +20,16 @@ const SHEETS: usize = 300;
 pub fn cases() -> Vec<Case> {
     let python = Python::start();
     let rooms = Rc::new(RefCell::new(Rooms::new()));
-    let (small, middle) = (inputs::small_sheet().pickle, inputs::middle_sheet().pickle);
-    println!("A small sheet has {} bytes, one of 800 values {}.\n", small.len(), middle.len());
-    let case = |name, pickle: &[u8], at_once| case(name, pickle, at_once, &rooms, python.as_ref());
+    let [small, middle, large] = [inputs::small_sheet(), inputs::middle_sheet(), inputs::sheet()].map(|sheet| sheet.pickle);
+    println!("A small sheet has {} bytes, one of 800 values {}, of 2,000 {}.\n", small.len(), middle.len(), large.len());
+    let case = |name, pickle: &[u8], at_once| case(name, pickle, at_once, &rooms, &python);
     vec![
         case("small sheets, in one call", &small, true),
         case("small sheets, by a call each", &small, false),
         case("800 values each, in one call", &middle, true),
         case("800 values each, by a call each", &middle, false),
+        case("2,000 values each, in one call", &large, true),
+        case("2,000 values each, by a call each", &large, false),
     ]
 }
 
@@ -48,10 +50,10 @@ impl Night {
     }
 }
 
-fn case(name: &'static str, pickle: &[u8], at_once: bool, rooms: &Rc<RefCell<Rooms>>, python: Option<&Rc<RefCell<Python>>>) -> Case {
+fn case(name: &'static str, pickle: &[u8], at_once: bool, rooms: &Rc<RefCell<Rooms>>, python: &Rc<RefCell<Python>>) -> Case {
     let mut night = Night::of(pickle);
     let mut agree = same(pickle, &mut night, &mut rooms.borrow_mut());
-    let cpython = python.and_then(|python| cpython::side(python, pickle).map_err(|why| agree = Err(why)).ok());
+    let cpython = cpython::side(python, pickle).map_err(|why| agree = Err(why)).ok();
     let (rooms, separate, for_rust) = (Rc::clone(rooms), pickle.to_vec(), pickle.to_vec());
     Case {
         name,

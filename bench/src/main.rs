@@ -1,8 +1,7 @@
 //! The driver: measures the benchmarks named as arguments, or all, and prints a table for each; or it searches for slow pickles.
 //! Status 1: two answers differ; 2: no benchmark has that name.
 
-// Rust's own start reads the memory map of its process, of which the kit's emulator dies: the C library calls `main` here.
-#![no_main]
+use std::process::ExitCode;
 
 mod cpython;
 mod hostile;
@@ -43,15 +42,14 @@ benchmarks! {
     writing
 }
 
-#[no_mangle]
-extern "C" fn main() -> i32 {
+fn main() -> ExitCode {
     let wanted: Vec<String> = std::env::args().skip(1).collect();
     if wanted.first().is_some_and(|name| name == "search") {
-        return search::run(&wanted[1..]);
+        return ExitCode::from(search::run(&wanted[1..]));
     }
     if let Some(name) = wanted.iter().find(|name| !BENCHMARKS.iter().any(|(known, ..)| name == known)) {
         eprintln!("bench: no benchmark {name}");
-        return 2;
+        return ExitCode::from(2);
     }
     let mut agreed = true;
     for (name, about, cases) in BENCHMARKS {
@@ -60,5 +58,5 @@ extern "C" fn main() -> i32 {
             agreed &= measure::table(cases());
         }
     }
-    i32::from(!agreed)
+    ExitCode::from(u8::from(!agreed))
 }

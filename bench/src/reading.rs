@@ -36,7 +36,7 @@ pub fn cases() -> Vec<Case> {
         println!("{name}: {} bytes.", pickle.len());
     }
     println!();
-    pickles().into_iter().map(|input| case(input, ours::from_bytes_prefix, &rooms, python.as_ref())).collect()
+    pickles().into_iter().map(|input| case(input, ours::from_bytes_prefix, &rooms, &python)).collect()
 }
 
 /// All that are read.
@@ -60,11 +60,10 @@ fn sheets() -> Vec<Input> {
     ]
 }
 
-pub fn case(input: Input, read: Reading, rooms: &Rc<RefCell<Rooms>>, python: Option<&Rc<RefCell<Python>>>) -> Case {
+pub fn case(input: Input, read: Reading, rooms: &Rc<RefCell<Rooms>>, python: &Rc<RefCell<Python>>) -> Case {
     let mut agree = same(&input, read, &mut rooms.borrow_mut());
-    let cpython = python.filter(|_| input.cpython).and_then(|python| {
-        cpython::side(python, &input.pickle).map_err(|why| agree = Err(why)).ok()
-    });
+    let asked = input.cpython.then(|| cpython::side(python, &input.pickle));
+    let cpython = asked.and_then(|side| side.map_err(|why| agree = Err(why)).ok());
     let Input { name, pickle, rust, .. } = input;
     let (rooms, for_rust) = (Rc::clone(rooms), pickle.clone());
     Case {

@@ -39,7 +39,7 @@ struct Found {
 }
 
 /// `search [ROUNDS [SEED]]`. Status 2: those are no numbers.
-pub fn run(words: &[String]) -> i32 {
+pub fn run(words: &[String]) -> u8 {
     let number = |place: usize, default: u64| words.get(place).map_or(Ok(default), |word| word.parse());
     let (Ok(rounds), Ok(seed), true) = (number(0, ROUNDS as u64), number(1, SEED), words.len() <= 2) else {
         eprintln!("bench: search [ROUNDS [SEED]]");
