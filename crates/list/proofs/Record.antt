@@ -10,11 +10,12 @@ use lib.ListN.{length, length-append, getD, take, drop}
 use lib.Seq.{drop-drop}
 use Rattle.value.specs.declared.Head.{Head}
 use Rattle.value.specs.Value.{bit, half}
-use Rattle.value.specs.Shape.{kindIn, newIn, stateIn, headOf, labelOf, arityOf}
+use Rattle.value.specs.Shape.{kindIn, newIn, stateIn, headOf, labelOf, arityOf, namesEnd}
 use Rattle.value.specs.Stands.{wordAt, labelAt, arityAt, Reads}
 use Rattle.value.specs.Left.{kind-at}
+use Rattle.value.specs.Labels.{text-inside, names-inside}
 use Rattle.output.specs.Decimal.{decimalText, signedText, figures, either}
-use Rattle.list.specs.Listing.{plain, listedByte, listedText, names, kindName, flag, listedNames, namesAt, contentOf, line, tab}
+use Rattle.list.specs.Listing.{listedText, names, kindName, flag, listedNames, namesAt, contentOf, line, tab}
 use Rattle.output.specs.Put.{newline, Room, room-first}
 
 -- a fact of each number below a bound
@@ -26,6 +27,9 @@ below : (P : ℕ → Type 0) (n : ℕ) → Below P n → (k : ℕ) → k < n →
 below P zero b k h = absurd (omega arith)
 below P (suc n) b k h = either k n (below P n (b .0) k) (λ l. let e : n ≡ k = omega arith in subst P e (b .1))
 
+pub beyond : {n k : ℕ} → n ≤ k → (k ≡ n → ⊥) → n < k
+beyond h x = omega arith
+
 half-double : (b : ℕ) → half (b + b) ≡ b
 half-double zero = refl
 half-double (suc b) = let e : suc b + suc b ≡ suc (suc (b + b)) = omega arith in rw e (ap suc (half-double b))
@@ -36,15 +40,26 @@ half-state false = refl
 
 -- ---- a record's content, by its kind
 
-module _ (w t : List ℕ) (i : ℕ) (r : Reads w t i) (h : Head) (q : h ≡ headOf (getD w (4 * i) 0)) where
+-- the head was read of record i
+pub record Opened (w t : List ℕ) (i : ℕ) (h : Head) : Type 0 where
+  pub reads : Reads w t i
+  pub head : h ≡ headOf (getD w (4 * i) 0)
+
+module _ {w t : List ℕ} {i : ℕ} {h : Head} (x : Opened w t i h) where
   abbrev content : List ℕ
   content = contentOf (labelAt w t i) (arityAt w i)
 
   kind₀ : kindIn (wordAt w i 0) ≡ h .kind
-  kind₀ = rw (add-zero, q)
+  kind₀ = rw (add-zero, x .head)
 
   pub known : h .kind < 13
-  known = rw kind₀ at (r .known)
+  known = rw kind₀ at (x .reads .known)
+
+  pub text-fits : 3 < h .kind → h .kind < 6 → wordAt w i 1 + wordAt w i 2 ≤ length t
+  text-fits = text-inside w t i (h .kind) (x .reads) (ap (λ (y : Head). y .kind) (x .head))
+
+  pub names-fit : 10 < h .kind → namesEnd (wordAt w i 1) (wordAt w i 2) ≤ length t
+  names-fit = names-inside w t i (h .kind) (x .reads) (ap (λ (y : Head). y .kind) (x .head))
 
   pub content-none : h .kind ≡ 0 → content ≡ 0x2D ∷ []
   unfolding contentOf labelAt labelOf
@@ -79,11 +94,12 @@ module _ (w t : List ℕ) (i : ℕ) (r : Reads w t i) (h : Head) (q : h ≡ head
   unfolding contentOf labelAt labelOf namesAt
   content-global e = rw (kind₀, e)
 
-  pub content-object : h .kind ≡ 12 → content ≡ namesAt t (wordAt w i 1) (wordAt w i 2) ++ (tab ∷ flag (h .new) ∷ tab ∷ flag (h .state) ∷ [])
+  pub content-object : 11 < h .kind → content ≡ namesAt t (wordAt w i 1) (wordAt w i 2) ++ (tab ∷ flag (h .new) ∷ tab ∷ flag (h .state) ∷ [])
   unfolding contentOf labelAt labelOf arityAt arityOf namesAt flag
-  content-object e =
-      let n : newIn (wordAt w i 0) ≡ h .new = rw (add-zero, q) in
-      let s : stateIn (wordAt w i 0) ≡ h .state = rw (add-zero, q) in
+  content-object g =
+      let e : h .kind ≡ 12 = omega (arith, known) in
+      let n : newIn (wordAt w i 0) ≡ h .new = rw (add-zero, x .head) in
+      let s : stateIn (wordAt w i 0) ≡ h .state = rw (add-zero, x .head) in
       rw (kind₀, e, n, s, half-state (h .state))
 
   -- None and Bool have one byte
@@ -91,24 +107,24 @@ module _ (w t : List ℕ) (i : ℕ) (r : Reads w t i) (h : Head) (q : h ≡ head
   content-one g =
       either (h .kind) 1 (λ l. sym (ap length (content-none (omega arith)))) (λ l. sym (ap length (content-bool (omega arith))))
 
-  pub content-flags : h .kind ≡ 12 → length content ≡ length (namesAt t (wordAt w i 1) (wordAt w i 2)) + 4
-  content-flags e = ap length (content-object e) ∙ length-append (namesAt t (wordAt w i 1) (wordAt w i 2)) _
+  pub content-flags : 11 < h .kind → length content ≡ length (namesAt t (wordAt w i 1) (wordAt w i 2)) + 4
+  content-flags g = ap length (content-object g) ∙ length-append (namesAt t (wordAt w i 1) (wordAt w i 2)) _
 
   -- a module and a name take no more
   pub names-few : 10 < h .kind → length (namesAt t (wordAt w i 1) (wordAt w i 2)) ≤ length content
   names-few g =
-      either (h .kind) 12 (λ l. omega (arith, ap length (content-global (omega arith)))) (λ l. omega (arith, content-flags (omega (arith, known))))
+      either (h .kind) 12 (λ l. omega (arith, ap length (content-global (omega arith)))) (λ l. omega (arith, content-flags l))
 
   -- a module and a name stand first in both
   pub names-room : {o : List ℕ} {at : ℕ} → 10 < h .kind → Room o at content → Room o at (namesAt t (wordAt w i 1) (wordAt w i 2))
   names-room g m =
       either (h .kind) 12 (λ l. rw (content-global (omega arith)) at m)
-      (λ l. room-first _ (rw (content-object (omega (arith, known))) at m))
+      (λ l. room-first _ (rw (content-object l) at m))
 
   -- its line
   pub line-parts : (d : ℕ) → line d (labelAt w t i) (arityAt w i) ≡ decimalText d ++ ((tab ∷ []) ++ (kindName (h .kind) ++ ((tab ∷ []) ++ (content ++ (newline ∷ [])))))
   unfolding line
-  line-parts d = rw (kind-at w t i r, kind₀)
+  line-parts d = rw (kind-at w t i (x .reads), kind₀)
 
   pub line-length : (d : ℕ) → length (line d (labelAt w t i) (arityAt w i)) ≡ length (decimalText d) + length (kindName (h .kind)) + length content + 3
   line-length d =

@@ -12,29 +12,23 @@ use Rattle.output.specs.Put.{Put, Room, Left, left-all, left-more, left-none, l
 use Rattle.list.specs.Listing.{line, listing}
 use Rattle.list.specs.Walk.{Ready, Walked, Wrote, Countable, Counted}
 
--- n values stood from record `from` on, and of them `left` do from record i on; the listing of those is left
+-- of the n values from record `from` on, `left` stand from record i on; the listing of those is left
 pub record Going (w t : List ℕ) (from n d : ℕ) (o₀ : List ℕ) (at : ℕ) (o : List ℕ) (i left next : ℕ) : Type 0 where
-  pub whole : Forest
+  pub whole : Ready w t from n d o₀ at
   pub rest : Forest
-  pub was : Stands w t from whole
-  pub all : count whole ≡ n
-  pub room : Room o₀ at (listing d whole)
   pub stands : Stands w t i rest
   pub counted : count rest ≡ left
   pub few : size rest ≤ length w
   pub shallow : d + depth rest ≤ 64
-  pub ends : i + size rest ≡ from + size whole
-  pub todo : Left o₀ at (listing d whole) o next (listing d rest)
+  pub ends : i + size rest ≡ from + size (whole .values)
+  pub todo : Left o₀ at (listing d (whole .values)) o next (listing d rest)
 
 -- the same with the first of the values that are left, its contents c and the values r after it
 pub record Turn (w t : List ℕ) (from n d : ℕ) (o₀ : List ℕ) (at : ℕ) (o : List ℕ) (i left next : ℕ) : Type 0 where
-  pub whole : Forest
+  pub whole : Ready w t from n d o₀ at
   pub c : Forest
   pub r : Forest
   pub l : Label
-  pub was : Stands w t from whole
-  pub all : count whole ≡ n
-  pub room : Room o₀ at (listing d whole)
   pub says : Says w t i l (count c)
   pub inside : Stands w t (i + 1) c
   pub after : Stands w t (i + 1 + size c) r
@@ -42,8 +36,8 @@ pub record Turn (w t : List ℕ) (from n d : ℕ) (o₀ : List ℕ) (at : ℕ) (
   pub few : suc (size c + size r) ≤ length w
   pub deeper : d + suc (depth c) ≤ 64
   pub shallow : d + depth r ≤ 64
-  pub ends : i + 1 + size c + size r ≡ from + size whole
-  pub todo : Left o₀ at (listing d whole) o next (line d l (count c) ++ (listing (suc d) c ++ listing d r))
+  pub ends : i + 1 + size c + size r ≡ from + size (whole .values)
+  pub todo : Left o₀ at (listing d (whole .values)) o next (line d l (count c) ++ (listing (suc d) c ++ listing d r))
 
 count-size : (f : Forest) → count f ≤ size f
 unfolding count size
@@ -59,11 +53,8 @@ module _ {w t : List ℕ} {from n d : ℕ} {o₀ : List ℕ} {at : ℕ} where
   pub going-all : Ready w t from n d o₀ at → Going w t from n d o₀ at o₀ from n at
   going-all y =
       record {
-        whole = y .values;
+        whole = y;
         rest = y .values;
-        was = y .stands;
-        all = y .counted;
-        room = y .room;
         stands = y .stands;
         counted = y .counted;
         few = y .few;
@@ -73,19 +64,16 @@ module _ {w t : List ℕ} {from n d : ℕ} {o₀ : List ℕ} {at : ℕ} where
       }
 
   module _ {o : List ℕ} {i left next : ℕ} where
-    turn-of : (whole rest : Forest) → Stands w t from whole → count whole ≡ n → Room o₀ at (listing d whole) → Stands w t i rest → count rest ≡ left → size rest ≤ length w → d + depth rest ≤ 64 → i + size rest ≡ from + size whole
-        → Left o₀ at (listing d whole) o next (listing d rest) → 0 < left → Turn w t from n d o₀ at o i left next
+    turn-of : (whole : Ready w t from n d o₀ at) (rest : Forest) → Stands w t i rest → count rest ≡ left → size rest ≤ length w → d + depth rest ≤ 64 → i + size rest ≡ from + size (whole .values)
+        → Left o₀ at (listing d (whole .values)) o next (listing d rest) → 0 < left → Turn w t from n d o₀ at o i left next
     unfolding Stands count size depth listing
-    turn-of whole nil was all room stands counted few shallow ends todo h = absurd (omega arith)
-    turn-of whole (node l c r) was all room stands counted few shallow ends todo h =
+    turn-of whole nil stands counted few shallow ends todo h = absurd (omega arith)
+    turn-of whole (node l c r) stands counted few shallow ends todo h =
         record {
           whole = whole;
           c = c;
           r = r;
           l = l;
-          was = was;
-          all = all;
-          room = room;
           says = stands .0;
           inside = stands .1;
           after = stands .2;
@@ -98,21 +86,22 @@ module _ {w t : List ℕ} {from n d : ℕ} {o₀ : List ℕ} {at : ℕ} where
         }
 
     pub turn : Going w t from n d o₀ at o i left next → 0 < left → Turn w t from n d o₀ at o i left next
-    turn g h = turn-of (g .whole) (g .rest) (g .was) (g .all) (g .room) (g .stands) (g .counted) (g .few) (g .shallow) (g .ends) (g .todo) h
+    turn g h = turn-of (g .whole) (g .rest) (g .stands) (g .counted) (g .few) (g .shallow) (g .ends) (g .todo) h
 
     -- after the last one
     pub going-none : Going w t from n d o₀ at o i left next → left ≤ 0 → Wrote w t from n d o₀ at o i next
     unfolding listing size
     going-none g h f s e =
-        let k : f ≡ g .whole = stands-one w t f (g .whole) from s (g .was) (e ∙ sym (g .all)) in
+        let v = g .whole .values in
+        let k : f ≡ v = stands-one w t f v from s (g .whole .stands) (e ∙ sym (g .whole .counted)) in
         let z : g .rest ≡ nil = none-of (g .rest) (omega (arith, g .counted)) in
-        let ends : i + size nil ≡ from + size (g .whole) = rw z at (g .ends) in
-        let todo : Left o₀ at (listing d (g .whole)) o next [] = rw z at (g .todo) in
+        let ends : i + size nil ≡ from + size v = rw z at (g .ends) in
+        let todo : Left o₀ at (listing d v) o next [] = rw z at (g .todo) in
         rw k (record { passed = omega arith; put = left-none todo })
 
     module _ (u : Turn w t from n d o₀ at o i left next) where
       line-room : Room o next (line d (labelAt w t i) (arityAt w i))
-      line-room = rw (u .says .label, u .says .arity) (room-first _ (left-room (u .room) (u .todo)))
+      line-room = rw (u .says .label, u .says .arity) (room-first _ (left-room (u .whole .room) (u .todo)))
 
       pub turn-counted : {m : ℕ} → m ≡ arityAt w i → count (u .c) ≡ m
       turn-counted many = sym (many ∙ u .says .arity)
@@ -126,7 +115,7 @@ module _ {w t : List ℕ} {from n d : ℕ} {o₀ : List ℕ} {at : ℕ} where
       turn-arity = (u .says .reads .inside, omega (arith, u .says .arity, u .few, count-size (u .c)))
 
       module _ {o₁ : List ℕ} {p m : ℕ} (lined : Put o next (line d (labelAt w t i) (arityAt w i)) o₁ p) (many : m ≡ arityAt w i) where
-        after-line : Left o₀ at (listing d (u .whole)) o₁ p (listing (suc d) (u .c) ++ listing d (u .r))
+        after-line : Left o₀ at (listing d (u .whole .values)) o₁ p (listing (suc d) (u .c) ++ listing d (u .r))
         after-line = left-more _ (u .todo) (rw (u .says .label, u .says .arity) at lined)
 
         -- its contents
@@ -138,7 +127,7 @@ module _ {w t : List ℕ} {from n d : ℕ} {o₀ : List ℕ} {at : ℕ} where
               counted = sym (many ∙ u .says .arity);
               few = omega (arith, u .few);
               shallow = omega (arith, u .deeper);
-              room = rw add-one (room-first (listing d (u .r)) (left-room (u .room) after-line));
+              room = rw add-one (room-first (listing d (u .r)) (left-room (u .whole .room) after-line));
             }
 
         -- the values after it
@@ -148,9 +137,6 @@ module _ {w t : List ℕ} {from n d : ℕ} {o₀ : List ℕ} {at : ℕ} where
             record {
               whole = u .whole;
               rest = u .r;
-              was = u .was;
-              all = u .all;
-              room = u .room;
               stands = rw (y .passed) (u .after);
               counted = u .counted;
               few = omega (arith, u .few);
@@ -185,23 +171,23 @@ module _ {w t : List ℕ} {from n d at : ℕ} where
       pub measuring-arity : (4 * i + 4 ≤ length w) × (arityAt w i ≤ length w)
       measuring-arity = turn-arity (turn (m .going) h)
 
-      module _ {p a : ℕ} (ends : p ≡ next + length (line d (labelAt w t i) (arityAt w i))) (many : a ≡ arityAt w i) where
+      module _ {k a : ℕ} (long : k ≡ length (line d (labelAt w t i) (arityAt w i))) (many : a ≡ arityAt w i) where
         abbrev lined : List ℕ
         lined = sets (m .out) next (line d (labelAt w t i) (arityAt w i))
 
-        put : Put (m .out) next (line d (labelAt w t i) (arityAt w i)) lined p
-        put = record { wrote = refl; ends = ends }
+        put : Put (m .out) next (line d (labelAt w t i) (arityAt w i)) lined (next + k)
+        put = record { wrote = refl; ends = rw long }
 
-        pub measuring-inside : Countable w t (i + 1) a (d + 1) p
+        pub measuring-inside : Countable w t (i + 1) a (d + 1) (next + k)
         measuring-inside = record { out = lined; short = omega (arith, put-kept put, m .short, m .going .todo .kept); ready = turn-inside (turn (m .going) h) put many }
 
-        pub measuring-again : {j q : ℕ} → Counted w t (i + 1) a (d + 1) p j q → Measuring w t from n d at j (left - 1) q
+        pub measuring-again : {j q : ℕ} → Counted w t (i + 1) a (d + 1) (next + k) j q → Measuring w t from n d at j (left - 1) q
         measuring-again {j} {q} x =
             let u = turn (m .going) h in
             let y = x (u .c) (u .inside) (sym (many ∙ u .says .arity)) in
             record {
               start = m .start;
               short = m .short;
-              out = sets lined p (listing (d + 1) (u .c));
+              out = sets lined (next + k) (listing (d + 1) (u .c));
               going = turn-again u put many (record { passed = y .0; put = record { wrote = refl; ends = y .1 } });
             }

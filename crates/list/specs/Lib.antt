@@ -2,6 +2,7 @@
 pub mod Listing
 pub mod Examples
 pub mod Back
+pub mod Unescaped
 pub mod Walk
 pub mod One
 pub mod Call

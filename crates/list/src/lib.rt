@@ -3,24 +3,23 @@
 use refusal::Answer;
 use refusal::Refusal;
 use refusal::Which;
+ghost use mathlib.Core.Bool.{true};
 ghost use mathlib.Core.Path.{_≡_};
 ghost use mathlib.Core.List.{[], _∷_};
-ghost use Prim.Native.Nat.{_+_, _-_, _^_, _≤_, _<_};
+ghost use Prim.Native.Nat.{_+_, _^_, _≤_, _<_};
 ghost use lib.ListN.{length, take, drop};
 ghost use Rattle.value.specs.Shape.{namesEnd};
 ghost use Rattle.value.specs.Stands.{labelAt, arityAt, Reads};
 ghost use Rattle.output.specs.Put.{Put, Room};
 ghost use Rattle.list.specs.Listing.{tab, plain, listedByte, listedText, kindName, flag, namesAt, contentOf, line};
+ghost use Rattle.list.specs.Unescaped.{Unescaped, Run};
 ghost use Rattle.list.specs.Walk.{Ready, Wrote, Countable, Counted};
 ghost use Rattle.list.specs.Call.{ListCall};
 
 fn stands(byte: u8) -> bool
     ensures { λ r. ⌜ r ≡ plain byte ⌝ }
 {
-    if byte < 0x20 {
-        return false;
-    }
-    byte <= 0x7E
+    (0x20 <= byte) & (byte <= 0x7E)
 }
 
 fn put_listed(byte: u8, output: &mut [u8], at: usize) -> usize
@@ -52,7 +51,29 @@ fn byte_len(byte: u8) -> usize
     2
 }
 
-fn text_len(text: &[u8], from: usize, count: usize) -> usize
+// A byte that is listed as it is. The tests are joined by `&`, so that several bytes are tested in one vector and cost one branch.
+fn unescaped(byte: u8) -> bool
+    ensures { λ r. ⌜ (r ≡ true → listedByte byte ≡ byte ∷ []) ⌝ }
+{
+    stands(byte) & (byte != b'\\')
+}
+
+fn four_unescaped(text: &[u8], i: usize) -> bool
+    requires { ⌜ i + 4 ≤ length (now text) ⌝ }
+    ensures { λ r. ⌜ (r ≡ true → Unescaped (now (text .entry)) i 4) ⌝ }
+{
+    unescaped(text[i]) & unescaped(text[i + 1]) & unescaped(text[i + 2]) & unescaped(text[i + 3])
+}
+
+fn eight_unescaped(text: &[u8], i: usize) -> bool
+    requires { ⌜ i + 8 ≤ length (now text) ⌝ }
+    ensures { λ r. ⌜ (r ≡ true → Unescaped (now (text .entry)) i 8) ⌝ }
+{
+    four_unescaped(text, i) & four_unescaped(text, i + 4)
+}
+
+// The text of `count` bytes at `from`, byte by byte: how long it is, and the text.
+fn each_len(text: &[u8], from: usize, count: usize) -> usize
     requires { ⌜ from + count ≤ length (now text) ⌝ }
     requires { ⌜ length (listedText (take count (drop from (now text)))) < 2 ^ 64 ⌝ }
     ensures { λ r. ⌜ r ≡ length (listedText (take count (drop from (now (text .entry))))) ⌝ }
@@ -67,26 +88,7 @@ fn text_len(text: &[u8], from: usize, count: usize) -> usize
     sum
 }
 
-// Where the bytes from `from` on that stand for themselves end.
-fn run_end(text: &[u8], from: usize, end: usize) -> usize
-    requires { ⌜ from ≤ end ⌝ }
-    requires { ⌜ end ≤ length (now text) ⌝ }
-    ensures { λ r. ⌜ from ≤ r ⌝ }
-    ensures { λ r. ⌜ r ≤ end ⌝ }
-    ensures { λ r. ⌜ listedText (take (r - from) (drop from (now (text .entry)))) ≡ take (r - from) (drop from (now (text .entry))) ⌝ }
-{
-    let mut i = from;
-    while i < end {
-        if byte_len(text[i]) != 1 {
-            return i;
-        }
-        i += 1;
-    }
-    i
-}
-
-// The text of `count` bytes at `from`: a byte, and the run of bytes behind it that stand for themselves.
-fn put_text(text: &[u8], from: usize, count: usize, output: &mut [u8], at: usize) -> usize
+fn put_each(text: &[u8], from: usize, count: usize, output: &mut [u8], at: usize) -> usize
     requires { ⌜ from + count ≤ length (now text) ⌝ }
     requires { ⌜ Room (now output) at (listedText (take count (drop from (now text)))) ⌝ }
     ensures { λ r. ⌜ Put (now (output .entry)) at (listedText (take count (drop from (now (text .entry))))) (now (output .exit)) r ⌝ }
@@ -96,12 +98,64 @@ fn put_text(text: &[u8], from: usize, count: usize, output: &mut [u8], at: usize
     let mut next = at;
     while i < end {
         next = put_listed(text[i], output, next);
-        let start = i + 1;
-        let stop = run_end(text, start, end);
-        next = output::put_run(value::part(text, start, stop - start), output, next);
-        i = stop;
+        i += 1;
     }
     next
+}
+
+// Eight bytes of a text, at once where they are listed as they are.
+fn put_eight(text: &[u8], i: usize, output: &mut [u8], at: usize) -> usize
+    requires { ⌜ i + 8 ≤ length (now text) ⌝ }
+    requires { ⌜ Room (now output) at (listedText (take 8 (drop i (now text)))) ⌝ }
+    ensures { λ r. ⌜ Put (now (output .entry)) at (listedText (take 8 (drop i (now (text .entry))))) (now (output .exit)) r ⌝ }
+{
+    if eight_unescaped(text, i) {
+        return output::put_run(value::part(text, i, 8), output, at);
+    }
+    put_each(text, i, 8, output, at)
+}
+
+// How far the bytes from `from` on are surely listed as they are, by eight at a time.
+fn run_by_eight(text: &[u8], from: usize, end: usize) -> usize
+    requires { ⌜ from ≤ end ⌝ }
+    requires { ⌜ end ≤ length (now text) ⌝ }
+    ensures { λ r. ⌜ Run (now (text .entry)) from end r ⌝ }
+{
+    let mut i = from;
+    while 8 <= end - i {
+        if !eight_unescaped(text, i) {
+            return i;
+        }
+        i += 8;
+    }
+    i
+}
+
+// How long the text of `count` bytes at `from` is. Most texts are one run; the bytes behind it are added with no branch for each.
+fn text_len(text: &[u8], from: usize, count: usize) -> usize
+    requires { ⌜ from + count ≤ length (now text) ⌝ }
+    requires { ⌜ length (listedText (take count (drop from (now text)))) < 2 ^ 64 ⌝ }
+    ensures { λ r. ⌜ r ≡ length (listedText (take count (drop from (now (text .entry))))) ⌝ }
+{
+    let end = from + count;
+    let stop = run_by_eight(text, from, end);
+    stop - from + each_len(text, stop, end - stop)
+}
+
+// The text, eight bytes at a time.
+fn put_text(text: &[u8], from: usize, count: usize, output: &mut [u8], at: usize) -> usize
+    requires { ⌜ from + count ≤ length (now text) ⌝ }
+    requires { ⌜ Room (now output) at (listedText (take count (drop from (now text)))) ⌝ }
+    ensures { λ r. ⌜ Put (now (output .entry)) at (listedText (take count (drop from (now (text .entry))))) (now (output .exit)) r ⌝ }
+{
+    let end = from + count;
+    let mut i = from;
+    let mut next = at;
+    while 8 <= end - i {
+        next = put_eight(text, i, output, next);
+        i += 8;
+    }
+    put_each(text, i, end - i, output, next)
 }
 
 // Where each kind's name begins among the names, and where the last one ends.

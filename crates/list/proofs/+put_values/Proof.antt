@@ -28,50 +28,34 @@ put-values-Inv-loop words text from count depth output₀ at i₀ left₀ next�
 abbrev put-values-μ-loop : put-values-lts.MeasureT-loop
 put-values-μ-loop words text from count depth output₀ at i₀ left₀ next₀ output i left next = left
 
-put-values-loop-holds : (t : ℕ) → put-values-lts.Need-loop-holds (put-line-reads.Asked, put-line-reads.Learnt, arity-reads.Asked, arity-reads.Learnt, put-values-below t, put-values.Post) (put-values-at t) put-values.Post put-values-Inv-loop put-values-μ-loop
-put-values-loop-holds t c = going-all (c .before .before .before .pre .1)
-
-put-values-put-line-requires : (t : ℕ) → put-values-lts.Need-put-line-requires (put-line-reads.Asked, put-line-reads.Learnt, arity-reads.Asked, arity-reads.Learnt, put-values-below t, put-values.Post) (put-values-at t) put-values.Post put-values-Inv-loop put-values-μ-loop
-put-values-put-line-requires t c κs =
-    let u = turn (c .before .before .loop .inv) (omega (arith, c .before .loop-test .taken)) in
-    turn-line u
-
-put-values-add-put-values : (t : ℕ) → put-values-lts.Need-add-put-values (put-line-reads.Asked, put-line-reads.Learnt, arity-reads.Asked, arity-reads.Learnt, put-values-below t, put-values.Post) (put-values-at t) put-values.Post put-values-Inv-loop put-values-μ-loop
-put-values-add-put-values t c =
-    let u = turn (c .before .before .before .before .before .loop .inv) (omega (arith, c .before .before .before .before .loop-test .taken)) in
-    omega (arith, u .says .reads .inside, c .before .before .before .before .before .before .before .before .before .good .0 .0, c .before .before .before .before .before .before .before .before .before .good .0 .1)
-
-put-values-arity-requires : (t : ℕ) → put-values-lts.Need-arity-requires (put-line-reads.Asked, put-line-reads.Learnt, arity-reads.Asked, arity-reads.Learnt, put-values-below t, put-values.Post) (put-values-at t) put-values.Post put-values-Inv-loop put-values-μ-loop
-put-values-arity-requires t c κs =
-    let u = turn (c .before .before .before .before .before .loop .inv) (omega (arith, c .before .before .before .before .loop-test .taken)) in
-    turn-arity u
-
-put-values-add-put-values-2 : (t : ℕ) → put-values-lts.Need-add-put-values-2 (put-line-reads.Asked, put-line-reads.Learnt, arity-reads.Asked, arity-reads.Learnt, put-values-below t, put-values.Post) (put-values-at t) put-values.Post put-values-Inv-loop put-values-μ-loop
-put-values-add-put-values-2 t c =
-    let u = turn (c .before .before .before .before .before .before .loop .inv) (omega (arith, c .before .before .before .before .before .loop-test .taken)) in
-    omega (arith, u .deeper)
-
-put-values-put-values-requires : (t : ℕ) → put-values-lts.Need-put-values-requires (put-line-reads.Asked, put-line-reads.Learnt, arity-reads.Asked, arity-reads.Learnt, put-values-below t, put-values.Post) (put-values-at t) put-values.Post put-values-Inv-loop put-values-μ-loop
-put-values-put-values-requires t c κs =
-    let u = turn (c .before .before .before .before .before .before .before .loop .inv) (omega (arith, c .before .before .before .before .before .before .loop-test .taken)) in
-    (omega (arith, u .deeper, c .before .before .before .before .before .before .before .before .before .before .before .pre .0), turn-inside u (c .before .before .before .before .put-line .ensures) (c .before .arity .ensures))
-
-put-values-sub-left : (t : ℕ) → put-values-lts.Need-sub-left (put-line-reads.Asked, put-line-reads.Learnt, arity-reads.Asked, arity-reads.Learnt, put-values-below t, put-values.Post) (put-values-at t) put-values.Post put-values-Inv-loop put-values-μ-loop
-put-values-sub-left t c = omega (arith, c .before .before .before .before .before .before .before .before .before .loop-test .taken)
-
-put-values-loop-less : (t : ℕ) → put-values-lts.Need-loop-less (put-line-reads.Asked, put-line-reads.Learnt, arity-reads.Asked, arity-reads.Learnt, put-values-below t, put-values.Post) (put-values-at t) put-values.Post put-values-Inv-loop put-values-μ-loop
-put-values-loop-less t c = omega (arith, c .before .before .before .before .before .before .before .before .before .loop-test .taken)
-
-put-values-loop-again : (t : ℕ) → put-values-lts.Need-loop-again (put-line-reads.Asked, put-line-reads.Learnt, arity-reads.Asked, arity-reads.Learnt, put-values-below t, put-values.Post) (put-values-at t) put-values.Post put-values-Inv-loop put-values-μ-loop
-put-values-loop-again t c =
-    let u = turn (c .before .before .before .before .before .before .before .before .before .before .loop .inv) (omega (arith, c .before .before .before .before .before .before .before .before .before .loop-test .taken)) in
-    turn-again u (c .before .before .before .before .before .before .before .put-line .ensures) (c .before .before .before .before .arity .ensures) (c .before .before .put-values .ensures (u .c) (u .inside) (turn-counted u (c .before .before .before .before .arity .ensures)))
-
-put-values-same-length : (t : ℕ) → put-values-lts.Need-same-length (put-line-reads.Asked, put-line-reads.Learnt, arity-reads.Asked, arity-reads.Learnt, put-values-below t, put-values.Post) (put-values-at t) put-values.Post put-values-Inv-loop put-values-μ-loop
-put-values-same-length t c = c .before .loop .inv .todo .kept
-
-put-values-returns : (t : ℕ) → put-values-lts.Need-returns (put-line-reads.Asked, put-line-reads.Learnt, arity-reads.Asked, arity-reads.Learnt, put-values-below t, put-values.Post) (put-values-at t) put-values.Post put-values-Inv-loop put-values-μ-loop
-put-values-returns t c = going-none (c .before .loop .inv) (omega (arith, c .loop-test .left))
-
 pub +put-values-spec : {M : Type 1} → statement M
-+put-values-spec = close μ-put-values λ t. put-values-lts.spec (put-line-reads.Asked, put-line-reads.Learnt, arity-reads.Asked, arity-reads.Learnt, put-values-below t, put-values.Post) (put-values-at t) put-values.Post put-values-Inv-loop put-values-μ-loop (put-values-loop-holds t) (put-values-put-line-requires t) (put-values-add-put-values t) (put-values-arity-requires t) (put-values-add-put-values-2 t) (put-values-put-values-requires t) (put-values-sub-left t) (put-values-loop-less t) (put-values-loop-again t) (put-values-same-length t) (put-values-returns t)
++put-values-spec =
+    close μ-put-values
+    λ t. put-values-lts.spec (put-line-reads.Asked, put-line-reads.Learnt, arity-reads.Asked, arity-reads.Learnt, put-values-below t, put-values.Post) (put-values-at t) put-values.Post put-values-Inv-loop put-values-μ-loop
+    (λ c. going-all (c .before .before .before .pre .1))
+    (λ c κs. turn-line (turn (c .before .before .loop .inv) (c .before .loop-test .taken)))
+    (λ c.
+    let test = c .before .before .before .before in
+    let u = turn (test .before .loop .inv) (test .loop-test .taken) in
+    omega (arith, u .says .reads .inside))
+    (λ c κs. let test = c .before .before .before .before in turn-arity (turn (test .before .loop .inv) (test .loop-test .taken)))
+    (λ c.
+    let test = c .before .before .before .before .before in
+    let u = turn (test .before .loop .inv) (test .loop-test .taken) in
+    omega (arith, u .deeper))
+    (λ c κs.
+    let lined = c .before .before .before .before in
+    let test = lined .before .before in
+    let u = turn (test .before .loop .inv) (test .loop-test .taken) in
+    (omega (arith, u .deeper), turn-inside u (lined .put-line .ensures) (c .before .arity .ensures)))
+    (λ c. omega (arith, c .before .before .before .before .before .before .before .before .before .loop-test .taken))
+    (λ c. omega (arith, c .before .before .before .before .before .before .before .before .before .loop-test .taken))
+    (λ c.
+    let inner = c .before .before in
+    let many = inner .before .before in
+    let lined = many .before .before .before in
+    let test = lined .before .before in
+    let u = turn (test .before .loop .inv) (test .loop-test .taken) in
+    turn-again u (lined .put-line .ensures) (many .arity .ensures) (inner .put-values .ensures (u .c) (u .inside) (turn-counted u (many .arity .ensures))))
+    (λ c. c .before .loop .inv .todo .kept)
+    (λ c. going-none (c .before .loop .inv) (c .loop-test .left))

@@ -1,99 +1,82 @@
 -- `list::put_content` meets its contract, kind by kind. Assumes nothing.
 use borrow.Author.Needs.{needs}
-use mathlib.Core.Path.{ap}
+use Prim.Native.Nat.{_<_}
 use native.Mathlib.Omega.{arith}
-use Rattle.value.specs.declared.Head.{Head}
-use Rattle.value.specs.Labels.{text-inside, names-inside}
 use Rattle.output.specs.Put.{put-then, room-then}
-use Rattle.list.proofs.Record.{known, content-none, content-bool, content-int, content-float, content-text, content-count, content-global, content-object, names-room}
+use Rattle.list.proofs.Record.{Opened, beyond, text-fits, names-fit, content-none, content-bool, content-int, content-float, content-text, content-count, content-global, content-object, names-room}
 use Rattle.list.proofs.put_content.Statement.{statement}
 use Rattle.list.proofs.put_content.Tie as tie
 
-put-byte-requires : tie.Need-put-byte-requires
-put-byte-requires c κs = let e = content-none (c .before .before .before .before .before .before .before .before .before .args .words .now) (c .before .before .before .before .before .before .before .before .before .args .text .now) (c .before .before .before .before .before .before .before .before .before .args .i) (c .before .before .before .before .before .before .before .before .before .pre .0) (c .before .before .before .before .head-of .result) (c .before .before .before .before .head-of .ensures) (omega arith) in rw e at (c .before .before .before .before .before .before .before .before .before .pre .1)
+-- the record's head is read at one place, and each kind goes its way from there
+abbrev start : tie.After-head-of → tie.Start
+start c = c .before .before .before .before .before
 
-returns : tie.Need-returns
-returns c = let e = content-none (c .before .before .before .before .before .before .before .before .before .before .before .before .args .words .now) (c .before .before .before .before .before .before .before .before .before .before .before .before .args .text .now) (c .before .before .before .before .before .before .before .before .before .before .before .before .args .i) (c .before .before .before .before .before .before .before .before .before .before .before .before .pre .0) (c .before .before .before .before .before .before .before .head-of .result) (c .before .before .before .before .before .before .before .head-of .ensures) (omega arith) in rw e (c .before .before .put-byte .ensures)
+opened : (c : tie.After-head-of) → Opened (start c .args .words .now) (start c .args .text .now) (start c .args .i) (c .head-of .result)
+opened c = record { reads = start c .pre .0; head = c .head-of .ensures }
 
-put-flag-requires : tie.Need-put-flag-requires
-put-flag-requires c κs = let e = content-bool (c .before .before .before .before .before .before .before .before .before .before .args .words .now) (c .before .before .before .before .before .before .before .before .before .before .args .text .now) (c .before .before .before .before .before .before .before .before .before .before .args .i) (c .before .before .before .before .before .before .before .before .before .before .pre .0) (c .before .before .before .before .before .head-of .result) (c .before .before .before .before .before .head-of .ensures) (omega arith) in rw e at (c .before .before .before .before .before .before .before .before .before .before .pre .1)
+abbrev head : tie.After-shared-slice-known5 → tie.After-head-of
+head c = c .before .before
 
-returns-2 : tie.Need-returns-2
-returns-2 c = let e = content-bool (c .before .before .before .before .before .before .before .before .before .before .before .before .before .args .words .now) (c .before .before .before .before .before .before .before .before .before .before .before .before .before .args .text .now) (c .before .before .before .before .before .before .before .before .before .before .before .before .before .args .i) (c .before .before .before .before .before .before .before .before .before .before .before .before .before .pre .0) (c .before .before .before .before .before .before .before .before .head-of .result) (c .before .before .before .before .before .before .before .before .head-of .ensures) (omega arith) in rw e (c .before .before .put-flag .ensures)
+abbrev not-bool : tie.Else2 → tie.After-head-of
+not-bool c = head (c .before .before)
 
-put-signed-requires : tie.Need-put-signed-requires
-put-signed-requires c κs = let e = content-int (c .before .before .before .before .before .before .before .before .before .before .before .args .words .now) (c .before .before .before .before .before .before .before .before .before .before .before .args .text .now) (c .before .before .before .before .before .before .before .before .before .before .before .args .i) (c .before .before .before .before .before .before .before .before .before .before .before .pre .0) (c .before .before .before .before .before .before .head-of .result) (c .before .before .before .before .before .before .head-of .ensures) (omega arith) in rw e at (c .before .before .before .before .before .before .before .before .before .before .before .pre .1)
+abbrev not-float : tie.Else4 → tie.After-head-of
+not-float c = not-bool (c .before .before)
 
-returns-3 : tie.Need-returns-3
-returns-3 c = let e = content-int (c .before .before .before .before .before .before .before .before .before .before .before .before .before .before .args .words .now) (c .before .before .before .before .before .before .before .before .before .before .before .before .before .before .args .text .now) (c .before .before .before .before .before .before .before .before .before .before .before .before .before .before .args .i) (c .before .before .before .before .before .before .before .before .before .before .before .before .before .before .pre .0) (c .before .before .before .before .before .before .before .before .before .head-of .result) (c .before .before .before .before .before .before .before .before .before .head-of .ensures) (omega arith) in rw e (c .before .before .put-signed .ensures)
+above-float : (c : tie.Else4) → 3 < not-float c .head-of .result .kind
+above-float c = omega arith
 
-put-figures-requires : tie.Need-put-figures-requires
-put-figures-requires c κs = let e = content-float (c .before .before .before .before .before .before .before .before .before .before .before .before .args .words .now) (c .before .before .before .before .before .before .before .before .before .before .before .before .args .text .now) (c .before .before .before .before .before .before .before .before .before .before .before .before .args .i) (c .before .before .before .before .before .before .before .before .before .before .before .before .pre .0) (c .before .before .before .before .before .before .before .head-of .result) (c .before .before .before .before .before .before .before .head-of .ensures) (omega arith) in (omega arith, (omega arith, rw e at (c .before .before .before .before .before .before .before .before .before .before .before .before .pre .1)))
+abbrev names : tie.After-put-names → tie.After-head-of
+names c = not-float (c .before .before .before .before)
 
-returns-4 : tie.Need-returns-4
-returns-4 c = let e = content-float (c .before .before .before .before .before .before .before .before .before .before .before .before .before .before .before .args .words .now) (c .before .before .before .before .before .before .before .before .before .before .before .before .before .before .before .args .text .now) (c .before .before .before .before .before .before .before .before .before .before .before .before .before .before .before .args .i) (c .before .before .before .before .before .before .before .before .before .before .before .before .before .before .before .pre .0) (c .before .before .before .before .before .before .before .before .before .before .head-of .result) (c .before .before .before .before .before .before .before .before .before .before .head-of .ensures) (omega arith) in rw e (c .before .before .put-figures .ensures)
+object : (c : tie.Else7) → 11 < names (c .before .before .before) .head-of .result .kind
+object c = let some = c .before .before .before .before .before .if6 .left in beyond some (c .if7 .left)
 
 put-text-requires : tie.Need-put-text-requires
-put-text-requires c κs = let e = content-text (c .before .before .before .before .before .before .before .before .before .before .before .before .before .args .words .now) (c .before .before .before .before .before .before .before .before .before .before .before .before .before .args .text .now) (c .before .before .before .before .before .before .before .before .before .before .before .before .before .args .i) (c .before .before .before .before .before .before .before .before .before .before .before .before .before .pre .0) (c .before .before .before .before .before .before .before .before .head-of .result) (c .before .before .before .before .before .before .before .before .head-of .ensures) (omega arith) (omega arith) in (text-inside (c .before .before .before .before .before .before .before .before .before .before .before .before .before .args .words .now) (c .before .before .before .before .before .before .before .before .before .before .before .before .before .args .text .now) (c .before .before .before .before .before .before .before .before .before .before .before .before .before .args .i) (c .before .before .before .before .before .before .before .before .head-of .result .kind) (c .before .before .before .before .before .before .before .before .before .before .before .before .before .pre .0) (ap (λ (h : Head). h .kind) (c .before .before .before .before .before .before .before .before .head-of .ensures)) (omega arith) (omega arith), rw e at (c .before .before .before .before .before .before .before .before .before .before .before .before .before .pre .1))
+put-text-requires c κs =
+    let test = c .before in
+    let h = not-float (test .before) in
+    (text-fits (opened h) (above-float (test .before)) (test .if5 .taken), rw (content-text (opened h) (above-float (test .before)) (test .if5 .taken)) at (start h .pre .1))
 
 returns-5 : tie.Need-returns-5
-returns-5 c = let e = content-text (c .before .before .before .before .before .before .before .before .before .before .before .before .before .before .before .before .args .words .now) (c .before .before .before .before .before .before .before .before .before .before .before .before .before .before .before .before .args .text .now) (c .before .before .before .before .before .before .before .before .before .before .before .before .before .before .before .before .args .i) (c .before .before .before .before .before .before .before .before .before .before .before .before .before .before .before .before .pre .0) (c .before .before .before .before .before .before .before .before .before .before .before .head-of .result) (c .before .before .before .before .before .before .before .before .before .before .before .head-of .ensures) (omega arith) (omega arith) in rw e (c .before .before .put-text .ensures)
-
-put-decimal-requires : tie.Need-put-decimal-requires
-put-decimal-requires c κs = let e = content-count (c .before .before .before .before .before .before .before .before .before .before .before .before .before .before .args .words .now) (c .before .before .before .before .before .before .before .before .before .before .before .before .before .before .args .text .now) (c .before .before .before .before .before .before .before .before .before .before .before .before .before .before .args .i) (c .before .before .before .before .before .before .before .before .before .before .before .before .before .before .pre .0) (c .before .before .before .before .before .before .before .before .before .head-of .result) (c .before .before .before .before .before .before .before .before .before .head-of .ensures) (omega arith) (omega arith) in rw e at (c .before .before .before .before .before .before .before .before .before .before .before .before .before .before .pre .1)
-
-returns-6 : tie.Need-returns-6
-returns-6 c = let e = content-count (c .before .before .before .before .before .before .before .before .before .before .before .before .before .before .before .before .before .args .words .now) (c .before .before .before .before .before .before .before .before .before .before .before .before .before .before .before .before .before .args .text .now) (c .before .before .before .before .before .before .before .before .before .before .before .before .before .before .before .before .before .args .i) (c .before .before .before .before .before .before .before .before .before .before .before .before .before .before .before .before .before .pre .0) (c .before .before .before .before .before .before .before .before .before .before .before .before .head-of .result) (c .before .before .before .before .before .before .before .before .before .before .before .before .head-of .ensures) (omega arith) (omega arith) in rw e (c .before .before .put-decimal .ensures)
-
-put-names-requires : tie.Need-put-names-requires
-put-names-requires c κs = (names-inside (c .before .before .before .before .before .before .before .before .before .before .before .before .before .before .args .words .now) (c .before .before .before .before .before .before .before .before .before .before .before .before .before .before .args .text .now) (c .before .before .before .before .before .before .before .before .before .before .before .before .before .before .args .i) (c .before .before .before .before .before .before .before .before .before .head-of .result .kind) (c .before .before .before .before .before .before .before .before .before .before .before .before .before .before .pre .0) (ap (λ (h : Head). h .kind) (c .before .before .before .before .before .before .before .before .before .head-of .ensures)) (omega arith), names-room (c .before .before .before .before .before .before .before .before .before .before .before .before .before .before .args .words .now) (c .before .before .before .before .before .before .before .before .before .before .before .before .before .before .args .text .now) (c .before .before .before .before .before .before .before .before .before .before .before .before .before .before .args .i) (c .before .before .before .before .before .before .before .before .before .before .before .before .before .before .pre .0) (c .before .before .before .before .before .before .before .before .before .head-of .result) (c .before .before .before .before .before .before .before .before .before .head-of .ensures) (omega arith) (c .before .before .before .before .before .before .before .before .before .before .before .before .before .before .pre .1))
-
-returns-7 : tie.Need-returns-7
-returns-7 c = let e = content-global (c .before .before .before .before .before .before .before .before .before .before .before .before .before .before .before .before .before .before .args .words .now) (c .before .before .before .before .before .before .before .before .before .before .before .before .before .before .before .before .before .before .args .text .now) (c .before .before .before .before .before .before .before .before .before .before .before .before .before .before .before .before .before .before .args .i) (c .before .before .before .before .before .before .before .before .before .before .before .before .before .before .before .before .before .before .pre .0) (c .before .before .before .before .before .before .before .before .before .before .before .before .before .head-of .result) (c .before .before .before .before .before .before .before .before .before .before .before .before .before .head-of .ensures) (omega arith) in rw e (c .before .before .before .put-names .ensures)
+returns-5 c =
+    let put = c .before .before in
+    let test = put .before .before in
+    let h = not-float (test .before) in
+    rw (content-text (opened h) (above-float (test .before)) (test .if5 .taken)) (put .put-text .ensures)
 
 put-flags-requires : tie.Need-put-flags-requires
-put-flags-requires c κs = let q = known (c .before .before .before .before .before .before .before .before .before .before .before .before .before .before .before .before .before .before .before .args .words .now) (c .before .before .before .before .before .before .before .before .before .before .before .before .before .before .before .before .before .before .before .args .text .now) (c .before .before .before .before .before .before .before .before .before .before .before .before .before .before .before .before .before .before .before .args .i) (c .before .before .before .before .before .before .before .before .before .before .before .before .before .before .before .before .before .before .before .pre .0) (c .before .before .before .before .before .before .before .before .before .before .before .before .before .before .head-of .result) (c .before .before .before .before .before .before .before .before .before .before .before .before .before .before .head-of .ensures) in let e = content-object (c .before .before .before .before .before .before .before .before .before .before .before .before .before .before .before .before .before .before .before .args .words .now) (c .before .before .before .before .before .before .before .before .before .before .before .before .before .before .before .before .before .before .before .args .text .now) (c .before .before .before .before .before .before .before .before .before .before .before .before .before .before .before .before .before .before .before .args .i) (c .before .before .before .before .before .before .before .before .before .before .before .before .before .before .before .before .before .before .before .pre .0) (c .before .before .before .before .before .before .before .before .before .before .before .before .before .before .head-of .result) (c .before .before .before .before .before .before .before .before .before .before .before .before .before .before .head-of .ensures) (omega arith) in room-then _ (c .before .before .before .before .put-names .ensures) (rw e at (c .before .before .before .before .before .before .before .before .before .before .before .before .before .before .before .before .before .before .before .pre .1))
+put-flags-requires c κs =
+    let put = c .before .before .before .before in
+    let h = names put in
+    room-then _ (put .put-names .ensures) (rw (content-object (opened h) (object (c .before))) at (start h .pre .1))
 
 returns-8 : tie.Need-returns-8
-returns-8 c = let q = known (c .before .before .before .before .before .before .before .before .before .before .before .before .before .before .before .before .before .before .before .before .before .before .args .words .now) (c .before .before .before .before .before .before .before .before .before .before .before .before .before .before .before .before .before .before .before .before .before .before .args .text .now) (c .before .before .before .before .before .before .before .before .before .before .before .before .before .before .before .before .before .before .before .before .before .before .args .i) (c .before .before .before .before .before .before .before .before .before .before .before .before .before .before .before .before .before .before .before .before .before .before .pre .0) (c .before .before .before .before .before .before .before .before .before .before .before .before .before .before .before .before .before .head-of .result) (c .before .before .before .before .before .before .before .before .before .before .before .before .before .before .before .before .before .head-of .ensures) in let e = content-object (c .before .before .before .before .before .before .before .before .before .before .before .before .before .before .before .before .before .before .before .before .before .before .args .words .now) (c .before .before .before .before .before .before .before .before .before .before .before .before .before .before .before .before .before .before .before .before .before .before .args .text .now) (c .before .before .before .before .before .before .before .before .before .before .before .before .before .before .before .before .before .before .before .before .before .before .args .i) (c .before .before .before .before .before .before .before .before .before .before .before .before .before .before .before .before .before .before .before .before .before .before .pre .0) (c .before .before .before .before .before .before .before .before .before .before .before .before .before .before .before .before .before .head-of .result) (c .before .before .before .before .before .before .before .before .before .before .before .before .before .before .before .before .before .head-of .ensures) (omega arith) in rw e (put-then (c .before .before .before .before .before .before .before .put-names .ensures) (c .before .before .put-flags .ensures))
+returns-8 c =
+    let flags = c .before .before in
+    let put = flags .before .before .before .before .before in
+    let h = names put in
+    rw (content-object (opened h) (object (flags .before .before))) (put-then (put .put-names .ensures) (flags .put-flags .ensures))
 
 pub put-content-spec : {M : Type 1} → statement M
 put-content-spec =
     tie.close
     (tie.spec
+    (λ c. search needs) (λ c. search needs) (λ c. search needs) (λ c κs. search needs)
+    (λ c. search needs) (λ c. search needs) (λ c. search needs) (λ c. search needs)
+    (λ c. search needs) (λ c. search needs) (λ c. search needs) (λ c. search needs)
+    (λ c κs. let h = head (c .before .before) in rw (content-none (opened h) (omega arith)) at (start h .pre .1)) (λ c. search needs)
+    (λ c. let put = c .before .before in rw (content-none (opened (head (put .before .before .before))) (omega arith)) (put .put-byte .ensures))
+    (λ c κs. let h = head (c .before .before .before) in rw (content-bool (opened h) (omega arith)) at (start h .pre .1)) (λ c. search needs)
+    (λ c. let put = c .before .before in rw (content-bool (opened (head (put .before .before .before .before))) (omega arith)) (put .put-flag .ensures))
+    (λ c κs. let h = not-bool (c .before .before) in rw (content-int (opened h) (omega arith)) at (start h .pre .1)) (λ c. search needs)
+    (λ c. let put = c .before .before in rw (content-int (opened (not-bool (put .before .before .before))) (omega arith)) (put .put-signed .ensures))
+    (λ c κs. let h = not-bool (c .before .before .before) in (omega arith, (omega arith, rw (content-float (opened h) (omega arith)) at (start h .pre .1))))
     (λ c. search needs)
-    (λ c. search needs)
-    (λ c. search needs)
-    (λ c κs. search needs)
-    (λ c. search needs)
-    (λ c. search needs)
-    (λ c. search needs)
-    (λ c. search needs)
-    (λ c. search needs)
-    (λ c. search needs)
-    (λ c. search needs)
-    (λ c. search needs)
-    put-byte-requires
-    (λ c. search needs)
-    returns
-    put-flag-requires
-    (λ c. search needs)
-    returns-2
-    put-signed-requires
-    (λ c. search needs)
-    returns-3
-    put-figures-requires
-    (λ c. search needs)
-    returns-4
-    put-text-requires
-    (λ c. search needs)
-    returns-5
-    put-decimal-requires
-    (λ c. search needs)
-    returns-6
-    put-names-requires
-    (λ c. search needs)
-    returns-7
-    put-flags-requires
-    (λ c. search needs)
-    returns-8)
+    (λ c. let put = c .before .before in rw (content-float (opened (not-bool (put .before .before .before .before))) (omega arith)) (put .put-figures .ensures))
+    put-text-requires (λ c. search needs) returns-5
+    (λ c κs. let h = not-float (c .before .before .before) in rw (content-count (opened h) (omega arith) (omega arith)) at (start h .pre .1)) (λ c. search needs)
+    (λ c. let put = c .before .before in rw (content-count (opened (not-float (put .before .before .before .before))) (omega arith) (omega arith)) (put .put-decimal .ensures))
+    (λ c κs. let h = not-float (c .before .before .before) in (names-fit (opened h) (omega arith), names-room (opened h) (omega arith) (start h .pre .1))) (λ c. search needs)
+    (λ c. let put = c .before .before .before in rw (content-global (opened (names put)) (omega arith)) (put .put-names .ensures))
+    put-flags-requires (λ c. search needs) returns-8)

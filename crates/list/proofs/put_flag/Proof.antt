@@ -6,19 +6,13 @@ use Rattle.list.proofs.put_flag.Tie as tie
 
 returns : tie.Need-returns
 unfolding flag
-returns c = rw (c .before .before .before .before .if1 .taken) (c .before .before .put-byte .ensures)
+returns c = let put = c .before .before in rw (put .before .before .if1 .taken) (put .put-byte .ensures)
 
 returns-2 : tie.Need-returns-2
 unfolding flag
-returns-2 c = rw (c .before .before .before .before .if1 .left) (c .before .before .put-byte2 .ensures)
+returns-2 c = let put = c .before .before in rw (put .before .before .if1 .left) (put .put-byte2 .ensures)
 
 pub put-flag-spec : {M : Type 1} → statement M
 put-flag-spec =
     tie.close
-    (tie.spec
-    (λ c κs. search needs)
-    (λ c. search needs)
-    returns
-    (λ c κs. search needs)
-    (λ c. search needs)
-    returns-2)
+    (tie.spec (λ c κs. search needs) (λ c. search needs) returns (λ c κs. search needs) (λ c. search needs) returns-2)

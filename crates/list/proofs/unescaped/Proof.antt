@@ -1,0 +1,19 @@
+-- `list::unescaped` meets its contract. Assumes nothing.
+use mathlib.Core.Bool.{not}
+use mathlib.Core.Path.{sym, _∙_}
+use lib.Dec.{eqb}
+use borrow.Author.Needs.{needs}
+use borrow.Author.Tests.{eqb-false, not-true}
+use Rattle.utf8.specs.Rows.{and-left, and-right}
+use Rattle.list.proofs.Laws.{listed-plain}
+use Rattle.list.proofs.unescaped.Statement.{statement}
+use Rattle.list.proofs.unescaped.Tie as tie
+
+returns : tie.Need-returns
+returns c h =
+    let b = c .before .args .byte in
+    let s = c .stands in
+    listed-plain (eqb-false b 0x5C (not-true _ (and-right (s .result) (not (eqb b 0x5C)) h))) (sym (s .ensures) ∙ and-left (s .result) (not (eqb b 0x5C)) h)
+
+pub unescaped-spec : {M : Type 1} → statement M
+unescaped-spec = tie.close (tie.spec (λ c κs. search needs) returns)
