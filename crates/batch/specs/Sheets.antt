@@ -8,14 +8,12 @@ use lib.Seq.{drop-cons, drop-drop, sets, sets-eq, length-sets}
 use native.Mathlib.Nat.{zero-add}
 use native.Mathlib.Numerals.{add-one}
 use native.Mathlib.Omega.{arith}
-use Rattle.refusal.specs.declared.Refusal.the-variants.{TooLong}
 use Rattle.refusal.specs.declared.Answer.{Answer}
-use Rattle.refusal.specs.Numbers.{refusedAnswer}
 use Rattle.lengths.specs.Sum.{sum, sum-drop}
 use Rattle.op.specs.declared.Edition.the-variants.{Full}
-use Rattle.rooms.specs.Stated.{Slices, begun, filled, Ready, filled-none, filled-ready}
-use Rattle.reading.specs.Reading.{Reading, refuses, whole, pickleLimit, stopped-long, prefix-refused}
-use Rattle.build.specs.Given.{due, due-refused}
+use Rattle.rooms.specs.Stated.{Slices, begun, filled, Ready, filled-ready}
+use Rattle.reading.specs.Reading.{Reading, whole}
+use Rattle.build.specs.Given.{due}
 use Rattle.de.specs.Inner.{Reads}
 use Rattle.batch.specs.Batch.{sheetsOf, four, answersOf, after}
 
@@ -113,14 +111,7 @@ module _ (s ns o₀ : List ℕ) (l₀ : Slices) where
 
 -- ---- one sheet
 
--- too long for a reading: 2
-pub sheet-long : (p : List ℕ) (l : Slices) (a : Answer) → pickleLimit < length p → a ≡ refusedAnswer TooLong → Reads (whole p) l l a
-unfolding due
-sheet-long p l a h e =
-    let x : whole p ≡ refuses TooLong = due-refused Full p true TooLong (prefix-refused Full p TooLong (stopped-long Full p h)) in
-    rw x (record { answer = e; slices = sym (filled-none l) })
-
--- else the inner reading's own
+-- the inner reading's own is the whole reading
 pub sheet-read : (p : List ℕ) (l l′ : Slices) (a : Answer) → Reads (due Full true p) l l′ a → Reads (whole p) l l′ a
 unfolding due
 sheet-read p l l′ a r = r

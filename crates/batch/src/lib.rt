@@ -17,8 +17,6 @@ ghost use lib.ListN.{length};
 ghost use lib.Seq.{sets};
 ghost use Rattle.lengths.specs.Sum.{sum};
 ghost use Rattle.rooms.specs.Stated.{Ready};
-ghost use Rattle.reading.specs.Reading.{whole};
-ghost use Rattle.de.specs.Inner.{Reads};
 ghost use Rattle.batch.specs.Batch.{four, BatchCall};
 ghost use Rattle.batch.specs.Sheets.{ReadAll};
 
@@ -31,60 +29,6 @@ fn put(answers: &mut [u64], at: usize, a: Answer)
     answers[at + 1] = a.detail;
     answers[at + 2] = a.length;
     answers[at + 3] = a.count;
-}
-
-// One sheet read as whole data, in zero rooms: 2 where it is too long, else the inner reading.
-fn read_sheet(
-    sheet: &[u8],
-    nodes: &mut [u64],
-    owners: &mut [u16],
-    children: &mut [u16],
-    stack: &mut [u16],
-    marks: &mut [u16],
-    keys: &mut [u32],
-    held: &mut [u16],
-    unescaped: &mut [u8],
-    starts: &mut [u16],
-    sorted: &mut [u16],
-    measures: &mut [u64],
-    table: &mut [u64],
-    text: &mut [u8],
-) -> Answer
-    requires { ⌜ Ready
-        (now nodes ∷ now owners ∷ now children ∷ now stack ∷ now marks ∷ now keys ∷ now held
-        ∷ now unescaped ∷ now starts ∷ now sorted ∷ now measures ∷ now table ∷ now text ∷ []) ⌝ }
-    ensures { λ a.
-        ⌜ Reads (whole (now (sheet .entry)))
-        (now (nodes .entry) ∷ now (owners .entry) ∷ now (children .entry) ∷ now (stack .entry)
-        ∷ now (marks .entry) ∷ now (keys .entry) ∷ now (held .entry)
-        ∷ now (unescaped .entry) ∷ now (starts .entry) ∷ now (sorted .entry) ∷ now (measures .entry)
-        ∷ now (table .entry) ∷ now (text .entry) ∷ [])
-        (now (nodes .exit) ∷ now (owners .exit) ∷ now (children .exit) ∷ now (stack .exit)
-        ∷ now (marks .exit) ∷ now (keys .exit) ∷ now (held .exit)
-        ∷ now (unescaped .exit) ∷ now (starts .exit) ∷ now (sorted .exit) ∷ now (measures .exit)
-        ∷ now (table .exit) ∷ now (text .exit) ∷ []) a ⌝ }
-{
-    if sheet.len() > 65536 {
-        return refused(Refusal::TooLong);
-    }
-    read(
-        Edition::Full,
-        true,
-        sheet,
-        nodes,
-        owners,
-        children,
-        stack,
-        marks,
-        keys,
-        held,
-        unescaped,
-        starts,
-        sorted,
-        measures,
-        table,
-        text,
-    )
 }
 
 // Every sheet, one after the other, in zero rooms.
@@ -126,7 +70,9 @@ fn read_all(
     let mut i = 0;
     while i < lengths.len() {
         let end = at + lengths[i] as usize;
-        let a = read_sheet(
+        let a = read(
+            Edition::Full,
+            true,
             &sheets[at..end],
             nodes,
             owners,

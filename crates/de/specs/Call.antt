@@ -1,17 +1,15 @@
 -- A public reading: 1 where a slice is too short, else the rooms made zero, and the inner reading.
-use Prim.Native.Nat.{ℕ, _<_}
+use Prim.Native.Nat.{ℕ}
 use mathlib.Core.Bool.{Bool, true, false, cond}
 use mathlib.Core.List.{List, [], _∷_, _++_}
 use mathlib.Core.Path.{_≡_, refl, sym, _∙_, ap}
 use lib.ListN.{length, replicate}
-use Rattle.refusal.specs.declared.Refusal.the-variants.{ShortRoom, TooLong}
+use Rattle.refusal.specs.declared.Refusal.the-variants.{ShortRoom}
 use Rattle.refusal.specs.declared.Answer.{Answer}
 use Rattle.refusal.specs.Numbers.{refusedAnswer}
 use Rattle.rooms.specs.Cleared.{cleared}
-use Rattle.rooms.specs.Stated.{Slices, roomLengths, stated, short, blank, filled, filled-none}
-use Rattle.op.specs.declared.Edition.{Edition}
-use Rattle.reading.specs.Reading.{Reading, refuses, pickleLimit, stopped-long, prefix-refused}
-use Rattle.build.specs.Given.{due, due-refused}
+use Rattle.rooms.specs.Stated.{Slices, roomLengths, stated, short, blank, filled}
+use Rattle.reading.specs.Reading.{Reading}
 
 -- what a call answers, and what it leaves of what it was lent
 pub record Left : Type 0 where
@@ -44,11 +42,6 @@ call-short x l a e r = rw (e, r)
 pub call-reads : (x : Reading) (l m l′ : Slices) (a : Answer) → short stated l ≡ false → m ≡ blank roomLengths l → a ≡ x .answer → l′ ≡ filled (x .words) (x .bytes) m → ReadCall x l l′ a
 unfolding reading
 call-reads x l m l′ a e z f g = rw (e, f, g, z)
-
--- 2
-pub call-long : (ed : Edition) (all : Bool) (p : List ℕ) (l m : Slices) (a : Answer) → short stated l ≡ false → m ≡ blank roomLengths l → pickleLimit < length p → a ≡ refusedAnswer TooLong → ReadCall (due ed all p) l m a
-unfolding reading
-call-long ed all p l m a e z h r = rw (e, r, z, due-refused ed p all TooLong (prefix-refused ed p TooLong (stopped-long ed p h)), filled-none (blank roomLengths l))
 
 -- ---- examples, of slices with one element or three
 

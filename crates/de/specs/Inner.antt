@@ -1,29 +1,37 @@
 -- The inner reading: rooms whose stated parts are zero, lent, and zero again.
-use Prim.Native.Nat.{ℕ, _*_, _≤_}
+use Prim.Native.Nat.{ℕ, _*_, _≤_, _<_}
+use mathlib.Core.Bool.{Bool}
 use mathlib.Core.List.{List, [], _∷_, _++_, append-assoc}
 use mathlib.Core.Path.{_≡_, sym, _∙_, ap}
 use lib.ListN.{length, length-append, take, drop, replicate, take-append-drop}
 use lib.Seq.{take-at, drop-at, length-take-le, drop-append-le}
 use native.Mathlib.Omega.{arith}
 use Rattle.refusal.specs.declared.Answer.{Answer}
+use Rattle.refusal.specs.declared.Refusal.the-variants.{TooLong}
+use Rattle.refusal.specs.Numbers.{refusedAnswer}
 use Rattle.op.specs.declared.Edition.{Edition}
 use Rattle.rooms.specs.Cleared.{cleared}
-use Rattle.rooms.specs.Stated.{Slices, machineLengths, stated, AllZero, Ready, filled, long, rooms-zero}
+use Rattle.rooms.specs.Stated.{Slices, machineLengths, stated, AllZero, Ready, filled, filled-none, long, rooms-zero}
 use Rattle.decoder.specs.Effects.{Sound, Firm}
 use Rattle.machine.specs.Lent.{roomsOf}
 use Rattle.machine.specs.Ran.{Ran, start, countsOf}
 use Rattle.machine.specs.Fresh.{fresh}
 use Rattle.machine.specs.Clear.{UsedTo, zeroed, used-cleared, nodes-used, stack-used, marks-used, keys-used, held-used}
 use Rattle.machine.specs.declared.Outcome.{Outcome}
-use Rattle.reading.specs.Reading.{Reading}
+use Rattle.reading.specs.Reading.{Reading, pickleLimit, stopped-long, prefix-refused}
 use Rattle.produce.specs.Rooms.{zeros-long}
 use Rattle.build.specs.Building.{Working}
-use Rattle.build.specs.Given.{RanIn}
+use Rattle.build.specs.Given.{RanIn, due, due-refused}
 
 -- the inner reading x in the slices l leaves l′ and answers a
 pub record Reads (x : Reading) (l l′ : Slices) (a : Answer) : Type 0 where
   pub answer : a ≡ x .answer
   pub slices : l′ ≡ filled (x .words) (x .bytes) l
+
+-- a pickle that is too long: 2, and every slice as it came
+pub reads-long : (ed : Edition) (all : Bool) (p : List ℕ) (l : Slices) (a : Answer) → pickleLimit < length p → a ≡ refusedAnswer TooLong → Reads (due ed all p) l l a
+reads-long ed all p l a h e =
+    rw (due-refused ed p all TooLong (prefix-refused ed p TooLong (stopped-long ed p h))) (record { answer = e; slices = sym (filled-none l) })
 
 -- a room that has become s′: its first k cleared, it is s again
 pub record Back (k : ℕ) (s s′ : List ℕ) : Type 0 where

@@ -1,6 +1,6 @@
-// The readings of de.rs. `read` is the inner one, in rooms whose stated parts are zero and are left so: the run to STOP, its answer, and what
-// was used cleared. `reading` is `from_bytes_prefix` or `from_bytes`, of whatever slices are lent: 1 where one is shorter than stated, the
-// rooms made zero, 2 for a pickle that is too long, then the inner one. A call that reads many pickles makes its rooms zero once.
+// The readings of de.rs. `read` is the inner one, in rooms whose stated parts are zero and are left so: 2 for a pickle that is too long, the run
+// to STOP, its answer, and what was used cleared. `reading` is `from_bytes_prefix` or `from_bytes`, of whatever slices are lent: 1 where one is
+// shorter than stated, the rooms made zero, then the inner one. A call that reads many pickles makes its rooms zero once.
 use build::answer;
 use decoder::Counts;
 use machine::Outcome;
@@ -89,7 +89,6 @@ pub fn read(
     table: &mut [u64],
     text: &mut [u8],
 ) -> Answer
-    requires { ⌜ length (now pickle) ≤ 65536 ⌝ }
     requires { ⌜ Ready
         (now nodes ∷ now owners ∷ now children ∷ now stack ∷ now marks ∷ now keys ∷ now held
         ∷ now unescaped ∷ now starts ∷ now sorted ∷ now measures ∷ now table ∷ now text ∷ []) ⌝ }
@@ -104,6 +103,9 @@ pub fn read(
         ∷ now (unescaped .exit) ∷ now (starts .exit) ∷ now (sorted .exit) ∷ now (measures .exit)
         ∷ now (table .exit) ∷ now (text .exit) ∷ []) a ⌝ }
 {
+    if pickle.len() > 65536 {
+        return refused(Refusal::TooLong);
+    }
     let outcome = run_in(
         edition,
         pickle,
@@ -224,7 +226,7 @@ pub fn clear_builder(
     clear_words(measures, 4096);
 }
 
-// Either reading in an edition, of any slices: 1, then the rooms made zero, then 2, then the reading itself.
+// Either reading in an edition, of any slices: 1, then the rooms made zero, then the inner reading.
 pub fn reading(
     edition: Edition,
     whole: bool,
@@ -273,9 +275,6 @@ pub fn reading(
     }
     clear_machine(nodes, owners, children, stack, marks, keys, held);
     clear_builder(unescaped, starts, sorted, measures);
-    if pickle.len() > 65536 {
-        return refused(Refusal::TooLong);
-    }
     read(
         edition,
         whole,

@@ -11,7 +11,7 @@ use Rattle.utf8.specs.Rows.{and-left, and-right}
 use Rattle.output.specs.Decimal.{figures}
 use Rattle.output.specs.Put.{Put, Room, Left, left-more, left-room, room-first}
 use Rattle.list.specs.Listing.{plain, listedByte, listedText}
-use Rattle.list.specs.Unescaped.{Unescaped, Run}
+use Rattle.list.specs.Verbatim.{Verbatim, Run}
 
 -- ---- what the branches write
 
@@ -41,28 +41,28 @@ pub listed-one : (t : List ℕ) (i : ℕ) → i < length t → listedText (take 
 unfolding listedText
 listed-one t i l = rw (drop-cons t i 0 l) (append-nil (listedByte (getD t i 0)))
 
-pub unescaped-one : {a : Bool} (t : List ℕ) (i : ℕ) → i < length t → (a ≡ true → listedByte (getD t i 0) ≡ getD t i 0 ∷ []) → a ≡ true → Unescaped t i 1
-unescaped-one t i l x h = listed-one t i l ∙ x h ∙ rw (drop-cons t i 0 l)
+pub verbatim-one : {a : Bool} (t : List ℕ) (i : ℕ) → i < length t → (a ≡ true → listedByte (getD t i 0) ≡ getD t i 0 ∷ []) → a ≡ true → Verbatim t i 1
+verbatim-one t i l x h = listed-one t i l ∙ x h ∙ rw (drop-cons t i 0 l)
 
-unescaped-then : (t : List ℕ) (i m n : ℕ) → Unescaped t i m → Unescaped t (i + m) n → Unescaped t i (m + n)
-unescaped-then t i m n x y = rw (part-add t i m n) (listed-append (take m (drop i t)) (take n (drop (i + m) t)) ∙ rw (x, y))
+verbatim-then : (t : List ℕ) (i m n : ℕ) → Verbatim t i m → Verbatim t (i + m) n → Verbatim t i (m + n)
+verbatim-then t i m n x y = rw (part-add t i m n) (listed-append (take m (drop i t)) (take n (drop (i + m) t)) ∙ rw (x, y))
 
-unescaped-length : (t : List ℕ) (i n : ℕ) → i + n ≤ length t → Unescaped t i n → n ≡ length (listedText (take n (drop i t)))
-unescaped-length t i n h x = omega (arith, ap length x, length-take n (drop i t), length-drop i t)
+verbatim-length : (t : List ℕ) (i n : ℕ) → i + n ≤ length t → Verbatim t i n → n ≡ length (listedText (take n (drop i t)))
+verbatim-length t i n h x = omega (arith, ap length x, length-take n (drop i t), length-drop i t)
 
 -- two tests made together
-pub both : {a b : Bool} (t : List ℕ) (i m n : ℕ) → (a ≡ true → Unescaped t i m) → (b ≡ true → Unescaped t (i + m) n) → (a && b) ≡ true → Unescaped t i (m + n)
-both {a} {b} t i m n x y h = unescaped-then t i m n (x (and-left a b h)) (y (and-right a b h))
+pub both : {a b : Bool} (t : List ℕ) (i m n : ℕ) → (a ≡ true → Verbatim t i m) → (b ≡ true → Verbatim t (i + m) n) → (a && b) ≡ true → Verbatim t i (m + n)
+both {a} {b} t i m n x y h = verbatim-then t i m n (x (and-left a b h)) (y (and-right a b h))
 
 pub run-none : (t : List ℕ) (i e : ℕ) → i ≤ e → Run t i e i
 unfolding listedText
 run-none t i e h = let k : i - i ≡ 0 = omega arith in record { ahead = omega arith; within = h; same = rw k }
 
-pub run-more : {t : List ℕ} {i e j : ℕ} (n : ℕ) → j + n ≤ e → Unescaped t j n → Run t i e j → Run t i e (j + n)
+pub run-more : {t : List ℕ} {i e j : ℕ} (n : ℕ) → j + n ≤ e → Verbatim t j n → Run t i e j → Run t i e (j + n)
 run-more {t} {i} {e} {j} n h y r =
     let k : j + n - i ≡ j - i + n = omega (arith, r .ahead) in
     let s : i + (j - i) ≡ j = omega (arith, r .ahead) in
-    record { ahead = omega (arith, r .ahead); within = h; same = rw k (unescaped-then t i (j - i) n (r .same) (rw s y)) }
+    record { ahead = omega (arith, r .ahead); within = h; same = rw k (verbatim-then t i (j - i) n (r .same) (rw s y)) }
 
 -- ---- the bytes from i to the end
 
@@ -85,7 +85,7 @@ rest-length t e i n h = ap length (rest-part t e i n h) ∙ length-append (liste
 pub run-length : {t : List ℕ} {e i j : ℕ} → Run t i e j → e ≤ length t → length (rest t e i) ≡ j - i + length (rest t e j)
 run-length {t} {e} {i} {j} r l =
     let k : i + (j - i) ≡ j = omega (arith, r .ahead) in
-    omega (arith, rw k at (rest-length t e i (j - i) (omega (arith, r .ahead, r .within))), unescaped-length t i (j - i) (omega (arith, r .ahead, r .within)) (r .same))
+    omega (arith, rw k at (rest-length t e i (j - i) (omega (arith, r .ahead, r .within))), verbatim-length t i (j - i) (omega (arith, r .ahead, r .within)) (r .same))
 
 module _ (t : List ℕ) (i n : ℕ) {e : ℕ} (h : i + n ≤ e) {o₀ b o : List ℕ} {at p : ℕ} (x : Left o₀ at b o p (rest t e i)) where
   pub part-room : Room o₀ at b → Room o p (listedText (take n (drop i t)))

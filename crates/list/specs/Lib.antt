@@ -2,7 +2,7 @@
 pub mod Listing
 pub mod Examples
 pub mod Back
-pub mod Unescaped
+pub mod Verbatim
 pub mod Walk
 pub mod One
 pub mod Call

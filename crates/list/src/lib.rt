@@ -3,6 +3,12 @@
 use refusal::Answer;
 use refusal::Refusal;
 use refusal::Which;
+use value::BOOL;
+use value::F64;
+use value::GLOBAL;
+use value::I64;
+use value::LIST;
+use value::NONE;
 ghost use mathlib.Core.Bool.{true};
 ghost use mathlib.Core.Path.{_≡_};
 ghost use mathlib.Core.List.{[], _∷_};
@@ -12,7 +18,7 @@ ghost use Rattle.value.specs.Shape.{namesEnd};
 ghost use Rattle.value.specs.Stands.{labelAt, arityAt, Reads};
 ghost use Rattle.output.specs.Put.{Put, Room};
 ghost use Rattle.list.specs.Listing.{tab, plain, listedByte, listedText, kindName, flag, namesAt, contentOf, line};
-ghost use Rattle.list.specs.Unescaped.{Unescaped, Run};
+ghost use Rattle.list.specs.Verbatim.{Verbatim, Run};
 ghost use Rattle.list.specs.Walk.{Ready, Wrote, Countable, Counted};
 ghost use Rattle.list.specs.Call.{ListCall};
 
@@ -52,24 +58,24 @@ fn byte_len(byte: u8) -> usize
 }
 
 // A byte that is listed as it is. The tests are joined by `&`, so that several bytes are tested in one vector and cost one branch.
-fn unescaped(byte: u8) -> bool
+fn verbatim(byte: u8) -> bool
     ensures { λ r. ⌜ (r ≡ true → listedByte byte ≡ byte ∷ []) ⌝ }
 {
     stands(byte) & (byte != b'\\')
 }
 
-fn four_unescaped(text: &[u8], i: usize) -> bool
+fn four_verbatim(text: &[u8], i: usize) -> bool
     requires { ⌜ i + 4 ≤ length (now text) ⌝ }
-    ensures { λ r. ⌜ (r ≡ true → Unescaped (now (text .entry)) i 4) ⌝ }
+    ensures { λ r. ⌜ (r ≡ true → Verbatim (now (text .entry)) i 4) ⌝ }
 {
-    unescaped(text[i]) & unescaped(text[i + 1]) & unescaped(text[i + 2]) & unescaped(text[i + 3])
+    verbatim(text[i]) & verbatim(text[i + 1]) & verbatim(text[i + 2]) & verbatim(text[i + 3])
 }
 
-fn eight_unescaped(text: &[u8], i: usize) -> bool
+fn eight_verbatim(text: &[u8], i: usize) -> bool
     requires { ⌜ i + 8 ≤ length (now text) ⌝ }
-    ensures { λ r. ⌜ (r ≡ true → Unescaped (now (text .entry)) i 8) ⌝ }
+    ensures { λ r. ⌜ (r ≡ true → Verbatim (now (text .entry)) i 8) ⌝ }
 {
-    four_unescaped(text, i) & four_unescaped(text, i + 4)
+    four_verbatim(text, i) & four_verbatim(text, i + 4)
 }
 
 // The text of `count` bytes at `from`, byte by byte: how long it is, and the text.
@@ -109,7 +115,7 @@ fn put_eight(text: &[u8], i: usize, output: &mut [u8], at: usize) -> usize
     requires { ⌜ Room (now output) at (listedText (take 8 (drop i (now text)))) ⌝ }
     ensures { λ r. ⌜ Put (now (output .entry)) at (listedText (take 8 (drop i (now (text .entry))))) (now (output .exit)) r ⌝ }
 {
-    if eight_unescaped(text, i) {
+    if eight_verbatim(text, i) {
         return output::put_run(value::part(text, i, 8), output, at);
     }
     put_each(text, i, 8, output, at)
@@ -123,7 +129,7 @@ fn run_by_eight(text: &[u8], from: usize, end: usize) -> usize
 {
     let mut i = from;
     while 8 <= end - i {
-        if !eight_unescaped(text, i) {
+        if !eight_verbatim(text, i) {
             return i;
         }
         i += 8;
@@ -239,23 +245,23 @@ fn content_len(words: &[u64], text: &[u8], i: usize) -> usize
     let kind = value::head_of(words[4 * i]).kind;
     let second = words[4 * i + 1];
     let third = words[4 * i + 2];
-    if kind < 2 {
+    if kind < I64 {
         return 1;
     }
-    if kind == 2 {
+    if kind == I64 {
         return output::signed_len(second);
     }
-    if kind == 3 {
+    if kind == F64 {
         return 16;
     }
-    if kind < 6 {
+    if kind < LIST {
         return text_len(text, second as usize, third as usize);
     }
-    if kind < 11 {
+    if kind < GLOBAL {
         return output::digits(second);
     }
     let names = names_len(text, second, third);
-    if kind == 11 {
+    if kind == GLOBAL {
         return names;
     }
     names + 4
@@ -270,26 +276,26 @@ fn put_content(words: &[u64], text: &[u8], i: usize, output: &mut [u8], at: usiz
     let kind = head.kind;
     let second = words[4 * i + 1];
     let third = words[4 * i + 2];
-    if kind == 0 {
+    if kind == NONE {
         return output::put_byte(b'-', output, at);
     }
-    if kind == 1 {
+    if kind == BOOL {
         return put_flag(second == 1, output, at);
     }
-    if kind == 2 {
+    if kind == I64 {
         return output::put_signed(second, output, at);
     }
-    if kind == 3 {
+    if kind == F64 {
         return output::put_figures(second, 16, 16, output, at);
     }
-    if kind < 6 {
+    if kind < LIST {
         return put_text(text, second as usize, third as usize, output, at);
     }
-    if kind < 11 {
+    if kind < GLOBAL {
         return output::put_decimal(second, output, at);
     }
     let end = put_names(text, second, third, output, at);
-    if kind == 11 {
+    if kind == GLOBAL {
         return end;
     }
     put_flags(head.new, head.state, output, end)

@@ -9,13 +9,13 @@ put-run-requires : tie.Need-put-run-requires
 put-run-requires c κs =
     let part = c .before in
     let test = part .before .before in
-    room-same (part .part .ensures ∙ sym (test .eight-unescaped .ensures (part .before .if1 .taken))) (test .before .before .before .pre .1)
+    room-same (part .part .ensures ∙ sym (test .eight-verbatim .ensures (part .before .if1 .taken))) (test .before .before .before .pre .1)
 
 returns : tie.Need-returns
 returns c =
     let put = c .before .before in
     let part = put .before .before in
-    put-same (part .part .ensures ∙ sym (part .before .before .eight-unescaped .ensures (part .before .if1 .taken))) (put .put-run .ensures)
+    put-same (part .part .ensures ∙ sym (part .before .before .eight-verbatim .ensures (part .before .if1 .taken))) (put .put-run .ensures)
 
 pub put-eight-spec : {M : Type 1} → statement M
 put-eight-spec =

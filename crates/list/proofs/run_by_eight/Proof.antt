@@ -3,7 +3,7 @@ use Prim.Native.Nat.{_-_}
 use native.Mathlib.Omega.{arith}
 use borrow.Author.Needs.{needs}
 use borrow.Author.Tests.{not-false}
-use Rattle.list.specs.Unescaped.{Run}
+use Rattle.list.specs.Verbatim.{Run}
 use Rattle.list.proofs.Laws.{run-none, run-more}
 use Rattle.list.proofs.run_by_eight.Statement.{statement}
 use Rattle.list.proofs.run_by_eight.Tie as tie
@@ -15,7 +15,7 @@ abbrev μ-loop : tie.MeasureT-loop
 μ-loop text from end i₀ i = end - i
 
 loop-again : tie.Need-loop-again Inv-loop μ-loop
-loop-again c = let l = c .before .before .before .loop in run-more 8 (omega arith) (c .before .eight-unescaped .ensures (not-false _ (c .if1 .left))) (l .inv)
+loop-again c = let l = c .before .before .before .loop in run-more 8 (omega arith) (c .before .eight-verbatim .ensures (not-false _ (c .if1 .left))) (l .inv)
 
 pub run-by-eight-spec : {M : Type 1} → statement M
 run-by-eight-spec =

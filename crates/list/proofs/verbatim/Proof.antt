@@ -1,4 +1,4 @@
--- `list::unescaped` meets its contract. Assumes nothing.
+-- `list::verbatim` meets its contract. Assumes nothing.
 use mathlib.Core.Bool.{not}
 use mathlib.Core.Path.{sym, _∙_}
 use lib.Dec.{eqb}
@@ -6,8 +6,8 @@ use borrow.Author.Needs.{needs}
 use borrow.Author.Tests.{eqb-false, not-true}
 use Rattle.utf8.specs.Rows.{and-left, and-right}
 use Rattle.list.proofs.Laws.{listed-plain}
-use Rattle.list.proofs.unescaped.Statement.{statement}
-use Rattle.list.proofs.unescaped.Tie as tie
+use Rattle.list.proofs.verbatim.Statement.{statement}
+use Rattle.list.proofs.verbatim.Tie as tie
 
 returns : tie.Need-returns
 returns c h =
@@ -15,5 +15,5 @@ returns c h =
     let s = c .stands in
     listed-plain (eqb-false b 0x5C (not-true _ (and-right (s .result) (not (eqb b 0x5C)) h))) (sym (s .ensures) ∙ and-left (s .result) (not (eqb b 0x5C)) h)
 
-pub unescaped-spec : {M : Type 1} → statement M
-unescaped-spec = tie.close (tie.spec (λ c κs. search needs) returns)
+pub verbatim-spec : {M : Type 1} → statement M
+verbatim-spec = tie.close (tie.spec (λ c κs. search needs) returns)

@@ -6,11 +6,11 @@ use lib.ListN.{take, drop}
 use Rattle.list.specs.Listing.{listedText}
 
 -- the n bytes from i on
-abbrev pub Unescaped : List ℕ → ℕ → ℕ → Type 0
-Unescaped t i n = listedText (take n (drop i t)) ≡ take n (drop i t)
+abbrev pub Verbatim : List ℕ → ℕ → ℕ → Type 0
+Verbatim t i n = listedText (take n (drop i t)) ≡ take n (drop i t)
 
 -- those from i to j, which is not past the end
 pub record Run (t : List ℕ) (i end j : ℕ) : Type 0 where
   pub ahead : i ≤ j
   pub within : j ≤ end
-  pub same : Unescaped t i (j - i)
+  pub same : Verbatim t i (j - i)

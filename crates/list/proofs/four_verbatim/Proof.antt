@@ -1,10 +1,10 @@
--- `list::four_unescaped` meets its contract: where the tests hold together, each does. Assumes nothing.
+-- `list::four_verbatim` meets its contract: where the tests hold together, each does. Assumes nothing.
 use Prim.Native.Nat.{_+_}
 use native.Mathlib.Omega.{arith}
 use borrow.Author.Needs.{needs}
-use Rattle.list.proofs.Laws.{unescaped-one, both}
-use Rattle.list.proofs.four_unescaped.Statement.{statement}
-use Rattle.list.proofs.four_unescaped.Tie as tie
+use Rattle.list.proofs.Laws.{verbatim-one, both}
+use Rattle.list.proofs.four_verbatim.Statement.{statement}
+use Rattle.list.proofs.four_verbatim.Tie as tie
 
 returns : tie.Need-returns
 returns c =
@@ -17,13 +17,13 @@ returns c =
     both t i 3 1
     (both t i 2 1
     (both t i 1 1
-    (unescaped-one t i (omega arith) (one .unescaped .ensures))
-    (unescaped-one t (i + 1) (omega arith) (two .unescaped2 .ensures)))
-    (unescaped-one t (i + 2) (omega arith) (three .unescaped3 .ensures)))
-    (unescaped-one t (i + 3) (omega arith) (c .unescaped4 .ensures))
+    (verbatim-one t i (omega arith) (one .verbatim .ensures))
+    (verbatim-one t (i + 1) (omega arith) (two .verbatim2 .ensures)))
+    (verbatim-one t (i + 2) (omega arith) (three .verbatim3 .ensures)))
+    (verbatim-one t (i + 3) (omega arith) (c .verbatim4 .ensures))
 
-pub four-unescaped-spec : {M : Type 1} → statement M
-four-unescaped-spec =
+pub four-verbatim-spec : {M : Type 1} → statement M
+four-verbatim-spec =
     tie.close
     (tie.spec
     (λ c. search needs) (λ c κs. search needs)
