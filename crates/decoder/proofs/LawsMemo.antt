@@ -1,9 +1,13 @@
 -- What each return of the memo's opcodes says of their definitions. Assumes nothing.
 use Prim.Native.Nat.{ℕ, _+_, _-_, _<_, _≤_}
+use mathlib.Core.Bool.{Bool, true, false}
 use mathlib.Core.List.{List}
-use mathlib.Core.Path.{_≡_, _∙_, ap}
+use mathlib.Core.Logic.{_≢_}
+use mathlib.Core.Path.{_≡_, refl, _∙_, ap}
+use lib.Dec.{ltb}
 use lib.ListN.{length, getD, take, drop}
 use lib.Seq.{drop-cons}
+use borrow.Author.Tests.{ltb-true, ltb-false}
 use native.Mathlib.Omega.{arith}
 use Rattle.refusal.specs.Read.{got, refused}
 use Rattle.refusal.specs.declared.Refusal.{Refusal}
@@ -20,7 +24,7 @@ use Rattle.decoder.specs.declared.Effect.the-variants.{Share, Remember}
 use Rattle.steps.specs.State.{State, Res, ok, _>>=_, leaf, find, get, put}
 use Rattle.steps.specs.Opcodes.{lowBytes}
 use Rattle.steps.specs.Run.{going}
-use Rattle.decoder.specs.Rooms.{Rooms, Counts, stateOf, Absent, Numbered}
+use Rattle.decoder.specs.Rooms.{Rooms, Counts, stateOf, Absent, Passed, Numbered}
 use Rattle.decoder.specs.RoomMemo.{find-absent, find-present}
 use Rattle.decoder.specs.RoomReads.{memo-of, nodes-length}
 use Rattle.steps.specs.Effect.{kept}
@@ -95,6 +99,14 @@ module _ (f : State → Res (ℕ × State)) (does : ℕ → State → Res State)
         key-went f does op is r c a m e h ((rw d at n) r (sound-read r c a s (h .1) (h .2)) (rest r q))
 
 -- ---- the memo
+
+-- none up to m, and none from there on or from before
+pub passed-join : (keys : List ℕ) (i m l n k : ℕ) → Passed keys i m k → Passed keys l n k → l ≤ m → Passed keys i n k
+passed-join keys i m l n k p q h j a b = go (ltb j m) refl
+  where
+    go : (x : Bool) → ltb j m ≡ x → getD keys j 0 ≢ k
+    go true e = p j a (ltb-true j m e)
+    go false e = let z = ltb-false j m e in q j (omega arith) b
 
 module _ (r : Rooms) (c : Counts) (s : Sound r c) (key : MemoKey) where
   pub memo-rooms : (c .memo ≤ length (r .keys)) × (c .memo ≤ length (r .held))

@@ -124,6 +124,10 @@ Classed ws n = (i : ℕ) → i < n → Class ws n (first ws i)
 unfoldable pub Absent : List ℕ → ℕ → ℕ → Type 0
 Absent keys n k = (i : ℕ) → i < n → getD keys i 0 ≢ k
 
+-- none of those from i up to n is k
+abbrev pub Passed : List ℕ → ℕ → ℕ → ℕ → Type 0
+Passed keys i n k = (j : ℕ) → i ≤ j → j < n → getD keys j 0 ≢ k
+
 -- the first n memo numbers are different ones, all below m
 pub record Numbered (keys : List ℕ) (n m : ℕ) : Type 0 where
   pub once : (i : ℕ) → i < n → Absent keys i (getD keys i 0)

@@ -20,6 +20,7 @@ use text::Decoded;
 use text::Quoted;
 use text::string_len;
 use text::unicode_len;
+ghost use mathlib.Core.Bool.{true};
 ghost use mathlib.Core.Path.{_≡_};
 ghost use Prim.Native.Nat.{ℕ, _+_, _-_, _*_, _^_, _/_, _<_, _≤_};
 ghost use lib.ListN.{length, getD, take, drop};
@@ -31,7 +32,7 @@ ghost use Rattle.decoder.specs.Reads.{cutTo};
 ghost use Rattle.decoder.specs.ReadsPickle.{Found, counted};
 ghost use Rattle.decoder.specs.Items.{TakesMark, GrowingKind, Adds, gathered};
 ghost use Rattle.value.specs.Shape.{kindIn};
-ghost use Rattle.decoder.specs.Rooms.{Absent, Numbered};
+ghost use Rattle.decoder.specs.Rooms.{Absent, Passed, Numbered};
 ghost use Rattle.steps.specs.NodeWords.{first, second, moduleOf, nameOf, HoldsLinks};
 ghost use Rattle.decoder.specs.ReadsMemo.{keyLine, ReadsKey};
 ghost use Rattle.decoder.specs.ReadsCalls.{Calls, ReadsCall, madeKind};
@@ -652,6 +653,40 @@ enum KeyRead {
     At(usize, MemoKey),
 }
 
+// None of eight memo numbers is `k`: tested together, which is quicker than one by one.
+fn differ(keys: &[u32], from: usize, k: u32) -> bool
+    requires { ⌜ from + 8 ≤ length (now keys) ⌝ }
+    ensures { λ r. ⌜ (r ≡ true → Passed (now (keys .entry)) from (from + 8) k) ⌝ }
+{
+    (keys[from] != k)
+        & (keys[from + 1] != k)
+        & (keys[from + 2] != k)
+        & (keys[from + 3] != k)
+        & (keys[from + 4] != k)
+        & (keys[from + 5] != k)
+        & (keys[from + 6] != k)
+        & (keys[from + 7] != k)
+}
+
+// How far down from `memo` surely none is `k`, by 32 numbers at a time.
+fn passed(keys: &[u32], memo: usize, k: u32) -> usize
+    requires { ⌜ memo ≤ length (now keys) ⌝ }
+    ensures { λ r. ⌜ (r ≤ memo) × Passed (now (keys .entry)) r memo k ⌝ }
+{
+    let mut i = memo;
+    while 32 <= i {
+        let from = i - 32;
+        if !(differ(keys, from, k)
+            & differ(keys, from + 8, k)
+            & differ(keys, from + 16, k)
+            & differ(keys, from + 24, k)) {
+            return i;
+        }
+        i = from;
+    }
+    i
+}
+
 // The place of a memo number among the first `memo`, which are different ones, or `memo`: by a search, newest first.
 fn search(keys: &[u32], memo: usize, key: MemoKey) -> usize
     requires { ⌜ memo ≤ length (now keys) ⌝ }
@@ -659,7 +694,7 @@ fn search(keys: &[u32], memo: usize, key: MemoKey) -> usize
     ensures { λ r. ⌜ (r ≤ memo) × Absent (now (keys .entry)) r (key .0) × (r < memo → getD (now (keys .entry)) r 0 ≡ key .0) ⌝ }
 {
     let k = key.0;
-    let mut i = memo;
+    let mut i = passed(keys, memo, k);
     while 0 < i {
         i -= 1;
         if keys[i] == k {
