@@ -6,7 +6,6 @@ use mathlib.Core.Logic.{_≢_}
 use mathlib.Core.Path.{_≡_, refl, _∙_, ap}
 use lib.Dec.{ltb}
 use lib.ListN.{length, getD, take, drop}
-use lib.Seq.{drop-cons}
 use borrow.Author.Tests.{ltb-true, ltb-false}
 use native.Mathlib.Omega.{arith}
 use Rattle.refusal.specs.Read.{got, refused}
@@ -35,11 +34,6 @@ use Rattle.decoder.specs.ReadsMemo.{keyLine, keyed, Key, ReadsKey, sound
 use Rattle.decoder.specs.StackSteps.{on-stack}
 
 -- ---- reading the number
-
--- a number of one byte
-pub one-byte : (p : List ℕ) (i : ℕ) → i < length p → getD p i 0 ≡ lowFirst (take 1 (drop i p))
-unfolding lowFirst
-one-byte p i h = rw (drop-cons p i 0 h) (omega arith)
 
 module _ (r : Rooms) (c : Counts) (p : List ℕ) (s : Sound r c) (q : r .pickle ≡ p) where
   pub key-short : (n : ℕ) → length p - c .at < n → Key (lowBytes n) c r (None EndOfInput)

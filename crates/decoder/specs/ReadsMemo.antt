@@ -5,6 +5,8 @@ use mathlib.Core.Path.{_≡_, refl, sym}
 use lib.ListN.{length}
 use native.Mathlib.Omega.{arith}
 use Rattle.number.specs.Number.{parseU32}
+use Rattle.decoder.specs.declared.KeyForm.{KeyForm}
+use Rattle.decoder.specs.declared.KeyForm.the-variants.{Line, Byte, Word}
 use Rattle.decoder.specs.declared.KeyRead.{KeyRead}
 use Rattle.decoder.specs.declared.KeyRead.the-variants.{None, At}
 use Rattle.steps.specs.State.{State, Res, ok, no, _>>=_, leaf, line, get, put}
@@ -42,21 +44,33 @@ line-keyed does s = whole (line s)
     whole (ok p) = number (p .1) (leaf (parseU32 (p .0)))
     whole (no why) = refl
 
-pub get-line-keyed : (s : State) → getLine s ≡ keyed keyLine get s
-unfolding getLine
-get-line-keyed s = sym (line-keyed get s)
+-- the number, GET and PUT in each form
+abbrev pub keyBy : KeyForm → State → Res (ℕ × State)
+keyBy Line = keyLine
+keyBy Byte = lowBytes 1
+keyBy Word = lowBytes 4
 
-pub put-line-keyed : (s : State) → putLine s ≡ keyed keyLine put s
-unfolding putLine
-put-line-keyed s = sym (line-keyed put s)
+abbrev pub getBy : KeyForm → State → Res State
+getBy Line = getLine
+getBy Byte = getBytes 1
+getBy Word = getBytes 4
 
-pub get-bytes-keyed : (n : ℕ) (s : State) → getBytes n s ≡ keyed (lowBytes n) get s
-unfolding getBytes keyed
-get-bytes-keyed n s = refl
+abbrev pub putBy : KeyForm → State → Res State
+putBy Line = putLine
+putBy Byte = putBytes 1
+putBy Word = putBytes 4
 
-pub put-bytes-keyed : (n : ℕ) (s : State) → putBytes n s ≡ keyed (lowBytes n) put s
-unfolding putBytes keyed
-put-bytes-keyed n s = refl
+pub get-keyed : (form : KeyForm) (s : State) → getBy form s ≡ keyed (keyBy form) get s
+unfolding getLine getBytes keyed
+get-keyed Line s = sym (line-keyed get s)
+get-keyed Byte s = refl
+get-keyed Word s = refl
+
+pub put-keyed : (form : KeyForm) (s : State) → putBy form s ≡ keyed (keyBy form) put s
+unfolding putLine putBytes keyed
+put-keyed Line s = sym (line-keyed put s)
+put-keyed Byte s = refl
+put-keyed Word s = refl
 
 -- ---- what the code's readers answer
 

@@ -61,6 +61,10 @@ literal read label s = line s >>= λ q. leaf (read (q .0)) >>= λ v. push (label
 abbrev pub fixed : ℕ → (List ℕ → Label) → State → Res State
 fixed n label s = bytes n s >>= λ q. push (label (q .0)) (q .1)
 
+-- the same as an integer, low byte first
+abbrev pub unsigned : ℕ → State → Res State
+unsigned n s = lowBytes n s >>= λ q. push (I64L (q .0)) (q .1)
+
 -- the literal of what was read
 abbrev pub part : {A : Type 0} → (List ℕ → Read A) → (A → Label) → Res (List ℕ × State) → Res State
 part read label m = m >>= λ q. leaf (read (q .0)) >>= λ v. push (label v) (q .1)
@@ -324,11 +328,3 @@ line-part p at i = less-part (eqb (lastByte (take (i - at) (drop at p))) 13) (i 
 
 pub first-byte : (p : List ℕ) (at : ℕ) → getD (take 1 (drop at p)) 0 0 ≡ getD p at 0
 first-byte p at = let e : at + 0 ≡ at = omega arith in getD-take 1 (drop at p) 0 0 (omega arith) ∙ getD-drop at p 0 0 ∙ ap (λ (n : ℕ). getD p n 0) e
-
-pub low-one : (p : List ℕ) (at : ℕ) → lowFirst (take 1 (drop at p)) ≡ getD p at 0
-unfolding lowFirst
-low-one p at = one (drop at p) ∙ first-byte p at
-  where
-    one : (l : List ℕ) → lowFirst (take 1 l) ≡ getD (take 1 l) 0 0
-    one [] = refl
-    one (b ∷ l) = omega arith

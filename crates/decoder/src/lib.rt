@@ -7,9 +7,8 @@ use input::LineEnd;
 use input::f64_at;
 use input::i32_at;
 use input::line;
+use input::low_at;
 use input::newline;
-use input::u16_at;
-use input::u32_at;
 use number::I64Literal;
 use number::IntLiteral;
 use number::U32Literal;
@@ -25,16 +24,16 @@ ghost use mathlib.Core.Path.{_≡_};
 ghost use Prim.Native.Nat.{ℕ, _+_, _-_, _*_, _^_, _/_, _<_, _≤_};
 ghost use lib.ListN.{length, getD, take, drop};
 ghost use Rattle.steps.specs.State.{get, put};
-ghost use Rattle.steps.specs.Opcodes.{proto, popOne, popToMark, dup, int, binint, binint1, binint2, long, longN, float, binfloat, string, binstring, shortBinstring, unicode, binunicode, global, list, tuple, tupleN, dict, append, appends, setitem, setitems, getLine, getBytes, putLine, putBytes, lowBytes, reduce, newobj, buildState};
+ghost use Rattle.steps.specs.Opcodes.{proto, popOne, popToMark, dup, int, binint, long, longN, float, binfloat, string, binstring, shortBinstring, unicode, binunicode, global, list, tuple, tupleN, dict, append, appends, setitem, setitems, lowBytes, reduce, newobj, buildState};
 ghost use Rattle.steps.specs.Run.{going};
 ghost use Rattle.decoder.specs.Effects.{Lent, Decides};
 ghost use Rattle.decoder.specs.Reads.{cutTo};
-ghost use Rattle.decoder.specs.ReadsPickle.{Found, counted};
+ghost use Rattle.decoder.specs.ReadsPickle.{Found, counted, unsigned};
 ghost use Rattle.decoder.specs.Items.{TakesMark, GrowingKind, Adds, gathered};
 ghost use Rattle.value.specs.Shape.{kindIn};
 ghost use Rattle.decoder.specs.Rooms.{Absent, Passed, Numbered};
 ghost use Rattle.steps.specs.NodeWords.{first, second, moduleOf, nameOf, HoldsLinks};
-ghost use Rattle.decoder.specs.ReadsMemo.{keyLine, ReadsKey};
+ghost use Rattle.decoder.specs.ReadsMemo.{keyLine, keyBy, getBy, putBy, ReadsKey};
 ghost use Rattle.decoder.specs.ReadsCalls.{Calls, ReadsCall, madeKind};
 ghost use Rattle.number.specs.Space.{same};
 
@@ -144,37 +143,20 @@ fn text_word(at: usize, len: usize) -> u64
     len as u64 * 0x1_0000_0000 + at as u64
 }
 
-// A length of one byte, and so many bytes.
-fn part1(pickle: &[u8], c: Counts) -> Part
-    requires { ⌜ Lent c (λ r. r .pickle ≡ now pickle) ⌝ }
-    ensures { λ t. ⌜ Found c (λ r. r .pickle ≡ now (pickle .entry)) (counted 1) t ⌝ }
+// A length of `width` bytes, and so many bytes.
+fn counted(pickle: &[u8], c: Counts, width: usize) -> Part
+    requires { ⌜ Lent c (λ r. r .pickle ≡ now pickle) × (width ≤ 8) ⌝ }
+    ensures { λ t. ⌜ Found c (λ r. r .pickle ≡ now (pickle .entry)) (counted width) t ⌝ }
 {
     let at = c.at;
-    if pickle.len() - at < 1 {
+    if pickle.len() - at < width {
         return Part::Short;
     }
-    let len = pickle[at] as usize;
-    if pickle.len() - at - 1 < len {
+    let len = low_at(pickle, at, width) as usize;
+    if pickle.len() - at - width < len {
         Part::Short
     } else {
-        Part::At(at + 1, len)
-    }
-}
-
-// A length of four bytes, and so many bytes.
-fn part4(pickle: &[u8], c: Counts) -> Part
-    requires { ⌜ Lent c (λ r. r .pickle ≡ now pickle) ⌝ }
-    ensures { λ t. ⌜ Found c (λ r. r .pickle ≡ now (pickle .entry)) (counted 4) t ⌝ }
-{
-    let at = c.at;
-    if pickle.len() - at < 4 {
-        return Part::Short;
-    }
-    let len = u32_at(pickle, at) as usize;
-    if pickle.len() - at - 4 < len {
-        Part::Short
-    } else {
-        Part::At(at + 4, len)
+        Part::At(at + width, len)
     }
 }
 
@@ -221,28 +203,16 @@ pub fn binint(pickle: &[u8], c: Counts) -> Effect
     Effect::Push(read_to(c, at + 4), KIND_I64, i32_at(pickle, at))
 }
 
-// BININT1: a byte.
-pub fn binint1(pickle: &[u8], c: Counts) -> Effect
-    requires { ⌜ Lent c (λ r. r .pickle ≡ now pickle) ⌝ }
-    ensures { λ e. ⌜ Decides c (λ r. r .pickle ≡ now (pickle .entry)) (λ s. going (binint1 s)) e ⌝ }
+// BININT1, BININT2: `width` bytes without a sign.
+pub fn unsigned(pickle: &[u8], c: Counts, width: usize) -> Effect
+    requires { ⌜ Lent c (λ r. r .pickle ≡ now pickle) × (width ≤ 8) ⌝ }
+    ensures { λ e. ⌜ Decides c (λ r. r .pickle ≡ now (pickle .entry)) (λ s. going (unsigned width s)) e ⌝ }
 {
     let at = c.at;
-    if pickle.len() - at < 1 {
+    if pickle.len() - at < width {
         return Effect::Refused(c, 0, 0, Refusal::EndOfInput);
     }
-    Effect::Push(read_to(c, at + 1), KIND_I64, pickle[at] as u64)
-}
-
-// BININT2: two bytes.
-pub fn binint2(pickle: &[u8], c: Counts) -> Effect
-    requires { ⌜ Lent c (λ r. r .pickle ≡ now pickle) ⌝ }
-    ensures { λ e. ⌜ Decides c (λ r. r .pickle ≡ now (pickle .entry)) (λ s. going (binint2 s)) e ⌝ }
-{
-    let at = c.at;
-    if pickle.len() - at < 2 {
-        return Effect::Refused(c, 0, 0, Refusal::EndOfInput);
-    }
-    Effect::Push(read_to(c, at + 2), KIND_I64, u16_at(pickle, at) as u64)
+    Effect::Push(read_to(c, at + width), KIND_I64, low_at(pickle, at, width))
 }
 
 // LONG: a line with or without an `L`.
@@ -259,29 +229,12 @@ pub fn long(pickle: &[u8], c: Counts) -> Effect
     }
 }
 
-// LONG1: bytes that are missing come before an integer that is too large.
-pub fn long1(pickle: &[u8], c: Counts) -> Effect
-    requires { ⌜ Lent c (λ r. r .pickle ≡ now pickle) ⌝ }
-    ensures { λ e. ⌜ Decides c (λ r. r .pickle ≡ now (pickle .entry)) (λ s. going (longN 1 s)) e ⌝ }
+// LONG1, LONG4: bytes that are missing come before an integer that is too large.
+pub fn long_n(pickle: &[u8], c: Counts, width: usize) -> Effect
+    requires { ⌜ Lent c (λ r. r .pickle ≡ now pickle) × (width ≤ 8) ⌝ }
+    ensures { λ e. ⌜ Decides c (λ r. r .pickle ≡ now (pickle .entry)) (λ s. going (longN width s)) e ⌝ }
 {
-    match part1(pickle, c) {
-        Part::Short => Effect::Refused(c, 0, 0, Refusal::EndOfInput),
-        Part::At(at, len) => {
-            let end = at + len;
-            match input::long(&pickle[at..end]) {
-                Integer::Value(v) => Effect::Push(read_to(c, end), KIND_I64, v),
-                Integer::TooLarge => Effect::Refused(c, 0, 0, Refusal::IntegerTooLarge),
-            }
-        }
-    }
-}
-
-// LONG4: the same with a length of four bytes.
-pub fn long4(pickle: &[u8], c: Counts) -> Effect
-    requires { ⌜ Lent c (λ r. r .pickle ≡ now pickle) ⌝ }
-    ensures { λ e. ⌜ Decides c (λ r. r .pickle ≡ now (pickle .entry)) (λ s. going (longN 4 s)) e ⌝ }
-{
-    match part4(pickle, c) {
+    match counted(pickle, c, width) {
         Part::Short => Effect::Refused(c, 0, 0, Refusal::EndOfInput),
         Part::At(at, len) => {
             let end = at + len;
@@ -376,7 +329,7 @@ pub fn short_binstring(pickle: &[u8], c: Counts) -> Effect
     requires { ⌜ Lent c (λ r. r .pickle ≡ now pickle) ⌝ }
     ensures { λ e. ⌜ Decides c (λ r. r .pickle ≡ now (pickle .entry)) (λ s. going (shortBinstring s)) e ⌝ }
 {
-    match part1(pickle, c) {
+    match counted(pickle, c, 1) {
         Part::Short => Effect::Refused(c, 0, 0, Refusal::EndOfInput),
         Part::At(at, len) => Effect::Push(read_to(c, at + len), KIND_BYTES, text_word(at, len)),
     }
@@ -407,7 +360,7 @@ pub fn binunicode(pickle: &[u8], c: Counts) -> Effect
     requires { ⌜ Lent c (λ r. r .pickle ≡ now pickle) ⌝ }
     ensures { λ e. ⌜ Decides c (λ r. r .pickle ≡ now (pickle .entry)) (λ s. going (binunicode s)) e ⌝ }
 {
-    match part4(pickle, c) {
+    match counted(pickle, c, 4) {
         Part::Short => Effect::Refused(c, 0, 0, Refusal::EndOfInput),
         Part::At(at, len) => Effect::Push(read_to(c, at + len), KIND_STRING, text_word(at, len)),
     }
@@ -647,6 +600,13 @@ pub fn setitems(nodes: &[u64], stack: &[u16], marks: &[u16], c: Counts) -> Effec
 
 // ---- the memo
 
+// How an opcode gives a memo number: GET and PUT in a line, BINGET and BINPUT in a byte, LONG_BINGET and LONG_BINPUT in four.
+pub enum KeyForm {
+    Line,
+    Byte,
+    Word,
+}
+
 // A memo number that was read, with the place behind it, or why there is none.
 enum KeyRead {
     None(Refusal),
@@ -725,7 +685,7 @@ pub fn slot(keys: &[u32], memo: usize, greatest: usize, key: MemoKey) -> usize
     search(keys, memo, key)
 }
 
-// GET's, PUT's: a line.
+// GET's and PUT's.
 fn key_line(pickle: &[u8], c: Counts) -> KeyRead
     ensures { λ k. ⌜ ReadsKey keyLine c (now (pickle .entry)) k ⌝ }
 {
@@ -739,27 +699,27 @@ fn key_line(pickle: &[u8], c: Counts) -> KeyRead
     }
 }
 
-// BINGET's, BINPUT's: one byte.
-fn key_byte(pickle: &[u8], c: Counts) -> KeyRead
-    ensures { λ k. ⌜ ReadsKey (lowBytes 1) c (now (pickle .entry)) k ⌝ }
+// The others': `width` bytes.
+fn key_low(pickle: &[u8], c: Counts, width: usize) -> KeyRead
+    requires { ⌜ (c .at ≤ length (now pickle)) × (width ≤ 4) ⌝ }
+    ensures { λ k. ⌜ ReadsKey (lowBytes width) c (now (pickle .entry)) k ⌝ }
 {
     let at = c.at;
-    if at < pickle.len() {
-        return KeyRead::At(at + 1, MemoKey(pickle[at] as u32));
-    }
-    KeyRead::None(Refusal::EndOfInput)
-}
-
-// LONG_BINGET's, LONG_BINPUT's: four bytes.
-fn key_word(pickle: &[u8], c: Counts) -> KeyRead
-    requires { ⌜ c .at ≤ length (now pickle) ⌝ }
-    ensures { λ k. ⌜ ReadsKey (lowBytes 4) c (now (pickle .entry)) k ⌝ }
-{
-    let at = c.at;
-    if pickle.len() - at < 4 {
+    if pickle.len() - at < width {
         return KeyRead::None(Refusal::EndOfInput);
     }
-    KeyRead::At(at + 4, MemoKey(u32_at(pickle, at)))
+    KeyRead::At(at + width, MemoKey(low_at(pickle, at, width) as u32))
+}
+
+fn key_by(pickle: &[u8], c: Counts, form: KeyForm) -> KeyRead
+    requires { ⌜ c .at ≤ length (now pickle) ⌝ }
+    ensures { λ k. ⌜ ReadsKey (keyBy form) c (now (pickle .entry)) k ⌝ }
+{
+    match form {
+        KeyForm::Line => key_line(pickle, c),
+        KeyForm::Byte => key_low(pickle, c, 1),
+        KeyForm::Word => key_low(pickle, c, 4),
+    }
 }
 
 // The node of a memo number.
@@ -774,31 +734,14 @@ fn get(keys: &[u32], held: &[u16], c: Counts, key: MemoKey) -> Effect
     Effect::Refused(c, 0, 0, Refusal::MissingMemo(key.0))
 }
 
-pub fn get_line(pickle: &[u8], keys: &[u32], held: &[u16], c: Counts) -> Effect
+pub fn get_by(pickle: &[u8], keys: &[u32], held: &[u16], c: Counts, form: KeyForm) -> Effect
     requires { ⌜ Lent c (λ r. (r .pickle ≡ now pickle) × (r .keys ≡ now keys) × (r .held ≡ now held)) ⌝ }
-    ensures { λ e. ⌜ Decides c (λ r. (r .pickle ≡ now (pickle .entry)) × (r .keys ≡ now (keys .entry)) × (r .held ≡ now (held .entry))) (λ s. going (getLine s)) e ⌝ }
+    ensures { λ e.
+        ⌜ Decides c
+        (λ r. (r .pickle ≡ now (pickle .entry)) × (r .keys ≡ now (keys .entry)) × (r .held ≡ now (held .entry)))
+        (λ s. going (getBy form s)) e ⌝ }
 {
-    match key_line(pickle, c) {
-        KeyRead::None(why) => Effect::Refused(c, 0, 0, why),
-        KeyRead::At(at, key) => get(keys, held, read_to(c, at), key),
-    }
-}
-
-pub fn binget(pickle: &[u8], keys: &[u32], held: &[u16], c: Counts) -> Effect
-    requires { ⌜ Lent c (λ r. (r .pickle ≡ now pickle) × (r .keys ≡ now keys) × (r .held ≡ now held)) ⌝ }
-    ensures { λ e. ⌜ Decides c (λ r. (r .pickle ≡ now (pickle .entry)) × (r .keys ≡ now (keys .entry)) × (r .held ≡ now (held .entry))) (λ s. going (getBytes 1 s)) e ⌝ }
-{
-    match key_byte(pickle, c) {
-        KeyRead::None(why) => Effect::Refused(c, 0, 0, why),
-        KeyRead::At(at, key) => get(keys, held, read_to(c, at), key),
-    }
-}
-
-pub fn long_binget(pickle: &[u8], keys: &[u32], held: &[u16], c: Counts) -> Effect
-    requires { ⌜ Lent c (λ r. (r .pickle ≡ now pickle) × (r .keys ≡ now keys) × (r .held ≡ now held)) ⌝ }
-    ensures { λ e. ⌜ Decides c (λ r. (r .pickle ≡ now (pickle .entry)) × (r .keys ≡ now (keys .entry)) × (r .held ≡ now (held .entry))) (λ s. going (getBytes 4 s)) e ⌝ }
-{
-    match key_word(pickle, c) {
+    match key_by(pickle, c, form) {
         KeyRead::None(why) => Effect::Refused(c, 0, 0, why),
         KeyRead::At(at, key) => get(keys, held, read_to(c, at), key),
     }
@@ -816,31 +759,13 @@ fn put(stack: &[u16], c: Counts, key: MemoKey) -> Effect
     Effect::Remember(c, NodeId(stack[top] as usize), 0, key)
 }
 
-pub fn put_line(pickle: &[u8], stack: &[u16], c: Counts) -> Effect
+pub fn put_by(pickle: &[u8], stack: &[u16], c: Counts, form: KeyForm) -> Effect
     requires { ⌜ Lent c (λ r. (r .pickle ≡ now pickle) × (r .stack ≡ now stack)) ⌝ }
-    ensures { λ e. ⌜ Decides c (λ r. (r .pickle ≡ now (pickle .entry)) × (r .stack ≡ now (stack .entry))) (λ s. going (putLine s)) e ⌝ }
+    ensures { λ e.
+        ⌜ Decides c (λ r. (r .pickle ≡ now (pickle .entry)) × (r .stack ≡ now (stack .entry)))
+        (λ s. going (putBy form s)) e ⌝ }
 {
-    match key_line(pickle, c) {
-        KeyRead::None(why) => Effect::Refused(c, 0, 0, why),
-        KeyRead::At(at, key) => put(stack, read_to(c, at), key),
-    }
-}
-
-pub fn binput(pickle: &[u8], stack: &[u16], c: Counts) -> Effect
-    requires { ⌜ Lent c (λ r. (r .pickle ≡ now pickle) × (r .stack ≡ now stack)) ⌝ }
-    ensures { λ e. ⌜ Decides c (λ r. (r .pickle ≡ now (pickle .entry)) × (r .stack ≡ now (stack .entry))) (λ s. going (putBytes 1 s)) e ⌝ }
-{
-    match key_byte(pickle, c) {
-        KeyRead::None(why) => Effect::Refused(c, 0, 0, why),
-        KeyRead::At(at, key) => put(stack, read_to(c, at), key),
-    }
-}
-
-pub fn long_binput(pickle: &[u8], stack: &[u16], c: Counts) -> Effect
-    requires { ⌜ Lent c (λ r. (r .pickle ≡ now pickle) × (r .stack ≡ now stack)) ⌝ }
-    ensures { λ e. ⌜ Decides c (λ r. (r .pickle ≡ now (pickle .entry)) × (r .stack ≡ now (stack .entry))) (λ s. going (putBytes 4 s)) e ⌝ }
-{
-    match key_word(pickle, c) {
+    match key_by(pickle, c, form) {
         KeyRead::None(why) => Effect::Refused(c, 0, 0, why),
         KeyRead::At(at, key) => put(stack, read_to(c, at), key),
     }

@@ -39,7 +39,7 @@ fn low_first(bytes: &[u8], width: usize, fill: u8) -> u64
 }
 
 // The number of the `width` bytes at `at`, low byte first.
-fn low_at(pickle: &[u8], at: usize, width: usize) -> u64
+pub fn low_at(pickle: &[u8], at: usize, width: usize) -> u64
     requires { ⌜ (at + width ≤ length (now pickle)) × (width ≤ 8) ⌝ }
     ensures { λ r. ⌜ (r ≡ lowFirst (take width (drop at (now (pickle .entry))))) × (r < 256 ^ width) ⌝ }
 {

@@ -7,6 +7,7 @@ use decoder::KIND_DICT;
 use decoder::KIND_LIST;
 use decoder::KIND_NONE;
 use decoder::KIND_TUPLE;
+use decoder::KeyForm;
 use effects::Step;
 use effects::extend;
 use effects::make;
@@ -104,9 +105,9 @@ fn decide(
             op::FLOAT => decoder::float(pickle, d),
             op::INT => decoder::int(pickle, d),
             op::BININT => decoder::binint(pickle, d),
-            op::BININT1 => decoder::binint1(pickle, d),
+            op::BININT1 => decoder::unsigned(pickle, d, 1),
             op::LONG => decoder::long(pickle, d),
-            op::BININT2 => decoder::binint2(pickle, d),
+            op::BININT2 => decoder::unsigned(pickle, d, 2),
             op::NONE => Effect::Push(d, KIND_NONE, 0),
             op::REDUCE => decoder::reduce(pickle, nodes, children, stack, d),
             op::STRING => decoder::string(pickle, d),
@@ -120,14 +121,14 @@ fn decide(
             op::DICT => decoder::dict(marks, d),
             op::EMPTY_DICT => Effect::Push(d, KIND_DICT, 0),
             op::APPENDS => decoder::appends(nodes, stack, marks, d),
-            op::GET => decoder::get_line(pickle, keys, held, d),
-            op::BINGET => decoder::binget(pickle, keys, held, d),
-            op::LONG_BINGET => decoder::long_binget(pickle, keys, held, d),
+            op::GET => decoder::get_by(pickle, keys, held, d, KeyForm::Line),
+            op::BINGET => decoder::get_by(pickle, keys, held, d, KeyForm::Byte),
+            op::LONG_BINGET => decoder::get_by(pickle, keys, held, d, KeyForm::Word),
             op::LIST => decoder::list(marks, d),
             op::EMPTY_LIST => Effect::Push(d, KIND_LIST, 0),
-            op::PUT => decoder::put_line(pickle, stack, d),
-            op::BINPUT => decoder::binput(pickle, stack, d),
-            op::LONG_BINPUT => decoder::long_binput(pickle, stack, d),
+            op::PUT => decoder::put_by(pickle, stack, d, KeyForm::Line),
+            op::BINPUT => decoder::put_by(pickle, stack, d, KeyForm::Byte),
+            op::LONG_BINPUT => decoder::put_by(pickle, stack, d, KeyForm::Word),
             op::SETITEM => decoder::setitem(nodes, stack, d),
             op::TUPLE => decoder::tuple(marks, d),
             op::EMPTY_TUPLE => Effect::Push(d, KIND_TUPLE, 0),
@@ -137,8 +138,8 @@ fn decide(
             op::NEWOBJ => decoder::newobj(nodes, stack, d),
             op::NEWTRUE => Effect::Push(d, KIND_BOOL, 1),
             op::NEWFALSE => Effect::Push(d, KIND_BOOL, 0),
-            op::LONG1 => decoder::long1(pickle, d),
-            op::LONG4 => decoder::long4(pickle, d),
+            op::LONG1 => decoder::long_n(pickle, d, 1),
+            op::LONG4 => decoder::long_n(pickle, d, 4),
             0x85..=0x87 => decoder::small_tuple(d, code),
             _ => Effect::Refused(c, 0, 0, Refusal::UnsupportedOpcode(code)),
         },

@@ -9,6 +9,7 @@ use Rattle.op.specs.Edition.{against}
 use Rattle.op.specs.Table.{numberOf, numberIn, isNamed, place}
 use Rattle.op.specs.declared.Objection.the-variants.{Nothing}
 use Rattle.op.specs.declared.Opcode.the-variants.{MARK, STOP, POP, «POP_MARK», DUP, FLOAT, INT, BININT, BININT1, LONG, BININT2, NONE, REDUCE, STRING, BINSTRING, «SHORT_BINSTRING», UNICODE, BINUNICODE, APPEND, BUILD, GLOBAL, DICT, «EMPTY_DICT», APPENDS, GET, BINGET, «LONG_BINGET», LIST, «EMPTY_LIST», PUT, BINPUT, «LONG_BINPUT», SETITEM, TUPLE, «EMPTY_TUPLE», SETITEMS, BINFLOAT, PROTO, NEWOBJ, NEWTRUE, NEWFALSE, LONG1, LONG4}
+use Rattle.steps.specs.Opcodes.{binint1, binint2}
 use Rattle.steps.specs.Run.{does}
 use Rattle.machine.specs.Lent.{ended, lent, outside-it, unknown-to-it, arm, unsupported, tuples, no-name, marks, stop, none-pushed, true-pushed, false-pushed, list-pushed, tuple-pushed, dict-pushed}
 
@@ -61,14 +62,14 @@ int-requires c κs = lent _ _ _ _ _ _ _ _ (asked (c .before) .before .before .if
 binint-requires : tie.Need-binint-requires
 binint-requires c κs = lent _ _ _ _ _ _ _ _ (asked (c .before) .before .before .if1 .left) _ (start (asked (c .before)) .pre) (λ r a. a .pickle)
 
-binint1-requires : tie.Need-binint1-requires
-binint1-requires c κs = lent _ _ _ _ _ _ _ _ (asked (c .before) .before .before .if1 .left) _ (start (asked (c .before)) .pre) (λ r a. a .pickle)
+unsigned-requires : tie.Need-unsigned-requires
+unsigned-requires c κs = (lent _ _ _ _ _ _ _ _ (asked (c .before) .before .before .if1 .left) _ (start (asked (c .before)) .pre) (λ r a. a .pickle), omega arith)
 
 long-requires : tie.Need-long-requires
 long-requires c κs = lent _ _ _ _ _ _ _ _ (asked (c .before) .before .before .if1 .left) _ (start (asked (c .before)) .pre) (λ r a. a .pickle)
 
-binint2-requires : tie.Need-binint2-requires
-binint2-requires c κs = lent _ _ _ _ _ _ _ _ (asked (c .before) .before .before .if1 .left) _ (start (asked (c .before)) .pre) (λ r a. a .pickle)
+unsigned-requires-2 : tie.Need-unsigned-requires-2
+unsigned-requires-2 c κs = (lent _ _ _ _ _ _ _ _ (asked (c .before) .before .before .if1 .left) _ (start (asked (c .before)) .pre) (λ r a. a .pickle), omega arith)
 
 reduce-requires : tie.Need-reduce-requires
 reduce-requires c κs = lent _ _ _ _ _ _ _ _ (asked (c .before) .before .before .if1 .left) _ (start (asked (c .before)) .pre) (λ r a. (a .pickle, a .nodes, a .children, a .stack))
@@ -103,26 +104,26 @@ dict-requires c κs = lent _ _ _ _ _ _ _ _ (asked (c .before) .before .before .i
 appends-requires : tie.Need-appends-requires
 appends-requires c κs = lent _ _ _ _ _ _ _ _ (asked (c .before) .before .before .if1 .left) _ (start (asked (c .before)) .pre) (λ r a. (a .nodes, a .stack, a .marks))
 
-get-line-requires : tie.Need-get-line-requires
-get-line-requires c κs = lent _ _ _ _ _ _ _ _ (asked (c .before) .before .before .if1 .left) _ (start (asked (c .before)) .pre) (λ r a. (a .pickle, a .keys, a .held))
+get-by-requires : tie.Need-get-by-requires
+get-by-requires c κs = lent _ _ _ _ _ _ _ _ (asked (c .before) .before .before .if1 .left) _ (start (asked (c .before)) .pre) (λ r a. (a .pickle, a .keys, a .held))
 
-binget-requires : tie.Need-binget-requires
-binget-requires c κs = lent _ _ _ _ _ _ _ _ (asked (c .before) .before .before .if1 .left) _ (start (asked (c .before)) .pre) (λ r a. (a .pickle, a .keys, a .held))
+get-by-requires-2 : tie.Need-get-by-requires-2
+get-by-requires-2 c κs = lent _ _ _ _ _ _ _ _ (asked (c .before) .before .before .if1 .left) _ (start (asked (c .before)) .pre) (λ r a. (a .pickle, a .keys, a .held))
 
-long-binget-requires : tie.Need-long-binget-requires
-long-binget-requires c κs = lent _ _ _ _ _ _ _ _ (asked (c .before) .before .before .if1 .left) _ (start (asked (c .before)) .pre) (λ r a. (a .pickle, a .keys, a .held))
+get-by-requires-3 : tie.Need-get-by-requires-3
+get-by-requires-3 c κs = lent _ _ _ _ _ _ _ _ (asked (c .before) .before .before .if1 .left) _ (start (asked (c .before)) .pre) (λ r a. (a .pickle, a .keys, a .held))
 
 list-requires : tie.Need-list-requires
 list-requires c κs = lent _ _ _ _ _ _ _ _ (asked (c .before) .before .before .if1 .left) _ (start (asked (c .before)) .pre) (λ r a. a .marks)
 
-put-line-requires : tie.Need-put-line-requires
-put-line-requires c κs = lent _ _ _ _ _ _ _ _ (asked (c .before) .before .before .if1 .left) _ (start (asked (c .before)) .pre) (λ r a. (a .pickle, a .stack))
+put-by-requires : tie.Need-put-by-requires
+put-by-requires c κs = lent _ _ _ _ _ _ _ _ (asked (c .before) .before .before .if1 .left) _ (start (asked (c .before)) .pre) (λ r a. (a .pickle, a .stack))
 
-binput-requires : tie.Need-binput-requires
-binput-requires c κs = lent _ _ _ _ _ _ _ _ (asked (c .before) .before .before .if1 .left) _ (start (asked (c .before)) .pre) (λ r a. (a .pickle, a .stack))
+put-by-requires-2 : tie.Need-put-by-requires-2
+put-by-requires-2 c κs = lent _ _ _ _ _ _ _ _ (asked (c .before) .before .before .if1 .left) _ (start (asked (c .before)) .pre) (λ r a. (a .pickle, a .stack))
 
-long-binput-requires : tie.Need-long-binput-requires
-long-binput-requires c κs = lent _ _ _ _ _ _ _ _ (asked (c .before) .before .before .if1 .left) _ (start (asked (c .before)) .pre) (λ r a. (a .pickle, a .stack))
+put-by-requires-3 : tie.Need-put-by-requires-3
+put-by-requires-3 c κs = lent _ _ _ _ _ _ _ _ (asked (c .before) .before .before .if1 .left) _ (start (asked (c .before)) .pre) (λ r a. (a .pickle, a .stack))
 
 setitem-requires : tie.Need-setitem-requires
 setitem-requires c κs = lent _ _ _ _ _ _ _ _ (asked (c .before) .before .before .if1 .left) _ (start (asked (c .before)) .pre) (λ r a. (a .nodes, a .stack))
@@ -145,11 +146,11 @@ proto-requires c κs = lent _ _ _ _ _ _ _ _ (asked (c .before .before) .before .
 newobj-requires : tie.Need-newobj-requires
 newobj-requires c κs = lent _ _ _ _ _ _ _ _ (asked (c .before) .before .before .if1 .left) _ (start (asked (c .before)) .pre) (λ r a. (a .nodes, a .stack))
 
-long1-requires : tie.Need-long1-requires
-long1-requires c κs = lent _ _ _ _ _ _ _ _ (asked (c .before) .before .before .if1 .left) _ (start (asked (c .before)) .pre) (λ r a. a .pickle)
+long-n-requires : tie.Need-long-n-requires
+long-n-requires c κs = (lent _ _ _ _ _ _ _ _ (asked (c .before) .before .before .if1 .left) _ (start (asked (c .before)) .pre) (λ r a. a .pickle), omega arith)
 
-long4-requires : tie.Need-long4-requires
-long4-requires c κs = lent _ _ _ _ _ _ _ _ (asked (c .before) .before .before .if1 .left) _ (start (asked (c .before)) .pre) (λ r a. a .pickle)
+long-n-requires-2 : tie.Need-long-n-requires-2
+long-n-requires-2 c κs = (lent _ _ _ _ _ _ _ _ (asked (c .before) .before .before .if1 .left) _ (start (asked (c .before)) .pre) (λ r a. a .pickle), omega arith)
 
 small-tuple-requires : tie.Need-small-tuple-requires
 small-tuple-requires c κs = (omega (arith, c .before .if2 .left), omega (arith, c .if3 .taken))
@@ -193,16 +194,16 @@ unfolding does numberOf numberIn isNamed place
 returns-11 c = arm _ _ _ _ _ _ _ _ _ (asked (c .before .before) .before .before .if1 .left) (free (c .before .before)) BININT _ _ (c .before .match2 .keys8) (λ r a. a .pickle) (c .binint .ensures)
 
 returns-12 : tie.Need-returns-12
-unfolding does numberOf numberIn isNamed place
-returns-12 c = arm _ _ _ _ _ _ _ _ _ (asked (c .before .before) .before .before .if1 .left) (free (c .before .before)) BININT1 _ _ (c .before .match2 .keys9) (λ r a. a .pickle) (c .binint1 .ensures)
+unfolding does numberOf numberIn isNamed place binint1
+returns-12 c = arm _ _ _ _ _ _ _ _ _ (asked (c .before .before) .before .before .if1 .left) (free (c .before .before)) BININT1 _ _ (c .before .match2 .keys9) (λ r a. a .pickle) (c .unsigned .ensures)
 
 returns-13 : tie.Need-returns-13
 unfolding does numberOf numberIn isNamed place
 returns-13 c = arm _ _ _ _ _ _ _ _ _ (asked (c .before .before) .before .before .if1 .left) (free (c .before .before)) LONG _ _ (c .before .match2 .keys10) (λ r a. a .pickle) (c .long .ensures)
 
 returns-14 : tie.Need-returns-14
-unfolding does numberOf numberIn isNamed place
-returns-14 c = arm _ _ _ _ _ _ _ _ _ (asked (c .before .before) .before .before .if1 .left) (free (c .before .before)) BININT2 _ _ (c .before .match2 .keys11) (λ r a. a .pickle) (c .binint2 .ensures)
+unfolding does numberOf numberIn isNamed place binint2
+returns-14 c = arm _ _ _ _ _ _ _ _ _ (asked (c .before .before) .before .before .if1 .left) (free (c .before .before)) BININT2 _ _ (c .before .match2 .keys11) (λ r a. a .pickle) (c .unsigned2 .ensures)
 
 returns-15 : tie.Need-returns-15
 unfolding numberOf numberIn isNamed place
@@ -258,15 +259,15 @@ returns-27 c = arm _ _ _ _ _ _ _ _ _ (asked (c .before .before) .before .before 
 
 returns-28 : tie.Need-returns-28
 unfolding does numberOf numberIn isNamed place
-returns-28 c = arm _ _ _ _ _ _ _ _ _ (asked (c .before .before) .before .before .if1 .left) (free (c .before .before)) GET _ _ (c .before .match2 .keys25) (λ r a. (a .pickle, a .keys, a .held)) (c .get-line .ensures)
+returns-28 c = arm _ _ _ _ _ _ _ _ _ (asked (c .before .before) .before .before .if1 .left) (free (c .before .before)) GET _ _ (c .before .match2 .keys25) (λ r a. (a .pickle, a .keys, a .held)) (c .get-by .ensures)
 
 returns-29 : tie.Need-returns-29
 unfolding does numberOf numberIn isNamed place
-returns-29 c = arm _ _ _ _ _ _ _ _ _ (asked (c .before .before) .before .before .if1 .left) (free (c .before .before)) BINGET _ _ (c .before .match2 .keys26) (λ r a. (a .pickle, a .keys, a .held)) (c .binget .ensures)
+returns-29 c = arm _ _ _ _ _ _ _ _ _ (asked (c .before .before) .before .before .if1 .left) (free (c .before .before)) BINGET _ _ (c .before .match2 .keys26) (λ r a. (a .pickle, a .keys, a .held)) (c .get-by2 .ensures)
 
 returns-30 : tie.Need-returns-30
 unfolding does numberOf numberIn isNamed place
-returns-30 c = arm _ _ _ _ _ _ _ _ _ (asked (c .before .before) .before .before .if1 .left) (free (c .before .before)) «LONG_BINGET» _ _ (c .before .match2 .keys27) (λ r a. (a .pickle, a .keys, a .held)) (c .long-binget .ensures)
+returns-30 c = arm _ _ _ _ _ _ _ _ _ (asked (c .before .before) .before .before .if1 .left) (free (c .before .before)) «LONG_BINGET» _ _ (c .before .match2 .keys27) (λ r a. (a .pickle, a .keys, a .held)) (c .get-by3 .ensures)
 
 returns-31 : tie.Need-returns-31
 unfolding does numberOf numberIn isNamed place
@@ -278,15 +279,15 @@ returns-32 c = arm _ _ _ _ _ _ _ _ _ (asked (c .before) .before .before .if1 .le
 
 returns-33 : tie.Need-returns-33
 unfolding does numberOf numberIn isNamed place
-returns-33 c = arm _ _ _ _ _ _ _ _ _ (asked (c .before .before) .before .before .if1 .left) (free (c .before .before)) PUT _ _ (c .before .match2 .keys30) (λ r a. (a .pickle, a .stack)) (c .put-line .ensures)
+returns-33 c = arm _ _ _ _ _ _ _ _ _ (asked (c .before .before) .before .before .if1 .left) (free (c .before .before)) PUT _ _ (c .before .match2 .keys30) (λ r a. (a .pickle, a .stack)) (c .put-by .ensures)
 
 returns-34 : tie.Need-returns-34
 unfolding does numberOf numberIn isNamed place
-returns-34 c = arm _ _ _ _ _ _ _ _ _ (asked (c .before .before) .before .before .if1 .left) (free (c .before .before)) BINPUT _ _ (c .before .match2 .keys31) (λ r a. (a .pickle, a .stack)) (c .binput .ensures)
+returns-34 c = arm _ _ _ _ _ _ _ _ _ (asked (c .before .before) .before .before .if1 .left) (free (c .before .before)) BINPUT _ _ (c .before .match2 .keys31) (λ r a. (a .pickle, a .stack)) (c .put-by2 .ensures)
 
 returns-35 : tie.Need-returns-35
 unfolding does numberOf numberIn isNamed place
-returns-35 c = arm _ _ _ _ _ _ _ _ _ (asked (c .before .before) .before .before .if1 .left) (free (c .before .before)) «LONG_BINPUT» _ _ (c .before .match2 .keys32) (λ r a. (a .pickle, a .stack)) (c .long-binput .ensures)
+returns-35 c = arm _ _ _ _ _ _ _ _ _ (asked (c .before .before) .before .before .if1 .left) (free (c .before .before)) «LONG_BINPUT» _ _ (c .before .match2 .keys32) (λ r a. (a .pickle, a .stack)) (c .put-by3 .ensures)
 
 returns-36 : tie.Need-returns-36
 unfolding does numberOf numberIn isNamed place
@@ -326,11 +327,11 @@ returns-44 c = arm _ _ _ _ _ _ _ _ _ (asked (c .before) .before .before .if1 .le
 
 returns-45 : tie.Need-returns-45
 unfolding does numberOf numberIn isNamed place
-returns-45 c = arm _ _ _ _ _ _ _ _ _ (asked (c .before .before) .before .before .if1 .left) (free (c .before .before)) LONG1 _ _ (c .before .match2 .keys42) (λ r a. a .pickle) (c .long1 .ensures)
+returns-45 c = arm _ _ _ _ _ _ _ _ _ (asked (c .before .before) .before .before .if1 .left) (free (c .before .before)) LONG1 _ _ (c .before .match2 .keys42) (λ r a. a .pickle) (c .long-n .ensures)
 
 returns-46 : tie.Need-returns-46
 unfolding does numberOf numberIn isNamed place
-returns-46 c = arm _ _ _ _ _ _ _ _ _ (asked (c .before .before) .before .before .if1 .left) (free (c .before .before)) LONG4 _ _ (c .before .match2 .keys43) (λ r a. a .pickle) (c .long4 .ensures)
+returns-46 c = arm _ _ _ _ _ _ _ _ _ (asked (c .before .before) .before .before .if1 .left) (free (c .before .before)) LONG4 _ _ (c .before .match2 .keys43) (λ r a. a .pickle) (c .long-n2 .ensures)
 
 returns-47 : tie.Need-returns-47
 returns-47 c = tuples _ _ _ _ _ _ _ _ _ (asked (c .before .before .before .before) .before .before .if1 .left) (free (c .before .before .before .before)) _ (c .before .before .if2 .left) (omega (arith, c .before .if3 .taken)) (c .small-tuple .ensures)
@@ -344,4 +345,4 @@ unfolding numberOf numberIn isNamed place
 returns-49 c = unsupported _ _ _ _ _ _ _ _ _ (asked (c .before .before .before) .before .before .if1 .left) (free (c .before .before .before)) (no-name _ (c .before .before .match2 .rest) (λ x y. omega (arith, y, c .if3 .left)))
 
 pub decide-spec : {M : Type 1} → statement M
-decide-spec = tie.close (tie.spec returns shared-slice-read-code add-t13 against-requires enum-told enum-told-2 enum-told-3 pop-requires pop-mark-requires dup-requires float-requires int-requires binint-requires binint1-requires long-requires binint2-requires reduce-requires string-requires binstring-requires short-binstring-requires unicode-requires binunicode-requires append-requires build-state-requires global-requires dict-requires appends-requires get-line-requires binget-requires long-binget-requires list-requires put-line-requires binput-requires long-binput-requires setitem-requires tuple-requires setitems-requires binfloat-requires highest-requires proto-requires newobj-requires long1-requires long4-requires small-tuple-requires returns-2 returns-3 returns-4 returns-5 returns-6 returns-7 returns-8 returns-9 returns-10 returns-11 returns-12 returns-13 returns-14 returns-15 returns-16 returns-17 returns-18 returns-19 returns-20 returns-21 returns-22 returns-23 returns-24 returns-25 returns-26 returns-27 returns-28 returns-29 returns-30 returns-31 returns-32 returns-33 returns-34 returns-35 returns-36 returns-37 returns-38 returns-39 returns-40 returns-41 returns-42 returns-43 returns-44 returns-45 returns-46 returns-47 returns-48 returns-49)
+decide-spec = tie.close (tie.spec returns shared-slice-read-code add-t13 against-requires enum-told enum-told-2 enum-told-3 pop-requires pop-mark-requires dup-requires float-requires int-requires binint-requires unsigned-requires long-requires unsigned-requires-2 reduce-requires string-requires binstring-requires short-binstring-requires unicode-requires binunicode-requires append-requires build-state-requires global-requires dict-requires appends-requires get-by-requires get-by-requires-2 get-by-requires-3 list-requires put-by-requires put-by-requires-2 put-by-requires-3 setitem-requires tuple-requires setitems-requires binfloat-requires highest-requires proto-requires newobj-requires long-n-requires long-n-requires-2 small-tuple-requires returns-2 returns-3 returns-4 returns-5 returns-6 returns-7 returns-8 returns-9 returns-10 returns-11 returns-12 returns-13 returns-14 returns-15 returns-16 returns-17 returns-18 returns-19 returns-20 returns-21 returns-22 returns-23 returns-24 returns-25 returns-26 returns-27 returns-28 returns-29 returns-30 returns-31 returns-32 returns-33 returns-34 returns-35 returns-36 returns-37 returns-38 returns-39 returns-40 returns-41 returns-42 returns-43 returns-44 returns-45 returns-46 returns-47 returns-48 returns-49)
