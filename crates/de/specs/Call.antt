@@ -1,9 +1,8 @@
 -- A public reading: 1 where a slice is too short, else the rooms made zero, and the inner reading.
-use Prim.Native.Nat.{ℕ}
-use mathlib.Core.Bool.{Bool, true, false, cond}
-use mathlib.Core.List.{List, [], _∷_, _++_}
+use mathlib.Core.Bool.{true, false, cond}
+use mathlib.Core.List.{[], _∷_, _++_}
 use mathlib.Core.Path.{_≡_, refl, sym, _∙_, ap}
-use lib.ListN.{length, replicate}
+use lib.ListN.{replicate}
 use Rattle.refusal.specs.declared.Refusal.the-variants.{ShortRoom}
 use Rattle.refusal.specs.declared.Answer.{Answer}
 use Rattle.refusal.specs.Numbers.{refusedAnswer}

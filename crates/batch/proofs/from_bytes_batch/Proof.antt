@@ -61,98 +61,11 @@ called c = c .before .before .before .before .before .before .before .before .be
 abbrev builder : tie.After-read-all → tie.After-clear-builder
 builder c = c .before .before .before .before .before .before .before .before .before .before .before .before .before .before .before .before .before .before .before .before .before .before .before
 
-is-short-requires : tie.Need-is-short-requires
-is-short-requires c κs = tt
-
-refused-requires : tie.Need-refused-requires
-refused-requires c κs = tt
-
-same-length : tie.Need-same-length
-same-length c = refl
-
-same-length-2 : tie.Need-same-length-2
-same-length-2 c = refl
-
-same-length-3 : tie.Need-same-length-3
-same-length-3 c = refl
-
-same-length-4 : tie.Need-same-length-4
-same-length-4 c = refl
-
-same-length-5 : tie.Need-same-length-5
-same-length-5 c = refl
-
-same-length-6 : tie.Need-same-length-6
-same-length-6 c = refl
-
-same-length-7 : tie.Need-same-length-7
-same-length-7 c = refl
-
-same-length-8 : tie.Need-same-length-8
-same-length-8 c = refl
-
-same-length-9 : tie.Need-same-length-9
-same-length-9 c = refl
-
-same-length-10 : tie.Need-same-length-10
-same-length-10 c = refl
-
-same-length-11 : tie.Need-same-length-11
-same-length-11 c = refl
-
-same-length-12 : tie.Need-same-length-12
-same-length-12 c = refl
-
-same-length-13 : tie.Need-same-length-13
-same-length-13 c = refl
-
 returns : tie.Need-returns
 returns c =
     let i = c .before .before in
     let s = start i in
     batch-short (s .args .sheets .now) (s .args .lengths .now) (s .args .answers .now) (lent s) _ (sym (batch-test (s .args .sheets .now) (s .args .lengths .now) (s .args .answers .now) (lent s) _ (i .is-short .ensures)) ∙ c .before .if1 .taken) (c .refused .ensures)
-
-add-up-requires : tie.Need-add-up-requires
-add-up-requires c κs = tt
-
-same-length-14 : tie.Need-same-length-14
-same-length-14 c = refl
-
-same-length-15 : tie.Need-same-length-15
-same-length-15 c = refl
-
-same-length-16 : tie.Need-same-length-16
-same-length-16 c = refl
-
-same-length-17 : tie.Need-same-length-17
-same-length-17 c = refl
-
-same-length-18 : tie.Need-same-length-18
-same-length-18 c = refl
-
-same-length-19 : tie.Need-same-length-19
-same-length-19 c = refl
-
-same-length-20 : tie.Need-same-length-20
-same-length-20 c = refl
-
-same-length-21 : tie.Need-same-length-21
-same-length-21 c = refl
-
-same-length-22 : tie.Need-same-length-22
-same-length-22 c = refl
-
-same-length-23 : tie.Need-same-length-23
-same-length-23 c = refl
-
-same-length-24 : tie.Need-same-length-24
-same-length-24 c = refl
-
-same-length-25 : tie.Need-same-length-25
-same-length-25 c = refl
-
-same-length-26 : tie.Need-same-length-26
-same-length-26 c = refl
 
 returns-2 : tie.Need-returns-2
 returns-2 c =
@@ -224,4 +137,11 @@ returns-3 c =
     batch-read (s .args .sheets .now) (s .args .lengths .now) (s .args .answers .now) (lent s) (enough (else1 e)) (r .last .1 .1 .0) (zeroed z) (r .last .1 .1 .1 .0 ∷ r .last .1 .1 .1 .1 .0 ∷ r .last .1 .1 .1 .1 .1 .0 ∷ r .last .1 .1 .1 .1 .1 .1 .0 ∷ r .last .1 .1 .1 .1 .1 .1 .1 .0 ∷ r .last .1 .1 .1 .1 .1 .1 .1 .1 .0 ∷ r .last .1 .1 .1 .1 .1 .1 .1 .1 .1 .0 ∷ r .last .1 .1 .1 .1 .1 .1 .1 .1 .1 .1 .0 ∷ r .last .1 .1 .1 .1 .1 .1 .1 .1 .1 .1 .1 .0 ∷ r .last .1 .1 .1 .1 .1 .1 .1 .1 .1 .1 .1 .1 .0 ∷ r .last .1 .1 .1 .1 .1 .1 .1 .1 .1 .1 .1 .1 .1 .0 ∷ r .last .1 .1 .1 .1 .1 .1 .1 .1 .1 .1 .1 .1 .1 .1 .0 ∷ r .last .1 .1 .1 .1 .1 .1 .1 .1 .1 .1 .1 .1 .1 .1 .1 .0 ∷ []) (adds-up e) (made-zero z) (r .ensures .answers) (r .ensures .slices)
 
 pub from-bytes-batch-spec : {M : Type 1} → statement M
-from-bytes-batch-spec = tie.close (tie.spec is-short-requires refused-requires same-length same-length-2 same-length-3 same-length-4 same-length-5 same-length-6 same-length-7 same-length-8 same-length-9 same-length-10 same-length-11 same-length-12 same-length-13 returns add-up-requires same-length-14 same-length-15 same-length-16 same-length-17 same-length-18 same-length-19 same-length-20 same-length-21 same-length-22 same-length-23 same-length-24 same-length-25 same-length-26 returns-2 clear-machine-requires clear-builder-requires read-all-requires same-length-27 same-length-28 same-length-29 same-length-30 same-length-31 same-length-32 same-length-33 same-length-34 same-length-35 same-length-36 same-length-37 same-length-38 same-length-39 same-length-40 returns-3)
+from-bytes-batch-spec =
+    tie.close
+    (tie.spec
+    (λ c κs. tt) (λ c κs. tt) (λ c. refl) (λ c. refl) (λ c. refl) (λ c. refl) (λ c. refl) (λ c. refl) (λ c. refl) (λ c. refl) (λ c. refl) (λ c. refl)
+    (λ c. refl) (λ c. refl) (λ c. refl) returns (λ c κs. tt) (λ c. refl) (λ c. refl) (λ c. refl) (λ c. refl) (λ c. refl) (λ c. refl) (λ c. refl)
+    (λ c. refl) (λ c. refl) (λ c. refl) (λ c. refl) (λ c. refl) (λ c. refl) returns-2 clear-machine-requires clear-builder-requires read-all-requires
+    same-length-27 same-length-28 same-length-29 same-length-30 same-length-31 same-length-32 same-length-33 same-length-34 same-length-35 same-length-36
+    same-length-37 same-length-38 same-length-39 same-length-40 returns-3)

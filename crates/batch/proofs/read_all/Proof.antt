@@ -5,7 +5,7 @@ use lib.ListN.{length, getD}
 use native.Mathlib.Omega.{arith}
 use borrow.Author.Needs.{needs}
 use Rattle.rooms.specs.Stated.{Slices}
-use Rattle.batch.specs.Sheets.{Going, going-start, going-inside, going-more, going-end, AsLong, as-long, as-long-still}
+use Rattle.batch.specs.Sheets.{Going, going-start, going-inside, going-more, going-end, sheet-read, AsLong, as-long, as-long-still}
 use Rattle.batch.proofs.read_all.Statement.{statement}
 use Rattle.batch.proofs.read_all.Tie as tie
 
@@ -28,11 +28,11 @@ abbrev rooms : tie.At-loop Inv-loop μ-loop → Slices
 rooms l = l .loop .nodes ∷ l .loop .owners ∷ l .loop .children ∷ l .loop .stack ∷ l .loop .marks ∷ l .loop .keys ∷ l .loop .held ∷ l .loop .unescaped ∷ l .loop .starts ∷ l .loop .sorted ∷ l .loop .measures ∷ l .loop .table ∷ l .loop .text ∷ []
 
 -- the turn that a sheet was read in, and the slices then
-abbrev turn : tie.After-read-sheet Inv-loop μ-loop → tie.In-loop Inv-loop μ-loop
+abbrev turn : tie.After-read Inv-loop μ-loop → tie.In-loop Inv-loop μ-loop
 turn c = c .before .before .before .before .before .before .before .before .before .before .before .before .before .before .before .before
 
-abbrev left : tie.After-read-sheet Inv-loop μ-loop → Slices
-left c = c .read-sheet .last .1 .0 ∷ c .read-sheet .last .1 .1 .0 ∷ c .read-sheet .last .1 .1 .1 .0 ∷ c .read-sheet .last .1 .1 .1 .1 .0 ∷ c .read-sheet .last .1 .1 .1 .1 .1 .0 ∷ c .read-sheet .last .1 .1 .1 .1 .1 .1 .0 ∷ c .read-sheet .last .1 .1 .1 .1 .1 .1 .1 .0 ∷ c .read-sheet .last .1 .1 .1 .1 .1 .1 .1 .1 .0 ∷ c .read-sheet .last .1 .1 .1 .1 .1 .1 .1 .1 .1 .0 ∷ c .read-sheet .last .1 .1 .1 .1 .1 .1 .1 .1 .1 .1 .0 ∷ c .read-sheet .last .1 .1 .1 .1 .1 .1 .1 .1 .1 .1 .1 .0 ∷ c .read-sheet .last .1 .1 .1 .1 .1 .1 .1 .1 .1 .1 .1 .1 .0 ∷ c .read-sheet .last .1 .1 .1 .1 .1 .1 .1 .1 .1 .1 .1 .1 .1 .0 ∷ []
+abbrev left : tie.After-read Inv-loop μ-loop → Slices
+left c = c .read .last .1 .1 .1 .0 ∷ c .read .last .1 .1 .1 .1 .0 ∷ c .read .last .1 .1 .1 .1 .1 .0 ∷ c .read .last .1 .1 .1 .1 .1 .1 .0 ∷ c .read .last .1 .1 .1 .1 .1 .1 .1 .0 ∷ c .read .last .1 .1 .1 .1 .1 .1 .1 .1 .0 ∷ c .read .last .1 .1 .1 .1 .1 .1 .1 .1 .1 .0 ∷ c .read .last .1 .1 .1 .1 .1 .1 .1 .1 .1 .1 .0 ∷ c .read .last .1 .1 .1 .1 .1 .1 .1 .1 .1 .1 .1 .0 ∷ c .read .last .1 .1 .1 .1 .1 .1 .1 .1 .1 .1 .1 .1 .0 ∷ c .read .last .1 .1 .1 .1 .1 .1 .1 .1 .1 .1 .1 .1 .1 .0 ∷ c .read .last .1 .1 .1 .1 .1 .1 .1 .1 .1 .1 .1 .1 .1 .1 .0 ∷ c .read .last .1 .1 .1 .1 .1 .1 .1 .1 .1 .1 .1 .1 .1 .1 .1 .0 ∷ []
 
 -- the sheet lies in the buffer
 inside : (c : tie.In-loop Inv-loop μ-loop) → c .before .loop .at + getD (start (c .before) .args .lengths .now) (c .before .loop .i) 0 ≤ length (start (c .before) .args .sheets .now)
@@ -53,26 +53,17 @@ placed c =
 loop-holds : tie.Need-loop-holds Inv-loop μ-loop
 loop-holds c = let s = c .before .before .before .before .before .before .before .before .before .before .before .before .before .before .before .before in (going-start (s .args .sheets .now) (s .args .lengths .now) (s .args .answers .now) (lent s) (s .pre .0) (s .pre .1 .1), as-long (lent s))
 
-mul-end : tie.Need-mul-end Inv-loop μ-loop
-mul-end c = omega arith
-
-shared-slice-read-end : tie.Need-shared-slice-read-end Inv-loop μ-loop
-shared-slice-read-end c = omega arith
-
 add-end : tie.Need-add-end Inv-loop μ-loop
 add-end c = omega (arith, inside (c .before), start (c .before .before) .good .0)
 
-sub-read-sheet : tie.Need-sub-read-sheet Inv-loop μ-loop
-sub-read-sheet c = omega (arith, inside (c .before))
+sub-read : tie.Need-sub-read Inv-loop μ-loop
+sub-read c = omega (arith, inside (c .before))
 
-part-read-sheet-start : tie.Need-part-read-sheet-start Inv-loop μ-loop
-part-read-sheet-start c = search needs
+part-read-end : tie.Need-part-read-end Inv-loop μ-loop
+part-read-end c = omega (arith, inside (c .before))
 
-part-read-sheet-end : tie.Need-part-read-sheet-end Inv-loop μ-loop
-part-read-sheet-end c = omega (arith, inside (c .before))
-
-read-sheet-requires : tie.Need-read-sheet-requires Inv-loop μ-loop
-read-sheet-requires c κs = c .before .before .before .before .before .before .before .before .before .before .before .before .before .before .before .before .loop .inv .0 .ready
+read-requires : tie.Need-read-requires Inv-loop μ-loop
+read-requires c κs = c .before .before .before .before .before .before .before .before .before .before .before .before .before .before .before .before .loop .inv .0 .ready
 
 mul-put : tie.Need-mul-put Inv-loop μ-loop
 mul-put c = let n = turn (c .before .before .before .before .before .before .before .before .before .before .before .before .before .before .before .before .before .before .before .before .before .before .before .before .before .before .before) in omega (arith, placed n, n .before .loop .inv .0 .room, start (n .before) .good .1 .1 .0)
@@ -92,7 +83,7 @@ loop-again c =
     let n = turn r in
     let l = n .before in
     let s = start l in
-    (going-more (s .args .sheets .now) (s .args .lengths .now) (s .args .answers .now) (lent s) (l .loop .at) (l .loop .i) (l .loop .answers) (rooms l) (l .loop .inv .0) (n .loop-test .taken) _ _ (left r) (r .read-sheet .ensures) (c .before .before .put .ensures), as-long-still (left r) (rooms l) (lent s) (r .read-sheet .kept .1) (l .loop .inv .1))
+    (going-more (s .args .sheets .now) (s .args .lengths .now) (s .args .answers .now) (lent s) (l .loop .at) (l .loop .i) (l .loop .answers) (rooms l) (l .loop .inv .0) (n .loop-test .taken) _ _ (left r) (sheet-read _ _ _ _ (r .read .ensures)) (c .before .before .put .ensures), as-long-still (left r) (rooms l) (lent s) (r .read .kept .1 .1 .1) (l .loop .inv .1))
 
 same-length : tie.Need-same-length Inv-loop μ-loop
 same-length c = c .before .loop .inv .0 .room
@@ -143,4 +134,9 @@ returns c =
     going-end (s .args .sheets .now) (s .args .lengths .now) (s .args .answers .now) (lent s) (l .loop .at) (l .loop .i) (l .loop .answers) (rooms l) (l .loop .inv .0) (c .loop-test .left) (s .pre .1 .0)
 
 pub read-all-spec : {M : Type 1} → statement M
-read-all-spec = tie.close (tie.spec Inv-loop μ-loop loop-holds mul-end shared-slice-read-end add-end sub-read-sheet part-read-sheet-start part-read-sheet-end read-sheet-requires mul-put put-requires add-i loop-less loop-again same-length same-length-2 same-length-3 same-length-4 same-length-5 same-length-6 same-length-7 same-length-8 same-length-9 same-length-10 same-length-11 same-length-12 same-length-13 same-length-14 returns)
+read-all-spec =
+    tie.close
+    (tie.spec
+    Inv-loop μ-loop loop-holds (λ c. omega arith) (λ c. omega arith) add-end sub-read (λ c. search needs) part-read-end read-requires
+    mul-put put-requires add-i loop-less loop-again same-length same-length-2 same-length-3 same-length-4 same-length-5 same-length-6 same-length-7
+    same-length-8 same-length-9 same-length-10 same-length-11 same-length-12 same-length-13 same-length-14 returns)

@@ -1,5 +1,4 @@
 -- `de::clear_builder` meets its contract, room by room. Assumes nothing.
-use borrow.Author.Needs.{needs}
 use mathlib.Core.Path.{refl}
 use Rattle.rooms.specs.Stated.{same, blank}
 use Rattle.de.proofs.clear_builder.Statement.{statement}

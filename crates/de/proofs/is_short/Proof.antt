@@ -1,5 +1,4 @@
 -- `de::is_short` meets its contract. Assumes nothing.
-use borrow.Author.Needs.{needs}
 use mathlib.Core.Bool.{false}
 use mathlib.Core.List.{[], _∷_}
 use Rattle.rooms.specs.Stated.{stated, shortFrom, short-from}

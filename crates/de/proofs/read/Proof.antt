@@ -1,24 +1,32 @@
--- `de::read` meets its contract: the run, its answer, and what was used cleared. Assumes nothing.
+-- `de::read` meets its contract: 2, or the run, its answer, and what was used cleared. Assumes nothing.
 use borrow.Author.Needs.{needs}
 use Prim.Native.Nat.{_*_}
 use mathlib.Core.List.{[], _∷_}
 use mathlib.Core.Path.{_≡_, refl, _∙_, ap}
 use native.Mathlib.Omega.{arith}
 use lib.Seq.{length-front}
-use Rattle.rooms.specs.Stated.{roomLengths, AllZero, filled, same, rooms-zero}
+use Rattle.rooms.specs.Stated.{Slices, roomLengths, AllZero, filled, same, rooms-zero}
 use Rattle.decoder.specs.declared.Counts.{Counts}
 use Rattle.machine.specs.Ran.{countsOf}
-use Rattle.de.specs.Inner.{back-fits, back-again, part-fits, part-cleared, machine-zero, working}
+use Rattle.de.specs.Inner.{reads-long, back-fits, back-again, part-fits, part-cleared, machine-zero, working}
 use Rattle.de.proofs.read.Statement.{statement}
 use Rattle.de.proofs.read.Tie as tie
 
+-- what it was lent
+abbrev lent : tie.Start → Slices
+lent s = s .args .nodes .now ∷ s .args .owners .now ∷ s .args .children .now ∷ s .args .stack .now ∷ s .args .marks .now ∷ s .args .keys .now ∷ s .args .held .now ∷ s .args .unescaped .now ∷ s .args .starts .now ∷ s .args .sorted .now ∷ s .args .measures .now ∷ s .args .table .now ∷ s .args .text .now ∷ []
+
 -- the rooms are zero
-zero : (s : tie.Start) → AllZero roomLengths (s .args .nodes .now ∷ s .args .owners .now ∷ s .args .children .now ∷ s .args .stack .now ∷ s .args .marks .now ∷ s .args .keys .now ∷ s .args .held .now ∷ s .args .unescaped .now ∷ s .args .starts .now ∷ s .args .sorted .now ∷ s .args .measures .now ∷ s .args .table .now ∷ s .args .text .now ∷ [])
-zero s = rooms-zero _ (s .pre .1)
+zero : (s : tie.Start) → AllZero roomLengths (lent s)
+zero s = rooms-zero _ (s .pre)
+
+-- the pickle is not too long
+abbrev fits : tie.Else1 → tie.Start
+fits c = c .before .before .before .before .before .before .before .before .before .before .before .before .before .before .before
 
 -- the run's end
 abbrev start : tie.After-run-in → tie.Start
-start c = c .before .before .before .before .before .before .before .before .before .before .before .before .before .before .before .before .before .before .before .before .before .before
+start c = fits (c .before .before .before .before .before .before .before .before)
 
 -- the answer's
 abbrev run : tie.After-answer → tie.After-run-in
@@ -35,50 +43,28 @@ counted c = c .counts .ensures
 abbrev ended : tie.After-slice-known32 → tie.After-counts
 ended c = c .before .before .before .before .before .before .before .before .before .before .before .before .before
 
+returns : tie.Need-returns
+returns c =
+    let s = c .before .before .before .before .before .before .before .before .before .before .before .before .before .before .before .before in
+    reads-long (s .args .edition) (s .args .whole) (s .args .pickle .now) (lent s) _ (c .before .if1 .taken) (c .refused .ensures)
+
 run-in-requires : tie.Need-run-in-requires
-run-in-requires c κs = let s = c .before .before .before .before .before .before .before .before .before .before .before .before .before .before .before .before .before .before .before .before .before in let a = s .args in (s .pre .0, machine-zero (a .nodes .now) (a .owners .now) (a .children .now) (a .stack .now) (a .marks .now) (a .keys .now) (a .held .now) (a .unescaped .now) (a .starts .now) (a .sorted .now) (a .measures .now) (a .table .now) (a .text .now) (s .pre .1))
-
-sub-answer : tie.Need-sub-answer
-sub-answer c = omega arith
-
-part-answer-start : tie.Need-part-answer-start
-part-answer-start c = omega arith
+run-in-requires c κs = let e = c .before .before .before .before .before .before .before in let s = fits e in let a = s .args in (e .if1 .left, machine-zero (a .nodes .now) (a .owners .now) (a .children .now) (a .stack .now) (a .marks .now) (a .keys .now) (a .held .now) (a .unescaped .now) (a .starts .now) (a .sorted .now) (a .measures .now) (a .table .now) (a .text .now) (s .pre))
 
 part-answer-end : tie.Need-part-answer-end
 part-answer-end c = let r = c .before .before .before .before .before .before .before .before .before .before .before .before .before .before .before in rw (r .run-in .kept .1 .1 .1 .1 .1 .0) (part-fits 2048 (start r .args .stack .now) (zero (start r) .1 .1 .1 .0))
 
-sub-answer-2 : tie.Need-sub-answer-2
-sub-answer-2 c = omega arith
-
-part-answer-start-2 : tie.Need-part-answer-start-2
-part-answer-start-2 c = omega arith
-
 part-answer-end-2 : tie.Need-part-answer-end-2
 part-answer-end-2 c = let r = c .before .before .before .before .before .before .before .before .before .before .before .before .before .before .before .before .before in rw (r .run-in .kept .1 .1 .0) (part-fits 8192 (start r .args .nodes .now) (zero (start r) .0))
 
-sub-answer-3 : tie.Need-sub-answer-3
-sub-answer-3 c = omega arith
-
-part-answer-start-3 : tie.Need-part-answer-start-3
-part-answer-start-3 c = omega arith
-
 part-answer-end-3 : tie.Need-part-answer-end-3
 part-answer-end-3 c = let r = c .before .before .before .before .before .before .before .before .before .before .before .before .before .before .before .before .before .before in rw (r .run-in .kept .1 .1 .1 .0) (part-fits 8192 (start r .args .owners .now) (zero (start r) .1 .0))
-
-sub-answer-4 : tie.Need-sub-answer-4
-sub-answer-4 c = omega arith
-
-part-answer-start-4 : tie.Need-part-answer-start-4
-part-answer-start-4 c = omega arith
 
 part-answer-end-4 : tie.Need-part-answer-end-4
 part-answer-end-4 c = let r = c .before .before .before .before .before .before .before .before .before .before .before .before .before .before .before .before .before .before .before in rw (r .run-in .kept .1 .1 .1 .1 .0) (part-fits 8192 (start r .args .children .now) (zero (start r) .1 .1 .0))
 
 answer-requires : tie.Need-answer-requires
-answer-requires c κs = let r = c .before .before .before .before .before .before .before .before .before .before .before .before .before .before .before .before .before .before .before .before .before .before .before .before .before .before .before in let a = start r .args in (r .run-in .ensures .0 .ran, working (a .nodes .now) (a .owners .now) (a .children .now) (a .stack .now) (a .marks .now) (a .keys .now) (a .held .now) (a .unescaped .now) (a .starts .now) (a .sorted .now) (a .measures .now) (a .table .now) (a .text .now) (start r .pre .1) (r .run-in .last .1 .1 .1 .1 .1 .1 .1 .0) (r .run-in .ensures .1 .0))
-
-counts-requires : tie.Need-counts-requires
-counts-requires c κs = search needs
+answer-requires c κs = let r = c .before .before .before .before .before .before .before .before .before .before .before .before .before .before .before .before .before .before .before .before .before .before .before .before .before .before .before in let a = start r .args in (r .run-in .ensures .0 .ran, working (a .nodes .now) (a .owners .now) (a .children .now) (a .stack .now) (a .marks .now) (a .keys .now) (a .held .now) (a .unescaped .now) (a .starts .now) (a .sorted .now) (a .measures .now) (a .table .now) (a .text .now) (start r .pre) (r .run-in .last .1 .1 .1 .1 .1 .1 .1 .0) (r .run-in .ensures .1 .0))
 
 mul-clear-words : tie.Need-mul-clear-words
 mul-clear-words c = let k = c .before .before in omega (arith, ap (λ (x : Counts). x .nodes) (counted k), run (answer k) .run-in .ensures .0 .ran .ran .sound .firm .nodes)
@@ -131,9 +117,9 @@ same-length-12 c = answer (ended c) .answer .kept .1 .1 .1 .1 .1 .1 .1 .1 .1 .1 
 same-length-13 : tie.Need-same-length-13
 same-length-13 c = answer (ended c) .answer .kept .1 .1 .1 .1 .1 .1 .1 .1 .1 .1 .1 .1 .1 .1 .0
 
-returns : tie.Need-returns
+returns-2 : tie.Need-returns-2
 unfolding filled
-returns c =
+returns-2 c =
     let k = ended c in
     let s = start (run (answer k)) in
     let r = run (answer (ended c)) .run-in .ensures .0 in
@@ -156,4 +142,10 @@ returns c =
     }
 
 pub read-spec : {M : Type 1} → statement M
-read-spec = tie.close (tie.spec run-in-requires sub-answer part-answer-start part-answer-end sub-answer-2 part-answer-start-2 part-answer-end-2 sub-answer-3 part-answer-start-3 part-answer-end-3 sub-answer-4 part-answer-start-4 part-answer-end-4 answer-requires counts-requires mul-clear-words clear-words-requires clear-shorts-requires clear-shorts-requires-2 same-length same-length-2 same-length-3 same-length-4 same-length-5 same-length-6 same-length-7 same-length-8 same-length-9 same-length-10 same-length-11 same-length-12 same-length-13 returns)
+read-spec =
+    tie.close
+    (tie.spec
+    (λ c κs. search needs) returns run-in-requires (λ c. omega arith) (λ c. omega arith) part-answer-end (λ c. omega arith) (λ c. omega arith) part-answer-end-2 (λ c. omega arith)
+    (λ c. omega arith) part-answer-end-3 (λ c. omega arith) (λ c. omega arith) part-answer-end-4 answer-requires (λ c κs. search needs) mul-clear-words
+    clear-words-requires clear-shorts-requires clear-shorts-requires-2 same-length same-length-2 same-length-3 same-length-4 same-length-5 same-length-6
+    same-length-7 same-length-8 same-length-9 same-length-10 same-length-11 same-length-12 same-length-13 returns-2)

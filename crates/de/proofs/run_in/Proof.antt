@@ -30,74 +30,29 @@ keys c = let a = start c .args in let r = c .run in keys-back (a .pickle .now) (
 held : (c : tie.After-run) → Back (countsOf (c .run .result) .memo) (start c .args .held .now) (c .run .last .1 .1 .1 .1 .1 .1 .1 .1 .0 ++ drop 1024 (start c .args .held .now))
 held c = let a = start c .args in let r = c .run in held-back (a .pickle .now) (a .nodes .now) (a .owners .now) (a .children .now) (a .stack .now) (a .marks .now) (a .keys .now) (a .held .now) (start c .pre .1) (start c .args .edition) (r .result) (r .last .1 .1 .0) (r .last .1 .1 .1 .0) (r .last .1 .1 .1 .1 .0) (r .last .1 .1 .1 .1 .1 .0) (r .last .1 .1 .1 .1 .1 .1 .0) (r .last .1 .1 .1 .1 .1 .1 .1 .0) (r .last .1 .1 .1 .1 .1 .1 .1 .1 .0) (r .ensures) (r .kept .1 .1 .1 .1 .1 .1 .1 .1 .0)
 
-sub-run : tie.Need-sub-run
-sub-run c = omega arith
-
-part-run-start : tie.Need-part-run-start
-part-run-start c = omega arith
-
 part-run-end : tie.Need-part-run-end
 part-run-end c = part-fits 8192 (c .before .before .before .before .before .before .before .before .args .nodes .now) (c .before .before .before .before .before .before .before .before .pre .1 .0)
-
-sub-run-2 : tie.Need-sub-run-2
-sub-run-2 c = omega arith
-
-part-run-start-2 : tie.Need-part-run-start-2
-part-run-start-2 c = omega arith
 
 part-run-end-2 : tie.Need-part-run-end-2
 part-run-end-2 c = part-fits 8192 (c .before .before .before .before .before .before .before .before .before .args .owners .now) (c .before .before .before .before .before .before .before .before .before .pre .1 .1 .0)
 
-sub-run-3 : tie.Need-sub-run-3
-sub-run-3 c = omega arith
-
-part-run-start-3 : tie.Need-part-run-start-3
-part-run-start-3 c = omega arith
-
 part-run-end-3 : tie.Need-part-run-end-3
 part-run-end-3 c = part-fits 8192 (c .before .before .before .before .before .before .before .before .before .before .args .children .now) (c .before .before .before .before .before .before .before .before .before .before .pre .1 .1 .1 .0)
-
-sub-run-4 : tie.Need-sub-run-4
-sub-run-4 c = omega arith
-
-part-run-start-4 : tie.Need-part-run-start-4
-part-run-start-4 c = omega arith
 
 part-run-end-4 : tie.Need-part-run-end-4
 part-run-end-4 c = part-fits 2048 (c .before .before .before .before .before .before .before .before .before .before .before .args .stack .now) (c .before .before .before .before .before .before .before .before .before .before .before .pre .1 .1 .1 .1 .0)
 
-sub-run-5 : tie.Need-sub-run-5
-sub-run-5 c = omega arith
-
-part-run-start-5 : tie.Need-part-run-start-5
-part-run-start-5 c = omega arith
-
 part-run-end-5 : tie.Need-part-run-end-5
 part-run-end-5 c = part-fits 256 (c .before .before .before .before .before .before .before .before .before .before .before .before .args .marks .now) (c .before .before .before .before .before .before .before .before .before .before .before .before .pre .1 .1 .1 .1 .1 .0)
 
-sub-run-6 : tie.Need-sub-run-6
-sub-run-6 c = omega arith
-
-part-run-start-6 : tie.Need-part-run-start-6
-part-run-start-6 c = omega arith
-
 part-run-end-6 : tie.Need-part-run-end-6
 part-run-end-6 c = part-fits 2048 (c .before .before .before .before .before .before .before .before .before .before .before .before .before .args .keys .now) (c .before .before .before .before .before .before .before .before .before .before .before .before .before .pre .1 .1 .1 .1 .1 .1 .0)
-
-sub-run-7 : tie.Need-sub-run-7
-sub-run-7 c = omega arith
-
-part-run-start-7 : tie.Need-part-run-start-7
-part-run-start-7 c = omega arith
 
 part-run-end-7 : tie.Need-part-run-end-7
 part-run-end-7 c = part-fits 1024 (c .before .before .before .before .before .before .before .before .before .before .before .before .before .before .args .held .now) (c .before .before .before .before .before .before .before .before .before .before .before .before .before .before .pre .1 .1 .1 .1 .1 .1 .1 .0)
 
 run-requires : tie.Need-run-requires
 run-requires c κs = let s = c .before .before .before .before .before .before .before .before .before .before .before .before .before .before .before in let a = s .args in begins (a .pickle .now) (a .nodes .now) (a .owners .now) (a .children .now) (a .stack .now) (a .marks .now) (a .keys .now) (a .held .now) (s .pre .1) (s .pre .0)
-
-counts-requires : tie.Need-counts-requires
-counts-requires c κs = search needs
 
 clear-ints-requires : tie.Need-clear-ints-requires
 clear-ints-requires c κs = back-fits (keys (c .before .before .before .before .before .before .before .before .before .before .before .before .before .before .before .before)) _ (ap (λ (x : Counts). x .memo) (c .before .counts .ensures))
@@ -132,4 +87,10 @@ returns c =
     (ran (called c), (back-again (keys (called c)) _ e _ (c .before .before .before .before .before .before .clear-ints .ensures), back-again (held (called c)) _ e _ (c .before .before .clear-shorts .ensures)))
 
 pub run-in-spec : {M : Type 1} → statement M
-run-in-spec = tie.close (tie.spec sub-run part-run-start part-run-end sub-run-2 part-run-start-2 part-run-end-2 sub-run-3 part-run-start-3 part-run-end-3 sub-run-4 part-run-start-4 part-run-end-4 sub-run-5 part-run-start-5 part-run-end-5 sub-run-6 part-run-start-6 part-run-end-6 sub-run-7 part-run-start-7 part-run-end-7 run-requires counts-requires clear-ints-requires clear-shorts-requires same-length same-length-2 same-length-3 same-length-4 same-length-5 same-length-6 same-length-7 returns)
+run-in-spec =
+    tie.close
+    (tie.spec
+    (λ c. omega arith) (λ c. omega arith) part-run-end (λ c. omega arith) (λ c. omega arith) part-run-end-2 (λ c. omega arith) (λ c. omega arith)
+    part-run-end-3 (λ c. omega arith) (λ c. omega arith) part-run-end-4 (λ c. omega arith) (λ c. omega arith) part-run-end-5 (λ c. omega arith)
+    (λ c. omega arith) part-run-end-6 (λ c. omega arith) (λ c. omega arith) part-run-end-7 run-requires (λ c κs. search needs) clear-ints-requires
+    clear-shorts-requires same-length same-length-2 same-length-3 same-length-4 same-length-5 same-length-6 same-length-7 returns)
