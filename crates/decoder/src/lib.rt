@@ -71,33 +71,33 @@ pub enum Effect {
     Refused(Counts, u64, u64, Refusal),
 }
 
-// The kinds of a node's first word. 0 to 12 are those of a table's record; Bytes of a STRING with an escape and a String of UNICODE stay
-// their lines, quotes and all.
-pub const KIND_NONE: u64 = 0;
+// The kinds of a node's first word: those of a table's record, and behind them two of which only the line is known before STOP, quotes and
+// all: Bytes of a STRING with an escape, a String of UNICODE.
+pub const KIND_NONE: u64 = value::NONE;
 
-pub const KIND_BOOL: u64 = 1;
+pub const KIND_BOOL: u64 = value::BOOL;
 
-const KIND_I64: u64 = 2;
+const KIND_I64: u64 = value::I64;
 
-const KIND_F64: u64 = 3;
+const KIND_F64: u64 = value::F64;
 
-const KIND_BYTES: u64 = 4;
+const KIND_BYTES: u64 = value::BYTES;
 
-const KIND_STRING: u64 = 5;
+const KIND_STRING: u64 = value::STRING;
 
-pub const KIND_LIST: u64 = 6;
+pub const KIND_LIST: u64 = value::LIST;
 
-pub const KIND_TUPLE: u64 = 7;
+pub const KIND_TUPLE: u64 = value::TUPLE;
 
-const KIND_SET: u64 = 8;
+const KIND_SET: u64 = value::SET;
 
-const KIND_FROZEN_SET: u64 = 9;
+const KIND_FROZEN_SET: u64 = value::FROZEN_SET;
 
-pub const KIND_DICT: u64 = 10;
+pub const KIND_DICT: u64 = value::DICT;
 
-const KIND_GLOBAL: u64 = 11;
+const KIND_GLOBAL: u64 = value::GLOBAL;
 
-const KIND_OBJECT: u64 = 12;
+const KIND_OBJECT: u64 = value::OBJECT;
 
 pub const KIND_ESCAPED: u64 = 13;
 

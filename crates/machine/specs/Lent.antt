@@ -14,7 +14,6 @@ use Rattle.op.specs.Table.{numberOf, numberIn, isNamed, place, opcodeOf}
 use Rattle.op.specs.Named.{named}
 use Rattle.op.specs.Edition.{against, highest}
 use Rattle.op.specs.declared.Edition.{Edition}
-use Rattle.op.specs.declared.Objection.{Objection}
 use Rattle.op.specs.declared.Objection.the-variants.{Nothing, Outside, Unknown}
 use Rattle.op.specs.declared.Opcode.{Opcode}
 use Rattle.op.specs.declared.Opcode.the-variants.{MARK, STOP, POP, «POP_MARK», DUP, FLOAT, INT, BININT, BININT1, LONG, BININT2, NONE, REDUCE, STRING, BINSTRING, «SHORT_BINSTRING», UNICODE, BINUNICODE, APPEND, BUILD, GLOBAL, DICT, «EMPTY_DICT», APPENDS, GET, BINGET, «LONG_BINGET», LIST, «EMPTY_LIST», PUT, BINPUT, «LONG_BINPUT», SETITEM, TUPLE, «EMPTY_TUPLE», SETITEMS, BINFLOAT, PROTO, NEWOBJ, TUPLE1, TUPLE2, TUPLE3, NEWTRUE, NEWFALSE, LONG1, LONG4}
@@ -25,7 +24,7 @@ use Rattle.value.specs.Value.{Label, NoneL, BoolL, ListL, TupleL, DictL}
 use Rattle.value.specs.Shape.{kindIn}
 use Rattle.steps.specs.State.{State, _>>=_, byte, plain, push}
 use Rattle.steps.specs.Opcodes.{tupleN}
-use Rattle.steps.specs.Run.{Next, goes, stops, going, does, decide, admit, step}
+use Rattle.steps.specs.Run.{going, does, decide, admit, step}
 use Rattle.decoder.specs.Rooms.{Rooms, stateOf}
 use Rattle.steps.specs.NodeWords.{nodeIs, HoldsLinks, aList, aTuple, aDict}
 use Rattle.decoder.specs.RoomKeeps.{class-none}

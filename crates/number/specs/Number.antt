@@ -1,10 +1,10 @@
 -- What Rust's `i64::from_str` and `u32::from_str` read, and what de.rs's INT, LONG and memo numbers make of it.
 -- Document 01, 'Literals'.
-use Prim.Native.Nat.{ℕ, suc, _+_, _-_, _*_, _^_}
+use Prim.Native.Nat.{ℕ, _+_, _-_, _*_, _^_}
 use mathlib.Core.Bool.{Bool, true, false, cond, _&&_}
 use mathlib.Core.List.{List, [], _∷_}
 use lib.Dec.{leb, ltb, eqb}
-use lib.IntN.{ℤ, pos, negsuc, negℤ}
+use lib.IntN.{ℤ, pos, negℤ}
 use lib.ListN.{length, getD, take}
 use Rattle.refusal.specs.declared.Refusal.the-variants.{InvalidLiteral}
 use Rattle.input.specs.Long.{inI64}

@@ -1,5 +1,5 @@
 -- The range of what is read, and of its bits. Assumes nothing.
-use Prim.Native.Nat.{ℕ, suc, _^_, _<_, _-_}
+use Prim.Native.Nat.{ℕ, _^_, _<_, _-_}
 use mathlib.Core.Bool.{Bool, true, false, cond, and-true}
 use mathlib.Core.List.{List}
 use mathlib.Core.Path.{_≡_, refl, ap, _∙_}

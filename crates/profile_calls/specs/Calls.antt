@@ -5,7 +5,6 @@ use Prim.Native.Nat.{ℕ}
 use mathlib.Core.Bool.{false}
 use mathlib.Core.List.{List, [], _∷_}
 use mathlib.Core.Path.{_≡_, refl, sym, _∙_, ap}
-use native.Mathlib.Omega.{arith}
 use Rattle.refusal.specs.declared.Refusal.{Refusal}
 use Rattle.refusal.specs.declared.Refusal.the-variants.{OutsideProfile}
 use Rattle.refusal.specs.declared.Answer.{Answer}
@@ -26,10 +25,10 @@ use Rattle.reading.specs.Measure.{measured}
 use Rattle.reading.specs.Settle as Settle
 use Rattle.reading.specs.Reading.{Reading, refuses, reads, told, stopped, prefixIn, wholeIn, prefix, whole}
 use Rattle.reading.specs.Success.{refusal-number}
-use Rattle.de.specs.Call.{Left, reading, ReadCall, read-one}
+use Rattle.de.specs.Call.{reading, ReadCall, read-one}
 use Rattle.de.specs.Theorems.{call-answer, call-table, call-text, call-long-enough, Ends, refused as ends-refused, read as ends-read, prefix-ends, whole-ends}
 use Rattle.de.specs.Shared.{shared}
-use Rattle.profile_calls.specs.Alike.{Barred, Meets, Executes, executes}
+use Rattle.profile_calls.specs.Alike.{Barred, Executes, executes}
 use Rattle.profile_calls.specs.Readings.{ReadAlike, reads-as-full, reads-barred, prefix-alike, whole-alike}
 use Rattle.profile_calls.specs.Classless.{Classless, ReadsClassless, refused, read, prefix-classless, whole-classless}
 

@@ -2,7 +2,7 @@
 use Prim.Native.Nat.{ℕ}
 use mathlib.Core.Bool.{Bool, true, false, cond}
 use mathlib.Core.List.{List}
-use mathlib.Core.Path.{_≡_, refl, _∙_}
+use mathlib.Core.Path.{_≡_, refl}
 use lib.Dec.{T}
 use native.Mathlib.Omega.{arith}
 use Rattle.refusal.specs.declared.Refusal.{Refusal}
@@ -22,7 +22,7 @@ use Rattle.reading.specs.Letters.{Labelled, labelled-at, Made, Classes, run-lab
 use Rattle.reading.specs.Measure.{measured}
 use Rattle.reading.specs.Settle.{settle}
 use Rattle.reading.specs.Reading.{Reading, refuses, reads, told, consumed, stopped, prefixIn, wholeIn, leaves}
-use Rattle.reading.specs.Success.{refusal-number, both-out}
+use Rattle.reading.specs.Success.{both-out}
 
 abbrev pub classless : Label → Bool
 classless NoneL = true

@@ -16,7 +16,7 @@ use Rattle.number.specs.Space.{whiteSpace, spaces, same, oneOf, space, width, s
 use Rattle.number.specs.Number.{invalid, turned, only, digits, decimal, natural, plus, integer, parseI64, intLiteral}
 use Rattle.text.specs.Examples.{evaluates as text-evaluates}
 use Rattle.value.specs.Value.{text, count, size, depth, table, NoneL, BoolL, I64L, BytesL, StringL, ListL, TupleL, SetL, DictL, ObjectL, nil, node}
-use Rattle.value.specs.Order.{_then_, lex, labels, forests, order}
+use Rattle.value.specs.Order.{lex, labels, forests, order, _then_}
 use Rattle.steps.specs.State.{_>>=_, need, leaf, bytes, byte, line, pop, top, popMark, popMany, pushId, pushNode, push, link, extend, find, has, insert, get, put}
 use Rattle.steps.specs.Opcodes.{builtin, setName, proto, popOne, intLabel, int, lowBytes, binint1, longN, string, signedLength, binstring, shortBinstring, unicode, binunicode, global, made, tupleN, pairs, added, append, setitems, getBytes, putBytes, reduced, called, reduce, buildState, mark}
 use Rattle.steps.specs.Run.{going, does, decide, admit, step, runs, start, run}

@@ -1,5 +1,5 @@
 -- Counts that fit the words of a step.
-use Prim.Native.Nat.{ℕ, _≤_}
+use Prim.Native.Nat.{_≤_}
 use native.Mathlib.Omega.{arith}
 use Rattle.decoder.specs.declared.Counts.{Counts}
 use Rattle.decoder.specs.Rooms.{Rooms}

@@ -2,7 +2,7 @@
 use mathlib.Core.List.{List, [], _∷_}
 use mathlib.Core.Path.{_≡_, refl}
 use Rattle.value.specs.Value.{I64L, ListL, TupleL, SetL, DictL}
-use Rattle.value.specs.Order.{_then_, lex, labels}
+use Rattle.value.specs.Order.{lex, labels, _then_}
 use Rattle.steps.specs.State.{Node, plain}
 use Rattle.reading.specs.Build.{blocked, firstTaken}
 use Rattle.resolved.specs.Resolved.{Kids}

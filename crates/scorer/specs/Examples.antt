@@ -2,7 +2,7 @@
 use mathlib.Core.Bool.{true, false}
 use mathlib.Core.Path.{_≡_, refl}
 use Rattle.value.specs.Value.{Label, Forest, Value, count, BoolL, I64L, BytesL, StringL, SetL, FrozenSetL, DictL, nil, node}
-use Rattle.value.specs.Order.{_then_, lex}
+use Rattle.value.specs.Order.{lex, _then_}
 use Rattle.value.specs.WellFormed.{keys}
 use Rattle.scorer.specs.Sheet.{between, sameInt, holds, isKey, under, answersKey, reverseKey, maxKey, flippedKey, inRange, answered, isSheet, sum, marked, scoreOf, itemsOf}
 use Rattle.scorer.specs.Call.{tallyOf}

@@ -1,6 +1,6 @@
 -- Document 02, Ask 3, on the score call: when it answers what, that flipping by hand changes nothing, that a marked sheet's reversed
 -- items do not matter, and how large a score can be.
-use Prim.Native.Nat.{ℕ, _+_, _*_, _^_, _≤_, _<_, compare, Ordering, Ordering·lt, Ordering·eq}
+use Prim.Native.Nat.{ℕ, _+_, _*_, _^_, _≤_, _<_, compare, Ordering·lt, Ordering·eq}
 use mathlib.Core.Bool.{Bool, true, false, cond, _&&_}
 use mathlib.Core.List.{List}
 use mathlib.Core.Logic.{_⊎_, inl, inr}
@@ -20,7 +20,7 @@ use Rattle.value.specs.Told.{compare-more}
 use Rattle.value.specs.Walk.{compare-same, eq-then, then-end}
 use Rattle.value.specs.WellFormed.{WellFormed, less, ascending, keys}
 use Rattle.table.specs.Compare.{decided}
-use Rattle.scorer.specs.Sheet.{bits, between, holds, answersKey, answers, highest, flipped, inRange, isSheet, Sheet, counted, sum, marked, scoreOf, itemsOf, reverse}
+use Rattle.scorer.specs.Sheet.{bits, between, holds, answersKey, answers, highest, inRange, isSheet, Sheet, sum, marked, scoreOf, itemsOf, reverse}
 use Rattle.scorer.specs.Call.{sheetShape, unscored, told, tallyOf, Scores}
 use Rattle.scorer.specs.Walk.{both, less-lt, int-label, int-leaf}
 use Rattle.scorer.specs.Steps.{counted-most}

@@ -1,8 +1,7 @@
 -- Worked pickles of document 01, run to STOP.
 use mathlib.Core.List.{[], _∷_}
 use mathlib.Core.Path.{_≡_, refl}
-use Rattle.refusal.specs.Read.{Read}
-use Rattle.refusal.specs.declared.Refusal.the-variants.{EndOfInput, UnsupportedOpcode, IntegerTooLarge, Invalid, StackUnderflow, OutsideProfile}
+use Rattle.refusal.specs.declared.Refusal.the-variants.{EndOfInput, UnsupportedOpcode, IntegerTooLarge, Invalid, OutsideProfile}
 use Rattle.refusal.specs.declared.Wanted.the-variants.{Length}
 use Rattle.op.specs.Table.{rowIn, rowOf, knownName, opcodeOf}
 use Rattle.op.specs.Edition.{evaluates as edition-evaluates}
@@ -11,7 +10,7 @@ use Rattle.input.specs.Bytes.{lowFirst}
 use Rattle.input.specs.Line.{firstFrom, newlineOf}
 use Rattle.input.specs.Long.{evaluates as long-evaluates}
 use Rattle.value.specs.Value.{I64L, ListL, TupleL}
-use Rattle.steps.specs.State.{Node, State, Res, ok, no, _>>=_, need, leaf, bytes, byte, line, pop, top, popMark, popMany, pushId, pushNode, push, link, extend, find, has, insert, get, put}
+use Rattle.steps.specs.State.{ok, no, _>>=_, need, leaf, bytes, byte, line, pop, top, popMark, popMany, pushId, pushNode, push, link, extend, find, has, insert, get, put}
 use Rattle.steps.specs.Opcodes.{proto, lowBytes, binint1, longN, signedLength, binstring, global, made, tupleN, added, append, getBytes, putBytes}
 use Rattle.steps.specs.Run.{going, does, decide, admit, step, runs, start, run}
 

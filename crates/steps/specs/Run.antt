@@ -1,10 +1,9 @@
 -- The decision over the opcode byte, one step, and the run to STOP, in any edition of the reader.
-use Prim.Native.Nat.{ℕ, suc, zero, _+_, _-_}
-use mathlib.Core.Bool.{Bool, true, false, cond}
-use mathlib.Core.List.{List, [], _∷_}
+use Prim.Native.Nat.{ℕ, suc, zero}
+use mathlib.Core.Bool.{true, false}
+use mathlib.Core.List.{List, []}
 use mathlib.Core.Option.{Option, none, some}
 use lib.ListN.{length}
-use Rattle.refusal.specs.declared.Refusal.{Refusal}
 use Rattle.refusal.specs.declared.Refusal.the-variants.{EndOfInput, UnsupportedOpcode, OutsideProfile}
 use Rattle.op.specs.Table.{opcodeOf}
 use Rattle.op.specs.Edition.{against, highest}

@@ -1,17 +1,17 @@
 -- The order of two labels, by the words of their records: what the comparison of two records rests on.
-use Prim.Native.Nat.{ℕ, suc, zero, _+_, _*_, _^_, _/_, _%_, _≤_, _<_, compare, Ordering, Ordering·lt, Ordering·eq, Ordering·gt}
+use Prim.Native.Nat.{ℕ, suc, zero, _+_, _*_, _≤_, _<_, compare, Ordering, Ordering·lt, Ordering·eq, Ordering·gt}
 use mathlib.Core.Bool.{Bool, true, false}
-use mathlib.Core.List.{List, [], _∷_}
-use mathlib.Core.Path.{_≡_, refl, sym, _∙_, ap}
+use mathlib.Core.List.{List, []}
+use mathlib.Core.Path.{_≡_, refl, sym, _∙_}
 use mathlib.Core.Logic.{_≢_, _⊎_, inl, inr}
 use lib.ListN.{length, take, drop, getD}
 use lib.Dec.{eqb, ltb, ltb→lt, nltb→le}
 use native.Mathlib.Nat.{add-zero}
 use native.Mathlib.Omega.{arith}
-use Rattle.value.specs.Value.{Label, kind, bit, NoneL, BoolL, I64L, F64L, BytesL, StringL, ListL, TupleL, SetL, FrozenSetL, DictL, GlobalL, ObjectL}
-use Rattle.value.specs.Order.{_then_, lex, byValue, totalOrder, key, name, labels}
+use Rattle.value.specs.Value.{kind, bit, NoneL}
+use Rattle.value.specs.Order.{_then_, lex, byValue, totalOrder, labels}
 use Rattle.value.specs.OrderLaws.{compare-eq}
-use Rattle.value.specs.Shape.{kindIn, newIn, labelsOf, labelOf, moduleOf, nameOf, namesEnd}
+use Rattle.value.specs.Shape.{kindIn, labelsOf, labelOf, moduleOf, nameOf, namesEnd}
 use Rattle.value.specs.Stands.{wordAt, labelAt, textEnd, Reads}
 use Rattle.value.specs.Walk.{compare-same, eq-then, lt-then, gt-then, then-end}
 

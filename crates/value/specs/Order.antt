@@ -1,6 +1,6 @@
 -- The order of values (value.rs; document 01, 'Order'): by kind, then by what each kind is ordered by, then by contents.
-use Prim.Native.Nat.{ℕ, suc, zero, _+_, _-_, _^_, _/_, _%_, compare, Ordering, Ordering·lt, Ordering·eq, Ordering·gt}
-use mathlib.Core.Bool.{Bool, true, false, cond}
+use Prim.Native.Nat.{ℕ, _-_, _^_, _/_, _%_, compare, Ordering, Ordering·lt, Ordering·eq, Ordering·gt}
+use mathlib.Core.Bool.{cond}
 use mathlib.Core.List.{List, [], _∷_}
 use lib.Dec.{ltb}
 use Rattle.value.specs.Value.{Label, Forest, Value, bit, kind, NoneL, BoolL, I64L, F64L, BytesL, StringL, ListL, TupleL, SetL, FrozenSetL, DictL, GlobalL, ObjectL, nil, node}

@@ -1,12 +1,11 @@
 -- The order's laws: turned round it is the other way; equal only for equal values, and so it decides equality; and it is transitive.
 -- Each component has the law, and `then` keeps it.
-use Prim.Native.Nat.{ℕ, suc, zero, _+_, _-_, _^_, compare, Ordering, Ordering·lt, Ordering·eq, Ordering·gt, compare·zero-zero, compare·zero-suc, compare·suc-zero, compare·suc-suc}
+use Prim.Native.Nat.{ℕ, suc, zero, _^_, compare, Ordering, Ordering·lt, Ordering·eq, Ordering·gt, compare·zero-suc, compare·suc-zero, compare·suc-suc}
 use mathlib.Core.Bool.{Bool, true, false, cond}
-use mathlib.Core.List.{List, [], _∷_, _++_}
-use mathlib.Core.Path.{_≡_, refl, sym, _∙_, ap, ap₂, subst}
+use mathlib.Core.List.{List, [], _∷_}
+use mathlib.Core.Path.{_≡_, refl, sym, _∙_, ap, ap₂}
 use lib.ListN.{getD}
-use lib.Dec.{ltb, T, isEq, eqb→eq, eqb-refl}
-use native.Mathlib.Omega.{arith}
+use lib.Dec.{ltb, eqb→eq}
 use Rattle.value.specs.Value.{Label, Forest, Value, bit, kind, NoneL, BoolL, I64L, F64L, BytesL, StringL, ListL, TupleL, SetL, FrozenSetL, DictL, GlobalL, ObjectL, nil, node}
 use Rattle.value.specs.Order.{_then_, lex, key, name, new, labels, forests, order}
 

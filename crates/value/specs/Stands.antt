@@ -1,17 +1,12 @@
 -- Values that stand in a table at a place: each record says its label and how many values are in it, its text anywhere in the text.
 -- Nothing is asked of a record's size or of the order of texts, so the comparison serves tables that are still being made.
-use Prim.Native.Nat.{ℕ, suc, zero, _+_, _*_, _^_, _/_, _%_, _≤_, _<_}
-use mathlib.Core.Bool.{Bool, true, false}
-use mathlib.Core.List.{List, [], _∷_, _++_, append-assoc}
-use mathlib.Core.Path.{_≡_, refl, sym, _∙_, ap, ap₂, subst}
-use lib.ListN.{length, length-append, getD, take, drop, List·getD-append, length-drop}
-use lib.Seq.{drop-append-seam, drop-at, drop-drop, getD-drop}
-use lib.Dec.{T, lit<}
-use lib.Pow.{high, low}
+use Prim.Native.Nat.{ℕ, suc, _+_, _*_, _≤_, _<_}
+use mathlib.Core.List.{List, [], _∷_}
+use mathlib.Core.Path.{_≡_, refl, sym, _∙_, subst}
+use lib.ListN.{length, getD, drop}
 use native.Mathlib.Omega.{arith}
-use native.Mathlib.Nat.{add-assoc}
-use Rattle.value.specs.Value.{Label, Forest, Value, one, bit, half, kind, textOf, text, count, size, word0, words, recordOf, words-length, record-length, table, NoneL, BoolL, I64L, F64L, BytesL, StringL, ListL, TupleL, SetL, FrozenSetL, DictL, GlobalL, ObjectL, nil, node}
-use Rattle.value.specs.Shape.{kindIn, newIn, stateIn, labelOf, arityOf, namesEnd, fitting, shaped, and-l, and-r, arity-back, label-back}
+use Rattle.value.specs.Value.{Label, Forest, Value, one, count, size, nil, node}
+use Rattle.value.specs.Shape.{kindIn, labelOf, arityOf, namesEnd}
 
 -- ---- forests one after the other
 

@@ -1,16 +1,16 @@
 -- A table in document 01's form is one in which its values stand; so table and text determine the value.
-use Prim.Native.Nat.{ℕ, suc, zero, _+_, _-_, _*_, _^_, _/_, _%_, _≤_, _<_}
-use mathlib.Core.Bool.{Bool, true, false, _&&_}
-use mathlib.Core.List.{List, [], _∷_, _++_, append-assoc, append-nil}
-use mathlib.Core.Path.{_≡_, refl, sym, _∙_, ap, ap₂, subst}
-use lib.ListN.{length, length-append, getD, take, drop, List·getD-append, length-drop}
+use Prim.Native.Nat.{ℕ, suc, _+_, _-_, _*_, _^_, _/_, _%_, _≤_, _<_}
+use mathlib.Core.Bool.{Bool}
+use mathlib.Core.List.{List, [], _++_, append-assoc, append-nil}
+use mathlib.Core.Path.{_≡_, sym, _∙_, ap}
+use lib.ListN.{length, length-append, getD, drop, List·getD-append, length-drop}
 use lib.Seq.{drop-append-seam, drop-at, drop-drop, getD-drop}
 use lib.Dec.{T, eqb, ltb, ltb→lt, lit<}
 use lib.Pow.{high, low}
 use native.Mathlib.Omega.{arith}
-use Rattle.value.specs.Value.{Label, Forest, Value, one, bit, half, kind, textOf, text, count, size, word0, words, recordOf, words-length, record-length, table, table-length, NoneL, BoolL, I64L, F64L, BytesL, StringL, ListL, TupleL, SetL, FrozenSetL, DictL, GlobalL, ObjectL, nil, node}
-use Rattle.value.specs.Shape.{kindIn, newIn, stateIn, labelOf, arityOf, fitting, shaped, and-l, and-r, arity-back, label-back}
-use Rattle.value.specs.Stands.{wordAt, labelAt, arityAt, textEnd, Reads, Says, Stands, stands-one}
+use Rattle.value.specs.Value.{Label, Forest, textOf, text, count, size, word0, words, recordOf, words-length, record-length, table, table-length, NoneL, BoolL, I64L, F64L, BytesL, StringL, ListL, TupleL, SetL, FrozenSetL, DictL, GlobalL, ObjectL, nil, node}
+use Rattle.value.specs.Shape.{kindIn, labelOf, fitting, shaped, and-l, and-r, arity-back, label-back}
+use Rattle.value.specs.Stands.{wordAt, labelAt, arityAt, textEnd, Says, Stands, stands-one}
 
 -- A record at its text's place: what its words and the text say is the label, and its text ends inside.
 module _ (p n z : ℕ) (t s : List ℕ) where

@@ -1,8 +1,8 @@
 -- The order of values is total: equal exactly for equal values, turned round the other way (`order-swap`), and transitive.
-use Prim.Native.Nat.{ℕ, compare, Ordering, Ordering·lt, Ordering·eq, Ordering·gt}
-use mathlib.Core.Path.{_≡_, refl, sym, _∙_, ap₂}
+use Prim.Native.Nat.{ℕ, Ordering, Ordering·lt, Ordering·eq, Ordering·gt}
+use mathlib.Core.Path.{_≡_, _∙_, ap₂}
 use Rattle.value.specs.Value.{Label, Forest, Value, kind, nil, node}
-use Rattle.value.specs.Order.{_then_, lex, key, name, new, labels, forests, order}
+use Rattle.value.specs.Order.{key, name, new, labels, forests, order}
 use Rattle.value.specs.OrderLaws.{Chain, then-eq, then-chain, label-eq, labels-chain, forests-eq, forests-chain}
 use Rattle.value.specs.Walk.{compare-same, eq-then}
 use Rattle.value.specs.Told.{lex-same}

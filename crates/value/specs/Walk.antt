@@ -1,16 +1,14 @@
 -- The comparison of two values as a walk through both tables at once, record by record. What is left to compare is two forests of
 -- equally many values, and what decides if they are equal.
-use Prim.Native.Nat.{ℕ, suc, zero, _+_, _-_, _*_, _≤_, _<_, compare, Ordering, Ordering·lt, Ordering·eq, Ordering·gt}
-use mathlib.Core.Bool.{Bool, true, false}
+use Prim.Native.Nat.{ℕ, suc, zero, _+_, _≤_, _<_, compare, Ordering, Ordering·lt, Ordering·eq, Ordering·gt}
 use mathlib.Core.List.{List}
-use mathlib.Core.Path.{_≡_, refl, sym, _∙_, ap, ap₂}
-use lib.ListN.{length}
+use mathlib.Core.Path.{_≡_, refl, sym, _∙_, ap}
 use lib.Dec.{eqb-refl, isEq, T}
 use native.Mathlib.Omega.{arith}
-use Rattle.value.specs.Value.{Label, Forest, Value, one, bit, count, size, nil, node}
+use Rattle.value.specs.Value.{Label, Forest, Value, one, count, size, nil, node}
 use Rattle.value.specs.Order.{_then_, labels, forests, order, new}
-use Rattle.value.specs.OrderLaws.{swap, then-swap, forests-swap, compare-swap}
-use Rattle.value.specs.Stands.{_⊕_, count-append, size-append, Says, Stands, stands-append}
+use Rattle.value.specs.OrderLaws.{swap, then-swap, forests-swap}
+use Rattle.value.specs.Stands.{_⊕_, Stands}
 
 -- ---- `then`
 

@@ -1,16 +1,15 @@
 -- Document 01, 'The value table': when a lent table, its stated count and its text are well formed. One predicate, and it says
 -- which value they are of; there is one at most (`well-formed-one`).
-use Prim.Native.Nat.{ℕ, suc, zero, _+_, _*_, _^_, _≤_, _<_, Ordering, Ordering·lt, Ordering·eq, Ordering·gt}
+use Prim.Native.Nat.{ℕ, _*_, _≤_, Ordering, Ordering·lt, Ordering·eq, Ordering·gt}
 use mathlib.Core.Bool.{Bool, true, false, _&&_}
-use mathlib.Core.List.{List, [], _∷_, _++_, append-nil}
-use mathlib.Core.Path.{_≡_, refl, sym, _∙_, ap}
+use mathlib.Core.List.{List}
+use mathlib.Core.Path.{_≡_, refl, sym, _∙_}
 use lib.ListN.{length, take}
-use lib.Dec.{T, eqb, ltb}
-use native.Mathlib.Omega.{arith}
+use lib.Dec.{T}
 use Rattle.utf8.specs.Utf8.{valid}
-use Rattle.value.specs.Value.{Label, Forest, Value, one, half, text, count, size, depth, table, NoneL, BoolL, I64L, F64L, BytesL, StringL, ListL, TupleL, SetL, FrozenSetL, DictL, GlobalL, ObjectL, nil, node}
+use Rattle.value.specs.Value.{Label, Forest, Value, one, text, count, size, depth, table, NoneL, BoolL, I64L, F64L, BytesL, StringL, ListL, TupleL, SetL, FrozenSetL, DictL, GlobalL, ObjectL, nil, node}
 use Rattle.value.specs.Order.{order}
-use Rattle.value.specs.Shape.{fitting, shaped, and-l, and-r}
+use Rattle.value.specs.Shape.{shaped}
 use Rattle.value.specs.Tabled.{table-one}
 
 abbrev pub less : Ordering → Bool

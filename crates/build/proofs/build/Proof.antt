@@ -13,23 +13,11 @@ lay-out-requires c κs =
     let s = c .before .before .before .before .before .before .before .before .before .before .before .before .before .before .before in
     (stopped (s .pre .0) (s .pre .1), (children-fit (s .pre .0) (s .pre .1), first-zero (s .pre .0) (s .pre .1)))
 
-sub-make : tie.Need-sub-make
-sub-make c = search needs
-
-part-make-start : tie.Need-part-make-start
-part-make-start c = search needs
-
 part-make-end : tie.Need-part-make-end
 part-make-end c =
     let s = c .before .before .before .before .before .before .before .before .before .before .before .before .before .before .before .before .before .before .before .before .before .before .before .before .before in
     let y = c .before .before .before .before .before .before .before .before .before .lay-out in
     parts-fit (s .pre .0) (s .pre .1) (y .ensures .0) (y .kept .1 .1 .1 .1 .1 .1 .0) (y .ensures .1) .0
-
-sub-make-2 : tie.Need-sub-make-2
-sub-make-2 c = search needs
-
-part-make-start-2 : tie.Need-part-make-start-2
-part-make-start-2 c = search needs
 
 part-make-end-2 : tie.Need-part-make-end-2
 part-make-end-2 c =
@@ -41,12 +29,6 @@ add-make : tie.Need-add-make
 add-make c =
     let s = c .before .before .before .before .before .before .before .before .before .before .before .before .before .before .before .before .before .before .before .before .before .before .before .before .before .before .before in
     omega (arith, count-few (s .pre .0) (s .pre .1))
-
-sub-make-3 : tie.Need-sub-make-3
-sub-make-3 c = search needs
-
-part-make-start-3 : tie.Need-part-make-start-3
-part-make-start-3 c = search needs
 
 part-make-end-3 : tie.Need-part-make-end-3
 part-make-end-3 c =
@@ -82,12 +64,6 @@ same-length-2 c =
     let m = c .before .before .before .before .before .before .before .before .before .before .before .before .before .before .before .before .before .before .before .before .before .before .before .before .before .before .before .before .before .make in
     (m .kept .1 .1 .1 .1 .1 .1 .1 .1 .0) ∙ (y .kept .1 .1 .1 .0)
 
-same-length-3 : tie.Need-same-length-3
-same-length-3 c = search needs
-
-same-length-4 : tie.Need-same-length-4
-same-length-4 c = search needs
-
 same-length-5 : tie.Need-same-length-5
 same-length-5 c =
     let s = c .before .before .before .before .before .before .before .before .before .before .before .before .before .before .before .before .before .before .before .before .before .before .before .before .before .before .before .before .before .before .before .before .before .before .before .before .before .before .before .before .before .before .before .before .before .before .before .before .before .before .before .before .before .before .before .before .before .before .before .before .before .before .before in
@@ -112,12 +88,6 @@ same-length-7 c =
     let e = c .before .before .before .before .before .before .before .before .clear in
     (e .kept .1 .1 .1 .1 .1 .0) ∙ length-front (s .args .measures .now) (m .last .1 .1 .1 .1 .1 .1 .0) (s .args .count - 0) (m .kept .1 .1 .1 .1 .1 .1 .0)
 
-same-length-8 : tie.Need-same-length-8
-same-length-8 c = search needs
-
-same-length-9 : tie.Need-same-length-9
-same-length-9 c = search needs
-
 returns : tie.Need-returns
 returns c =
     let s = c .before .before .before .before .before .before .before .before .before .before .before .before .before .before .before .before .before .before .before .before .before .before .before .before .before .before .before .before .before .before .before .before .before .before .before .before .before .before .before .before .before .before .before .before .before .before .before .before .before .before .before .before .before .before .before .before .before .before .before .before .before .before .before in
@@ -128,4 +98,9 @@ returns c =
     (build-comes (s .pre .0) (s .pre .1) (y .ensures .0) (y .kept .1 .1 .1 .1 .1 .1 .0) (y .ensures .1) _ _ _ _ (m .ensures .0), ((e .ensures .0 .0 ∙ b .0, m .ensures .1 .log-same ∙ y .ensures .1 .1), (m .ensures .1 .list-same, m .ensures .1 .decoded-same, e .ensures .0 .1 ∙ b .1, e .ensures .1 .0 ∙ b .2, e .ensures .1 .1 ∙ b .3)))
 
 pub build-spec : {M : Type 1} → statement M
-build-spec = tie.close (tie.spec lay-out-requires sub-make part-make-start part-make-end sub-make-2 part-make-start-2 part-make-end-2 add-make sub-make-3 part-make-start-3 part-make-end-3 make-requires clear-requires same-length same-length-2 same-length-3 same-length-4 same-length-5 same-length-6 same-length-7 same-length-8 same-length-9 returns)
+build-spec =
+    tie.close
+    (tie.spec
+    lay-out-requires (λ c. search needs) (λ c. search needs) part-make-end (λ c. search needs) (λ c. search needs) part-make-end-2 add-make
+    (λ c. search needs) (λ c. search needs) part-make-end-3 make-requires clear-requires same-length same-length-2 (λ c. search needs) (λ c. search needs)
+    same-length-5 same-length-6 same-length-7 (λ c. search needs) (λ c. search needs) returns)

@@ -5,15 +5,6 @@ use Rattle.build.proofs.due_of.Tie as tie
 use native.Mathlib.Omega.{arith}
 use Rattle.build.specs.Limits.{tells-deep, tells-empty, tells-values, tells-text, tells-left, tells-nothing}
 
-enum-told : tie.Need-enum-told
-enum-told c = search needs
-
-enum-told-2 : tie.Need-enum-told-2
-enum-told-2 c = search needs
-
-enum-known-answer : tie.Need-enum-known-answer
-enum-known-answer c = search needs
-
 returns : tie.Need-returns
 returns c = rw (c .before .before .answer .given .1) (tells-values _ _ (omega (arith, c .if1 .taken)))
 
@@ -33,4 +24,4 @@ returns-6 : tie.Need-returns-6
 returns-6 c = rw (c .before .before .before .before .answer .given .1) (tells-nothing _ _ (omega (arith, c .before .before .if1 .left)) (omega (arith, c .before .if2 .left)) (c .if3 .left))
 
 pub due-of-spec : {M : Type 1} → statement M
-due-of-spec = tie.close (tie.spec enum-told enum-told-2 enum-known-answer returns returns-2 returns-3 returns-4 returns-5 returns-6)
+due-of-spec = tie.close (tie.spec (λ c. search needs) (λ c. search needs) (λ c. search needs) returns returns-2 returns-3 returns-4 returns-5 returns-6)

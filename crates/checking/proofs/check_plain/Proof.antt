@@ -7,22 +7,10 @@ use Rattle.lengths.specs.Sum.{sum}
 use Rattle.checking.proofs.check_plain.Statement.{statement}
 use Rattle.checking.proofs.check_plain.Tie as tie
 
-add-up-requires : tie.Need-add-up-requires
-add-up-requires c κs = search needs
-
-show-refusal-requires : tie.Need-show-refusal-requires
-show-refusal-requires c κs = search needs
-
-returns : tie.Need-returns
-returns c = search needs
-
 show-plain-requires : tie.Need-show-plain-requires
 show-plain-requires c κs =
     let s = c .before .before .before .before in
     eqb-true (length (s .args .sheets .now)) (sum (s .args .lengths .now)) (sym (c .before .add-up .ensures) ∙ not-false _ (c .if1 .left))
 
-returns-2 : tie.Need-returns-2
-returns-2 c = search needs
-
 pub check-plain-spec : {M : Type 1} → statement M
-check-plain-spec = tie.close (tie.spec add-up-requires show-refusal-requires returns show-plain-requires returns-2)
+check-plain-spec = tie.close (tie.spec (λ c κs. search needs) (λ c κs. search needs) (λ c. search needs) show-plain-requires (λ c. search needs))

@@ -27,41 +27,14 @@ sheet c =
 loop-holds : tie.Need-loop-holds Inv-loop μ-loop
 loop-holds c = omega (arith, c .before .before .pre)
 
-mul-end : tie.Need-mul-end Inv-loop μ-loop
-mul-end c = search needs
-
-shared-slice-read-end : tie.Need-shared-slice-read-end Inv-loop μ-loop
-shared-slice-read-end c = search needs
-
 add-end : tie.Need-add-end Inv-loop μ-loop
 add-end c = omega (arith, sheet (c .before), start (c .before .before) .good .0)
-
-sub-read-plain : tie.Need-sub-read-plain Inv-loop μ-loop
-sub-read-plain c = omega arith
-
-part-read-plain-start : tie.Need-part-read-plain-start Inv-loop μ-loop
-part-read-plain-start c = search needs
 
 part-read-plain-end : tie.Need-part-read-plain-end Inv-loop μ-loop
 part-read-plain-end c = omega (arith, sheet (c .before))
 
-read-plain-requires : tie.Need-read-plain-requires Inv-loop μ-loop
-read-plain-requires c κs = search needs
-
-show-requires : tie.Need-show-requires Inv-loop μ-loop
-show-requires c κs = search needs
-
-add-i : tie.Need-add-i Inv-loop μ-loop
-add-i c = search needs
-
-loop-less : tie.Need-loop-less Inv-loop μ-loop
-loop-less c = search needs
-
 loop-again : tie.Need-loop-again Inv-loop μ-loop
 loop-again c = sheet (c .before .before .before .before)
-
-returns : tie.Need-returns Inv-loop μ-loop
-returns c = search needs
 
 pub show-plain-spec : {M : Type 1} → statement M
 show-plain-spec =
@@ -70,15 +43,15 @@ show-plain-spec =
     Inv-loop
     μ-loop
     loop-holds
-    mul-end
-    shared-slice-read-end
+    (λ c. search needs)
+    (λ c. search needs)
     add-end
-    sub-read-plain
-    part-read-plain-start
+    (λ c. omega arith)
+    (λ c. search needs)
     part-read-plain-end
-    read-plain-requires
-    show-requires
-    add-i
-    loop-less
+    (λ c κs. search needs)
+    (λ c κs. search needs)
+    (λ c. search needs)
+    (λ c. search needs)
     loop-again
-    returns)
+    (λ c. search needs))

@@ -2,8 +2,6 @@
 use borrow.Author.Needs.{needs}
 use Rattle.decoder.proofs.above_mark.Statement.{statement}
 use Rattle.decoder.proofs.above_mark.Tie as tie
-use Rattle.decoder.proofs.above_mark.Reads as reads
-use Rattle.decoder.proofs.above_mark.Lts as lts
 use Prim.Native.Nat.{_-_}
 use native.Mathlib.Omega.{arith}
 use Rattle.decoder.specs.Items.{TakesMark}
@@ -12,12 +10,6 @@ use Rattle.decoder.specs.StackSteps.{marks-room, took-none, took-above, 
 returns : tie.Need-returns
 unfolding TakesMark
 returns c = λ r s q. took-none _ _ r s q (c .if1 .taken)
-
-sub-i : tie.Need-sub-i
-sub-i c = search needs
-
-mul-m : tie.Need-mul-m
-mul-m c = search needs
 
 shared-slice-read-m : tie.Need-shared-slice-read-m
 shared-slice-read-m c = let l = c .before .before .before .before .pre in omega (arith, marks-room _ (l .rooms) (l .sound) _ (l .agrees), c .before .before .if1 .left)
@@ -34,4 +26,4 @@ unfolding TakesMark
 returns-3 c = λ r s q. took-from _ _ r s q (c .before .before .before .before .if1 .left) (c .if2 .left)
 
 pub above-mark-spec : {M : Type 1} → statement M
-above-mark-spec = tie.close (tie.spec returns sub-i mul-m shared-slice-read-m cast-m returns-2 returns-3)
+above-mark-spec = tie.close (tie.spec returns (λ c. search needs) (λ c. search needs) shared-slice-read-m cast-m returns-2 returns-3)

@@ -2,9 +2,6 @@
 use borrow.Author.Needs.{needs}
 use Rattle.decoder.proofs.append.Statement.{statement}
 use Rattle.decoder.proofs.append.Tie as tie
-use Rattle.decoder.proofs.append.Reads as reads
-use Rattle.decoder.proofs.append.Lts as lts
-use Rattle.decoder.proofs.grown.Reads as grown-reads
 use mathlib.Core.Path.{refl}
 use native.Mathlib.Omega.{arith}
 use Rattle.decoder.specs.Effects.{Decides, says-refused}
@@ -15,9 +12,6 @@ returns : tie.Need-returns
 unfolding Decides
 returns c = λ r s q. says-refused _ r _ _ (append-underflow r _ s (c .if1 .taken))
 
-sub-grown : tie.Need-sub-grown
-sub-grown c = search needs
-
 grown-requires : tie.Need-grown-requires
 grown-requires c κs = (c .before .before .before .before .before .pre, (omega arith, omega arith, lists refl))
 
@@ -26,4 +20,4 @@ unfolding Decides Adds
 returns-2 c = λ r s q. rw (append-adds r _ s (c .before .before .if1 .left)) at (c .grown .ensures r s (q .0) (q .1))
 
 pub append-spec : {M : Type 1} → statement M
-append-spec = tie.close (tie.spec returns sub-grown grown-requires returns-2)
+append-spec = tie.close (tie.spec returns (λ c. search needs) grown-requires returns-2)

@@ -2,10 +2,6 @@
 use borrow.Author.Needs.{needs}
 use Rattle.decoder.proofs.appends.Statement.{statement}
 use Rattle.decoder.proofs.appends.Tie as tie
-use Rattle.decoder.proofs.appends.Reads as reads
-use Rattle.decoder.proofs.appends.Lts as lts
-use Rattle.decoder.proofs.above_mark.Reads as above-mark-reads
-use Rattle.decoder.proofs.grown.Reads as grown-reads
 use mathlib.Core.Path.{refl}
 use native.Mathlib.Omega.{arith}
 use Rattle.decoder.specs.Effects.{Decides, says-refused}
@@ -14,12 +10,6 @@ use Rattle.decoder.specs.StackSteps.{took-below, appends-underflow, appe
 
 above-mark-requires : tie.Need-above-mark-requires
 above-mark-requires c κs = (record { rooms = c .before .before .before .pre .rooms; sound = c .before .before .before .pre .sound; agrees = c .before .before .before .pre .agrees .2 })
-
-enum-told : tie.Need-enum-told
-enum-told c = search needs
-
-enum-known-m : tie.Need-enum-known-m
-enum-known-m c = search needs
 
 sub-grown : tie.Need-sub-grown
 sub-grown c = omega (arith, took-below _ _ _ (rw (c .before .before .m .given .1) at (c .before .before .before .before .above-mark .ensures)) (record { rooms = c .before .before .before .before .before .before .before .before .pre .rooms; sound = c .before .before .before .before .before .before .before .before .pre .sound; agrees = c .before .before .before .before .before .before .before .before .pre .agrees .2 }) .1)
@@ -36,4 +26,4 @@ unfolding Decides Adds TakesMark
 returns-2 c = λ r s q. rw (appends-adds r _ s _ (rw (c .before .before .before .m .given .1) at (c .before .before .before .before .before .above-mark .ensures) r s (q .2))) at (c .grown .ensures r s (q .0) (q .1))
 
 pub appends-spec : {M : Type 1} → statement M
-appends-spec = tie.close (tie.spec above-mark-requires enum-told enum-known-m sub-grown grown-requires returns returns-2)
+appends-spec = tie.close (tie.spec above-mark-requires (λ c. search needs) (λ c. search needs) sub-grown grown-requires returns returns-2)

@@ -2,32 +2,16 @@
 use borrow.Author.Needs.{needs}
 use Rattle.decoder.proofs.dict.Statement.{statement}
 use Rattle.decoder.proofs.dict.Tie as tie
-use Rattle.decoder.proofs.dict.Reads as reads
-use Rattle.decoder.proofs.dict.Lts as lts
-use Rattle.decoder.proofs.above_mark.Reads as above-mark-reads
-use Rattle.decoder.proofs.cut.Reads as cut-reads
 use native.Mathlib.Omega.{arith}
 use Rattle.decoder.specs.Effects.{Decides, says-refused}
 use Rattle.decoder.specs.Items.{TakesMark}
 use Rattle.decoder.specs.StackSteps.{took-below, dict-underflow, dict-odd, dict-makes}
-
-above-mark-requires : tie.Need-above-mark-requires
-above-mark-requires c κs = search needs
-
-enum-told : tie.Need-enum-told
-enum-told c = search needs
-
-enum-known-m : tie.Need-enum-known-m
-enum-known-m c = search needs
 
 sub-if1 : tie.Need-sub-if1
 sub-if1 c = omega (arith, took-below _ _ _ (rw (c .before .before .m .given .1) at (c .before .before .before .before .above-mark .ensures)) (c .before .before .before .before .before .before .pre) .0)
 
 sub-cut : tie.Need-sub-cut
 sub-cut c = omega (arith, took-below _ _ _ (rw (c .before .before .before .before .m .given .1) at (c .before .before .before .before .before .before .above-mark .ensures)) (c .before .before .before .before .before .before .before .before .pre) .1)
-
-cut-requires : tie.Need-cut-requires
-cut-requires c κs = search needs
 
 returns : tie.Need-returns
 unfolding Decides TakesMark
@@ -42,4 +26,4 @@ unfolding Decides TakesMark
 returns-3 c = λ r s q. says-refused _ r _ _ (dict-odd r _ s _ (rw (c .before .before .before .m .given .1) at (c .before .before .before .before .before .above-mark .ensures) r s q) (c .if1 .left))
 
 pub dict-spec : {M : Type 1} → statement M
-dict-spec = tie.close (tie.spec above-mark-requires enum-told enum-known-m sub-if1 sub-cut cut-requires returns returns-2 returns-3)
+dict-spec = tie.close (tie.spec (λ c κs. search needs) (λ c. search needs) (λ c. search needs) sub-if1 sub-cut (λ c κs. search needs) returns returns-2 returns-3)

@@ -2,8 +2,6 @@
 use borrow.Author.Needs.{needs}
 use Rattle.decoder.proofs.dup.Statement.{statement}
 use Rattle.decoder.proofs.dup.Tie as tie
-use Rattle.decoder.proofs.dup.Reads as reads
-use Rattle.decoder.proofs.dup.Lts as lts
 use Prim.Native.Nat.{_-_}
 use native.Mathlib.Omega.{arith}
 use Rattle.decoder.specs.Effects.{Decides, says-refused}
@@ -12,12 +10,6 @@ use Rattle.decoder.specs.StackSteps.{stack-room, dup-underflow, dup-lent
 returns : tie.Need-returns
 unfolding Decides
 returns c = λ r s q. says-refused _ r _ _ (dup-underflow r _ s (c .if1 .taken))
-
-sub-i : tie.Need-sub-i
-sub-i c = search needs
-
-mul-t6 : tie.Need-mul-t6
-mul-t6 c = search needs
 
 shared-slice-read-t8 : tie.Need-shared-slice-read-t8
 shared-slice-read-t8 c = let l = c .before .before .before .before .pre in omega (arith, stack-room _ (l .rooms) (l .sound) _ (l .agrees), c .before .before .if1 .left)
@@ -30,4 +22,4 @@ unfolding Decides
 returns-2 c = λ r s q. dup-lent _ _ r s q (c .before .before .if1 .left)
 
 pub dup-spec : {M : Type 1} → statement M
-dup-spec = tie.close (tie.spec returns sub-i mul-t6 shared-slice-read-t8 cast-t9 returns-2)
+dup-spec = tie.close (tie.spec returns (λ c. search needs) (λ c. search needs) shared-slice-read-t8 cast-t9 returns-2)

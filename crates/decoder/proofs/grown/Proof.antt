@@ -2,10 +2,6 @@
 use borrow.Author.Needs.{needs}
 use Rattle.decoder.proofs.grown.Statement.{statement}
 use Rattle.decoder.proofs.grown.Tie as tie
-use Rattle.decoder.proofs.grown.Reads as reads
-use Rattle.decoder.proofs.grown.Lts as lts
-use Rattle.decoder.proofs.cut.Reads as cut-reads
-use Rattle.decoder.proofs.kind.Reads as kind-reads
 use Prim.Native.Nat.{_-_}
 use native.Mathlib.Omega.{arith}
 use Rattle.decoder.specs.Effects.{says-refused}
@@ -16,12 +12,6 @@ returns : tie.Need-returns
 unfolding Adds
 returns c = λ r s a b. says-refused _ r _ _ (added-underflow r _ s _ _ _ _ _ (c .before .before .before .pre .1 .2) (c .before .before .before .pre .1 .0) (c .before .before .before .pre .1 .1) (c .if1 .taken))
 
-sub-i : tie.Need-sub-i
-sub-i c = search needs
-
-mul-owner : tie.Need-mul-owner
-mul-owner c = search needs
-
 shared-slice-read-owner : tie.Need-shared-slice-read-owner
 shared-slice-read-owner c = let l = c .before .before .before .before .pre .0 in omega (arith, stack-room _ (l .rooms) (l .sound) _ (l .agrees .1), c .before .if1 .left, c .before .before .before .before .pre .1 .0)
 
@@ -30,9 +20,6 @@ cast-owner c = omega (arith, c .shared-slice-known3 .given (c .before .before .b
 
 kind-requires : tie.Need-kind-requires
 kind-requires c κs = let l = c .before .before .before .before .pre .0 in words-room _ (l .rooms) (l .sound) _ _ (l .agrees .0) (l .agrees .1) (c .before .before .before .before .args .keep - 1) (omega (arith, c .before .if1 .left, c .before .before .before .before .pre .1 .0))
-
-cut-requires : tie.Need-cut-requires
-cut-requires c κs = search needs
 
 returns-2 : tie.Need-returns-2
 unfolding Adds
@@ -43,4 +30,7 @@ unfolding Adds
 returns-3 c = λ r s a b. wrong-lent _ _ _ r s a b _ _ _ _ (c .before .before .before .before .before .before .pre .1 .2) (c .before .before .before .before .before .before .pre .1 .0) (c .before .before .before .before .before .before .pre .1 .1) (c .before .before .before .if1 .left) (rw (c .before .kind .ensures) at (c .if2 .left))
 
 pub grown-spec : {M : Type 1} → statement M
-grown-spec = tie.close (tie.spec returns sub-i mul-owner shared-slice-read-owner cast-owner kind-requires cut-requires returns-2 returns-3)
+grown-spec =
+    tie.close
+    (tie.spec
+    returns (λ c. search needs) (λ c. search needs) shared-slice-read-owner cast-owner kind-requires (λ c κs. search needs) returns-2 returns-3)

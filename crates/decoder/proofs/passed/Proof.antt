@@ -1,5 +1,5 @@
 -- `decoder::passed` meets its contract. The loop's invariant: none of the numbers passed is the key. Assumes nothing.
-use Prim.Native.Nat.{_+_, _-_, _≤_}
+use Prim.Native.Nat.{_≤_}
 use mathlib.Core.Bool.{_&&_}
 use native.Mathlib.Omega.{arith}
 use borrow.Author.Needs.{needs}

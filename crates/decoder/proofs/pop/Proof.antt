@@ -2,9 +2,6 @@
 use borrow.Author.Needs.{needs}
 use Rattle.decoder.proofs.pop.Statement.{statement}
 use Rattle.decoder.proofs.pop.Tie as tie
-use Rattle.decoder.proofs.pop.Reads as reads
-use Rattle.decoder.proofs.pop.Lts as lts
-use Rattle.decoder.proofs.cut.Reads as cut-reads
 use Rattle.decoder.specs.Effects.{Decides, says-refused}
 use Rattle.decoder.specs.StackSteps.{pop-underflow, pop-goes}
 
@@ -12,15 +9,9 @@ returns : tie.Need-returns
 unfolding Decides
 returns c = λ r s q. says-refused _ r _ _ (pop-underflow r _ s (c .if1 .taken))
 
-sub-cut : tie.Need-sub-cut
-sub-cut c = search needs
-
-cut-requires : tie.Need-cut-requires
-cut-requires c κs = search needs
-
 returns-2 : tie.Need-returns-2
 unfolding Decides
 returns-2 c = λ r s q. rw (c .cut .ensures) (pop-goes r _ s (c .before .if1 .left))
 
 pub pop-spec : {M : Type 1} → statement M
-pop-spec = tie.close (tie.spec returns sub-cut cut-requires returns-2)
+pop-spec = tie.close (tie.spec returns (λ c. search needs) (λ c κs. search needs) returns-2)

@@ -2,29 +2,13 @@
 use borrow.Author.Needs.{needs}
 use Rattle.decoder.proofs.pop_mark.Statement.{statement}
 use Rattle.decoder.proofs.pop_mark.Tie as tie
-use Rattle.decoder.proofs.pop_mark.Reads as reads
-use Rattle.decoder.proofs.pop_mark.Lts as lts
-use Rattle.decoder.proofs.above_mark.Reads as above-mark-reads
-use Rattle.decoder.proofs.cut.Reads as cut-reads
 use native.Mathlib.Omega.{arith}
 use Rattle.decoder.specs.Effects.{Decides, says-refused}
 use Rattle.decoder.specs.Items.{TakesMark}
 use Rattle.decoder.specs.StackSteps.{took-below, pop-mark-underflow, pop-mark-goes}
 
-above-mark-requires : tie.Need-above-mark-requires
-above-mark-requires c κs = search needs
-
-enum-told : tie.Need-enum-told
-enum-told c = search needs
-
-enum-known-m : tie.Need-enum-known-m
-enum-known-m c = search needs
-
 sub-cut : tie.Need-sub-cut
 sub-cut c = omega (arith, took-below _ _ _ (rw (c .before .before .m .given .1) at (c .before .before .before .before .above-mark .ensures)) (c .before .before .before .before .before .before .pre) .1)
-
-cut-requires : tie.Need-cut-requires
-cut-requires c κs = search needs
 
 returns : tie.Need-returns
 unfolding Decides TakesMark
@@ -35,4 +19,4 @@ unfolding Decides TakesMark
 returns-2 c = λ r s q. rw (c .cut .ensures) (pop-mark-goes r _ s _ (rw (c .before .before .before .m .given .1) at (c .before .before .before .before .before .above-mark .ensures) r s q))
 
 pub pop-mark-spec : {M : Type 1} → statement M
-pop-mark-spec = tie.close (tie.spec above-mark-requires enum-told enum-known-m sub-cut cut-requires returns returns-2)
+pop-mark-spec = tie.close (tie.spec (λ c κs. search needs) (λ c. search needs) (λ c. search needs) sub-cut (λ c κs. search needs) returns returns-2)

@@ -1,9 +1,6 @@
 -- SETITEM.
 use Rattle.decoder.proofs.setitem.Statement.{statement}
 use Rattle.decoder.proofs.setitem.Tie as tie
-use Rattle.decoder.proofs.setitem.Reads as reads
-use Rattle.decoder.proofs.setitem.Lts as lts
-use Rattle.decoder.proofs.grown.Reads as grown-reads
 use mathlib.Core.Path.{refl}
 use native.Mathlib.Omega.{arith}
 use Rattle.decoder.specs.Effects.{Decides, says-refused}

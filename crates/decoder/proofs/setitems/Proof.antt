@@ -2,10 +2,6 @@
 use borrow.Author.Needs.{needs}
 use Rattle.decoder.proofs.setitems.Statement.{statement}
 use Rattle.decoder.proofs.setitems.Tie as tie
-use Rattle.decoder.proofs.setitems.Reads as reads
-use Rattle.decoder.proofs.setitems.Lts as lts
-use Rattle.decoder.proofs.above_mark.Reads as above-mark-reads
-use Rattle.decoder.proofs.grown.Reads as grown-reads
 use mathlib.Core.Path.{refl}
 use native.Mathlib.Omega.{arith}
 use Rattle.decoder.specs.Effects.{Decides, says-refused}
@@ -14,12 +10,6 @@ use Rattle.decoder.specs.StackSteps.{took-below, setitems-underflow, set
 
 above-mark-requires : tie.Need-above-mark-requires
 above-mark-requires c κs = (record { rooms = c .before .before .before .pre .rooms; sound = c .before .before .before .pre .sound; agrees = c .before .before .before .pre .agrees .2 })
-
-enum-told : tie.Need-enum-told
-enum-told c = search needs
-
-enum-known-m : tie.Need-enum-known-m
-enum-known-m c = search needs
 
 sub-if1 : tie.Need-sub-if1
 sub-if1 c = omega (arith, took-below _ _ _ (rw (c .before .before .m .given .1) at (c .before .before .before .before .above-mark .ensures)) (record { rooms = c .before .before .before .before .before .before .before .before .pre .rooms; sound = c .before .before .before .before .before .before .before .before .pre .sound; agrees = c .before .before .before .before .before .before .before .before .pre .agrees .2 }) .0)
@@ -43,4 +33,4 @@ unfolding Decides TakesMark
 returns-3 c = λ r s q. says-refused _ r _ _ (setitems-odd r _ s _ (rw (c .before .before .before .m .given .1) at (c .before .before .before .before .before .above-mark .ensures) r s (q .2)) (λ e. omega (arith, e, c .if1 .left)))
 
 pub setitems-spec : {M : Type 1} → statement M
-setitems-spec = tie.close (tie.spec above-mark-requires enum-told enum-known-m sub-if1 sub-grown grown-requires returns returns-2 returns-3)
+setitems-spec = tie.close (tie.spec above-mark-requires (λ c. search needs) (λ c. search needs) sub-if1 sub-grown grown-requires returns returns-2 returns-3)

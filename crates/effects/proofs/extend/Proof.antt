@@ -2,9 +2,6 @@
 use borrow.Author.Needs.{needs}
 use Rattle.effects.proofs.extend.Statement.{statement}
 use Rattle.effects.proofs.extend.Tie as tie
-use Rattle.effects.proofs.extend.Reads as reads
-use Rattle.effects.proofs.extend.Lts as lts
-use Rattle.effects.proofs.link_all.Reads as link-all-reads
 use native.Mathlib.Omega.{arith}
 use Rattle.effects.specs.Containers.{extend-rooms, extend-linkable, extended-lent, extend-full-lent}
 
@@ -20,17 +17,8 @@ returns c = extend-full-lent _ _ _ _ _ _ _ (c .before .before .before .before .b
 link-all-requires : tie.Need-link-all-requires
 link-all-requires c κs = extend-linkable _ _ _ _ _ _ _ (c .before .before .before .before .before .before .before .before .before .before .pre) (c .before .before .before .if1 .left)
 
-same-length : tie.Need-same-length
-same-length c = search needs
-
-same-length-2 : tie.Need-same-length-2
-same-length-2 c = search needs
-
-same-length-3 : tie.Need-same-length-3
-same-length-3 c = search needs
-
 returns-2 : tie.Need-returns-2
 returns-2 c = extended-lent _ _ _ _ _ _ _ (c .before .before .before .before .before .before .before .before .before .before .before .before .before .before .before .before .before .pre) _ _ _ _ (c .before .before .before .before .before .before .before .before .before .before .if1 .left) (c .before .before .before .before .before .before .link-all .ensures .0) (c .before .before .before .before .before .before .link-all .ensures .1)
 
 pub extend-spec : {M : Type 1} → statement M
-extend-spec = tie.close (tie.spec sub-if1 sub-if1-2 returns link-all-requires same-length same-length-2 same-length-3 returns-2)
+extend-spec = tie.close (tie.spec sub-if1 sub-if1-2 returns link-all-requires (λ c. search needs) (λ c. search needs) (λ c. search needs) returns-2)

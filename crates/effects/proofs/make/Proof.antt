@@ -2,8 +2,6 @@
 use borrow.Author.Needs.{needs}
 use Rattle.effects.proofs.make.Statement.{statement}
 use Rattle.effects.proofs.make.Tie as tie
-use Rattle.effects.proofs.make.Reads as reads
-use Rattle.effects.proofs.make.Lts as lts
 use lib.ListN.{length-set}
 use mathlib.Core.Path.{_∙_}
 use native.Mathlib.Omega.{arith}
@@ -24,15 +22,6 @@ returns-2 c = make-crowded-lent _ _ _ _ _ _ _ (c .before .before .before .before
 returns-3 : tie.Need-returns-3
 returns-3 c = make-high-lent _ _ _ _ _ _ _ (c .before .before .before .before .before .before .before .before .before .before .before .pre) (c .before .before .before .before .if1 .left) (c .before .before .if2 .left) (c .if3 .taken)
 
-mul-first : tie.Need-mul-first
-mul-first c = search needs
-
-add-second : tie.Need-add-second
-add-second c = search needs
-
-mul-nodes : tie.Need-mul-nodes
-mul-nodes c = search needs
-
 slice-write-nodes : tie.Need-slice-write-nodes
 slice-write-nodes c = omega (arith, (make-rooms _ _ _ _ _ _ _ (c .before .before .before .before .before .before .before .before .before .before .before .pre)) .0, c .before .before .if2 .left)
 
@@ -45,35 +34,19 @@ slice-write-nodes-2 c = rw length-set (omega (arith, (make-rooms _ _ _ _ _ _ _ (
 link-all-requires : tie.Need-link-all-requires
 link-all-requires c κs = make-linkable _ _ _ _ _ _ _ (c .before .before .before .before .before .before .before .before .before .before .before .before .before .before .before .pre) (c .before .before .before .before .before .before .before .before .if1 .left) (c .before .before .before .before .before .before .if2 .left)
 
-cast-stack : tie.Need-cast-stack
-cast-stack c = search needs
-
-mul-stack : tie.Need-mul-stack
-mul-stack c = search needs
-
 slice-write-stack : tie.Need-slice-write-stack
 slice-write-stack c = omega (arith, (make-rooms _ _ _ _ _ _ _ (c .before .before .before .before .before .before .before .before .before .before .before .before .before .before .before .before .before .before .before .before .before .before .pre)) .1, c .before .before .before .before .before .before .before .before .before .before .before .if3 .left)
 
-add-pushed : tie.Need-add-pushed
-add-pushed c = search needs
-
-pushed-requires : tie.Need-pushed-requires
-pushed-requires c κs = search needs
-
 same-length : tie.Need-same-length
 same-length c = c .before .before .before .before .before .before .before .link-all .kept .0 ∙ simp length-set
-
-same-length-2 : tie.Need-same-length-2
-same-length-2 c = search needs
-
-same-length-3 : tie.Need-same-length-3
-same-length-3 c = search needs
-
-same-length-4 : tie.Need-same-length-4
-same-length-4 c = search needs
 
 returns-4 : tie.Need-returns-4
 returns-4 c = rw (c .pushed .ensures) (made-lent _ _ _ _ _ _ _ (c .before .before .before .before .before .before .before .before .before .before .before .before .before .before .before .before .before .before .before .before .before .before .before .pre) _ _ _ _ (c .before .before .before .before .before .before .before .before .before .before .before .before .before .before .before .before .if1 .left) (c .before .before .before .before .before .before .before .before .before .before .before .before .before .before .if2 .left) (c .before .before .before .before .before .before .before .before .before .before .before .before .if3 .left) (c .before .before .before .before .before .before .before .link-all .ensures .0) (c .before .before .before .before .before .before .before .link-all .ensures .1))
 
 pub make-spec : {M : Type 1} → statement M
-make-spec = tie.close (tie.spec sub-items sub-if1 returns returns-2 returns-3 mul-first add-second mul-nodes slice-write-nodes mul-nodes-2 (λ c. search needs) slice-write-nodes-2 link-all-requires cast-stack mul-stack slice-write-stack add-pushed pushed-requires same-length same-length-2 same-length-3 same-length-4 returns-4)
+make-spec =
+    tie.close
+    (tie.spec
+    sub-items sub-if1 returns returns-2 returns-3 (λ c. search needs) (λ c. search needs) (λ c. search needs) slice-write-nodes mul-nodes-2
+    (λ c. search needs) slice-write-nodes-2 link-all-requires (λ c. search needs) (λ c. search needs) slice-write-stack (λ c. search needs)
+    (λ c κs. search needs) same-length (λ c. search needs) (λ c. search needs) (λ c. search needs) returns-4)

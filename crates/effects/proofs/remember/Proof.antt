@@ -2,9 +2,6 @@
 use borrow.Author.Needs.{needs}
 use Rattle.effects.proofs.remember.Statement.{statement}
 use Rattle.effects.proofs.remember.Tie as tie
-use Rattle.effects.proofs.remember.Reads as reads
-use Rattle.effects.proofs.remember.Lts as lts
-use Rattle.decoder.proofs.slot.Reads as slot-reads
 use native.Mathlib.Omega.{arith}
 use Rattle.effects.specs.Memo.{remember-room, remember-numbered, replaced-lent, full-lent, more-lent}
 
@@ -22,17 +19,8 @@ mul-held c = omega (arith, (remember-room _ _ _ _ _ (c .before .before .before .
 slice-write-held : tie.Need-slice-write-held
 slice-write-held c = omega (arith, (remember-room _ _ _ _ _ (c .before .before .before .before .before .before .before .pre)) .0, (remember-room _ _ _ _ _ (c .before .before .before .before .before .before .before .pre)) .2, c .before .if1 .taken)
 
-same-length : tie.Need-same-length
-same-length c = search needs
-
-same-length-2 : tie.Need-same-length-2
-same-length-2 c = search needs
-
 returns : tie.Need-returns
 returns c = replaced-lent _ _ _ _ _ _ (c .before .if1 .taken) (c .before .before .before .slot .ensures .2 (c .before .if1 .taken)) (c .before .before .before .slot .ensures .1)
-
-same-length-3 : tie.Need-same-length-3
-same-length-3 c = search needs
 
 returns-2 : tie.Need-returns-2
 returns-2 c = full-lent _ _ _ _ _ _ (c .before .before .before .before .slot .ensures .0) (c .before .before .if1 .left) (c .before .before .before .before .slot .ensures .1) (c .if2 .taken)
@@ -52,17 +40,13 @@ mul-held-2 c = omega (arith, c .before .before .before .before .before .slot .en
 slice-write-held-2 : tie.Need-slice-write-held-2
 slice-write-held-2 c = omega (arith, (remember-room _ _ _ _ _ (c .before .before .before .before .before .before .before .before .before .pre)) .2, c .before .before .before .before .before .slot .ensures .0, c .before .if2 .left)
 
-add-t14 : tie.Need-add-t14
-add-t14 c = search needs
-
-same-length-4 : tie.Need-same-length-4
-same-length-4 c = search needs
-
-same-length-5 : tie.Need-same-length-5
-same-length-5 c = search needs
-
 returns-3 : tie.Need-returns-3
 returns-3 c = rw (c .most .ensures) (more-lent _ _ _ _ _ _ (c .before .before .before .before .before .before .before .before .slot .ensures .0) (c .before .before .before .before .before .before .if1 .left) (c .before .before .before .before .before .before .before .before .slot .ensures .1) (c .before .before .before .before .if2 .left))
 
 pub remember-spec : {M : Type 1} → statement M
-remember-spec = tie.close (tie.spec slot-requires cast-held mul-held slice-write-held same-length same-length-2 returns same-length-3 returns-2 mul-keys slice-write-keys cast-held-2 mul-held-2 slice-write-held-2 add-t14 (λ c. search needs) (λ c. search needs) (λ c κs. search needs) same-length-4 same-length-5 returns-3)
+remember-spec =
+    tie.close
+    (tie.spec
+    slot-requires cast-held mul-held slice-write-held (λ c. search needs) (λ c. search needs) returns (λ c. search needs) returns-2 mul-keys
+    slice-write-keys cast-held-2 mul-held-2 slice-write-held-2 (λ c. search needs) (λ c. search needs) (λ c. search needs) (λ c κs. search needs)
+    (λ c. search needs) (λ c. search needs) returns-3)

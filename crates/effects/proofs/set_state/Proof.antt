@@ -2,9 +2,6 @@
 use borrow.Author.Needs.{needs}
 use Rattle.effects.proofs.set_state.Statement.{statement}
 use Rattle.effects.proofs.set_state.Tie as tie
-use Rattle.effects.proofs.set_state.Reads as reads
-use Rattle.effects.proofs.set_state.Lts as lts
-use Rattle.effects.proofs.with_state.Reads as with-state-reads
 use lib.ListN.{length-set}
 use native.Mathlib.Omega.{arith}
 use borrow.Author.Needs.{needs}
@@ -49,11 +46,12 @@ mul-nodes-3 c = omega (arith, (build-room _ _ _ _ (c .before .before .before .be
 slice-write-nodes-2 : tie.Need-slice-write-nodes-2
 slice-write-nodes-2 c = rw length-set (omega (arith, (build-room _ _ _ _ (c .before .before .before .before .before .pre)) .1, (build-room _ _ _ _ (c .before .before .before .before .before .pre)) .3))
 
-same-length : tie.Need-same-length
-same-length c = search needs
-
 returns : tie.Need-returns
 returns c = rw (c .with-state .ensures) (built-lent _ _ _ _)
 
 pub set-state-spec : {M : Type 1} → statement M
-set-state-spec = tie.close (tie.spec mul-first add-second mul-a slice-read-a mul-b slice-read-b with-state-requires mul-nodes slice-write-nodes mul-nodes-2 add-nodes mul-nodes-3 slice-write-nodes-2 same-length returns)
+set-state-spec =
+    tie.close
+    (tie.spec
+    mul-first add-second mul-a slice-read-a mul-b slice-read-b with-state-requires mul-nodes slice-write-nodes mul-nodes-2 add-nodes mul-nodes-3
+    slice-write-nodes-2 (λ c. search needs) returns)

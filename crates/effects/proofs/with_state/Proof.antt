@@ -2,8 +2,6 @@
 use borrow.Author.Needs.{needs}
 use Rattle.effects.proofs.with_state.Statement.{statement}
 use Rattle.effects.proofs.with_state.Tie as tie
-use Rattle.effects.proofs.with_state.Reads as reads
-use Rattle.effects.proofs.with_state.Lts as lts
 use borrow.Author.Tests.{eq-eqb, ne-eqb}
 use Rattle.value.specs.Shape.{stateIn}
 
@@ -11,12 +9,9 @@ returns : tie.Need-returns
 unfolding stateIn
 returns c = rw (eq-eqb _ 1 (c .if1 .taken))
 
-add-result : tie.Need-add-result
-add-result c = search needs
-
 returns-2 : tie.Need-returns-2
 unfolding stateIn
 returns-2 c = rw (ne-eqb _ 1 (c .if1 .left))
 
 pub with-state-spec : {M : Type 1} → statement M
-with-state-spec = tie.close (tie.spec returns add-result returns-2)
+with-state-spec = tie.close (tie.spec returns (λ c. search needs) returns-2)

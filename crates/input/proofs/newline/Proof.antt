@@ -15,9 +15,6 @@ Inv-loop pickle from i₀ i = newlineOf pickle i ≡ newlineOf pickle from
 abbrev μ-loop : tie.MeasureT-loop
 μ-loop pickle from i₀ i = length pickle - i
 
-loop-holds : tie.Need-loop-holds Inv-loop μ-loop
-loop-holds c = refl
-
 returns : tie.Need-returns Inv-loop μ-loop
 unfolding lineEnd
 returns c = sym (newline-end _ _ (c .if1 .taken)) ∙ c .before .loop .inv
@@ -30,4 +27,4 @@ unfolding lineEnd
 returns-2 c = sym (newline-hit _ _ (c .before .before .if1 .left) (c .if2 .taken)) ∙ c .before .before .before .loop .inv
 
 pub newline-spec : {M : Type 1} → statement M
-newline-spec = tie.close (tie.spec Inv-loop μ-loop loop-holds returns (λ c. search needs) (λ c. omega arith) (λ c. omega arith) loop-again returns-2)
+newline-spec = tie.close (tie.spec Inv-loop μ-loop (λ c. refl) returns (λ c. search needs) (λ c. omega arith) (λ c. omega arith) loop-again returns-2)

@@ -15,9 +15,6 @@ Inv-loop bytes from fill i₀ i = allAre fill (drop i bytes) ≡ allAre fill (dr
 abbrev μ-loop : tie.MeasureT-loop
 μ-loop bytes from fill i₀ i = length bytes - i
 
-loop-holds : tie.Need-loop-holds Inv-loop μ-loop
-loop-holds c = refl
-
 returns : tie.Need-returns Inv-loop μ-loop
 returns c = sym (all-miss _ _ _ (c .before .before .loop-test .taken) (c .if1 .taken)) ∙ c .before .before .before .loop .inv
 
@@ -28,4 +25,4 @@ returns-2 : tie.Need-returns-2 Inv-loop μ-loop
 returns-2 c = sym (all-end _ _ _ (c .loop-test .left)) ∙ c .before .loop .inv
 
 pub repeats-spec : {M : Type 1} → statement M
-repeats-spec = tie.close (tie.spec Inv-loop μ-loop loop-holds (λ c. search needs) returns (λ c. omega arith) (λ c. omega arith) loop-again returns-2)
+repeats-spec = tie.close (tie.spec Inv-loop μ-loop (λ c. refl) (λ c. search needs) returns (λ c. omega arith) (λ c. omega arith) loop-again returns-2)

@@ -17,23 +17,8 @@ abbrev μ-loop : tie.MeasureT-loop
 abbrev start : tie.At-loop Inv-loop μ-loop → tie.Start Inv-loop μ-loop
 start l = l .before
 
-loop-holds : tie.Need-loop-holds Inv-loop μ-loop
-loop-holds c = refl
-
-mul-n : tie.Need-mul-n Inv-loop μ-loop
-mul-n c = search needs
-
-shared-slice-read-n : tie.Need-shared-slice-read-n Inv-loop μ-loop
-shared-slice-read-n c = search needs
-
 returns : tie.Need-returns Inv-loop μ-loop
 returns c = let l = c .before .before .before in let a = start l .args in adding-over (a .lengths .now) (a .total) (l .loop .left) (l .loop .i) (l .loop .inv) (c .before .before .loop-test .taken) (omega (arith, c .if1 .taken))
-
-add-i : tie.Need-add-i Inv-loop μ-loop
-add-i c = search needs
-
-loop-less : tie.Need-loop-less Inv-loop μ-loop
-loop-less c = search needs
 
 loop-again : tie.Need-loop-again Inv-loop μ-loop
 loop-again c =
@@ -45,4 +30,7 @@ returns-2 : tie.Need-returns-2 Inv-loop μ-loop
 returns-2 c = let l = c .before in let a = start l .args in adding-end (a .lengths .now) (a .total) (l .loop .left) (l .loop .i) (l .loop .inv) (c .loop-test .left)
 
 pub add-up-spec : {M : Type 1} → statement M
-add-up-spec = tie.close (tie.spec Inv-loop μ-loop loop-holds mul-n shared-slice-read-n returns add-i loop-less loop-again returns-2)
+add-up-spec =
+    tie.close
+    (tie.spec
+    Inv-loop μ-loop (λ c. refl) (λ c. search needs) (λ c. search needs) returns (λ c. search needs) (λ c. search needs) loop-again returns-2)

@@ -26,27 +26,6 @@ free c = sym (c .enum-told3 .given .1) ∙ asked c .against .ensures
 returns : tie.Need-returns
 returns c = ended _ _ _ _ _ _ _ _ _ (c .if1 .taken)
 
-shared-slice-read-code : tie.Need-shared-slice-read-code
-shared-slice-read-code c = search needs
-
-add-t13 : tie.Need-add-t13
-add-t13 c = search needs
-
-against-requires : tie.Need-against-requires
-against-requires c κs = search needs
-
-enum-told : tie.Need-enum-told
-enum-told c = search needs
-
-enum-told-2 : tie.Need-enum-told-2
-enum-told-2 c = search needs
-
-enum-told-3 : tie.Need-enum-told-3
-enum-told-3 c = search needs
-
-pop-requires : tie.Need-pop-requires
-pop-requires c κs = tt
-
 pop-mark-requires : tie.Need-pop-mark-requires
 pop-mark-requires c κs = lent _ _ _ _ _ _ _ _ (asked (c .before) .before .before .if1 .left) _ (start (asked (c .before)) .pre) (λ r a. a .marks)
 
@@ -136,9 +115,6 @@ setitems-requires c κs = lent _ _ _ _ _ _ _ _ (asked (c .before) .before .befor
 
 binfloat-requires : tie.Need-binfloat-requires
 binfloat-requires c κs = lent _ _ _ _ _ _ _ _ (asked (c .before) .before .before .if1 .left) _ (start (asked (c .before)) .pre) (λ r a. a .pickle)
-
-highest-requires : tie.Need-highest-requires
-highest-requires c κs = search needs
 
 proto-requires : tie.Need-proto-requires
 proto-requires c κs = lent _ _ _ _ _ _ _ _ (asked (c .before .before) .before .before .if1 .left) _ (start (asked (c .before .before)) .pre) (λ r a. a .pickle)
@@ -345,4 +321,15 @@ unfolding numberOf numberIn isNamed place
 returns-49 c = unsupported _ _ _ _ _ _ _ _ _ (asked (c .before .before .before) .before .before .if1 .left) (free (c .before .before .before)) (no-name _ (c .before .before .match2 .rest) (λ x y. omega (arith, y, c .if3 .left)))
 
 pub decide-spec : {M : Type 1} → statement M
-decide-spec = tie.close (tie.spec returns shared-slice-read-code add-t13 against-requires enum-told enum-told-2 enum-told-3 pop-requires pop-mark-requires dup-requires float-requires int-requires binint-requires unsigned-requires long-requires unsigned-requires-2 reduce-requires string-requires binstring-requires short-binstring-requires unicode-requires binunicode-requires append-requires build-state-requires global-requires dict-requires appends-requires get-by-requires get-by-requires-2 get-by-requires-3 list-requires put-by-requires put-by-requires-2 put-by-requires-3 setitem-requires tuple-requires setitems-requires binfloat-requires highest-requires proto-requires newobj-requires long-n-requires long-n-requires-2 small-tuple-requires returns-2 returns-3 returns-4 returns-5 returns-6 returns-7 returns-8 returns-9 returns-10 returns-11 returns-12 returns-13 returns-14 returns-15 returns-16 returns-17 returns-18 returns-19 returns-20 returns-21 returns-22 returns-23 returns-24 returns-25 returns-26 returns-27 returns-28 returns-29 returns-30 returns-31 returns-32 returns-33 returns-34 returns-35 returns-36 returns-37 returns-38 returns-39 returns-40 returns-41 returns-42 returns-43 returns-44 returns-45 returns-46 returns-47 returns-48 returns-49)
+decide-spec =
+    tie.close
+    (tie.spec
+    returns (λ c. search needs) (λ c. search needs) (λ c κs. search needs) (λ c. search needs) (λ c. search needs) (λ c. search needs) (λ c κs. tt)
+    pop-mark-requires dup-requires float-requires int-requires binint-requires unsigned-requires long-requires unsigned-requires-2 reduce-requires
+    string-requires binstring-requires short-binstring-requires unicode-requires binunicode-requires append-requires build-state-requires global-requires
+    dict-requires appends-requires get-by-requires get-by-requires-2 get-by-requires-3 list-requires put-by-requires put-by-requires-2 put-by-requires-3
+    setitem-requires tuple-requires setitems-requires binfloat-requires (λ c κs. search needs) proto-requires newobj-requires long-n-requires
+    long-n-requires-2 small-tuple-requires returns-2 returns-3 returns-4 returns-5 returns-6 returns-7 returns-8 returns-9 returns-10 returns-11
+    returns-12 returns-13 returns-14 returns-15 returns-16 returns-17 returns-18 returns-19 returns-20 returns-21 returns-22 returns-23 returns-24
+    returns-25 returns-26 returns-27 returns-28 returns-29 returns-30 returns-31 returns-32 returns-33 returns-34 returns-35 returns-36 returns-37
+    returns-38 returns-39 returns-40 returns-41 returns-42 returns-43 returns-44 returns-45 returns-46 returns-47 returns-48 returns-49)

@@ -2,8 +2,6 @@
 use borrow.Author.Needs.{needs}
 use Rattle.machine.proofs.run.Statement.{statement}
 use Rattle.machine.proofs.run.Tie as tie
-use Rattle.machine.proofs.run.Reads as reads
-use Rattle.machine.proofs.run.Lts as lts
 use Prim.Native.Nat.{_-_}
 use mathlib.Core.Path.{refl, _∙_}
 use lib.ListN.{length}
@@ -22,17 +20,11 @@ loop-holds c = (running-start (c .before .before .before .before .before .before
 take-step-requires : tie.Need-take-step-requires Inv-loop μ-loop
 take-step-requires c κs = c .before .before .before .before .before .before .before .loop .inv .0 .sound
 
-enum-known-t : tie.Need-enum-known-t Inv-loop μ-loop
-enum-known-t c = search needs
-
 loop-less : tie.Need-loop-less Inv-loop μ-loop
 loop-less c = running-less _ _ _ _ _ (c .before .before .before .before .before .before .before .before .before .before .before .before .before .before .before .before .before .before .before .before .before .before .before .before .before .loop .inv .0) refl _ (rw (c .before .t .given .1) at (c .before .before .before .before .before .before .before .before .before .before .before .before .before .before .before .before .before .take-step .ensures))
 
 loop-again : tie.Need-loop-again Inv-loop μ-loop
 loop-again c = (running-next _ _ _ _ _ (c .before .before .before .before .before .before .before .before .before .before .before .before .before .before .before .before .before .before .before .before .before .before .before .before .before .loop .inv .0) refl _ (rw (c .before .t .given .1) at (c .before .before .before .before .before .before .before .before .before .before .before .before .before .before .before .before .before .take-step .ensures)), record { nodes = c .before .before .before .before .before .before .before .before .before .before .before .before .before .before .before .before .before .take-step .kept .1 .1 .0 ∙ c .before .before .before .before .before .before .before .before .before .before .before .before .before .before .before .before .before .before .before .before .before .before .before .before .before .loop .inv .1 .nodes; owners = c .before .before .before .before .before .before .before .before .before .before .before .before .before .before .before .before .before .take-step .kept .1 .1 .1 .0 ∙ c .before .before .before .before .before .before .before .before .before .before .before .before .before .before .before .before .before .before .before .before .before .before .before .before .before .loop .inv .1 .owners; children = c .before .before .before .before .before .before .before .before .before .before .before .before .before .before .before .before .before .take-step .kept .1 .1 .1 .1 .0 ∙ c .before .before .before .before .before .before .before .before .before .before .before .before .before .before .before .before .before .before .before .before .before .before .before .before .before .loop .inv .1 .children; stack = c .before .before .before .before .before .before .before .before .before .before .before .before .before .before .before .before .before .take-step .kept .1 .1 .1 .1 .1 .0 ∙ c .before .before .before .before .before .before .before .before .before .before .before .before .before .before .before .before .before .before .before .before .before .before .before .before .before .loop .inv .1 .stack; marks = c .before .before .before .before .before .before .before .before .before .before .before .before .before .before .before .before .before .take-step .kept .1 .1 .1 .1 .1 .1 .0 ∙ c .before .before .before .before .before .before .before .before .before .before .before .before .before .before .before .before .before .before .before .before .before .before .before .before .before .loop .inv .1 .marks; keys = c .before .before .before .before .before .before .before .before .before .before .before .before .before .before .before .before .before .take-step .kept .1 .1 .1 .1 .1 .1 .1 .0 ∙ c .before .before .before .before .before .before .before .before .before .before .before .before .before .before .before .before .before .before .before .before .before .before .before .before .before .loop .inv .1 .keys; held = c .before .before .before .before .before .before .before .before .before .before .before .before .before .before .before .before .before .take-step .kept .1 .1 .1 .1 .1 .1 .1 .1 .0 ∙ c .before .before .before .before .before .before .before .before .before .before .before .before .before .before .before .before .before .before .before .before .before .before .before .before .before .loop .inv .1 .held })
-
-enum-known-t-2 : tie.Need-enum-known-t-2 Inv-loop μ-loop
-enum-known-t-2 c = search needs
 
 same-length : tie.Need-same-length Inv-loop μ-loop
 same-length c = c .before .before .before .before .before .before .before .before .before .before .before .before .before .before .before .before .before .take-step .kept .1 .1 .0 ∙ c .before .before .before .before .before .before .before .before .before .before .before .before .before .before .before .before .before .before .before .before .before .before .before .before .before .loop .inv .1 .nodes
@@ -57,9 +49,6 @@ same-length-7 c = c .before .before .before .before .before .before .before .bef
 
 returns : tie.Need-returns Inv-loop μ-loop
 returns c = ran-stopped _ _ _ _ _ (c .before .before .before .before .before .before .before .before .before .before .before .before .before .before .before .before .before .before .before .before .before .before .before .before .before .loop .inv .0) refl _ (rw (c .before .t2 .given .1) at (c .before .before .before .before .before .before .before .before .before .before .before .before .before .before .before .before .before .take-step .ensures))
-
-enum-known-t-3 : tie.Need-enum-known-t-3 Inv-loop μ-loop
-enum-known-t-3 c = search needs
 
 same-length-8 : tie.Need-same-length-8 Inv-loop μ-loop
 same-length-8 c = c .before .before .before .before .before .before .before .before .before .before .before .before .before .before .before .before .before .take-step .kept .1 .1 .0 ∙ c .before .before .before .before .before .before .before .before .before .before .before .before .before .before .before .before .before .before .before .before .before .before .before .before .before .loop .inv .1 .nodes
@@ -86,4 +75,9 @@ returns-2 : tie.Need-returns-2 Inv-loop μ-loop
 returns-2 c = ran-refused _ _ _ _ _ (c .before .before .before .before .before .before .before .before .before .before .before .before .before .before .before .before .before .before .before .before .before .before .before .before .before .loop .inv .0) refl _ _ (rw (c .before .t3 .given .1) at (c .before .before .before .before .before .before .before .before .before .before .before .before .before .before .before .before .before .take-step .ensures))
 
 pub run-spec : {M : Type 1} → statement M
-run-spec = tie.close (tie.spec Inv-loop μ-loop loop-holds take-step-requires enum-known-t loop-less loop-again enum-known-t-2 same-length same-length-2 same-length-3 same-length-4 same-length-5 same-length-6 same-length-7 returns enum-known-t-3 same-length-8 same-length-9 same-length-10 same-length-11 same-length-12 same-length-13 same-length-14 returns-2)
+run-spec =
+    tie.close
+    (tie.spec
+    Inv-loop μ-loop loop-holds take-step-requires (λ c. search needs) loop-less loop-again (λ c. search needs) same-length same-length-2 same-length-3
+    same-length-4 same-length-5 same-length-6 same-length-7 returns (λ c. search needs) same-length-8 same-length-9 same-length-10 same-length-11
+    same-length-12 same-length-13 same-length-14 returns-2)

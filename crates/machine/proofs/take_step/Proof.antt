@@ -2,8 +2,6 @@
 use borrow.Author.Needs.{needs}
 use Rattle.machine.proofs.take_step.Statement.{statement}
 use Rattle.machine.proofs.take_step.Tie as tie
-use Rattle.machine.proofs.take_step.Reads as reads
-use Rattle.machine.proofs.take_step.Lts as lts
 use mathlib.Core.Path.{refl}
 use Rattle.decoder.specs.Effects.{Decides}
 use Rattle.machine.specs.Lent.{roomsOf}
@@ -16,27 +14,6 @@ apply-requires : tie.Need-apply-requires
 unfolding Decides
 apply-requires c κs = record { pickle = c .before .before .before .before .before .before .before .before .before .before .before .before .before .before .before .before .before .before .before .before .before .before .args .pickle .now; fits = c .before .before .before .before .before .before .before .decide .ensures (roomsOf (c .before .before .before .before .before .before .before .before .before .before .before .before .before .before .before .before .before .before .before .before .before .before .args .pickle .now) (c .before .before .before .before .before .before .before .before .before .before .before .before .before .before .before .before .before .before .before .before .before .before .args .nodes .now) (c .before .before .before .before .before .before .before .before .before .before .before .before .before .before .before .before .before .before .before .before .before .before .args .owners .now) (c .before .before .before .before .before .before .before .before .before .before .before .before .before .before .before .before .before .before .before .before .before .before .args .children .now) (c .before .before .before .before .before .before .before .before .before .before .before .before .before .before .before .before .before .before .before .before .before .before .args .stack .now) (c .before .before .before .before .before .before .before .before .before .before .before .before .before .before .before .before .before .before .before .before .before .before .args .marks .now) (c .before .before .before .before .before .before .before .before .before .before .before .before .before .before .before .before .before .before .before .before .before .before .args .keys .now) (c .before .before .before .before .before .before .before .before .before .before .before .before .before .before .before .before .before .before .before .before .before .before .args .held .now)) (c .before .before .before .before .before .before .before .before .before .before .before .before .before .before .before .before .before .before .before .before .before .before .pre) (record { pickle = refl; nodes = refl; children = refl; stack = refl; marks = refl; keys = refl; held = refl }) .fits }
 
-same-length : tie.Need-same-length
-same-length c = search needs
-
-same-length-2 : tie.Need-same-length-2
-same-length-2 c = search needs
-
-same-length-3 : tie.Need-same-length-3
-same-length-3 c = search needs
-
-same-length-4 : tie.Need-same-length-4
-same-length-4 c = search needs
-
-same-length-5 : tie.Need-same-length-5
-same-length-5 c = search needs
-
-same-length-6 : tie.Need-same-length-6
-same-length-6 c = search needs
-
-same-length-7 : tie.Need-same-length-7
-same-length-7 c = search needs
-
 returns : tie.Need-returns
 unfolding Decides Applies
 returns c =
@@ -44,4 +21,8 @@ returns c =
     rw (says .enacts) at (c .before .before .before .before .before .before .before .before .before .before .before .before .before .before .apply .ensures (c .before .before .before .before .before .before .before .before .before .before .before .before .before .before .before .before .before .before .before .before .before .before .before .before .before .before .before .before .before .before .before .before .before .before .before .before .before .args .pickle .now) (says .fits))
 
 pub take-step-spec : {M : Type 1} → statement M
-take-step-spec = tie.close (tie.spec decide-requires apply-requires same-length same-length-2 same-length-3 same-length-4 same-length-5 same-length-6 same-length-7 returns)
+take-step-spec =
+    tie.close
+    (tie.spec
+    decide-requires apply-requires (λ c. search needs) (λ c. search needs) (λ c. search needs) (λ c. search needs) (λ c. search needs) (λ c. search needs)
+    (λ c. search needs) returns)

@@ -54,9 +54,6 @@ returns-5 c =
     let start = at-loop .before .before in
     turn-over (start .args .text .now) (at-loop .loop .i) (at-loop .loop .n) (start .args .most) (at-loop-test .loop-test .taken) (omega arith) (omega arith) (omega arith) ∙ at-loop .loop .inv .0
 
-loop-less : tie.Need-loop-less Inv-loop μ-loop
-loop-less c = omega arith
-
 loop-again : tie.Need-loop-again Inv-loop μ-loop
 loop-again c =
     let at-loop-test = c .before .before .before .before .before in
@@ -88,6 +85,6 @@ natural-spec =
     returns-5
     (λ c. search needs)
     (λ c. search needs)
-    loop-less
+    (λ c. omega arith)
     loop-again
     returns-6)

@@ -16,9 +16,6 @@ loop-holds c = counted-none (c .args .n) (omega arith)
 add-count : tie.Need-add-count Inv-loop μ-loop
 add-count c = omega (arith, c .before .loop .inv .few)
 
-loop-less : tie.Need-loop-less Inv-loop μ-loop
-loop-less c = omega arith
-
 loop-again : tie.Need-loop-again Inv-loop μ-loop
 loop-again c = counted-more (c .before .before .args .n) (c .before .loop .rest) (c .before .loop .count) (c .loop-test .taken) (c .before .loop .inv)
 
@@ -33,6 +30,6 @@ digits-spec =
     μ-loop
     loop-holds
     add-count
-    loop-less
+    (λ c. omega arith)
     loop-again
     returns)

@@ -19,12 +19,6 @@ abbrev μ-loop : tie.MeasureT-loop
 loop-holds : tie.Need-loop-holds Inv-loop μ-loop
 loop-holds c = (refl, omega arith, refl)
 
-sub-places : tie.Need-sub-places Inv-loop μ-loop
-sub-places c = omega arith
-
-rem-digit : tie.Need-rem-digit Inv-loop μ-loop
-rem-digit c = omega arith
-
 digit-requires : tie.Need-digit-requires Inv-loop μ-loop
 digit-requires c κs = omega (arith, mod-lt (c .before .loop .rest) (c .before .before .before .pre .0))
 
@@ -33,12 +27,6 @@ add-output c = omega (arith, c .before .before .before .before .pre .1 .1 .fits,
 
 slice-write-output : tie.Need-slice-write-output Inv-loop μ-loop
 slice-write-output c = omega (arith, c .before .before .before .before .pre .1 .1 .fits, figures-length (c .before .before .before .before .args .base) (c .before .before .before .before .args .count) (c .before .before .before .before .args .n), c .before .before .loop .inv .1, c .before .before .loop .inv .2)
-
-div-rest : tie.Need-div-rest Inv-loop μ-loop
-div-rest c = omega arith
-
-loop-less : tie.Need-loop-less Inv-loop μ-loop
-loop-less c = omega arith
 
 loop-again : tie.Need-loop-again Inv-loop μ-loop
 loop-again c = (figures-turn (c .before .before .loop .output) _ (c .before .before .before .before .args .at) (c .before .before .before .before .args .base) (c .before .before .loop .places) (c .before .before .loop .rest) _ (c .before .loop-test .taken) (c .digit .ensures) refl ∙ c .before .before .loop .inv .0, omega arith, length-set (c .before .before .loop .output) (c .before .before .before .before .args .at + (c .before .before .loop .places - 1)) _ ∙ c .before .before .loop .inv .2)
@@ -59,13 +47,13 @@ put-figures-spec =
     Inv-loop
     μ-loop
     loop-holds
-    sub-places
-    rem-digit
+    (λ c. omega arith)
+    (λ c. omega arith)
     digit-requires
     add-output
     slice-write-output
-    div-rest
-    loop-less
+    (λ c. omega arith)
+    (λ c. omega arith)
     loop-again
     add-result
     same-length

@@ -1,6 +1,5 @@
 -- `output::put_run` meets its contract: what is copied into a part of the output is stored from its start on. Assumes nothing.
 use borrow.Author.Needs.{needs}
-use mathlib.Core.Path.{_≡_}
 use Rattle.output.proofs.Laws.{run-put}
 use Rattle.output.proofs.put_run.Statement.{statement}
 use Rattle.output.proofs.put_run.Tie as tie

@@ -8,9 +8,6 @@ use Rattle.pickle.proofs.qelemvir_from_bytes.Tie as tie
 abbrev called : tie.After-slice-known26 → tie.After-reading
 called c = c .before .before .before .before .before .before .before .before .before .before .before .before .before .before .before .before .before .before .before .before .before .before .before .before .before .before
 
-reading-requires : tie.Need-reading-requires
-reading-requires c κs = search needs
-
 same-length : tie.Need-same-length
 same-length c = called c .reading .kept .1 .1 .1 .0
 
@@ -55,4 +52,8 @@ unfolding due
 returns c = called c .reading .ensures
 
 pub qelemvir-from-bytes-spec : {M : Type 1} → statement M
-qelemvir-from-bytes-spec = tie.close (tie.spec reading-requires same-length same-length-2 same-length-3 same-length-4 same-length-5 same-length-6 same-length-7 same-length-8 same-length-9 same-length-10 same-length-11 same-length-12 same-length-13 returns)
+qelemvir-from-bytes-spec =
+    tie.close
+    (tie.spec
+    (λ c κs. search needs) same-length same-length-2 same-length-3 same-length-4 same-length-5 same-length-6 same-length-7 same-length-8 same-length-9
+    same-length-10 same-length-11 same-length-12 same-length-13 returns)

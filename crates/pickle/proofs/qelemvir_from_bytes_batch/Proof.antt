@@ -6,9 +6,6 @@ use Rattle.pickle.proofs.qelemvir_from_bytes_batch.Tie as tie
 abbrev called : tie.After-slice-known28 → tie.After-from-bytes-batch
 called c = c .before .before .before .before .before .before .before .before .before .before .before .before .before .before .before .before .before .before .before .before .before .before .before .before .before .before .before .before
 
-from-bytes-batch-requires : tie.Need-from-bytes-batch-requires
-from-bytes-batch-requires c κs = tt
-
 same-length : tie.Need-same-length
 same-length c = called c .from-bytes-batch .kept .1 .1 .0
 
@@ -55,4 +52,8 @@ returns : tie.Need-returns
 returns c = called c .from-bytes-batch .ensures
 
 pub qelemvir-from-bytes-batch-spec : {M : Type 1} → statement M
-qelemvir-from-bytes-batch-spec = tie.close (tie.spec from-bytes-batch-requires same-length same-length-2 same-length-3 same-length-4 same-length-5 same-length-6 same-length-7 same-length-8 same-length-9 same-length-10 same-length-11 same-length-12 same-length-13 same-length-14 returns)
+qelemvir-from-bytes-batch-spec =
+    tie.close
+    (tie.spec
+    (λ c κs. tt) same-length same-length-2 same-length-3 same-length-4 same-length-5 same-length-6 same-length-7 same-length-8 same-length-9
+    same-length-10 same-length-11 same-length-12 same-length-13 same-length-14 returns)

@@ -10,20 +10,8 @@ use Rattle.produce.specs.Steps.{spelt-all, outputs, decoded-fits, decode
 decode-all-requires : tie.Need-decode-all-requires
 decode-all-requires c κs = decodable (c .before .before .before .before .before .before .before .before .before .before .before .before .before .pre .0 .are) _ (c .before .before .before .before .before .before .before .before .before .before .before .before .before .pre .1 .decoded-zero)
 
-sub-write-all : tie.Need-sub-write-all
-sub-write-all c = search needs
-
-part-write-all-start : tie.Need-part-write-all-start
-part-write-all-start c = search needs
-
 part-write-all-end : tie.Need-part-write-all-end
 part-write-all-end c = zeros-long (c .before .before .before .before .before .before .before .before .before .before .before .before .before .before .before .before .before .before .before .before .before .pre .1 .log-zero)
-
-sub-write-all-2 : tie.Need-sub-write-all-2
-sub-write-all-2 c = search needs
-
-part-write-all-start-2 : tie.Need-part-write-all-start-2
-part-write-all-start-2 c = search needs
 
 part-write-all-end-2 : tie.Need-part-write-all-end-2
 part-write-all-end-2 c = zeros-long (c .before .before .before .before .before .before .before .before .before .before .before .before .before .before .before .before .before .before .before .before .before .before .pre .1 .list-zero)
@@ -34,27 +22,6 @@ write-all-requires c κs = (spelt-all (c .before .before .before .before .before
 clear-bytes-requires : tie.Need-clear-bytes-requires
 clear-bytes-requires c κs = decoded-fits (c .before .before .before .before .before .before .before .before .before .before .before .before .before .before .before .before .before .before .before .before .before .before .before .before .before .before .before .before .before .before .before .before .before .before .before .before .before .before .before .pre .0) (c .before .before .before .before .before .before .before .before .before .before .before .before .before .before .before .before .before .before .before .before .before .before .before .before .before .before .before .before .before .before .before .before .before .before .before .before .before .before .before .pre .1) (c .before .before .before .before .before .before .before .before .before .before .before .before .before .before .before .before .before .before .before .before .before .before .before .before .before .decode-all .ensures)
 
-same-length : tie.Need-same-length
-same-length c = search needs
-
-same-length-2 : tie.Need-same-length-2
-same-length-2 c = search needs
-
-same-length-3 : tie.Need-same-length-3
-same-length-3 c = search needs
-
-same-length-4 : tie.Need-same-length-4
-same-length-4 c = search needs
-
-same-length-5 : tie.Need-same-length-5
-same-length-5 c = search needs
-
-same-length-6 : tie.Need-same-length-6
-same-length-6 c = search needs
-
-same-length-7 : tie.Need-same-length-7
-same-length-7 c = search needs
-
 returns : tie.Need-returns
 returns c = (produces (c .before .before .before .before .before .before .before .before .before .before .before .before .before .before .before .before .before .before .before .before .before .before .before .before .before .before .before .before .before .before .before .before .before .before .before .before .before .before .before .before .before .before .pre .0) (c .before .before .before .before .before .before .before .before .before .before .before .before .before .before .before .before .before .before .before .before .before .before .before .before .before .before .before .before .before .before .before .before .before .before .before .before .before .before .before .before .before .before .pre .1) (c .before .before .before .before .before .before .before .before .before .before .before .before .before .before .before .before .before .before .before .before .before .before .before .before .before .before .before .before .decode-all .ensures) (c .before .before .before .before .before .before .before .before .before .before .before .before .before .before .before .before .write-all .ensures .0), record { decoded-same = c .before .before .clear-bytes .ensures ∙ decoded-again (c .before .before .before .before .before .before .before .before .before .before .before .before .before .before .before .before .before .before .before .before .before .before .before .before .before .before .before .before .before .before .before .before .before .before .before .before .before .before .before .before .before .before .pre .0) (c .before .before .before .before .before .before .before .before .before .before .before .before .before .before .before .before .before .before .before .before .before .before .before .before .before .before .before .before .before .before .before .before .before .before .before .before .before .before .before .before .before .before .pre .1) (c .before .before .before .before .before .before .before .before .before .before .before .before .before .before .before .before .before .before .before .before .before .before .before .before .before .before .before .before .decode-all .ensures); log-same = part-again 8192 _ _ (c .before .before .before .before .before .before .before .before .before .before .before .before .before .before .before .before .write-all .ensures .1 .0); list-same = part-again 2048 _ _ (c .before .before .before .before .before .before .before .before .before .before .before .before .before .before .before .before .write-all .ensures .1 .1) })
 
@@ -63,19 +30,19 @@ produce-spec =
     tie.close
     (tie.spec
     decode-all-requires
-    sub-write-all
-    part-write-all-start
+    (λ c. search needs)
+    (λ c. search needs)
     part-write-all-end
-    sub-write-all-2
-    part-write-all-start-2
+    (λ c. search needs)
+    (λ c. search needs)
     part-write-all-end-2
     write-all-requires
     clear-bytes-requires
-    same-length
-    same-length-2
-    same-length-3
-    same-length-4
-    same-length-5
-    same-length-6
-    same-length-7
+    (λ c. search needs)
+    (λ c. search needs)
+    (λ c. search needs)
+    (λ c. search needs)
+    (λ c. search needs)
+    (λ c. search needs)
+    (λ c. search needs)
     returns)

@@ -1,14 +1,10 @@
 -- `replay_machine::all` is safe, and ends after a million cases at the latest. Assumes nothing.
 use Rattle.replay_machine.proofs.all.Statement.{statement}
 use Rattle.replay_machine.proofs.all.Tie as tie
-use Rattle.replay_machine.proofs.all.Reads as reads
-use Rattle.replay_machine.proofs.all.Lts as lts
-use Rattle.replay_machine.proofs.one.Reads as one-reads
 use Prim.Native.Nat.{_≤_, _-_}
 use mathlib.Core.Path.{_≡_}
 use borrow.Author.Needs.{needs}
 use lib.ListN.{length}
-use native.Mathlib.Omega.{arith}
 
 abbrev Inv-loop : tie.InvT-loop
 Inv-loop room₀ counter₀ room counter = (counter ≤ 1000000) × (length room ≡ length room₀)
@@ -16,32 +12,9 @@ Inv-loop room₀ counter₀ room counter = (counter ≤ 1000000) × (length room
 abbrev μ-loop : tie.MeasureT-loop
 μ-loop room₀ counter₀ room counter = 1000000 - counter
 
-loop-holds : tie.Need-loop-holds Inv-loop μ-loop
-loop-holds c = search needs
-
-one-requires : tie.Need-one-requires Inv-loop μ-loop
-one-requires c κs = search needs
-
-same-length : tie.Need-same-length Inv-loop μ-loop
-same-length c = search needs
-
-returns : tie.Need-returns Inv-loop μ-loop
-returns c = search needs
-
-add-counter : tie.Need-add-counter Inv-loop μ-loop
-add-counter c = search needs
-
-loop-less : tie.Need-loop-less Inv-loop μ-loop
-loop-less c = search needs
-
-loop-again : tie.Need-loop-again Inv-loop μ-loop
-loop-again c = search needs
-
-same-length-2 : tie.Need-same-length-2 Inv-loop μ-loop
-same-length-2 c = search needs
-
-returns-2 : tie.Need-returns-2 Inv-loop μ-loop
-returns-2 c = search needs
-
 pub all-spec : {M : Type 1} → statement M
-all-spec = tie.close (tie.spec Inv-loop μ-loop loop-holds one-requires same-length returns add-counter loop-less loop-again same-length-2 returns-2)
+all-spec =
+    tie.close
+    (tie.spec
+    Inv-loop μ-loop (λ c. search needs) (λ c κs. search needs) (λ c. search needs) (λ c. search needs) (λ c. search needs) (λ c. search needs)
+    (λ c. search needs) (λ c. search needs) (λ c. search needs))

@@ -1,10 +1,6 @@
 -- The run with its counts shown: the rooms stay sound, and each step reads on. Assumes nothing.
 use Rattle.replay_machine.proofs.steps.Statement.{statement}
 use Rattle.replay_machine.proofs.steps.Tie as tie
-use Rattle.replay_machine.proofs.steps.Reads as reads
-use Rattle.replay_machine.proofs.steps.Lts as lts
-use Rattle.machine.proofs.take_step.Reads as take-step-reads
-use Rattle.replay_machine.proofs.show_step.Reads as show-step-reads
 use borrow.Author.Needs.{needs}
 use Prim.Native.Nat.{_-_}
 use mathlib.Core.Path.{refl, _∙_}
@@ -29,17 +25,11 @@ show-step-requires c κs = shown _ _ (c .loop .inv .0)
 take-step-requires : tie.Need-take-step-requires Inv-loop μ-loop
 take-step-requires c κs = c .before .before .before .before .before .before .before .before .loop .inv .0
 
-enum-known-t : tie.Need-enum-known-t Inv-loop μ-loop
-enum-known-t c = search needs
-
 loop-less : tie.Need-loop-less Inv-loop μ-loop
 loop-less c = step-further _ _ _ _ (c .before .before .before .before .before .before .before .before .before .before .before .before .before .before .before .before .before .before .before .before .before .before .before .before .before .before .loop .inv .0) _ (rw (c .before .t .given .1) at (c .before .before .before .before .before .before .before .before .before .before .before .before .before .before .before .before .before .take-step .ensures)) refl
 
 loop-again : tie.Need-loop-again Inv-loop μ-loop
 loop-again c = (step-sound _ _ _ _ (c .before .before .before .before .before .before .before .before .before .before .before .before .before .before .before .before .before .before .before .before .before .before .before .before .before .before .loop .inv .0) _ (rw (c .before .t .given .1) at (c .before .before .before .before .before .before .before .before .before .before .before .before .before .before .before .before .before .take-step .ensures)), record { nodes = c .before .before .before .before .before .before .before .before .before .before .before .before .before .before .before .before .before .take-step .kept .1 .1 .0 ∙ c .before .before .before .before .before .before .before .before .before .before .before .before .before .before .before .before .before .before .before .before .before .before .before .before .before .before .loop .inv .1 .nodes; owners = c .before .before .before .before .before .before .before .before .before .before .before .before .before .before .before .before .before .take-step .kept .1 .1 .1 .0 ∙ c .before .before .before .before .before .before .before .before .before .before .before .before .before .before .before .before .before .before .before .before .before .before .before .before .before .before .loop .inv .1 .owners; children = c .before .before .before .before .before .before .before .before .before .before .before .before .before .before .before .before .before .take-step .kept .1 .1 .1 .1 .0 ∙ c .before .before .before .before .before .before .before .before .before .before .before .before .before .before .before .before .before .before .before .before .before .before .before .before .before .before .loop .inv .1 .children; stack = c .before .before .before .before .before .before .before .before .before .before .before .before .before .before .before .before .before .take-step .kept .1 .1 .1 .1 .1 .0 ∙ c .before .before .before .before .before .before .before .before .before .before .before .before .before .before .before .before .before .before .before .before .before .before .before .before .before .before .loop .inv .1 .stack; marks = c .before .before .before .before .before .before .before .before .before .before .before .before .before .before .before .before .before .take-step .kept .1 .1 .1 .1 .1 .1 .0 ∙ c .before .before .before .before .before .before .before .before .before .before .before .before .before .before .before .before .before .before .before .before .before .before .before .before .before .before .loop .inv .1 .marks; keys = c .before .before .before .before .before .before .before .before .before .before .before .before .before .before .before .before .before .take-step .kept .1 .1 .1 .1 .1 .1 .1 .0 ∙ c .before .before .before .before .before .before .before .before .before .before .before .before .before .before .before .before .before .before .before .before .before .before .before .before .before .before .loop .inv .1 .keys; held = c .before .before .before .before .before .before .before .before .before .before .before .before .before .before .before .before .before .take-step .kept .1 .1 .1 .1 .1 .1 .1 .1 .0 ∙ c .before .before .before .before .before .before .before .before .before .before .before .before .before .before .before .before .before .before .before .before .before .before .before .before .before .before .loop .inv .1 .held })
-
-enum-known-t-2 : tie.Need-enum-known-t-2 Inv-loop μ-loop
-enum-known-t-2 c = search needs
 
 same-length : tie.Need-same-length Inv-loop μ-loop
 same-length c = c .before .before .before .before .before .before .before .before .before .before .before .before .before .before .before .before .before .take-step .kept .1 .1 .0 ∙ c .before .before .before .before .before .before .before .before .before .before .before .before .before .before .before .before .before .before .before .before .before .before .before .before .before .before .loop .inv .1 .nodes
@@ -62,12 +52,6 @@ same-length-6 c = c .before .before .before .before .before .before .before .bef
 same-length-7 : tie.Need-same-length-7 Inv-loop μ-loop
 same-length-7 c = c .before .before .before .before .before .before .before .before .before .before .before .before .before .before .before .before .before .take-step .kept .1 .1 .1 .1 .1 .1 .1 .1 .0 ∙ c .before .before .before .before .before .before .before .before .before .before .before .before .before .before .before .before .before .before .before .before .before .before .before .before .before .before .loop .inv .1 .held
 
-returns : tie.Need-returns Inv-loop μ-loop
-returns c = search needs
-
-enum-known-t-3 : tie.Need-enum-known-t-3 Inv-loop μ-loop
-enum-known-t-3 c = search needs
-
 same-length-8 : tie.Need-same-length-8 Inv-loop μ-loop
 same-length-8 c = c .before .before .before .before .before .before .before .before .before .before .before .before .before .before .before .before .before .take-step .kept .1 .1 .0 ∙ c .before .before .before .before .before .before .before .before .before .before .before .before .before .before .before .before .before .before .before .before .before .before .before .before .before .before .loop .inv .1 .nodes
 
@@ -89,8 +73,10 @@ same-length-13 c = c .before .before .before .before .before .before .before .be
 same-length-14 : tie.Need-same-length-14 Inv-loop μ-loop
 same-length-14 c = c .before .before .before .before .before .before .before .before .before .before .before .before .before .before .before .before .before .take-step .kept .1 .1 .1 .1 .1 .1 .1 .1 .0 ∙ c .before .before .before .before .before .before .before .before .before .before .before .before .before .before .before .before .before .before .before .before .before .before .before .before .before .before .loop .inv .1 .held
 
-returns-2 : tie.Need-returns-2 Inv-loop μ-loop
-returns-2 c = search needs
-
 pub steps-spec : {M : Type 1} → statement M
-steps-spec = tie.close (tie.spec Inv-loop μ-loop loop-holds show-step-requires take-step-requires enum-known-t loop-less loop-again enum-known-t-2 same-length same-length-2 same-length-3 same-length-4 same-length-5 same-length-6 same-length-7 returns enum-known-t-3 same-length-8 same-length-9 same-length-10 same-length-11 same-length-12 same-length-13 same-length-14 returns-2)
+steps-spec =
+    tie.close
+    (tie.spec
+    Inv-loop μ-loop loop-holds show-step-requires take-step-requires (λ c. search needs) loop-less loop-again (λ c. search needs) same-length
+    same-length-2 same-length-3 same-length-4 same-length-5 same-length-6 same-length-7 (λ c. search needs) (λ c. search needs) same-length-8
+    same-length-9 same-length-10 same-length-11 same-length-12 same-length-13 same-length-14 (λ c. search needs))

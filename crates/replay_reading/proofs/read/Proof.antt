@@ -10,9 +10,6 @@ whole c = c .before .before .before .before .before .before .before .before .bef
 abbrev prefix : tie.After-slice-known39 → tie.After-qelemvir-from-bytes-prefix
 prefix c = c .before .before .before .before .before .before .before .before .before .before .before .before .before .before .before .before .before .before .before .before .before .before .before .before .before .before
 
-qelemvir-from-bytes-requires : tie.Need-qelemvir-from-bytes-requires
-qelemvir-from-bytes-requires c κs = search needs
-
 same-length : tie.Need-same-length
 same-length c = whole c .qelemvir-from-bytes .kept .1 .0
 
@@ -51,12 +48,6 @@ same-length-12 c = whole c .qelemvir-from-bytes .kept .1 .1 .1 .1 .1 .1 .1 .1 .1
 
 same-length-13 : tie.Need-same-length-13
 same-length-13 c = whole c .qelemvir-from-bytes .kept .1 .1 .1 .1 .1 .1 .1 .1 .1 .1 .1 .1 .1 .0
-
-returns : tie.Need-returns
-returns c = search needs
-
-qelemvir-from-bytes-prefix-requires : tie.Need-qelemvir-from-bytes-prefix-requires
-qelemvir-from-bytes-prefix-requires c κs = search needs
 
 same-length-14 : tie.Need-same-length-14
 same-length-14 c = prefix c .qelemvir-from-bytes-prefix .kept .1 .0
@@ -97,8 +88,11 @@ same-length-25 c = prefix c .qelemvir-from-bytes-prefix .kept .1 .1 .1 .1 .1 .1 
 same-length-26 : tie.Need-same-length-26
 same-length-26 c = prefix c .qelemvir-from-bytes-prefix .kept .1 .1 .1 .1 .1 .1 .1 .1 .1 .1 .1 .1 .1 .0
 
-returns-2 : tie.Need-returns-2
-returns-2 c = search needs
-
 pub read-spec : {M : Type 1} → statement M
-read-spec = tie.close (tie.spec qelemvir-from-bytes-requires same-length same-length-2 same-length-3 same-length-4 same-length-5 same-length-6 same-length-7 same-length-8 same-length-9 same-length-10 same-length-11 same-length-12 same-length-13 returns qelemvir-from-bytes-prefix-requires same-length-14 same-length-15 same-length-16 same-length-17 same-length-18 same-length-19 same-length-20 same-length-21 same-length-22 same-length-23 same-length-24 same-length-25 same-length-26 returns-2)
+read-spec =
+    tie.close
+    (tie.spec
+    (λ c κs. search needs) same-length same-length-2 same-length-3 same-length-4 same-length-5 same-length-6 same-length-7 same-length-8 same-length-9
+    same-length-10 same-length-11 same-length-12 same-length-13 (λ c. search needs) (λ c κs. search needs) same-length-14 same-length-15 same-length-16
+    same-length-17 same-length-18 same-length-19 same-length-20 same-length-21 same-length-22 same-length-23 same-length-24 same-length-25 same-length-26
+    (λ c. search needs))

@@ -6,12 +6,6 @@ use mathlib.Core.Path.{sym}
 use native.Mathlib.Omega.{arith}
 use Rattle.resolve.specs.Blocked.{held-other, held-none, held-first}
 
-mul-first : tie.Need-mul-first
-mul-first c = search needs
-
-shared-slice-read-first : tie.Need-shared-slice-read-first
-shared-slice-read-first c = search needs
-
 cast-first : tie.Need-cast-first
 cast-first c = omega (arith, c .shared-slice-known .given (c .before .before .before .args .at))
 
@@ -36,4 +30,4 @@ returns-3 : tie.Need-returns-3
 returns-3 c = sym (held-none _ _ _ _ _ (c .if2 .left))
 
 pub blocked-spec : {M : Type 1} → statement M
-blocked-spec = tie.close (tie.spec mul-first shared-slice-read-first cast-first mul-result shared-slice-read-result returns returns-2 returns-3)
+blocked-spec = tie.close (tie.spec (λ c. search needs) (λ c. search needs) cast-first mul-result shared-slice-read-result returns returns-2 returns-3)

@@ -10,47 +10,27 @@ known-requires c κs =
     let b = c .before .before .before .before .before .before .before .pre in
     (root-reads b, omega (arith, b .below, b .many))
 
-enum-known-w : tie.Need-enum-known-w
-enum-known-w c = search needs
-
-enum-told : tie.Need-enum-told
-enum-told c = search needs
-
-enum-told-2 : tie.Need-enum-told-2
-enum-told-2 c = search needs
-
 measure-requires : tie.Need-measure-requires
 measure-requires c κs =
     let b = c .before .before .before .before .before .before .before .before .before .before .before .before .before .before .before .pre in
     let r = c .before .before .before .enum-told2 .given .1 in
     ((omega arith, omega arith), root-open b _ (rw r at (c .before .before .before .before .before .before .before .known .ensures)))
 
-same-length : tie.Need-same-length
-same-length c = search needs
-
 returns : tie.Need-returns
 unfolding Roots
 returns c = λ b. let r = c .before .w .given .1 in root-word b _ _ (rw r at (c .before .before .before .before .before .known .ensures))
 
-same-length-2 : tie.Need-same-length-2
-same-length-2 c = search needs
-
 returns-2 : tie.Need-returns-2
 unfolding Roots
 returns-2 c = λ b. let r = c .enum-told .given .1 in absurd (root-empty b _ (rw r at (c .before .before .before .before .known .ensures)))
-
-same-length-3 : tie.Need-same-length-3
-same-length-3 c = search needs
-
-same-length-4 : tie.Need-same-length-4
-same-length-4 c = search needs
-
-same-length-5 : tie.Need-same-length-5
-same-length-5 c = search needs
 
 returns-3 : tie.Need-returns-3
 unfolding Roots
 returns-3 c = λ b. let r = c .before .before .before .before .before .before .before .before .before .before .enum-told2 .given .1 in root-walk b _ (rw r at (c .before .before .before .before .before .before .before .before .before .before .before .before .before .before .known .ensures)) _ _ _ _ (c .before .before .before .before .before .before .measure .ensures)
 
 pub measure-root-spec : {M : Type 1} → statement M
-measure-root-spec = tie.close (tie.spec known-requires enum-known-w enum-told enum-told-2 measure-requires same-length returns same-length-2 returns-2 same-length-3 same-length-4 same-length-5 returns-3)
+measure-root-spec =
+    tie.close
+    (tie.spec
+    known-requires (λ c. search needs) (λ c. search needs) (λ c. search needs) measure-requires (λ c. search needs) returns (λ c. search needs) returns-2
+    (λ c. search needs) (λ c. search needs) (λ c. search needs) returns-3)

@@ -2,25 +2,15 @@
 use borrow.Author.Needs.{needs}
 use Rattle.resolve.proofs.names_len.Statement.{statement}
 use Rattle.resolve.proofs.names_len.Tie as tie
-use Rattle.resolve.proofs.names_len.Reads as reads
-use Rattle.resolve.proofs.names_len.Lts as lts
-use Rattle.resolve.proofs.cut.Reads as cut-reads
-use Rattle.utf8.proofs.repaired_len.Reads as repaired-len-reads
 use Prim.Native.Nat.{_^_, _/_, _%_}
 use native.Mathlib.Omega.{arith}
 use Rattle.resolve.specs.Length.{cut-short, names-len, names-short}
-
-cut-requires : tie.Need-cut-requires
-cut-requires c κs = search needs
 
 repaired-len-requires : tie.Need-repaired-len-requires
 repaired-len-requires c κs =
     let s = c .before .before in
     let a = s .args in
     cut-short (a .pickle .now) (a .a / 16 % 2 ^ 24) (a .a / 16 / 2 ^ 24) 65536 _ (s .pre) (c .cut .ensures)
-
-cut-requires-2 : tie.Need-cut-requires-2
-cut-requires-2 c κs = search needs
 
 repaired-len-requires-2 : tie.Need-repaired-len-requires-2
 repaired-len-requires-2 c κs =
@@ -41,4 +31,4 @@ returns c =
     names-len (a .pickle .now) (a .a) (a .b) _ _ _ _ (c .before .before .before .cut .ensures) (c .before .before .repaired-len .ensures) (c .before .cut2 .ensures) (c .repaired-len2 .ensures)
 
 pub names-len-spec : {M : Type 1} → statement M
-names-len-spec = tie.close (tie.spec cut-requires repaired-len-requires cut-requires-2 repaired-len-requires-2 add-result returns)
+names-len-spec = tie.close (tie.spec (λ c κs. search needs) repaired-len-requires (λ c κs. search needs) repaired-len-requires-2 add-result returns)

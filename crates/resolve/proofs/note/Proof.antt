@@ -13,35 +13,15 @@ returns c = note-low _ _ _ (c .if1 .taken)
 returns-2 : tie.Need-returns-2
 returns-2 c = note-high _ _ _ (c .before .if1 .left) (c .if2 .taken)
 
-slice-read-count : tie.Need-slice-read-count
-slice-read-count c = search needs
-
-cast-count : tie.Need-cast-count
-cast-count c = search needs
-
-add-count : tie.Need-add-count
-add-count c = search needs
-
-cast-dues : tie.Need-cast-dues
-cast-dues c = search needs
-
-mul-dues : tie.Need-mul-dues
-mul-dues c = search needs
-
-slice-write-dues : tie.Need-slice-write-dues
-slice-write-dues c = search needs
-
-cast-dues-2 : tie.Need-cast-dues-2
-cast-dues-2 c = search needs
-
 slice-write-dues-2 : tie.Need-slice-write-dues-2
 slice-write-dues-2 c = let s = c .before .before .before .before in simp length-set (omega (arith, s .pre))
-
-same-length : tie.Need-same-length
-same-length c = search needs
 
 returns-3 : tie.Need-returns-3
 returns-3 c = note-due _ _ _ _ refl (c .before .before .before .if1 .left) (c .before .before .if2 .left)
 
 pub note-spec : {M : Type 1} → statement M
-note-spec = tie.close (tie.spec returns returns-2 slice-read-count cast-count add-count cast-dues mul-dues slice-write-dues cast-dues-2 slice-write-dues-2 same-length returns-3)
+note-spec =
+    tie.close
+    (tie.spec
+    returns returns-2 (λ c. search needs) (λ c. search needs) (λ c. search needs) (λ c. search needs) (λ c. search needs) (λ c. search needs)
+    (λ c. search needs) slice-write-dues-2 (λ c. search needs) returns-3)

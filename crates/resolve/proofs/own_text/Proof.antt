@@ -12,15 +12,6 @@ returns c =
     let a = s .args in
     own-none (a .pickle .now) (a .nodes .now) (a .marks .now) (a .node .0) (a .kind) (s .pre) (c .if1 .taken)
 
-mul-class : tie.Need-mul-class
-mul-class c = search needs
-
-mul-class-2 : tie.Need-mul-class-2
-mul-class-2 c = search needs
-
-shared-slice-read-class : tie.Need-shared-slice-read-class
-shared-slice-read-class c = search needs
-
 mul-m : tie.Need-mul-m
 mul-m c =
     let s = c .before .before .before .before .before in
@@ -61,9 +52,6 @@ slice-write-marks c =
     let a = s .args in
     s .pre .class-below (c .before .before .before .before .if1 .left)
 
-same-length : tie.Need-same-length
-same-length c = search needs
-
 returns-3 : tie.Need-returns-3
 returns-3 c =
     let s = c .before .before .before .before .before .before .before .before in
@@ -71,4 +59,8 @@ returns-3 c =
     own-new (a .pickle .now) (a .nodes .now) (a .marks .now) (a .node .0) (a .kind) (s .pre) _ (c .before .before .before .before .if1 .left) (c .before .if2 .left) (c .leaf-word .ensures)
 
 pub own-text-spec : {M : Type 1} → statement M
-own-text-spec = tie.close (tie.spec returns mul-class mul-class-2 shared-slice-read-class mul-m slice-read-m returns-2 leaf-word-requires add-marks mul-marks slice-write-marks same-length returns-3)
+own-text-spec =
+    tie.close
+    (tie.spec
+    returns (λ c. search needs) (λ c. search needs) (λ c. search needs) mul-m slice-read-m returns-2 leaf-word-requires add-marks mul-marks
+    slice-write-marks (λ c. search needs) returns-3)

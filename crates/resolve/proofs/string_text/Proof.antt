@@ -5,20 +5,8 @@ use Rattle.resolve.proofs.string_text.Tie as tie
 use native.Mathlib.Omega.{arith}
 use Rattle.resolve.specs.Length.{plain-two, plain-len, escaped-len, unquoted-len}
 
-string-len-requires : tie.Need-string-len-requires
-string-len-requires c κs = search needs
-
-enum-told : tie.Need-enum-told
-enum-told c = search needs
-
 sub-result : tie.Need-sub-result
 sub-result c = omega (arith, plain-two _ _ (c .before .before .string-len .ensures) (c .enum-told .given .1))
-
-enum-known-n : tie.Need-enum-known-n
-enum-known-n c = search needs
-
-enum-told-2 : tie.Need-enum-told-2
-enum-told-2 c = search needs
 
 returns : tie.Need-returns
 returns c = plain-len _ _ (c .before .before .string-len .ensures) (c .enum-told .given .1)
@@ -30,4 +18,4 @@ returns-3 : tie.Need-returns-3
 returns-3 c = unquoted-len _ _ (c .before .before .string-len .ensures) _ (c .enum-told2 .given .1)
 
 pub string-text-spec : {M : Type 1} → statement M
-string-text-spec = tie.close (tie.spec string-len-requires enum-told sub-result enum-known-n enum-told-2 returns returns-2 returns-3)
+string-text-spec = tie.close (tie.spec (λ c κs. search needs) (λ c. search needs) sub-result (λ c. search needs) (λ c. search needs) returns returns-2 returns-3)

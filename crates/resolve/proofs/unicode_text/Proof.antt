@@ -4,15 +4,6 @@ use Rattle.resolve.proofs.unicode_text.Statement.{statement}
 use Rattle.resolve.proofs.unicode_text.Tie as tie
 use Rattle.resolve.specs.Length.{unicode-len, undecoded-len}
 
-unicode-len-requires : tie.Need-unicode-len-requires
-unicode-len-requires c κs = search needs
-
-enum-known-n : tie.Need-enum-known-n
-enum-known-n c = search needs
-
-enum-told : tie.Need-enum-told
-enum-told c = search needs
-
 returns : tie.Need-returns
 returns c = unicode-len _ _ (c .before .before .before .unicode-len .ensures) _ (c .before .n .given .1)
 
@@ -20,4 +11,4 @@ returns-2 : tie.Need-returns-2
 returns-2 c = undecoded-len _ _ (c .before .before .unicode-len .ensures) _ (c .enum-told .given .1)
 
 pub unicode-text-spec : {M : Type 1} → statement M
-unicode-text-spec = tie.close (tie.spec unicode-len-requires enum-known-n enum-told returns returns-2)
+unicode-text-spec = tie.close (tie.spec (λ c κs. search needs) (λ c. search needs) (λ c. search needs) returns returns-2)

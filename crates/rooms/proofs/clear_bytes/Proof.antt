@@ -1,7 +1,6 @@
 -- The first numbers one after the other.
 use Prim.Native.Nat.{_-_}
 use native.Mathlib.Omega.{arith}
-use borrow.Author.Needs.{needs}
 use Rattle.rooms.specs.Cleared.{Clearing, clearing-none, clearing-more, clearing-end}
 use Rattle.rooms.proofs.clear_bytes.Statement.{statement}
 use Rattle.rooms.proofs.clear_bytes.Tie as tie
@@ -18,12 +17,6 @@ loop-holds c = clearing-none _ _
 slice-write-room : tie.Need-slice-write-room Inv-loop μ-loop
 slice-write-room c = let l = c .before in omega (arith, l .loop .inv .same, c .loop-test .taken, l .before .pre)
 
-add-i : tie.Need-add-i Inv-loop μ-loop
-add-i c = omega arith
-
-loop-less : tie.Need-loop-less Inv-loop μ-loop
-loop-less c = omega arith
-
 loop-again : tie.Need-loop-again Inv-loop μ-loop
 loop-again c = clearing-more _ _ _ _ (c .before .loop .inv) (c .loop-test .taken) (c .before .before .pre)
 
@@ -34,4 +27,4 @@ returns : tie.Need-returns Inv-loop μ-loop
 returns c = clearing-end _ _ _ _ (c .before .loop .inv) (c .loop-test .left)
 
 pub clear-bytes-spec : {M : Type 1} → statement M
-clear-bytes-spec = tie.close (tie.spec Inv-loop μ-loop loop-holds slice-write-room add-i loop-less loop-again same-length returns)
+clear-bytes-spec = tie.close (tie.spec Inv-loop μ-loop loop-holds slice-write-room (λ c. omega arith) (λ c. omega arith) loop-again same-length returns)

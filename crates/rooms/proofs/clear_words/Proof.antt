@@ -15,17 +15,8 @@ abbrev μ-loop : tie.MeasureT-loop
 loop-holds : tie.Need-loop-holds Inv-loop μ-loop
 loop-holds c = clearing-none _ _
 
-mul-room : tie.Need-mul-room Inv-loop μ-loop
-mul-room c = search needs
-
 slice-write-room : tie.Need-slice-write-room Inv-loop μ-loop
 slice-write-room c = let l = c .before in omega (arith, l .loop .inv .same, c .loop-test .taken, l .before .pre)
-
-add-i : tie.Need-add-i Inv-loop μ-loop
-add-i c = omega arith
-
-loop-less : tie.Need-loop-less Inv-loop μ-loop
-loop-less c = omega arith
 
 loop-again : tie.Need-loop-again Inv-loop μ-loop
 loop-again c = clearing-more _ _ _ _ (c .before .loop .inv) (c .loop-test .taken) (c .before .before .pre)
@@ -37,4 +28,7 @@ returns : tie.Need-returns Inv-loop μ-loop
 returns c = clearing-end _ _ _ _ (c .before .loop .inv) (c .loop-test .left)
 
 pub clear-words-spec : {M : Type 1} → statement M
-clear-words-spec = tie.close (tie.spec Inv-loop μ-loop loop-holds mul-room slice-write-room add-i loop-less loop-again same-length returns)
+clear-words-spec =
+    tie.close
+    (tie.spec
+    Inv-loop μ-loop loop-holds (λ c. search needs) slice-write-room (λ c. omega arith) (λ c. omega arith) loop-again same-length returns)

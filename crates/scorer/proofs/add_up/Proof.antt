@@ -6,7 +6,6 @@ use mathlib.Core.List.{List}
 use lib.ListN.{length}
 use mathlib.Core.Path.{_≡_, refl, sym, _∙_}
 use native.Mathlib.Omega.{arith}
-use lib.Dec.{eqb}
 use borrow.Author.Tests.{not-true, not-false}
 use Rattle.value.specs.Value.{Forest, count}
 use Rattle.value.specs.Stands.{wordAt}
@@ -133,12 +132,6 @@ sub-rest c =
     let loop = c .before .before .before .before .before .before .before .before .before .loop in
     let most = hit-some (args .words .now) (loop .j) (loop .rest) (wordAt (args .words .now) (loop .i) 1) in let e = c .before .before .hit .ensures in omega arith
 
-sub-left : tie.Need-sub-left Inv-loop μ-loop
-sub-left c = omega arith
-
-loop-less : tie.Need-loop-less Inv-loop μ-loop
-loop-less c = omega arith
-
 loop-again : tie.Need-loop-again Inv-loop μ-loop
 loop-again c =
     let counted = c .counted in
@@ -159,4 +152,9 @@ returns-4 : tie.Need-returns-4 Inv-loop μ-loop
 returns-4 c = λ t f g a b d e. sym (all-answered (c .before .before .loop .inv .0 t f g a b d e) (omega arith) (omega arith))
 
 pub add-up-spec : {M : Type 1} → statement M
-add-up-spec = tie.close (tie.spec Inv-loop μ-loop loop-holds add-k is-between-requires returns is-between-requires-2 returns-2 mul-hit add-hit mul-hit-2 shared-slice-read-hit hit-requires mul-counted add-counted mul-counted-2 shared-slice-read-counted counted-requires add-score add-i add-j sub-rest sub-left loop-less loop-again returns-3 returns-4)
+add-up-spec =
+    tie.close
+    (tie.spec
+    Inv-loop μ-loop loop-holds add-k is-between-requires returns is-between-requires-2 returns-2 mul-hit add-hit mul-hit-2 shared-slice-read-hit
+    hit-requires mul-counted add-counted mul-counted-2 shared-slice-read-counted counted-requires add-score add-i add-j sub-rest (λ c. omega arith)
+    (λ c. omega arith) loop-again returns-3 returns-4)

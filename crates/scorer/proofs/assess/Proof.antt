@@ -11,9 +11,6 @@ use Rattle.scorer.specs.Root.{off-answers, off-reverse, off-flipped, off
 shared-slice-read-head-of : tie.Need-shared-slice-read-head-of
 shared-slice-read-head-of c = let h = root-inside (c .before .before .before .pre .formed) in omega arith
 
-head-of-requires : tie.Need-head-of-requires
-head-of-requires c κs = search needs
-
 returns : tie.Need-returns
 returns c =
     let head-of = c .before .before .head-of in
@@ -21,9 +18,6 @@ returns c =
 
 shared-slice-read-entries : tie.Need-shared-slice-read-entries
 shared-slice-read-entries c = let h = root-inside (c .before .before .before .before .before .before .before .pre .formed) in omega arith
-
-slice-aggregate-seek : tie.Need-slice-aggregate-seek
-slice-aggregate-seek c = search needs
 
 seek-requires : tie.Need-seek-requires
 seek-requires c κs =
@@ -40,9 +34,6 @@ returns-2 c =
     let first = c .before .seek .ensures (f .value .contents) (entries-lie f dict) (entries-count f dict) in
     off-answers (f .value) (first .missing (c .if2 .taken))
 
-slice-aggregate-seek-2 : tie.Need-slice-aggregate-seek-2
-slice-aggregate-seek-2 c = search needs
-
 seek-requires-2 : tie.Need-seek-requires-2
 seek-requires-2 c κs =
     let head-of = c .before .before .before .before .before .before .before .head-of in
@@ -58,9 +49,6 @@ returns-3 c =
     let second = c .before .seek2 .ensures (f .value .contents) (entries-lie f dict) (entries-count f dict) in
     off-reverse (f .value) (second .missing (c .if3 .taken))
 
-slice-aggregate-seek-3 : tie.Need-slice-aggregate-seek-3
-slice-aggregate-seek-3 c = search needs
-
 seek-requires-3 : tie.Need-seek-requires-3
 seek-requires-3 c κs =
     let head-of = c .before .before .before .before .before .before .before .before .before .before .head-of in
@@ -75,9 +63,6 @@ returns-4 c =
     let dict = root-dict f (head-of .result) (head-of .ensures) (c .before .before .before .before .before .before .before .before .before .before .if1 .left) in
     let third = c .before .seek3 .ensures (f .value .contents) (entries-lie f dict) (entries-count f dict) in
     off-flipped (f .value) (third .missing (c .if4 .taken))
-
-slice-aggregate-seek-4 : tie.Need-slice-aggregate-seek-4
-slice-aggregate-seek-4 c = search needs
 
 seek-requires-4 : tie.Need-seek-requires-4
 seek-requires-4 c κs =
@@ -293,4 +278,10 @@ returns-7 c =
     assessed f dict first (omega arith) second (omega arith) third (omega arith) fourth (omega arith) (sym (c .before .before .before .before .before .before .is-between .ensures) ∙ not-false _ (c .before .before .before .before .before .if6 .left)) _ (c .add-up .ensures)
 
 pub assess-spec : {M : Type 1} → statement M
-assess-spec = tie.close (tie.spec shared-slice-read-head-of head-of-requires returns shared-slice-read-entries slice-aggregate-seek seek-requires returns-2 slice-aggregate-seek-2 seek-requires-2 returns-3 slice-aggregate-seek-3 seek-requires-3 returns-4 slice-aggregate-seek-4 seek-requires-4 returns-5 is-between-requires returns-6 mul-max add-max mul-max-2 shared-slice-read-max mul-mark add-mark mul-mark-2 shared-slice-read-mark add-add-up mul-add-up add-add-up-2 mul-add-up-2 shared-slice-read-add-up add-add-up-3 mul-add-up-3 add-add-up-4 mul-add-up-4 shared-slice-read-add-up-2 add-up-requires returns-7)
+assess-spec =
+    tie.close
+    (tie.spec
+    shared-slice-read-head-of (λ c κs. search needs) returns shared-slice-read-entries (λ c. search needs) seek-requires returns-2 (λ c. search needs)
+    seek-requires-2 returns-3 (λ c. search needs) seek-requires-3 returns-4 (λ c. search needs) seek-requires-4 returns-5 is-between-requires returns-6
+    mul-max add-max mul-max-2 shared-slice-read-max mul-mark add-mark mul-mark-2 shared-slice-read-mark add-add-up mul-add-up add-add-up-2 mul-add-up-2
+    shared-slice-read-add-up add-add-up-3 mul-add-up-3 add-add-up-4 mul-add-up-4 shared-slice-read-add-up-2 add-up-requires returns-7)

@@ -4,12 +4,6 @@ use Rattle.scorer.proofs.counted.Statement.{statement}
 use Rattle.scorer.proofs.counted.Tie as tie
 use borrow.Author.Tests.{eq-eqb, ne-eqb}
 
-returns : tie.Need-returns
-returns c = search needs
-
-sub-result : tie.Need-sub-result
-sub-result c = search needs
-
 returns-2 : tie.Need-returns-2
 returns-2 c = (rw (c .before .if1 .left, eq-eqb _ 1 (c .if2 .taken)), search needs)
 
@@ -17,4 +11,4 @@ returns-3 : tie.Need-returns-3
 returns-3 c = (rw (c .before .if1 .left, ne-eqb _ 1 (c .if2 .left)), search needs)
 
 pub counted-spec : {M : Type 1} → statement M
-counted-spec = tie.close (tie.spec returns sub-result returns-2 returns-3)
+counted-spec = tie.close (tie.spec (λ c. search needs) (λ c. search needs) returns-2 returns-3)

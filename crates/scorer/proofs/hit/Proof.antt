@@ -18,9 +18,6 @@ mul-head-of-2 c = let h = c .before .before .pre (omega arith) in omega arith
 shared-slice-read-head-of : tie.Need-shared-slice-read-head-of
 shared-slice-read-head-of c = let h = c .before .before .before .pre (omega arith) in omega arith
 
-head-of-requires : tie.Need-head-of-requires
-head-of-requires c κs = search needs
-
 returns-2 : tie.Need-returns-2
 returns-2 c =
     let args = c .before .before .before .before .before .before .args in
@@ -52,4 +49,8 @@ returns-4 c =
     hit-no (args .words .now) (args .j) (head-of .result) (head-of .ensures) (args .left) (args .item) (c .before .before .before .before .before .before .if1 .left) (c .before .before .if2 .left) (c .if3 .left)
 
 pub hit-spec : {M : Type 1} → statement M
-hit-spec = tie.close (tie.spec returns mul-head-of mul-head-of-2 shared-slice-read-head-of head-of-requires returns-2 mul-if3 add-if3 mul-if3-2 shared-slice-read-if3 returns-3 returns-4)
+hit-spec =
+    tie.close
+    (tie.spec
+    returns mul-head-of mul-head-of-2 shared-slice-read-head-of (λ c κs. search needs) returns-2 mul-if3 add-if3 mul-if3-2 shared-slice-read-if3 returns-3
+    returns-4)

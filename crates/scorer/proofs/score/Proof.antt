@@ -7,18 +7,6 @@ use borrow.Author.Tests.{not-true, not-false}
 use Rattle.table.specs.Decides.{refuted}
 use Rattle.scorer.specs.Call.{told, scores-bad, scores-good}
 
-well-formed-requires : tie.Need-well-formed-requires
-well-formed-requires c κs = search needs
-
-number-requires : tie.Need-number-requires
-number-requires c κs = search needs
-
-detail-requires : tie.Need-detail-requires
-detail-requires c κs = search needs
-
-refused-requires : tie.Need-refused-requires
-refused-requires c κs = search needs
-
 returns : tie.Need-returns
 returns c =
     let args = c .before .before .before .before .before .before .before .args in
@@ -26,15 +14,6 @@ returns c =
 
 assess-requires : tie.Need-assess-requires
 assess-requires c κs = record { count = c .before .before .before .before .args .count; formed = c .before .well-formed .ensures .yes (not-false _ (c .if1 .left)) }
-
-enum-told : tie.Need-enum-told
-enum-told c = search needs
-
-refused-requires-2 : tie.Need-refused-requires-2
-refused-requires-2 c κs = search needs
-
-enum-known-score : tie.Need-enum-known-score
-enum-known-score c = search needs
 
 returns-2 : tie.Need-returns-2
 unfolding told
@@ -49,4 +28,8 @@ returns-3 c =
     scores-good (args .words .now) (args .count) (args .text .now) _ (c .before .before .before .before .before .well-formed .ensures .yes (not-false _ (c .before .before .before .before .if1 .left))) (λ f. rw (← c .before .before .before .assess .ensures (args .count) f, c .before .score .given .1))
 
 pub score-spec : {M : Type 1} → statement M
-score-spec = tie.close (tie.spec well-formed-requires number-requires detail-requires refused-requires returns assess-requires enum-told refused-requires-2 enum-known-score returns-2 returns-3)
+score-spec =
+    tie.close
+    (tie.spec
+    (λ c κs. search needs) (λ c κs. search needs) (λ c κs. search needs) (λ c κs. search needs) returns assess-requires (λ c. search needs)
+    (λ c κs. search needs) (λ c. search needs) returns-2 returns-3)

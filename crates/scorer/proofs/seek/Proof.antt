@@ -49,9 +49,6 @@ shared-slice-read-head-of c =
     let en = entry (c .before .before .before .before .before .loop .inv (pre .0 .values) (pre .0 .lies) (pre .0 .counted)) (c .before .before .before .before .loop-test .taken) in
     let z = c .before .before .before .after .ensures in let q = en .inside in omega arith
 
-head-of-requires : tie.Need-head-of-requires Inv-loop μ-loop
-head-of-requires c κs = search needs
-
 returns : tie.Need-returns Inv-loop μ-loop
 returns c =
     let args = c .before .before .before .before .before .before .before .before .before .before .before .before .args in
@@ -72,12 +69,6 @@ after-requires-2 c κs =
     let en = entry (c .before .before .before .before .loop .inv (pre .0 .values) (pre .0 .lies) (pre .0 .counted)) (c .before .before .before .loop-test .taken) in
     rw (c .before .before .after .ensures) (en .inside, en .value-ends)
 
-sub-left : tie.Need-sub-left Inv-loop μ-loop
-sub-left c = omega arith
-
-loop-less : tie.Need-loop-less Inv-loop μ-loop
-loop-less c = omega arith
-
 loop-again : tie.Need-loop-again Inv-loop μ-loop
 loop-again c = λ f h e. let ef = entry (c .before .before .before .before .before .loop .inv f h e) (c .before .before .before .before .loop-test .taken) in rw (c .after2 .ensures, c .before .before .before .after .ensures) (ef .no (ap (isKey (c .before .before .before .before .before .before .before .before .before .args .name .now)) (sym (ef .label)) ∙ (sym (c .before .before .is-key .ensures) ∙ c .before .if1 .left)))
 
@@ -85,4 +76,8 @@ returns-3 : tie.Need-returns-3 Inv-loop μ-loop
 returns-3 c = λ f h e. seek-end (c .before .before .before .before .before .args .kind) (c .before .loop .inv f h e) (omega arith) (c .before .before .before .before .before .pre .1)
 
 pub seek-spec : {M : Type 1} → statement M
-seek-spec = tie.close (tie.spec Inv-loop μ-loop loop-holds after-requires is-key-requires mul-head-of mul-head-of-2 shared-slice-read-head-of head-of-requires returns returns-2 after-requires-2 sub-left loop-less loop-again returns-3)
+seek-spec =
+    tie.close
+    (tie.spec
+    Inv-loop μ-loop loop-holds after-requires is-key-requires mul-head-of mul-head-of-2 shared-slice-read-head-of (λ c κs. search needs) returns returns-2
+    after-requires-2 (λ c. omega arith) (λ c. omega arith) loop-again returns-3)

@@ -19,12 +19,6 @@ loop-holds c = (omega arith, decodes-none (c .before .before .before .before .ar
 decode-one-requires : tie.Need-decode-one-requires Inv-loop μ-loop
 decode-one-requires c κs = turn-ready (c .before .before .before .before .before .before .before .before .args .pickle .now) (c .before .before .before .before .before .before .before .before .args .nodes .now) (c .before .before .before .before .before .before .before .before .args .decoded .now) (c .before .before .before .before .before .before .before .before .args .marks .now) (c .before .before .before .before .before .before .before .before .args .count) (c .before .before .before .before .before .before .before .before .pre) (c .before .before .before .loop .i) (c .before .before .loop-test .taken) _ _ _ (c .before .before .before .loop .inv .1)
 
-add-i : tie.Need-add-i Inv-loop μ-loop
-add-i c = omega arith
-
-loop-less : tie.Need-loop-less Inv-loop μ-loop
-loop-less c = omega arith
-
 loop-again : tie.Need-loop-again Inv-loop μ-loop
 loop-again c = (omega arith, rw (add-one (c .before .before .before .before .before .before .before .before .loop .i)) (turn-more (c .before .before .before .before .before .before .before .before .before .before .before .before .before .args .pickle .now) (c .before .before .before .before .before .before .before .before .before .before .before .before .before .args .nodes .now) (c .before .before .before .before .before .before .before .before .before .before .before .before .before .args .decoded .now) (c .before .before .before .before .before .before .before .before .before .before .before .before .before .args .marks .now) (c .before .before .before .before .before .before .before .before .before .before .before .before .before .args .count) (c .before .before .before .before .before .before .before .before .before .before .before .before .before .pre) (c .before .before .before .before .before .before .before .before .loop .i) (c .before .before .before .before .before .before .before .loop-test .taken) _ _ _ (c .before .before .before .before .before .before .before .before .loop .inv .1) _ _ _ (c .before .before .before .before .decode-one .ensures)))
 
@@ -40,4 +34,4 @@ returns c =
     rw e at (c .before .loop .inv .1)
 
 pub decode-all-spec : {M : Type 1} → statement M
-decode-all-spec = tie.close (tie.spec Inv-loop μ-loop loop-holds decode-one-requires add-i loop-less loop-again same-length same-length-2 returns)
+decode-all-spec = tie.close (tie.spec Inv-loop μ-loop loop-holds decode-one-requires (λ c. omega arith) (λ c. omega arith) loop-again same-length same-length-2 returns)

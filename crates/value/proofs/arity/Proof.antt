@@ -2,41 +2,13 @@
 use borrow.Author.Needs.{needs}
 use Rattle.value.proofs.arity.Statement.{statement}
 use Rattle.value.proofs.arity.Tie as tie
-use Rattle.value.proofs.arity.Reads as reads
-use Rattle.value.proofs.arity.Lts as lts
-use Rattle.value.proofs.head_of.Reads as head-of-reads
 use borrow.Author.Needs.{needs}
-use mathlib.Core.Path.{_≡_, refl, sym, _∙_, ap}
+use mathlib.Core.Path.{sym, _∙_, ap}
 use native.Mathlib.Omega.{arith}
-use borrow.Author.Tests.{lt-ltb, le-ltb, eq-eqb, ne-eqb}
 use native.Mathlib.Nat.{add-zero}
 use Rattle.value.specs.Stands.{arityAt}
-use Rattle.value.specs.Shape.{arityOf, arity-none, arity-items, arity-dict, arity-state, arity-alone, arity-other}
+use Rattle.value.specs.Shape.{arity-none, arity-items, arity-dict, arity-state, arity-alone, arity-other}
 use Rattle.value.specs.Left.{dict-arity}
-
-mul-head-of : tie.Need-mul-head-of
-mul-head-of c = search needs
-
-mul-head-of-2 : tie.Need-mul-head-of-2
-mul-head-of-2 c = search needs
-
-shared-slice-read-head-of : tie.Need-shared-slice-read-head-of
-shared-slice-read-head-of c = search needs
-
-head-of-requires : tie.Need-head-of-requires
-head-of-requires c κs = search needs
-
-mul-n : tie.Need-mul-n
-mul-n c = search needs
-
-add-n : tie.Need-add-n
-add-n c = search needs
-
-mul-n-2 : tie.Need-mul-n-2
-mul-n-2 c = search needs
-
-shared-slice-read-n : tie.Need-shared-slice-read-n
-shared-slice-read-n c = search needs
 
 returns : tie.Need-returns
 unfolding arityAt
@@ -66,4 +38,8 @@ unfolding arityAt
 returns-6 c = rw add-zero (arity-other _ _ _ (ap (λ h. h .kind) (c .before .before .before .before .before .head-of .ensures)) (c .before .before .before .if1 .left) (c .before .before .if2 .left) (c .before .if3 .left) (c .if4 .left))
 
 pub arity-spec : {M : Type 1} → statement M
-arity-spec = tie.close (tie.spec mul-head-of mul-head-of-2 shared-slice-read-head-of head-of-requires mul-n add-n mul-n-2 shared-slice-read-n returns returns-2 add-result returns-3 returns-4 returns-5 returns-6)
+arity-spec =
+    tie.close
+    (tie.spec
+    (λ c. search needs) (λ c. search needs) (λ c. search needs) (λ c κs. search needs) (λ c. search needs) (λ c. search needs) (λ c. search needs)
+    (λ c. search needs) returns returns-2 add-result returns-3 returns-4 returns-5 returns-6)

@@ -2,10 +2,7 @@
 use borrow.Author.Needs.{needs}
 use Rattle.value.proofs.next.Statement.{statement}
 use Rattle.value.proofs.next.Tie as tie
-use Rattle.value.proofs.next.Reads as reads
-use Rattle.value.proofs.next.Lts as lts
 use borrow.Author.Needs.{needs}
-use mathlib.Core.Path.{_≡_, refl, sym, _∙_, ap}
 use Rattle.value.specs.Told.{told}
 use Rattle.value.specs.Left.{next-new, next-old, next-shorter, next-longer, next-same}
 
@@ -25,14 +22,8 @@ returns-4 : tie.Need-returns-4
 unfolding told
 returns-4 c = next-longer _ _ _ _ (c .before .before .before .args .new) (c .before .before .before .args .other) (c .before .before .if1 .left) (c .if4 .taken)
 
-sub-t13 : tie.Need-sub-t13
-sub-t13 c = search needs
-
-add-t14 : tie.Need-add-t14
-add-t14 c = search needs
-
 returns-5 : tie.Need-returns-5
 returns-5 c = next-same _ _ _ _ (c .before .before .before .before .args .new) (c .before .before .before .before .args .other) (c .before .before .before .if1 .left) (c .before .before .if3 .left) (c .before .if4 .left)
 
 pub next-spec : {M : Type 1} → statement M
-next-spec = tie.close (tie.spec returns returns-2 returns-3 returns-4 sub-t13 add-t14 returns-5)
+next-spec = tie.close (tie.spec returns returns-2 returns-3 returns-4 (λ c. search needs) (λ c. search needs) returns-5)

@@ -25,12 +25,6 @@ same-eight-requires c κs = let e = c .before .before .least .ensures in (omega 
 returns : tie.Need-returns Inv-loop μ-loop
 returns c = let e = c .before .before .before .before .least .ensures in (omega arith, c .before .before .before .loop .inv .1)
 
-add-i : tie.Need-add-i Inv-loop μ-loop
-add-i c = omega arith
-
-loop-less : tie.Need-loop-less Inv-loop μ-loop
-loop-less c = omega arith
-
 loop-again : tie.Need-loop-again Inv-loop μ-loop
 loop-again c =
     let a = c .before .before .before .before .before .before .before .args in
@@ -41,4 +35,8 @@ returns-2 : tie.Need-returns-2 Inv-loop μ-loop
 returns-2 c = let e = c .before .before .least .ensures in (omega arith, c .before .loop .inv .1)
 
 pub same-len-spec : {M : Type 1} → statement M
-same-len-spec = tie.close (tie.spec Inv-loop μ-loop (λ c κs. search needs) loop-holds (λ c. search needs) same-eight-requires returns add-i loop-less loop-again returns-2)
+same-len-spec =
+    tie.close
+    (tie.spec
+    Inv-loop μ-loop (λ c κs. search needs) loop-holds (λ c. search needs) same-eight-requires returns (λ c. omega arith) (λ c. omega arith) loop-again
+    returns-2)
