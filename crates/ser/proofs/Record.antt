@@ -1,25 +1,30 @@
 -- What is written of a record, by its kind: what stands before its contents, and what is made of those. Assumes nothing.
 use Prim.Native.Nat.{ℕ, suc, zero, _+_, _*_, _≤_, _<_}
-use mathlib.Core.Bool.{true, _&&_}
+use mathlib.Core.Bool.{true, false, not, _&&_}
+use mathlib.Core.Logic.{_≢_}
 use mathlib.Core.List.{List, [], _∷_, _++_}
 use mathlib.Core.Path.{_≡_, refl, sym}
 use native.Mathlib.Nat.{add-zero}
 use native.Mathlib.Omega.{arith}
-use lib.Dec.{eqb}
-use borrow.Author.Tests.{lt-ltb}
+use lib.Dec.{eqb, ltb, ltb→lt}
 use lib.ListN.{getD, take, drop}
 use Rattle.value.specs.declared.Head.{Head}
 use Rattle.value.specs.Value.{Label, bit, NoneL}
-use Rattle.value.specs.Shape.{kindIn, newIn, stateIn, headOf, labelsOf, labelOf, arityOf, moduleOf, nameOf}
+use Rattle.value.specs.Shape.{kindIn, newIn, stateIn, headOf, holding, labelsOf, labelOf, arityOf, moduleOf, nameOf, and-l, nothing-held}
 use Rattle.value.specs.Stands.{wordAt, labelAt, arityAt, Reads}
 use Rattle.table.specs.Record.{Below, below}
 use Rattle.output.specs.Decimal.{either}
-use Rattle.ser.specs.Image.{int, float, bytes, string, global, set, frozenset, setOpening, bool, opening, appends, tuple, object, batches, contents}
-use Rattle.ser.specs.Parts.{Same, ahead}
+use Rattle.output.specs.Put.{Put}
+use Rattle.ser.specs.Image.{int, float, bytes, string, global, set, frozenset, setOpening, bool, opening, appends, tuple, object, batches, contents, joined}
+use Rattle.ser.specs.Parts.{Same, ahead, wrote-none, value-wrote}
+use Rattle.ser.specs.Walk.{Wrote}
 use Rattle.ser.specs.Writable.{writable, writableLabel}
 use Rattle.ser.proofs.Laws.{numbers}
 
-module _ (w t : List ℕ) (i : ℕ) (r : Reads w t i) (h : Head) (q : h ≡ headOf (getD w (4 * i) 0)) where
+never : {A : Type 0} → true ≡ false → A
+never e = let z : _≡_ {A = ℕ} 0 1 = cc in absurd (omega arith)
+
+module _ {w t : List ℕ} {i : ℕ} (r : Reads w t i) {h : Head} (q : h ≡ headOf (getD w (4 * i) 0)) where
   abbrev label : Label
   label = labelAt w t i
 
@@ -102,31 +107,18 @@ module _ (w t : List ℕ) (i : ℕ) (r : Reads w t i) (h : Head) (q : h ≡ head
 
   -- ---- the contents
 
-  leaf : (k : ℕ) → k < 6 → contents (getD (labelsOf (wordAt w i 0) (wordAt w i 1) (wordAt w i 2) (drop (wordAt w i 1) t)) k NoneL) [] ≡ []
-  unfolding contents
-  leaf zero l = refl
-  leaf (suc zero) l = refl
-  leaf (suc (suc zero)) l = refl
-  leaf (suc (suc (suc zero))) l = refl
-  leaf (suc (suc (suc (suc zero)))) l = refl
-  leaf (suc (suc (suc (suc (suc zero))))) l = refl
-  leaf (suc (suc (suc (suc (suc (suc k)))))) l = absurd (omega arith)
+  none-made : (k : ℕ) → k < 13 → holding k ≡ false → contents (getD (labelsOf (wordAt w i 0) (wordAt w i 1) (wordAt w i 2) (drop (wordAt w i 1) t)) k NoneL) [] ≡ []
+  unfolding contents Below
+  none-made =
+      below 13 (λ k. holding k ≡ false → contents (getD (labelsOf (wordAt w i 0) (wordAt w i 1) (wordAt w i 2) (drop (wordAt w i 1) t)) k NoneL) [] ≡ [])
+      ((λ e. refl), ((λ e. refl), ((λ e. refl), ((λ e. refl), ((λ e. refl), ((λ e. refl), ((λ e. never e), ((λ e. never e), ((λ e. never e), ((λ e. never e), ((λ e. never e), ((λ e. refl), ((λ e. never e), tt)))))))))))))
 
-  pub leaf-none : h .kind < 6 → contents label [] ≡ []
-  unfolding labelAt labelOf
-  leaf-none l = rw kind₀ (leaf (h .kind) l)
-
-  pub leaf-arity : h .kind < 6 → arityAt w i ≤ 0
-  unfolding arityAt arityOf
-  leaf-arity l = rw (kind₀, lt-ltb (h .kind) 6 l) (omega arith)
-
-  pub global-none : h .kind ≡ 11 → contents label [] ≡ []
-  unfolding contents labelAt labelOf
-  global-none e = rw (kind₀, e)
-
-  pub global-arity : h .kind ≡ 11 → arityAt w i ≤ 0
-  unfolding arityAt arityOf
-  global-arity e = rw (kind₀, e) (omega arith)
+  -- a record with nothing in it is written with its opening
+  pub leaf-wrote : {at p : ℕ} {o o₁ : List ℕ} → holding (h .kind) ≡ false → Put o at (opening label) o₁ p → Wrote joined w t i 1 o at o₁ (i + 1) p
+  unfolding labelAt labelOf arityAt
+  leaf-wrote e x =
+      let f : holding (kindIn (wordAt w i 0)) ≡ false = rw kind₀ e in
+      value-wrote x (wrote-none (omega (arith, nothing-held (wordAt w i 0) (wordAt w i 1) f)) (none-made (kindIn (wordAt w i 0)) (r .known) f))
 
   pub object-arity : h .kind ≡ 12 → arityAt w i ≡ suc (bit (h .state))
   unfolding arityAt arityOf
@@ -149,8 +141,10 @@ module _ (w t : List ℕ) (i : ℕ) (r : Reads w t i) (h : Head) (q : h ≡ head
     unfolding contents labelAt labelOf
     makes-dict e = record { same = λ s l. rw (kind₀, e) }
 
-    pub makes-set : 7 < h .kind → h .kind < 10 → Same n (contents label) (ahead appends ((0x85 ∷ []) ++ (0x52 ∷ [])))
+    pub makes-set : holding (h .kind) ≡ true → h .kind ≢ 12 → h .kind ≢ 6 → h .kind ≢ 7 → h .kind ≢ 10 → Same n (contents label) (ahead appends ((0x85 ∷ []) ++ (0x52 ∷ [])))
     unfolding contents labelAt labelOf ahead numbers
-    makes-set g l =
-        either (h .kind) 9 (λ m. let e : h .kind ≡ 8 = omega arith in record { same = λ s u. rw (kind₀, e) })
-        (λ m. let e : h .kind ≡ 9 = omega arith in record { same = λ s u. rw (kind₀, e) })
+    makes-set e object list tuple dict =
+        let l = ltb→lt 5 (h .kind) (and-l (ltb 5 (h .kind)) (not (eqb (h .kind) 11)) (rw e tt)) in
+        let global : h .kind ≢ 11 = λ f. never (sym (rw f at e)) in
+        either (h .kind) 9 (λ m. let f : h .kind ≡ 8 = omega arith in record { same = λ s u. rw (kind₀, f) })
+        (λ m. let f : h .kind ≡ 9 = omega (arith, known) in record { same = λ s u. rw (kind₀, f) })

@@ -247,13 +247,7 @@ fn encode(words: &[u64], text: &[u8], i: usize, output: &mut [u8], at: usize) ->
     let head = value::head_of(words[4 * i]);
     let kind = head.kind;
     let next = encode_opening(words, text, i, output, at);
-    if kind < 6 {
-        return Place {
-            record: i + 1,
-            at: next,
-        };
-    }
-    if kind == 11 {
+    if !value::holds(kind) {
         return Place {
             record: i + 1,
             at: next,
@@ -280,7 +274,8 @@ fn encode(words: &[u64], text: &[u8], i: usize, output: &mut [u8], at: usize) ->
     }
 }
 
-// `count` values that stand side by side from record `from` on, one after the other.
+// `count` values that stand side by side from record `from` on, one after the other. A call costs more than most values do, so
+// only those that hold others are given to `encode`.
 fn encode_items(
     words: &[u64],
     text: &[u8],
@@ -296,9 +291,14 @@ fn encode_items(
     let mut left = count;
     let mut next = at;
     while left > 0 {
-        let end = encode(words, text, i, output, next);
-        i = end.record;
-        next = end.at;
+        if value::holds(value::head_of(words[4 * i]).kind) {
+            let end = encode(words, text, i, output, next);
+            i = end.record;
+            next = end.at;
+        } else {
+            next = encode_opening(words, text, i, output, next);
+            i += 1;
+        }
         left -= 1;
     }
     Place {

@@ -33,6 +33,7 @@ use Rattle.ser.proofs.tuple_mark.Reads as tuple-mark-reads
 use Rattle.ser.proofs.tuple_opcode.Reads as tuple-opcode-reads
 use Rattle.value.proofs.arity.Reads as arity-reads
 use Rattle.value.proofs.head_of.Reads as head-of-reads
+use Rattle.value.proofs.holds.Reads as holds-reads
 use Rattle.ser.proofs.+encode+encode_appends+encode_batch+encode_batches+encode_items+encode_object+encode_tuple.{
   statement,
 }
@@ -40,14 +41,18 @@ use Rattle.ser.proofs.+encode+encode_appends+encode_batch+encode_batche
   close,
 }
 use borrow.Author.Needs.{needs}
-use mathlib.Core.Path.{refl}
+use mathlib.Core.List.{[], _∷_, _++_}
+use mathlib.Core.Logic.{⊎-elim}
+use mathlib.Core.Path.{refl, sym, _∙_}
+use borrow.Author.Tests.{not-true, not-false}
 use native.Mathlib.Omega.{arith}
 use lib.ListN.{length}
 use Rattle.output.specs.Put.{put-then, room-first, room-then}
-use Rattle.ser.specs.Image.{joined, batches}
-use Rattle.ser.specs.Parts.{Going, ready-cut, ready-rest, wrote-cut, ready-as, wrote-as, ready-front, ready-after, wrote-after, ready-before, ready-end, wrote-before, wrote-later, wrote-none, going-all, going-again, going-none, value-reads, value-room, value-inside, value-wrote, value-arity, joined-none, joined-cuts, batches-cuts, batches-none, size-some}
+use Rattle.value.specs.Stands.{labelAt}
+use Rattle.ser.specs.Image.{joined, batches, appends, contents}
+use Rattle.ser.specs.Parts.{Same, ahead, Going, ready-cut, ready-rest, wrote-cut, ready-as, wrote-as, ready-front, ready-after, wrote-after, ready-before, ready-end, wrote-before, wrote-later, wrote-none, going-all, going-again, going-none, value-reads, value-room, value-inside, value-wrote, value-arity, joined-none, joined-cuts, batches-cuts, batches-none, size-some}
 use Rattle.ser.proofs.Laws.{batch-entry, batch-entries, batch-items, appends-one, appends-many, tuple-parts, object-cuts, built-one, built-none, bit-one, bit-none}
-use Rattle.ser.proofs.Record.{known, leaf-none, leaf-arity, global-none, global-arity, object-arity, makes-object, makes-list, makes-tuple, makes-dict, makes-set}
+use Rattle.ser.proofs.Record.{leaf-wrote, object-arity, makes-object, makes-list, makes-tuple, makes-dict, makes-set}
 
 abbrev μ-encode : Measures 3 encode-kinds.ps ℕ
 μ-encode κs a = 5 * (length (a .0 .now) - a .1 .1 .0)
@@ -70,200 +75,11 @@ abbrev μ-encode-object : Measures 3 encode-object-kinds.ps ℕ
 abbrev μ-encode-tuple : Measures 3 encode-tuple-kinds.ps ℕ
 μ-encode-tuple κs a = 5 * (length (a .0 .now) - a .1 .1 .0) + 2
 
-abbrev encode-at : ℕ → In 3 encode-kinds.ps
-encode-at t = and 3 encode-kinds.ps (is 3 encode-kinds.ps μ-encode t) encode.Pre
-
-abbrev encode-below : ℕ → In 3 encode-kinds.ps
-encode-below t = and 3 encode-kinds.ps (falls 3 encode-kinds.ps _<_ μ-encode t) encode.Pre
-
-abbrev encode-appends-at : ℕ → In 3 encode-appends-kinds.ps
-encode-appends-at t = and 3 encode-appends-kinds.ps (is 3 encode-appends-kinds.ps μ-encode-appends t) encode-appends.Pre
-
-abbrev encode-appends-below : ℕ → In 3 encode-appends-kinds.ps
-encode-appends-below t = and 3 encode-appends-kinds.ps (falls 3 encode-appends-kinds.ps _<_ μ-encode-appends t) encode-appends.Pre
-
-abbrev encode-batch-at : ℕ → In 3 encode-batch-kinds.ps
-encode-batch-at t = and 3 encode-batch-kinds.ps (is 3 encode-batch-kinds.ps μ-encode-batch t) encode-batch.Pre
-
-abbrev encode-batch-below : ℕ → In 3 encode-batch-kinds.ps
-encode-batch-below t = and 3 encode-batch-kinds.ps (falls 3 encode-batch-kinds.ps _<_ μ-encode-batch t) encode-batch.Pre
-
-abbrev encode-batches-at : ℕ → In 3 encode-batches-kinds.ps
-encode-batches-at t = and 3 encode-batches-kinds.ps (is 3 encode-batches-kinds.ps μ-encode-batches t) encode-batches.Pre
-
-abbrev encode-batches-below : ℕ → In 3 encode-batches-kinds.ps
-encode-batches-below t = and 3 encode-batches-kinds.ps (falls 3 encode-batches-kinds.ps _<_ μ-encode-batches t) encode-batches.Pre
-
-abbrev encode-items-at : ℕ → In 3 encode-items-kinds.ps
-encode-items-at t = and 3 encode-items-kinds.ps (is 3 encode-items-kinds.ps μ-encode-items t) encode-items.Pre
-
-abbrev encode-items-below : ℕ → In 3 encode-items-kinds.ps
-encode-items-below t = and 3 encode-items-kinds.ps (falls 3 encode-items-kinds.ps _<_ μ-encode-items t) encode-items.Pre
-
-abbrev encode-object-at : ℕ → In 3 encode-object-kinds.ps
-encode-object-at t = and 3 encode-object-kinds.ps (is 3 encode-object-kinds.ps μ-encode-object t) encode-object.Pre
-
-abbrev encode-object-below : ℕ → In 3 encode-object-kinds.ps
-encode-object-below t = and 3 encode-object-kinds.ps (falls 3 encode-object-kinds.ps _<_ μ-encode-object t) encode-object.Pre
-
-abbrev encode-tuple-at : ℕ → In 3 encode-tuple-kinds.ps
-encode-tuple-at t = and 3 encode-tuple-kinds.ps (is 3 encode-tuple-kinds.ps μ-encode-tuple t) encode-tuple.Pre
-
-abbrev encode-tuple-below : ℕ → In 3 encode-tuple-kinds.ps
-encode-tuple-below t = and 3 encode-tuple-kinds.ps (falls 3 encode-tuple-kinds.ps _<_ μ-encode-tuple t) encode-tuple.Pre
-
-encode-mul-head-of : (t : ℕ) → encode-lts.Need-mul-head-of (head-of-reads.Asked, head-of-reads.Learnt, encode-opening-reads.Asked, encode-opening-reads.Learnt, encode-object-below t, encode-object.Post, arity-reads.Asked, arity-reads.Learnt, encode-appends-below t, encode-appends.Post, encode-tuple-below t, encode-tuple.Post, encode-batches-below t, encode-batches.Post, put-byte-reads.Asked, put-byte-reads.Learnt) (encode-at t) encode.Post
-encode-mul-head-of t c = let r = value-reads (c .before .before .before .pre .1) in search needs
-
-encode-mul-head-of-2 : (t : ℕ) → encode-lts.Need-mul-head-of-2 (head-of-reads.Asked, head-of-reads.Learnt, encode-opening-reads.Asked, encode-opening-reads.Learnt, encode-object-below t, encode-object.Post, arity-reads.Asked, arity-reads.Learnt, encode-appends-below t, encode-appends.Post, encode-tuple-below t, encode-tuple.Post, encode-batches-below t, encode-batches.Post, put-byte-reads.Asked, put-byte-reads.Learnt) (encode-at t) encode.Post
-encode-mul-head-of-2 t c = let r = value-reads (c .before .before .before .pre .1) in search needs
-
-encode-shared-slice-read-head-of : (t : ℕ) → encode-lts.Need-shared-slice-read-head-of (head-of-reads.Asked, head-of-reads.Learnt, encode-opening-reads.Asked, encode-opening-reads.Learnt, encode-object-below t, encode-object.Post, arity-reads.Asked, arity-reads.Learnt, encode-appends-below t, encode-appends.Post, encode-tuple-below t, encode-tuple.Post, encode-batches-below t, encode-batches.Post, put-byte-reads.Asked, put-byte-reads.Learnt) (encode-at t) encode.Post
-encode-shared-slice-read-head-of t c = let r = value-reads (c .before .before .before .before .pre .1) in search needs
-
-encode-encode-opening-requires : (t : ℕ) → encode-lts.Need-encode-opening-requires (head-of-reads.Asked, head-of-reads.Learnt, encode-opening-reads.Asked, encode-opening-reads.Learnt, encode-object-below t, encode-object.Post, arity-reads.Asked, arity-reads.Learnt, encode-appends-below t, encode-appends.Post, encode-tuple-below t, encode-tuple.Post, encode-batches-below t, encode-batches.Post, put-byte-reads.Asked, put-byte-reads.Learnt) (encode-at t) encode.Post
-encode-encode-opening-requires t c κs = (value-reads (c .before .before .before .before .before .before .pre .1), value-room (c .before .before .before .before .before .before .pre .1))
-
-encode-add-t19 : (t : ℕ) → encode-lts.Need-add-t19 (head-of-reads.Asked, head-of-reads.Learnt, encode-opening-reads.Asked, encode-opening-reads.Learnt, encode-object-below t, encode-object.Post, arity-reads.Asked, arity-reads.Learnt, encode-appends-below t, encode-appends.Post, encode-tuple-below t, encode-tuple.Post, encode-batches-below t, encode-batches.Post, put-byte-reads.Asked, put-byte-reads.Learnt) (encode-at t) encode.Post
-encode-add-t19 t c = omega (arith, (value-reads (c .before .before .before .before .before .before .before .before .before .before .pre .1)) .inside)
-
-encode-returns : (t : ℕ) → encode-lts.Need-returns (head-of-reads.Asked, head-of-reads.Learnt, encode-opening-reads.Asked, encode-opening-reads.Learnt, encode-object-below t, encode-object.Post, arity-reads.Asked, arity-reads.Learnt, encode-appends-below t, encode-appends.Post, encode-tuple-below t, encode-tuple.Post, encode-batches-below t, encode-batches.Post, put-byte-reads.Asked, put-byte-reads.Learnt) (encode-at t) encode.Post
-encode-returns t c = value-wrote (c .before .before .before .encode-opening .ensures) (wrote-none (leaf-arity (c .before .before .before .before .before .before .before .before .before .before .args .words .now) (c .before .before .before .before .before .before .before .before .before .before .args .text .now) (c .before .before .before .before .before .before .before .before .before .before .args .i) (value-reads (c .before .before .before .before .before .before .before .before .before .before .pre .1)) (c .before .before .before .before .before .head-of .result) (c .before .before .before .before .before .head-of .ensures) (c .if1 .taken)) (leaf-none (c .before .before .before .before .before .before .before .before .before .before .args .words .now) (c .before .before .before .before .before .before .before .before .before .before .args .text .now) (c .before .before .before .before .before .before .before .before .before .before .args .i) (value-reads (c .before .before .before .before .before .before .before .before .before .before .pre .1)) (c .before .before .before .before .before .head-of .result) (c .before .before .before .before .before .head-of .ensures) (c .if1 .taken)))
-
-encode-add-t20 : (t : ℕ) → encode-lts.Need-add-t20 (head-of-reads.Asked, head-of-reads.Learnt, encode-opening-reads.Asked, encode-opening-reads.Learnt, encode-object-below t, encode-object.Post, arity-reads.Asked, arity-reads.Learnt, encode-appends-below t, encode-appends.Post, encode-tuple-below t, encode-tuple.Post, encode-batches-below t, encode-batches.Post, put-byte-reads.Asked, put-byte-reads.Learnt) (encode-at t) encode.Post
-encode-add-t20 t c = omega (arith, (value-reads (c .before .before .before .before .before .before .before .before .before .before .before .pre .1)) .inside)
-
-encode-returns-2 : (t : ℕ) → encode-lts.Need-returns-2 (head-of-reads.Asked, head-of-reads.Learnt, encode-opening-reads.Asked, encode-opening-reads.Learnt, encode-object-below t, encode-object.Post, arity-reads.Asked, arity-reads.Learnt, encode-appends-below t, encode-appends.Post, encode-tuple-below t, encode-tuple.Post, encode-batches-below t, encode-batches.Post, put-byte-reads.Asked, put-byte-reads.Learnt) (encode-at t) encode.Post
-encode-returns-2 t c = value-wrote (c .before .before .before .before .encode-opening .ensures) (wrote-none (global-arity (c .before .before .before .before .before .before .before .before .before .before .before .args .words .now) (c .before .before .before .before .before .before .before .before .before .before .before .args .text .now) (c .before .before .before .before .before .before .before .before .before .before .before .args .i) (value-reads (c .before .before .before .before .before .before .before .before .before .before .before .pre .1)) (c .before .before .before .before .before .before .head-of .result) (c .before .before .before .before .before .before .head-of .ensures) (c .if2 .taken)) (global-none (c .before .before .before .before .before .before .before .before .before .before .before .args .words .now) (c .before .before .before .before .before .before .before .before .before .before .before .args .text .now) (c .before .before .before .before .before .before .before .before .before .before .before .args .i) (value-reads (c .before .before .before .before .before .before .before .before .before .before .before .pre .1)) (c .before .before .before .before .before .before .head-of .result) (c .before .before .before .before .before .before .head-of .ensures) (c .if2 .taken)))
-
-encode-add-encode-object : (t : ℕ) → encode-lts.Need-add-encode-object (head-of-reads.Asked, head-of-reads.Learnt, encode-opening-reads.Asked, encode-opening-reads.Learnt, encode-object-below t, encode-object.Post, arity-reads.Asked, arity-reads.Learnt, encode-appends-below t, encode-appends.Post, encode-tuple-below t, encode-tuple.Post, encode-batches-below t, encode-batches.Post, put-byte-reads.Asked, put-byte-reads.Learnt) (encode-at t) encode.Post
-encode-add-encode-object t c = omega (arith, (value-reads (c .before .before .before .before .before .before .before .before .before .before .before .before .pre .1)) .inside)
-
-encode-encode-object-requires : (t : ℕ) → encode-lts.Need-encode-object-requires (head-of-reads.Asked, head-of-reads.Learnt, encode-opening-reads.Asked, encode-opening-reads.Learnt, encode-object-below t, encode-object.Post, arity-reads.Asked, arity-reads.Learnt, encode-appends-below t, encode-appends.Post, encode-tuple-below t, encode-tuple.Post, encode-batches-below t, encode-batches.Post, put-byte-reads.Asked, put-byte-reads.Learnt) (encode-at t) encode.Post
-encode-encode-object-requires t c κs = (omega (arith, c .before .before .before .before .before .before .before .before .before .before .before .before .before .pre .0, (value-reads (c .before .before .before .before .before .before .before .before .before .before .before .before .before .pre .1)) .inside), ready-as (makes-object (c .before .before .before .before .before .before .before .before .before .before .before .before .before .args .words .now) (c .before .before .before .before .before .before .before .before .before .before .before .before .before .args .text .now) (c .before .before .before .before .before .before .before .before .before .before .before .before .before .args .i) (value-reads (c .before .before .before .before .before .before .before .before .before .before .before .before .before .pre .1)) (c .before .before .before .before .before .before .before .before .head-of .result) (c .before .before .before .before .before .before .before .before .head-of .ensures) (c .before .if3 .taken)) (rw (object-arity (c .before .before .before .before .before .before .before .before .before .before .before .before .before .args .words .now) (c .before .before .before .before .before .before .before .before .before .before .before .before .before .args .text .now) (c .before .before .before .before .before .before .before .before .before .before .before .before .before .args .i) (value-reads (c .before .before .before .before .before .before .before .before .before .before .before .before .before .pre .1)) (c .before .before .before .before .before .before .before .before .head-of .result) (c .before .before .before .before .before .before .before .before .head-of .ensures) (c .before .if3 .taken)) at (value-inside (c .before .before .before .before .before .before .before .before .before .before .before .before .before .pre .1) (c .before .before .before .before .before .before .encode-opening .ensures))))
-
-encode-returns-3 : (t : ℕ) → encode-lts.Need-returns-3 (head-of-reads.Asked, head-of-reads.Learnt, encode-opening-reads.Asked, encode-opening-reads.Learnt, encode-object-below t, encode-object.Post, arity-reads.Asked, arity-reads.Learnt, encode-appends-below t, encode-appends.Post, encode-tuple-below t, encode-tuple.Post, encode-batches-below t, encode-batches.Post, put-byte-reads.Asked, put-byte-reads.Learnt) (encode-at t) encode.Post
-encode-returns-3 t c = value-wrote (c .before .before .before .before .before .before .before .before .before .encode-opening .ensures) (rw (object-arity (c .before .before .before .before .before .before .before .before .before .before .before .before .before .before .before .before .args .words .now) (c .before .before .before .before .before .before .before .before .before .before .before .before .before .before .before .before .args .text .now) (c .before .before .before .before .before .before .before .before .before .before .before .before .before .before .before .before .args .i) (value-reads (c .before .before .before .before .before .before .before .before .before .before .before .before .before .before .before .before .pre .1)) (c .before .before .before .before .before .before .before .before .before .before .before .head-of .result) (c .before .before .before .before .before .before .before .before .before .before .before .head-of .ensures) (c .before .before .before .before .if3 .taken)) (wrote-as (makes-object (c .before .before .before .before .before .before .before .before .before .before .before .before .before .before .before .before .args .words .now) (c .before .before .before .before .before .before .before .before .before .before .before .before .before .before .before .before .args .text .now) (c .before .before .before .before .before .before .before .before .before .before .before .before .before .before .before .before .args .i) (value-reads (c .before .before .before .before .before .before .before .before .before .before .before .before .before .before .before .before .pre .1)) (c .before .before .before .before .before .before .before .before .before .before .before .head-of .result) (c .before .before .before .before .before .before .before .before .before .before .before .head-of .ensures) (c .before .before .before .before .if3 .taken)) (c .before .before .encode-object .ensures)))
-
-encode-arity-requires : (t : ℕ) → encode-lts.Need-arity-requires (head-of-reads.Asked, head-of-reads.Learnt, encode-opening-reads.Asked, encode-opening-reads.Learnt, encode-object-below t, encode-object.Post, arity-reads.Asked, arity-reads.Learnt, encode-appends-below t, encode-appends.Post, encode-tuple-below t, encode-tuple.Post, encode-batches-below t, encode-batches.Post, put-byte-reads.Asked, put-byte-reads.Learnt) (encode-at t) encode.Post
-encode-arity-requires t c κs = ((value-reads (c .before .before .before .before .before .before .before .before .before .before .before .before .pre .1)) .inside, value-arity (c .before .before .before .before .before .before .before .before .before .before .before .before .pre .1))
-
-encode-add-encode-appends : (t : ℕ) → encode-lts.Need-add-encode-appends (head-of-reads.Asked, head-of-reads.Learnt, encode-opening-reads.Asked, encode-opening-reads.Learnt, encode-object-below t, encode-object.Post, arity-reads.Asked, arity-reads.Learnt, encode-appends-below t, encode-appends.Post, encode-tuple-below t, encode-tuple.Post, encode-batches-below t, encode-batches.Post, put-byte-reads.Asked, put-byte-reads.Learnt) (encode-at t) encode.Post
-encode-add-encode-appends t c = omega (arith, (value-reads (c .before .before .before .before .before .before .before .before .before .before .before .before .before .before .pre .1)) .inside)
-
-encode-encode-appends-requires : (t : ℕ) → encode-lts.Need-encode-appends-requires (head-of-reads.Asked, head-of-reads.Learnt, encode-opening-reads.Asked, encode-opening-reads.Learnt, encode-object-below t, encode-object.Post, arity-reads.Asked, arity-reads.Learnt, encode-appends-below t, encode-appends.Post, encode-tuple-below t, encode-tuple.Post, encode-batches-below t, encode-batches.Post, put-byte-reads.Asked, put-byte-reads.Learnt) (encode-at t) encode.Post
-encode-encode-appends-requires t c κs = (omega (arith, c .before .before .before .before .before .before .before .before .before .before .before .before .before .before .before .pre .0, (value-reads (c .before .before .before .before .before .before .before .before .before .before .before .before .before .before .before .pre .1)) .inside), rw (c .before .before .arity .ensures) (ready-as (makes-list (c .before .before .before .before .before .before .before .before .before .before .before .before .before .before .before .args .words .now) (c .before .before .before .before .before .before .before .before .before .before .before .before .before .before .before .args .text .now) (c .before .before .before .before .before .before .before .before .before .before .before .before .before .before .before .args .i) (value-reads (c .before .before .before .before .before .before .before .before .before .before .before .before .before .before .before .pre .1)) (c .before .before .before .before .before .before .before .before .before .before .head-of .result) (c .before .before .before .before .before .before .before .before .before .before .head-of .ensures) (c .before .if4 .taken)) (value-inside (c .before .before .before .before .before .before .before .before .before .before .before .before .before .before .before .pre .1) (c .before .before .before .before .before .before .before .before .encode-opening .ensures))))
-
-encode-returns-4 : (t : ℕ) → encode-lts.Need-returns-4 (head-of-reads.Asked, head-of-reads.Learnt, encode-opening-reads.Asked, encode-opening-reads.Learnt, encode-object-below t, encode-object.Post, arity-reads.Asked, arity-reads.Learnt, encode-appends-below t, encode-appends.Post, encode-tuple-below t, encode-tuple.Post, encode-batches-below t, encode-batches.Post, put-byte-reads.Asked, put-byte-reads.Learnt) (encode-at t) encode.Post
-encode-returns-4 t c = value-wrote (c .before .before .before .before .before .before .before .before .before .before .before .encode-opening .ensures) (wrote-as (makes-list (c .before .before .before .before .before .before .before .before .before .before .before .before .before .before .before .before .before .before .args .words .now) (c .before .before .before .before .before .before .before .before .before .before .before .before .before .before .before .before .before .before .args .text .now) (c .before .before .before .before .before .before .before .before .before .before .before .before .before .before .before .before .before .before .args .i) (value-reads (c .before .before .before .before .before .before .before .before .before .before .before .before .before .before .before .before .before .before .pre .1)) (c .before .before .before .before .before .before .before .before .before .before .before .before .before .head-of .result) (c .before .before .before .before .before .before .before .before .before .before .before .before .before .head-of .ensures) (c .before .before .before .before .if4 .taken)) (rw (c .before .before .before .before .before .arity .ensures) at (c .before .before .encode-appends .ensures)))
-
-encode-add-encode-tuple : (t : ℕ) → encode-lts.Need-add-encode-tuple (head-of-reads.Asked, head-of-reads.Learnt, encode-opening-reads.Asked, encode-opening-reads.Learnt, encode-object-below t, encode-object.Post, arity-reads.Asked, arity-reads.Learnt, encode-appends-below t, encode-appends.Post, encode-tuple-below t, encode-tuple.Post, encode-batches-below t, encode-batches.Post, put-byte-reads.Asked, put-byte-reads.Learnt) (encode-at t) encode.Post
-encode-add-encode-tuple t c = omega (arith, (value-reads (c .before .before .before .before .before .before .before .before .before .before .before .before .before .before .before .pre .1)) .inside)
-
-encode-encode-tuple-requires : (t : ℕ) → encode-lts.Need-encode-tuple-requires (head-of-reads.Asked, head-of-reads.Learnt, encode-opening-reads.Asked, encode-opening-reads.Learnt, encode-object-below t, encode-object.Post, arity-reads.Asked, arity-reads.Learnt, encode-appends-below t, encode-appends.Post, encode-tuple-below t, encode-tuple.Post, encode-batches-below t, encode-batches.Post, put-byte-reads.Asked, put-byte-reads.Learnt) (encode-at t) encode.Post
-encode-encode-tuple-requires t c κs = (omega (arith, c .before .before .before .before .before .before .before .before .before .before .before .before .before .before .before .before .pre .0, (value-reads (c .before .before .before .before .before .before .before .before .before .before .before .before .before .before .before .before .pre .1)) .inside), rw (c .before .before .before .arity .ensures) (ready-as (makes-tuple (c .before .before .before .before .before .before .before .before .before .before .before .before .before .before .before .before .args .words .now) (c .before .before .before .before .before .before .before .before .before .before .before .before .before .before .before .before .args .text .now) (c .before .before .before .before .before .before .before .before .before .before .before .before .before .before .before .before .args .i) (value-reads (c .before .before .before .before .before .before .before .before .before .before .before .before .before .before .before .before .pre .1)) (c .before .before .before .before .before .before .before .before .before .before .before .head-of .result) (c .before .before .before .before .before .before .before .before .before .before .before .head-of .ensures) (c .before .if5 .taken)) (value-inside (c .before .before .before .before .before .before .before .before .before .before .before .before .before .before .before .before .pre .1) (c .before .before .before .before .before .before .before .before .before .encode-opening .ensures))))
-
-encode-returns-5 : (t : ℕ) → encode-lts.Need-returns-5 (head-of-reads.Asked, head-of-reads.Learnt, encode-opening-reads.Asked, encode-opening-reads.Learnt, encode-object-below t, encode-object.Post, arity-reads.Asked, arity-reads.Learnt, encode-appends-below t, encode-appends.Post, encode-tuple-below t, encode-tuple.Post, encode-batches-below t, encode-batches.Post, put-byte-reads.Asked, put-byte-reads.Learnt) (encode-at t) encode.Post
-encode-returns-5 t c = value-wrote (c .before .before .before .before .before .before .before .before .before .before .before .before .encode-opening .ensures) (wrote-as (makes-tuple (c .before .before .before .before .before .before .before .before .before .before .before .before .before .before .before .before .before .before .before .args .words .now) (c .before .before .before .before .before .before .before .before .before .before .before .before .before .before .before .before .before .before .before .args .text .now) (c .before .before .before .before .before .before .before .before .before .before .before .before .before .before .before .before .before .before .before .args .i) (value-reads (c .before .before .before .before .before .before .before .before .before .before .before .before .before .before .before .before .before .before .before .pre .1)) (c .before .before .before .before .before .before .before .before .before .before .before .before .before .before .head-of .result) (c .before .before .before .before .before .before .before .before .before .before .before .before .before .before .head-of .ensures) (c .before .before .before .before .if5 .taken)) (rw (c .before .before .before .before .before .before .arity .ensures) at (c .before .before .encode-tuple .ensures)))
-
-encode-add-encode-batches : (t : ℕ) → encode-lts.Need-add-encode-batches (head-of-reads.Asked, head-of-reads.Learnt, encode-opening-reads.Asked, encode-opening-reads.Learnt, encode-object-below t, encode-object.Post, arity-reads.Asked, arity-reads.Learnt, encode-appends-below t, encode-appends.Post, encode-tuple-below t, encode-tuple.Post, encode-batches-below t, encode-batches.Post, put-byte-reads.Asked, put-byte-reads.Learnt) (encode-at t) encode.Post
-encode-add-encode-batches t c = omega (arith, (value-reads (c .before .before .before .before .before .before .before .before .before .before .before .before .before .before .before .before .pre .1)) .inside)
-
-encode-encode-batches-requires : (t : ℕ) → encode-lts.Need-encode-batches-requires (head-of-reads.Asked, head-of-reads.Learnt, encode-opening-reads.Asked, encode-opening-reads.Learnt, encode-object-below t, encode-object.Post, arity-reads.Asked, arity-reads.Learnt, encode-appends-below t, encode-appends.Post, encode-tuple-below t, encode-tuple.Post, encode-batches-below t, encode-batches.Post, put-byte-reads.Asked, put-byte-reads.Learnt) (encode-at t) encode.Post
-encode-encode-batches-requires t c κs = (omega (arith, c .before .before .before .before .before .before .before .before .before .before .before .before .before .before .before .before .before .pre .0, (value-reads (c .before .before .before .before .before .before .before .before .before .before .before .before .before .before .before .before .before .pre .1)) .inside), rw (c .before .before .before .before .arity .ensures) (ready-as (makes-dict (c .before .before .before .before .before .before .before .before .before .before .before .before .before .before .before .before .before .args .words .now) (c .before .before .before .before .before .before .before .before .before .before .before .before .before .before .before .before .before .args .text .now) (c .before .before .before .before .before .before .before .before .before .before .before .before .before .before .before .before .before .args .i) (value-reads (c .before .before .before .before .before .before .before .before .before .before .before .before .before .before .before .before .before .pre .1)) (c .before .before .before .before .before .before .before .before .before .before .before .before .head-of .result) (c .before .before .before .before .before .before .before .before .before .before .before .before .head-of .ensures) (c .before .if6 .taken)) (value-inside (c .before .before .before .before .before .before .before .before .before .before .before .before .before .before .before .before .before .pre .1) (c .before .before .before .before .before .before .before .before .before .before .encode-opening .ensures))))
-
-encode-returns-6 : (t : ℕ) → encode-lts.Need-returns-6 (head-of-reads.Asked, head-of-reads.Learnt, encode-opening-reads.Asked, encode-opening-reads.Learnt, encode-object-below t, encode-object.Post, arity-reads.Asked, arity-reads.Learnt, encode-appends-below t, encode-appends.Post, encode-tuple-below t, encode-tuple.Post, encode-batches-below t, encode-batches.Post, put-byte-reads.Asked, put-byte-reads.Learnt) (encode-at t) encode.Post
-encode-returns-6 t c = value-wrote (c .before .before .before .before .before .before .before .before .before .before .before .before .before .encode-opening .ensures) (wrote-as (makes-dict (c .before .before .before .before .before .before .before .before .before .before .before .before .before .before .before .before .before .before .before .before .args .words .now) (c .before .before .before .before .before .before .before .before .before .before .before .before .before .before .before .before .before .before .before .before .args .text .now) (c .before .before .before .before .before .before .before .before .before .before .before .before .before .before .before .before .before .before .before .before .args .i) (value-reads (c .before .before .before .before .before .before .before .before .before .before .before .before .before .before .before .before .before .before .before .before .pre .1)) (c .before .before .before .before .before .before .before .before .before .before .before .before .before .before .before .head-of .result) (c .before .before .before .before .before .before .before .before .before .before .before .before .before .before .before .head-of .ensures) (c .before .before .before .before .if6 .taken)) (rw (c .before .before .before .before .before .before .before .arity .ensures) at (c .before .before .encode-batches .ensures)))
-
-encode-add-encode-appends-2 : (t : ℕ) → encode-lts.Need-add-encode-appends-2 (head-of-reads.Asked, head-of-reads.Learnt, encode-opening-reads.Asked, encode-opening-reads.Learnt, encode-object-below t, encode-object.Post, arity-reads.Asked, arity-reads.Learnt, encode-appends-below t, encode-appends.Post, encode-tuple-below t, encode-tuple.Post, encode-batches-below t, encode-batches.Post, put-byte-reads.Asked, put-byte-reads.Learnt) (encode-at t) encode.Post
-encode-add-encode-appends-2 t c = omega (arith, (value-reads (c .before .before .before .before .before .before .before .before .before .before .before .before .before .before .before .before .pre .1)) .inside)
-
-encode-encode-appends-requires-2 : (t : ℕ) → encode-lts.Need-encode-appends-requires-2 (head-of-reads.Asked, head-of-reads.Learnt, encode-opening-reads.Asked, encode-opening-reads.Learnt, encode-object-below t, encode-object.Post, arity-reads.Asked, arity-reads.Learnt, encode-appends-below t, encode-appends.Post, encode-tuple-below t, encode-tuple.Post, encode-batches-below t, encode-batches.Post, put-byte-reads.Asked, put-byte-reads.Learnt) (encode-at t) encode.Post
-encode-encode-appends-requires-2 t c κs = (omega (arith, c .before .before .before .before .before .before .before .before .before .before .before .before .before .before .before .before .before .pre .0, (value-reads (c .before .before .before .before .before .before .before .before .before .before .before .before .before .before .before .before .before .pre .1)) .inside), rw (c .before .before .before .before .arity .ensures) (ready-before _ _ (ready-as (makes-set (c .before .before .before .before .before .before .before .before .before .before .before .before .before .before .before .before .before .args .words .now) (c .before .before .before .before .before .before .before .before .before .before .before .before .before .before .before .before .before .args .text .now) (c .before .before .before .before .before .before .before .before .before .before .before .before .before .before .before .before .before .args .i) (value-reads (c .before .before .before .before .before .before .before .before .before .before .before .before .before .before .before .before .before .pre .1)) (c .before .before .before .before .before .before .before .before .before .before .before .before .head-of .result) (c .before .before .before .before .before .before .before .before .before .before .before .before .head-of .ensures) (omega (arith, (known (c .before .before .before .before .before .before .before .before .before .before .before .before .before .before .before .before .before .args .words .now) (c .before .before .before .before .before .before .before .before .before .before .before .before .before .before .before .before .before .args .text .now) (c .before .before .before .before .before .before .before .before .before .before .before .before .before .before .before .before .before .args .i) (value-reads (c .before .before .before .before .before .before .before .before .before .before .before .before .before .before .before .before .before .pre .1)) (c .before .before .before .before .before .before .before .before .before .before .before .before .head-of .result) (c .before .before .before .before .before .before .before .before .before .before .before .before .head-of .ensures)))) (omega (arith, (known (c .before .before .before .before .before .before .before .before .before .before .before .before .before .before .before .before .before .args .words .now) (c .before .before .before .before .before .before .before .before .before .before .before .before .before .before .before .before .before .args .text .now) (c .before .before .before .before .before .before .before .before .before .before .before .before .before .before .before .before .before .args .i) (value-reads (c .before .before .before .before .before .before .before .before .before .before .before .before .before .before .before .before .before .pre .1)) (c .before .before .before .before .before .before .before .before .before .before .before .before .head-of .result) (c .before .before .before .before .before .before .before .before .before .before .before .before .head-of .ensures))))) (value-inside (c .before .before .before .before .before .before .before .before .before .before .before .before .before .before .before .before .before .pre .1) (c .before .before .before .before .before .before .before .before .before .before .encode-opening .ensures)))))
-
-encode-put-byte-requires : (t : ℕ) → encode-lts.Need-put-byte-requires (head-of-reads.Asked, head-of-reads.Learnt, encode-opening-reads.Asked, encode-opening-reads.Learnt, encode-object-below t, encode-object.Post, arity-reads.Asked, arity-reads.Learnt, encode-appends-below t, encode-appends.Post, encode-tuple-below t, encode-tuple.Post, encode-batches-below t, encode-batches.Post, put-byte-reads.Asked, put-byte-reads.Learnt) (encode-at t) encode.Post
-encode-put-byte-requires t c κs = room-first _ (ready-end _ _ (ready-as (makes-set (c .before .before .before .before .before .before .before .before .before .before .before .before .before .before .before .before .before .before .before .before .before .args .words .now) (c .before .before .before .before .before .before .before .before .before .before .before .before .before .before .before .before .before .before .before .before .before .args .text .now) (c .before .before .before .before .before .before .before .before .before .before .before .before .before .before .before .before .before .before .before .before .before .args .i) (value-reads (c .before .before .before .before .before .before .before .before .before .before .before .before .before .before .before .before .before .before .before .before .before .pre .1)) (c .before .before .before .before .before .before .before .before .before .before .before .before .before .before .before .before .head-of .result) (c .before .before .before .before .before .before .before .before .before .before .before .before .before .before .before .before .head-of .ensures) (omega (arith, (known (c .before .before .before .before .before .before .before .before .before .before .before .before .before .before .before .before .before .before .before .before .before .args .words .now) (c .before .before .before .before .before .before .before .before .before .before .before .before .before .before .before .before .before .before .before .before .before .args .text .now) (c .before .before .before .before .before .before .before .before .before .before .before .before .before .before .before .before .before .before .before .before .before .args .i) (value-reads (c .before .before .before .before .before .before .before .before .before .before .before .before .before .before .before .before .before .before .before .before .before .pre .1)) (c .before .before .before .before .before .before .before .before .before .before .before .before .before .before .before .before .head-of .result) (c .before .before .before .before .before .before .before .before .before .before .before .before .before .before .before .before .head-of .ensures)))) (omega (arith, (known (c .before .before .before .before .before .before .before .before .before .before .before .before .before .before .before .before .before .before .before .before .before .args .words .now) (c .before .before .before .before .before .before .before .before .before .before .before .before .before .before .before .before .before .before .before .before .before .args .text .now) (c .before .before .before .before .before .before .before .before .before .before .before .before .before .before .before .before .before .before .before .before .before .args .i) (value-reads (c .before .before .before .before .before .before .before .before .before .before .before .before .before .before .before .before .before .before .before .before .before .pre .1)) (c .before .before .before .before .before .before .before .before .before .before .before .before .before .before .before .before .head-of .result) (c .before .before .before .before .before .before .before .before .before .before .before .before .before .before .before .before .head-of .ensures))))) (value-inside (c .before .before .before .before .before .before .before .before .before .before .before .before .before .before .before .before .before .before .before .before .before .pre .1) (c .before .before .before .before .before .before .before .before .before .before .before .before .before .before .encode-opening .ensures))) (rw (c .before .before .before .before .before .before .before .before .arity .ensures) at (c .before .before .before .encode-appends2 .ensures)))
-
-encode-put-byte-requires-2 : (t : ℕ) → encode-lts.Need-put-byte-requires-2 (head-of-reads.Asked, head-of-reads.Learnt, encode-opening-reads.Asked, encode-opening-reads.Learnt, encode-object-below t, encode-object.Post, arity-reads.Asked, arity-reads.Learnt, encode-appends-below t, encode-appends.Post, encode-tuple-below t, encode-tuple.Post, encode-batches-below t, encode-batches.Post, put-byte-reads.Asked, put-byte-reads.Learnt) (encode-at t) encode.Post
-encode-put-byte-requires-2 t c κs = room-then _ (c .before .before .before .put-byte .ensures) (ready-end _ _ (ready-as (makes-set (c .before .before .before .before .before .before .before .before .before .before .before .before .before .before .before .before .before .before .before .before .before .before .before .before .before .args .words .now) (c .before .before .before .before .before .before .before .before .before .before .before .before .before .before .before .before .before .before .before .before .before .before .before .before .before .args .text .now) (c .before .before .before .before .before .before .before .before .before .before .before .before .before .before .before .before .before .before .before .before .before .before .before .before .before .args .i) (value-reads (c .before .before .before .before .before .before .before .before .before .before .before .before .before .before .before .before .before .before .before .before .before .before .before .before .before .pre .1)) (c .before .before .before .before .before .before .before .before .before .before .before .before .before .before .before .before .before .before .before .before .head-of .result) (c .before .before .before .before .before .before .before .before .before .before .before .before .before .before .before .before .before .before .before .before .head-of .ensures) (omega (arith, (known (c .before .before .before .before .before .before .before .before .before .before .before .before .before .before .before .before .before .before .before .before .before .before .before .before .before .args .words .now) (c .before .before .before .before .before .before .before .before .before .before .before .before .before .before .before .before .before .before .before .before .before .before .before .before .before .args .text .now) (c .before .before .before .before .before .before .before .before .before .before .before .before .before .before .before .before .before .before .before .before .before .before .before .before .before .args .i) (value-reads (c .before .before .before .before .before .before .before .before .before .before .before .before .before .before .before .before .before .before .before .before .before .before .before .before .before .pre .1)) (c .before .before .before .before .before .before .before .before .before .before .before .before .before .before .before .before .before .before .before .before .head-of .result) (c .before .before .before .before .before .before .before .before .before .before .before .before .before .before .before .before .before .before .before .before .head-of .ensures)))) (omega (arith, (known (c .before .before .before .before .before .before .before .before .before .before .before .before .before .before .before .before .before .before .before .before .before .before .before .before .before .args .words .now) (c .before .before .before .before .before .before .before .before .before .before .before .before .before .before .before .before .before .before .before .before .before .before .before .before .before .args .text .now) (c .before .before .before .before .before .before .before .before .before .before .before .before .before .before .before .before .before .before .before .before .before .before .before .before .before .args .i) (value-reads (c .before .before .before .before .before .before .before .before .before .before .before .before .before .before .before .before .before .before .before .before .before .before .before .before .before .pre .1)) (c .before .before .before .before .before .before .before .before .before .before .before .before .before .before .before .before .before .before .before .before .head-of .result) (c .before .before .before .before .before .before .before .before .before .before .before .before .before .before .before .before .before .before .before .before .head-of .ensures))))) (value-inside (c .before .before .before .before .before .before .before .before .before .before .before .before .before .before .before .before .before .before .before .before .before .before .before .before .before .pre .1) (c .before .before .before .before .before .before .before .before .before .before .before .before .before .before .before .before .before .before .encode-opening .ensures))) (rw (c .before .before .before .before .before .before .before .before .before .before .before .before .arity .ensures) at (c .before .before .before .before .before .before .before .encode-appends2 .ensures)))
-
-encode-returns-7 : (t : ℕ) → encode-lts.Need-returns-7 (head-of-reads.Asked, head-of-reads.Learnt, encode-opening-reads.Asked, encode-opening-reads.Learnt, encode-object-below t, encode-object.Post, arity-reads.Asked, arity-reads.Learnt, encode-appends-below t, encode-appends.Post, encode-tuple-below t, encode-tuple.Post, encode-batches-below t, encode-batches.Post, put-byte-reads.Asked, put-byte-reads.Learnt) (encode-at t) encode.Post
-encode-returns-7 t c = value-wrote (c .before .before .before .before .before .before .before .before .before .before .before .before .before .before .before .before .before .before .before .before .before .encode-opening .ensures) (wrote-as (makes-set (c .before .before .before .before .before .before .before .before .before .before .before .before .before .before .before .before .before .before .before .before .before .before .before .before .before .before .before .before .args .words .now) (c .before .before .before .before .before .before .before .before .before .before .before .before .before .before .before .before .before .before .before .before .before .before .before .before .before .before .before .before .args .text .now) (c .before .before .before .before .before .before .before .before .before .before .before .before .before .before .before .before .before .before .before .before .before .before .before .before .before .before .before .before .args .i) (value-reads (c .before .before .before .before .before .before .before .before .before .before .before .before .before .before .before .before .before .before .before .before .before .before .before .before .before .before .before .before .pre .1)) (c .before .before .before .before .before .before .before .before .before .before .before .before .before .before .before .before .before .before .before .before .before .before .before .head-of .result) (c .before .before .before .before .before .before .before .before .before .before .before .before .before .before .before .before .before .before .before .before .before .before .before .head-of .ensures) (omega (arith, (known (c .before .before .before .before .before .before .before .before .before .before .before .before .before .before .before .before .before .before .before .before .before .before .before .before .before .before .before .before .args .words .now) (c .before .before .before .before .before .before .before .before .before .before .before .before .before .before .before .before .before .before .before .before .before .before .before .before .before .before .before .before .args .text .now) (c .before .before .before .before .before .before .before .before .before .before .before .before .before .before .before .before .before .before .before .before .before .before .before .before .before .before .before .before .args .i) (value-reads (c .before .before .before .before .before .before .before .before .before .before .before .before .before .before .before .before .before .before .before .before .before .before .before .before .before .before .before .before .pre .1)) (c .before .before .before .before .before .before .before .before .before .before .before .before .before .before .before .before .before .before .before .before .before .before .before .head-of .result) (c .before .before .before .before .before .before .before .before .before .before .before .before .before .before .before .before .before .before .before .before .before .before .before .head-of .ensures)))) (omega (arith, (known (c .before .before .before .before .before .before .before .before .before .before .before .before .before .before .before .before .before .before .before .before .before .before .before .before .before .before .before .before .args .words .now) (c .before .before .before .before .before .before .before .before .before .before .before .before .before .before .before .before .before .before .before .before .before .before .before .before .before .before .before .before .args .text .now) (c .before .before .before .before .before .before .before .before .before .before .before .before .before .before .before .before .before .before .before .before .before .before .before .before .before .before .before .before .args .i) (value-reads (c .before .before .before .before .before .before .before .before .before .before .before .before .before .before .before .before .before .before .before .before .before .before .before .before .before .before .before .before .pre .1)) (c .before .before .before .before .before .before .before .before .before .before .before .before .before .before .before .before .before .before .before .before .before .before .before .head-of .result) (c .before .before .before .before .before .before .before .before .before .before .before .before .before .before .before .before .before .before .before .before .before .before .before .head-of .ensures))))) (wrote-before _ _ (rw (c .before .before .before .before .before .before .before .before .before .before .before .before .before .before .before .arity .ensures) at (c .before .before .before .before .before .before .before .before .before .before .encode-appends2 .ensures)) (put-then (c .before .before .before .before .before .before .put-byte .ensures) (c .before .before .put-byte2 .ensures))))
-
-encode-appends-encode-items-requires : (t : ℕ) → encode-appends-lts.Need-encode-items-requires (encode-items-below t, encode-items.Post, put-byte-reads.Asked, put-byte-reads.Learnt, encode-batches-below t, encode-batches.Post) (encode-appends-at t) encode-appends.Post
-encode-appends-encode-items-requires t c κs = (omega (arith, c .before .before .before .before .before .pre .0), ready-before _ _ (ready-as (appends-one (c .before .if1 .taken)) (c .before .before .before .before .before .pre .1)))
-
-encode-appends-put-byte-requires : (t : ℕ) → encode-appends-lts.Need-put-byte-requires (encode-items-below t, encode-items.Post, put-byte-reads.Asked, put-byte-reads.Learnt, encode-batches-below t, encode-batches.Post) (encode-appends-at t) encode-appends.Post
-encode-appends-put-byte-requires t c κs = ready-end _ _ (ready-as (appends-one (c .before .before .before .before .before .if1 .taken)) (c .before .before .before .before .before .before .before .before .before .pre .1)) (c .before .before .before .encode-items .ensures)
-
-encode-appends-returns : (t : ℕ) → encode-appends-lts.Need-returns (encode-items-below t, encode-items.Post, put-byte-reads.Asked, put-byte-reads.Learnt, encode-batches-below t, encode-batches.Post) (encode-appends-at t) encode-appends.Post
-encode-appends-returns t c = wrote-as (appends-one (c .before .before .before .before .before .before .before .before .if1 .taken)) (wrote-before _ _ (c .before .before .before .before .before .before .encode-items .ensures) (c .before .before .put-byte .ensures))
-
-encode-appends-encode-batches-requires : (t : ℕ) → encode-appends-lts.Need-encode-batches-requires (encode-items-below t, encode-items.Post, put-byte-reads.Asked, put-byte-reads.Learnt, encode-batches-below t, encode-batches.Post) (encode-appends-at t) encode-appends.Post
-encode-appends-encode-batches-requires t c κs = (omega (arith, c .before .before .before .before .before .pre .0), ready-as (appends-many (c .before .if1 .left)) (c .before .before .before .before .before .pre .1))
-
-encode-appends-returns-2 : (t : ℕ) → encode-appends-lts.Need-returns-2 (encode-items-below t, encode-items.Post, put-byte-reads.Asked, put-byte-reads.Learnt, encode-batches-below t, encode-batches.Post) (encode-appends-at t) encode-appends.Post
-encode-appends-returns-2 t c = wrote-as (appends-many (c .before .before .before .before .if1 .left)) (c .before .before .encode-batches .ensures)
-
-encode-batch-encode-items-requires : (t : ℕ) → encode-batch-lts.Need-encode-items-requires (encode-items-below t, encode-items.Post, put-byte-reads.Asked, put-byte-reads.Learnt) (encode-batch-at t) encode-batch.Post
-encode-batch-encode-items-requires t c κs = (omega (arith, c .before .before .before .before .before .before .pre .0), ready-before _ _ (ready-as (batch-entry _ (c .before .before .if1 .taken) (c .before .if2 .taken)) (c .before .before .before .before .before .before .pre .1)))
-
-encode-batch-put-byte-requires : (t : ℕ) → encode-batch-lts.Need-put-byte-requires (encode-items-below t, encode-items.Post, put-byte-reads.Asked, put-byte-reads.Learnt) (encode-batch-at t) encode-batch.Post
-encode-batch-put-byte-requires t c κs = ready-end _ _ (ready-as (batch-entry _ (c .before .before .before .before .before .before .if1 .taken) (c .before .before .before .before .before .if2 .taken)) (c .before .before .before .before .before .before .before .before .before .before .pre .1)) (c .before .before .before .encode-items .ensures)
-
-encode-batch-returns : (t : ℕ) → encode-batch-lts.Need-returns (encode-items-below t, encode-items.Post, put-byte-reads.Asked, put-byte-reads.Learnt) (encode-batch-at t) encode-batch.Post
-encode-batch-returns t c = wrote-as (batch-entry _ (c .before .before .before .before .before .before .before .before .before .if1 .taken) (c .before .before .before .before .before .before .before .before .if2 .taken)) (wrote-before _ _ (c .before .before .before .before .before .before .encode-items .ensures) (c .before .before .put-byte .ensures))
-
-encode-batch-put-byte-requires-2 : (t : ℕ) → encode-batch-lts.Need-put-byte-requires-2 (encode-items-below t, encode-items.Post, put-byte-reads.Asked, put-byte-reads.Learnt) (encode-batch-at t) encode-batch.Post
-encode-batch-put-byte-requires-2 t c κs = ready-front _ _ (ready-as (batch-entries _ (c .before .before .if1 .taken) (c .before .if2 .left)) (c .before .before .before .before .before .before .pre .1))
-
-encode-batch-encode-items-requires-2 : (t : ℕ) → encode-batch-lts.Need-encode-items-requires-2 (encode-items-below t, encode-items.Post, put-byte-reads.Asked, put-byte-reads.Learnt) (encode-batch-at t) encode-batch.Post
-encode-batch-encode-items-requires-2 t c κs = (omega (arith, c .before .before .before .before .before .before .before .before .before .before .pre .0), ready-before _ _ (ready-after _ _ (ready-as (batch-entries _ (c .before .before .before .before .before .before .if1 .taken) (c .before .before .before .before .before .if2 .left)) (c .before .before .before .before .before .before .before .before .before .before .pre .1)) (c .before .before .before .put-byte2 .ensures)))
-
-encode-batch-put-byte-requires-3 : (t : ℕ) → encode-batch-lts.Need-put-byte-requires-3 (encode-items-below t, encode-items.Post, put-byte-reads.Asked, put-byte-reads.Learnt) (encode-batch-at t) encode-batch.Post
-encode-batch-put-byte-requires-3 t c κs = ready-end _ _ (ready-after _ _ (ready-as (batch-entries _ (c .before .before .before .before .before .before .before .before .before .before .if1 .taken) (c .before .before .before .before .before .before .before .before .before .if2 .left)) (c .before .before .before .before .before .before .before .before .before .before .before .before .before .before .pre .1)) (c .before .before .before .before .before .before .before .put-byte2 .ensures)) (c .before .before .before .encode-items2 .ensures)
-
-encode-batch-returns-2 : (t : ℕ) → encode-batch-lts.Need-returns-2 (encode-items-below t, encode-items.Post, put-byte-reads.Asked, put-byte-reads.Learnt) (encode-batch-at t) encode-batch.Post
-encode-batch-returns-2 t c = wrote-as (batch-entries _ (c .before .before .before .before .before .before .before .before .before .before .before .before .before .if1 .taken) (c .before .before .before .before .before .before .before .before .before .before .before .before .if2 .left)) (wrote-after _ _ (c .before .before .before .before .before .before .before .before .before .before .put-byte2 .ensures) (wrote-before _ _ (c .before .before .before .before .before .before .encode-items2 .ensures) (c .before .before .put-byte3 .ensures)))
-
-encode-batch-put-byte-requires-4 : (t : ℕ) → encode-batch-lts.Need-put-byte-requires-4 (encode-items-below t, encode-items.Post, put-byte-reads.Asked, put-byte-reads.Learnt) (encode-batch-at t) encode-batch.Post
-encode-batch-put-byte-requires-4 t c κs = ready-front _ _ (ready-as (batch-items _ (c .before .if1 .left)) (c .before .before .before .before .before .pre .1))
-
-encode-batch-encode-items-requires-3 : (t : ℕ) → encode-batch-lts.Need-encode-items-requires-3 (encode-items-below t, encode-items.Post, put-byte-reads.Asked, put-byte-reads.Learnt) (encode-batch-at t) encode-batch.Post
-encode-batch-encode-items-requires-3 t c κs = (omega (arith, c .before .before .before .before .before .before .before .before .before .pre .0), ready-before _ _ (ready-after _ _ (ready-as (batch-items _ (c .before .before .before .before .before .if1 .left)) (c .before .before .before .before .before .before .before .before .before .pre .1)) (c .before .before .before .put-byte4 .ensures)))
-
-encode-batch-put-byte-requires-5 : (t : ℕ) → encode-batch-lts.Need-put-byte-requires-5 (encode-items-below t, encode-items.Post, put-byte-reads.Asked, put-byte-reads.Learnt) (encode-batch-at t) encode-batch.Post
-encode-batch-put-byte-requires-5 t c κs = ready-end _ _ (ready-after _ _ (ready-as (batch-items _ (c .before .before .before .before .before .before .before .before .before .if1 .left)) (c .before .before .before .before .before .before .before .before .before .before .before .before .before .pre .1)) (c .before .before .before .before .before .before .before .put-byte4 .ensures)) (c .before .before .before .encode-items3 .ensures)
-
-encode-batch-returns-3 : (t : ℕ) → encode-batch-lts.Need-returns-3 (encode-items-below t, encode-items.Post, put-byte-reads.Asked, put-byte-reads.Learnt) (encode-batch-at t) encode-batch.Post
-encode-batch-returns-3 t c = wrote-as (batch-items _ (c .before .before .before .before .before .before .before .before .before .before .before .before .if1 .left)) (wrote-after _ _ (c .before .before .before .before .before .before .before .before .before .before .put-byte4 .ensures) (wrote-before _ _ (c .before .before .before .before .before .before .encode-items3 .ensures) (c .before .before .put-byte5 .ensures)))
-
 abbrev encode-batches-Inv-loop : encode-batches-lts.InvT-loop
 encode-batches-Inv-loop words text from count entries output₀ at i₀ left₀ next₀ output i left next = Going (batches entries) words text from count output₀ at output i left next
 
 abbrev encode-batches-μ-loop : encode-batches-lts.MeasureT-loop
 encode-batches-μ-loop words text from count entries output₀ at i₀ left₀ next₀ output i left next = left
-
-encode-batches-loop-holds : (t : ℕ) → encode-batches-lts.Need-loop-holds (batch-of-reads.Asked, batch-of-reads.Learnt, encode-batch-below t, encode-batch.Post) (encode-batches-at t) encode-batches.Post encode-batches-Inv-loop encode-batches-μ-loop
-encode-batches-loop-holds t c = going-all (c .before .before .before .pre .1)
-
-encode-batches-encode-batch-requires : (t : ℕ) → encode-batches-lts.Need-encode-batch-requires (batch-of-reads.Asked, batch-of-reads.Learnt, encode-batch-below t, encode-batch.Post) (encode-batches-at t) encode-batches.Post encode-batches-Inv-loop encode-batches-μ-loop
-encode-batches-encode-batch-requires t c κs = (omega (arith, c .before .before .before .before .before .before .before .pre .0, c .before .before .before .loop .inv .later), rw (c .before .batch-of .ensures) (ready-cut (batches-cuts (c .before .before .before .before .before .before .before .args .entries) (c .before .before .before .loop .left) (c .before .before .loop-test .taken)) (c .before .before .before .loop .inv .ready)))
-
-encode-batches-sub-left : (t : ℕ) → encode-batches-lts.Need-sub-left (batch-of-reads.Asked, batch-of-reads.Learnt, encode-batch-below t, encode-batch.Post) (encode-batches-at t) encode-batches.Post encode-batches-Inv-loop encode-batches-μ-loop
-encode-batches-sub-left t c = omega (arith, c .before .before .before .before .batch-of .ensures)
-
-encode-batches-loop-less : (t : ℕ) → encode-batches-lts.Need-loop-less (batch-of-reads.Asked, batch-of-reads.Learnt, encode-batch-below t, encode-batch.Post) (encode-batches-at t) encode-batches.Post encode-batches-Inv-loop encode-batches-μ-loop
-encode-batches-loop-less t c = omega (arith, c .before .before .before .before .batch-of .ensures, size-some (c .before .before .before .before .before .before .before .before .before .before .args .entries), c .before .before .before .before .before .loop-test .taken)
-
-encode-batches-loop-again : (t : ℕ) → encode-batches-lts.Need-loop-again (batch-of-reads.Asked, batch-of-reads.Learnt, encode-batch-below t, encode-batch.Post) (encode-batches-at t) encode-batches.Post encode-batches-Inv-loop encode-batches-μ-loop
-encode-batches-loop-again t c = rw (c .before .before .before .before .batch-of .ensures) (going-again (batches-cuts (c .before .before .before .before .before .before .before .before .before .before .args .entries) (c .before .before .before .before .before .before .loop .left) (c .before .before .before .before .before .loop-test .taken)) (c .before .before .before .before .before .before .loop .inv) (rw (c .before .before .before .before .batch-of .ensures) at (c .before .before .encode-batch .ensures)))
-
-encode-batches-same-length : (t : ℕ) → encode-batches-lts.Need-same-length (batch-of-reads.Asked, batch-of-reads.Learnt, encode-batch-below t, encode-batch.Post) (encode-batches-at t) encode-batches.Post encode-batches-Inv-loop encode-batches-μ-loop
-encode-batches-same-length t c = c .before .loop .inv .kept
-
-encode-batches-returns : (t : ℕ) → encode-batches-lts.Need-returns (batch-of-reads.Asked, batch-of-reads.Learnt, encode-batch-below t, encode-batch.Post) (encode-batches-at t) encode-batches.Post encode-batches-Inv-loop encode-batches-μ-loop
-encode-batches-returns t c = going-none (batches-none (c .before .before .before .before .before .args .entries)) (c .loop-test .left) (c .before .loop .inv)
 
 abbrev encode-items-Inv-loop : encode-items-lts.InvT-loop
 encode-items-Inv-loop words text from count output₀ at i₀ left₀ next₀ output i left next = Going joined words text from count output₀ at output i left next
@@ -271,56 +87,304 @@ encode-items-Inv-loop words text from count output₀ at i₀ left₀ next₀ ou
 abbrev encode-items-μ-loop : encode-items-lts.MeasureT-loop
 encode-items-μ-loop words text from count output₀ at i₀ left₀ next₀ output i left next = left
 
-encode-items-loop-holds : (t : ℕ) → encode-items-lts.Need-loop-holds (encode-below t, encode.Post) (encode-items-at t) encode-items.Post encode-items-Inv-loop encode-items-μ-loop
-encode-items-loop-holds t c = going-all (c .before .before .before .pre .1)
+module _ (t : ℕ) where
+  abbrev encode-at : In 3 encode-kinds.ps
+  encode-at = and 3 encode-kinds.ps (is 3 encode-kinds.ps μ-encode t) encode.Pre
 
-encode-items-encode-requires : (t : ℕ) → encode-items-lts.Need-encode-requires (encode-below t, encode.Post) (encode-items-at t) encode-items.Post encode-items-Inv-loop encode-items-μ-loop
-encode-items-encode-requires t c κs = (omega (arith, c .before .before .before .before .before .before .pre .0, c .before .before .loop .inv .later), ready-cut (joined-cuts (c .before .before .loop .left) (c .before .loop-test .taken)) (c .before .before .loop .inv .ready))
+  abbrev encode-below : In 3 encode-kinds.ps
+  encode-below = and 3 encode-kinds.ps (falls 3 encode-kinds.ps _<_ μ-encode t) encode.Pre
 
-encode-items-sub-left : (t : ℕ) → encode-items-lts.Need-sub-left (encode-below t, encode.Post) (encode-items-at t) encode-items.Post encode-items-Inv-loop encode-items-μ-loop
-encode-items-sub-left t c = omega (arith, c .before .before .before .before .loop-test .taken)
+  abbrev encode-appends-at : In 3 encode-appends-kinds.ps
+  encode-appends-at = and 3 encode-appends-kinds.ps (is 3 encode-appends-kinds.ps μ-encode-appends t) encode-appends.Pre
 
-encode-items-loop-less : (t : ℕ) → encode-items-lts.Need-loop-less (encode-below t, encode.Post) (encode-items-at t) encode-items.Post encode-items-Inv-loop encode-items-μ-loop
-encode-items-loop-less t c = omega (arith, c .before .before .before .before .loop-test .taken)
+  abbrev encode-appends-below : In 3 encode-appends-kinds.ps
+  encode-appends-below = and 3 encode-appends-kinds.ps (falls 3 encode-appends-kinds.ps _<_ μ-encode-appends t) encode-appends.Pre
 
-encode-items-loop-again : (t : ℕ) → encode-items-lts.Need-loop-again (encode-below t, encode.Post) (encode-items-at t) encode-items.Post encode-items-Inv-loop encode-items-μ-loop
-encode-items-loop-again t c = going-again (joined-cuts (c .before .before .before .before .before .loop .left) (c .before .before .before .before .loop-test .taken)) (c .before .before .before .before .before .loop .inv) (c .before .before .encode .ensures)
+  abbrev encode-batch-at : In 3 encode-batch-kinds.ps
+  encode-batch-at = and 3 encode-batch-kinds.ps (is 3 encode-batch-kinds.ps μ-encode-batch t) encode-batch.Pre
 
-encode-items-same-length : (t : ℕ) → encode-items-lts.Need-same-length (encode-below t, encode.Post) (encode-items-at t) encode-items.Post encode-items-Inv-loop encode-items-μ-loop
-encode-items-same-length t c = c .before .loop .inv .kept
+  abbrev encode-batch-below : In 3 encode-batch-kinds.ps
+  encode-batch-below = and 3 encode-batch-kinds.ps (falls 3 encode-batch-kinds.ps _<_ μ-encode-batch t) encode-batch.Pre
 
-encode-items-returns : (t : ℕ) → encode-items-lts.Need-returns (encode-below t, encode.Post) (encode-items-at t) encode-items.Post encode-items-Inv-loop encode-items-μ-loop
-encode-items-returns t c = going-none joined-none (c .loop-test .left) (c .before .loop .inv)
+  abbrev encode-batches-at : In 3 encode-batches-kinds.ps
+  encode-batches-at = and 3 encode-batches-kinds.ps (is 3 encode-batches-kinds.ps μ-encode-batches t) encode-batches.Pre
 
-encode-object-encode-requires : (t : ℕ) → encode-object-lts.Need-encode-requires (encode-below t, encode.Post, object-opcode-reads.Asked, object-opcode-reads.Learnt, put-byte-reads.Asked, put-byte-reads.Learnt) (encode-object-at t) encode-object.Post
-encode-object-encode-requires t c κs = (omega (arith, c .before .before .before .before .pre .0), ready-cut (object-cuts (c .before .before .before .before .args .new) _ _ refl) (c .before .before .before .before .pre .1))
+  abbrev encode-batches-below : In 3 encode-batches-kinds.ps
+  encode-batches-below = and 3 encode-batches-kinds.ps (falls 3 encode-batches-kinds.ps _<_ μ-encode-batches t) encode-batches.Pre
 
-encode-object-put-byte-requires : (t : ℕ) → encode-object-lts.Need-put-byte-requires (encode-below t, encode.Post, object-opcode-reads.Asked, object-opcode-reads.Learnt, put-byte-reads.Asked, put-byte-reads.Learnt) (encode-object-at t) encode-object.Post
-encode-object-put-byte-requires t c κs = ready-front _ _ (ready-rest (object-cuts (c .before .before .before .before .before .before .before .before .before .args .new) _ _ (c .before .object-opcode .ensures)) (c .before .before .before .before .encode .ensures) (c .before .before .before .before .before .before .before .before .before .pre .1))
+  abbrev encode-items-at : In 3 encode-items-kinds.ps
+  encode-items-at = and 3 encode-items-kinds.ps (is 3 encode-items-kinds.ps μ-encode-items t) encode-items.Pre
 
-encode-object-encode-requires-2 : (t : ℕ) → encode-object-lts.Need-encode-requires-2 (encode-below t, encode.Post, object-opcode-reads.Asked, object-opcode-reads.Learnt, put-byte-reads.Asked, put-byte-reads.Learnt) (encode-object-at t) encode-object.Post
-encode-object-encode-requires-2 t c κs = (omega (arith, c .before .before .before .before .before .before .before .before .before .before .before .before .before .before .pre .0, wrote-later (ready-cut (object-cuts (c .before .before .before .before .before .before .before .before .before .before .before .before .before .before .args .new) _ _ refl) (c .before .before .before .before .before .before .before .before .before .before .before .before .before .before .pre .1)) (c .before .before .before .before .before .before .before .before .before .encode .ensures)), ready-before _ _ (ready-as built-one (rw (bit-one (c .before .before .before .before .before .before .before .before .before .before .before .before .before .before .args .state) (c .before .if1 .taken)) at (ready-after _ _ (ready-rest (object-cuts (c .before .before .before .before .before .before .before .before .before .before .before .before .before .before .args .new) _ _ (c .before .before .before .before .before .before .object-opcode .ensures)) (c .before .before .before .before .before .before .before .before .before .encode .ensures) (c .before .before .before .before .before .before .before .before .before .before .before .before .before .before .pre .1)) (c .before .before .before .before .put-byte .ensures)))))
+  abbrev encode-items-below : In 3 encode-items-kinds.ps
+  encode-items-below = and 3 encode-items-kinds.ps (falls 3 encode-items-kinds.ps _<_ μ-encode-items t) encode-items.Pre
 
-encode-object-put-byte-requires-2 : (t : ℕ) → encode-object-lts.Need-put-byte-requires-2 (encode-below t, encode.Post, object-opcode-reads.Asked, object-opcode-reads.Learnt, put-byte-reads.Asked, put-byte-reads.Learnt) (encode-object-at t) encode-object.Post
-encode-object-put-byte-requires-2 t c κs = ready-end _ _ (ready-as built-one (rw (bit-one (c .before .before .before .before .before .before .before .before .before .before .before .before .before .before .before .before .before .before .args .state) (c .before .before .before .before .before .if1 .taken)) at (ready-after _ _ (ready-rest (object-cuts (c .before .before .before .before .before .before .before .before .before .before .before .before .before .before .before .before .before .before .args .new) _ _ (c .before .before .before .before .before .before .before .before .before .before .object-opcode .ensures)) (c .before .before .before .before .before .before .before .before .before .before .before .before .before .encode .ensures) (c .before .before .before .before .before .before .before .before .before .before .before .before .before .before .before .before .before .before .pre .1)) (c .before .before .before .before .before .before .before .before .put-byte .ensures)))) (c .before .before .before .encode2 .ensures)
+  abbrev encode-object-at : In 3 encode-object-kinds.ps
+  encode-object-at = and 3 encode-object-kinds.ps (is 3 encode-object-kinds.ps μ-encode-object t) encode-object.Pre
 
-encode-object-returns : (t : ℕ) → encode-object-lts.Need-returns (encode-below t, encode.Post, object-opcode-reads.Asked, object-opcode-reads.Learnt, put-byte-reads.Asked, put-byte-reads.Learnt) (encode-object-at t) encode-object.Post
-encode-object-returns t c = wrote-cut (object-cuts (c .before .before .before .before .before .before .before .before .before .before .before .before .before .before .before .before .before .before .before .before .before .args .new) _ _ (c .before .before .before .before .before .before .before .before .before .before .before .before .before .object-opcode .ensures)) (c .before .before .before .before .before .before .before .before .before .before .before .before .before .before .before .before .encode .ensures) (wrote-after _ _ (c .before .before .before .before .before .before .before .before .before .before .before .put-byte .ensures) (rw (bit-one (c .before .before .before .before .before .before .before .before .before .before .before .before .before .before .before .before .before .before .before .before .before .args .state) (c .before .before .before .before .before .before .before .before .if1 .taken)) (wrote-as built-one (wrote-before _ _ (c .before .before .before .before .before .before .encode2 .ensures) (c .before .before .put-byte2 .ensures)))))
+  abbrev encode-object-below : In 3 encode-object-kinds.ps
+  encode-object-below = and 3 encode-object-kinds.ps (falls 3 encode-object-kinds.ps _<_ μ-encode-object t) encode-object.Pre
 
-encode-object-returns-2 : (t : ℕ) → encode-object-lts.Need-returns-2 (encode-below t, encode.Post, object-opcode-reads.Asked, object-opcode-reads.Learnt, put-byte-reads.Asked, put-byte-reads.Learnt) (encode-object-at t) encode-object.Post
-encode-object-returns-2 t c = wrote-cut (object-cuts (c .before .before .before .before .before .before .before .before .before .before .before .before .before .args .new) _ _ (c .before .before .before .before .before .object-opcode .ensures)) (c .before .before .before .before .before .before .before .before .encode .ensures) (wrote-after _ _ (c .before .before .before .put-byte .ensures) (wrote-none (bit-none (c .before .before .before .before .before .before .before .before .before .before .before .before .before .args .state) (c .if1 .left)) built-none))
+  abbrev encode-tuple-at : In 3 encode-tuple-kinds.ps
+  encode-tuple-at = and 3 encode-tuple-kinds.ps (is 3 encode-tuple-kinds.ps μ-encode-tuple t) encode-tuple.Pre
 
-encode-tuple-tuple-mark-requires : (t : ℕ) → encode-tuple-lts.Need-tuple-mark-requires (tuple-mark-reads.Asked, tuple-mark-reads.Learnt, encode-items-below t, encode-items.Post, tuple-opcode-reads.Asked, tuple-opcode-reads.Learnt, put-byte-reads.Asked, put-byte-reads.Learnt) (encode-tuple-at t) encode-tuple.Post
-encode-tuple-tuple-mark-requires t c κs = ready-front _ _ (ready-as (tuple-parts (c .before .before .before .before .args .count) _ refl) (c .before .before .before .before .pre .1))
+  abbrev encode-tuple-below : In 3 encode-tuple-kinds.ps
+  encode-tuple-below = and 3 encode-tuple-kinds.ps (falls 3 encode-tuple-kinds.ps _<_ μ-encode-tuple t) encode-tuple.Pre
 
-encode-tuple-encode-items-requires : (t : ℕ) → encode-tuple-lts.Need-encode-items-requires (tuple-mark-reads.Asked, tuple-mark-reads.Learnt, encode-items-below t, encode-items.Post, tuple-opcode-reads.Asked, tuple-opcode-reads.Learnt, put-byte-reads.Asked, put-byte-reads.Learnt) (encode-tuple-at t) encode-tuple.Post
-encode-tuple-encode-items-requires t c κs = (omega (arith, c .before .before .before .before .before .before .before .before .pre .0), ready-before _ _ (ready-after _ _ (ready-as (tuple-parts (c .before .before .before .before .before .before .before .before .args .count) _ refl) (c .before .before .before .before .before .before .before .before .pre .1)) (c .before .before .before .tuple-mark .ensures)))
+  abbrev encode-claims : encode-lts.Claims
+  encode-claims = (head-of-reads.Asked, head-of-reads.Learnt, encode-opening-reads.Asked, encode-opening-reads.Learnt, holds-reads.Asked, holds-reads.Learnt, encode-object-below, encode-object.Post, arity-reads.Asked, arity-reads.Learnt, encode-appends-below, encode-appends.Post, encode-tuple-below, encode-tuple.Post, encode-batches-below, encode-batches.Post, put-byte-reads.Asked, put-byte-reads.Learnt)
 
-encode-tuple-put-byte-requires : (t : ℕ) → encode-tuple-lts.Need-put-byte-requires (tuple-mark-reads.Asked, tuple-mark-reads.Learnt, encode-items-below t, encode-items.Post, tuple-opcode-reads.Asked, tuple-opcode-reads.Learnt, put-byte-reads.Asked, put-byte-reads.Learnt) (encode-tuple-at t) encode-tuple.Post
-encode-tuple-put-byte-requires t c κs = ready-end _ _ (ready-after _ _ (ready-as (tuple-parts (c .before .before .before .before .before .before .before .before .before .before .before .before .before .args .count) _ (c .before .tuple-opcode .ensures)) (c .before .before .before .before .before .before .before .before .before .before .before .before .before .pre .1)) (c .before .before .before .before .before .before .before .before .tuple-mark .ensures)) (c .before .before .before .before .encode-items .ensures)
+  abbrev encode-appends-claims : encode-appends-lts.Claims
+  encode-appends-claims = (encode-items-below, encode-items.Post, put-byte-reads.Asked, put-byte-reads.Learnt, encode-batches-below, encode-batches.Post)
 
-encode-tuple-returns : (t : ℕ) → encode-tuple-lts.Need-returns (tuple-mark-reads.Asked, tuple-mark-reads.Learnt, encode-items-below t, encode-items.Post, tuple-opcode-reads.Asked, tuple-opcode-reads.Learnt, put-byte-reads.Asked, put-byte-reads.Learnt) (encode-tuple-at t) encode-tuple.Post
-encode-tuple-returns t c = wrote-as (tuple-parts (c .before .before .before .before .before .before .before .before .before .before .before .before .before .before .before .before .args .count) _ (c .before .before .before .before .tuple-opcode .ensures)) (wrote-after _ _ (c .before .before .before .before .before .before .before .before .before .before .before .tuple-mark .ensures) (wrote-before _ _ (c .before .before .before .before .before .before .before .encode-items .ensures) (c .before .before .put-byte .ensures)))
+  abbrev encode-batch-claims : encode-batch-lts.Claims
+  encode-batch-claims = (encode-items-below, encode-items.Post, put-byte-reads.Asked, put-byte-reads.Learnt)
+
+  abbrev encode-batches-claims : encode-batches-lts.Claims
+  encode-batches-claims = (batch-of-reads.Asked, batch-of-reads.Learnt, encode-batch-below, encode-batch.Post)
+
+  abbrev encode-items-claims : encode-items-lts.Claims
+  encode-items-claims = (head-of-reads.Asked, head-of-reads.Learnt, holds-reads.Asked, holds-reads.Learnt, encode-below, encode.Post, encode-opening-reads.Asked, encode-opening-reads.Learnt)
+
+  abbrev encode-object-claims : encode-object-lts.Claims
+  encode-object-claims = (encode-below, encode.Post, object-opcode-reads.Asked, object-opcode-reads.Learnt, put-byte-reads.Asked, put-byte-reads.Learnt)
+
+  abbrev encode-tuple-claims : encode-tuple-lts.Claims
+  encode-tuple-claims = (tuple-mark-reads.Asked, tuple-mark-reads.Learnt, encode-items-below, encode-items.Post, tuple-opcode-reads.Asked, tuple-opcode-reads.Learnt, put-byte-reads.Asked, put-byte-reads.Learnt)
+
+  -- `encode` where it knows whether values are in the record: the start, the head read, the opening written
+  abbrev Known : Type 0
+  Known = encode-lts.After-holds encode-claims encode-at encode.Post
+
+  abbrev start : Known → encode-lts.Start encode-claims encode-at encode.Post
+  start v = v .before .before .before .before .before .before .before .before .before .before
+
+  abbrev headed : Known → encode-lts.After-head-of encode-claims encode-at encode.Post
+  headed v = v .before .before .before .before .before
+
+  abbrev opened : Known → encode-lts.After-encode-opening encode-claims encode-at encode.Post
+  opened v = v .before .before .before
+
+  -- and where the value is a set
+  set-made : (e : encode-lts.Else5 encode-claims encode-at encode.Post) {n : ℕ} →
+      Same n (contents (labelAt (start (e .before .before .before .before .before .before) .args .words .now) (start (e .before .before .before .before .before .before) .args .text .now) (start (e .before .before .before .before .before .before) .args .i))) (ahead appends ((0x85 ∷ []) ++ (0x52 ∷ [])))
+  set-made e =
+      let x = e .before .before .before .before in
+      let v = x .before .before in
+      makes-set (value-reads (start v .pre .1)) (headed v .head-of .ensures) (sym (v .holds .ensures) ∙ not-false _ (x .before .if1 .left)) (x .if2 .left) (e .before .before .if3 .left) (e .before .if4 .left) (e .if5 .left)
+
+  encode-mul-head-of : encode-lts.Need-mul-head-of encode-claims encode-at encode.Post
+  encode-mul-head-of c = let r = value-reads (c .before .before .before .pre .1) in search needs
+
+  encode-mul-head-of-2 : encode-lts.Need-mul-head-of-2 encode-claims encode-at encode.Post
+  encode-mul-head-of-2 c = let r = value-reads (c .before .before .before .pre .1) in search needs
+
+  encode-shared-slice-read-head-of : encode-lts.Need-shared-slice-read-head-of encode-claims encode-at encode.Post
+  encode-shared-slice-read-head-of c = let r = value-reads (c .before .before .before .before .pre .1) in search needs
+
+  encode-encode-opening-requires : encode-lts.Need-encode-opening-requires encode-claims encode-at encode.Post
+  encode-encode-opening-requires c κs = let y = c .before .before .before .before .before .before .pre .1 in (value-reads y, value-room y)
+
+  encode-add-t20 : encode-lts.Need-add-t20 encode-claims encode-at encode.Post
+  encode-add-t20 c = let v = c .before in omega (arith, (value-reads (start v .pre .1)) .inside)
+
+  encode-returns : encode-lts.Need-returns encode-claims encode-at encode.Post
+  encode-returns c = let v = c .before in leaf-wrote (value-reads (start v .pre .1)) (headed v .head-of .ensures) (sym (v .holds .ensures) ∙ not-true _ (c .if1 .taken)) (opened v .encode-opening .ensures)
+
+  encode-add-encode-object : encode-lts.Need-add-encode-object encode-claims encode-at encode.Post
+  encode-add-encode-object c = let v = c .before .before in omega (arith, (value-reads (start v .pre .1)) .inside)
+
+  encode-encode-object-requires : encode-lts.Need-encode-object-requires encode-claims encode-at encode.Post
+  encode-encode-object-requires c κs = let v = c .before .before .before in (omega (arith, start v .pre .0, (value-reads (start v .pre .1)) .inside), ready-as (makes-object (value-reads (start v .pre .1)) (headed v .head-of .ensures) (c .before .if2 .taken)) (rw (object-arity (value-reads (start v .pre .1)) (headed v .head-of .ensures) (c .before .if2 .taken)) at (value-inside (start v .pre .1) (opened v .encode-opening .ensures))))
+
+  encode-returns-2 : encode-lts.Need-returns-2 encode-claims encode-at encode.Post
+  encode-returns-2 c = let v = c .before .before .before .before .before .before in value-wrote (opened v .encode-opening .ensures) (rw (object-arity (value-reads (start v .pre .1)) (headed v .head-of .ensures) (c .before .before .before .before .if2 .taken)) (wrote-as (makes-object (value-reads (start v .pre .1)) (headed v .head-of .ensures) (c .before .before .before .before .if2 .taken)) (c .before .before .encode-object .ensures)))
+
+  encode-arity-requires : encode-lts.Need-arity-requires encode-claims encode-at encode.Post
+  encode-arity-requires c κs = let v = c .before .before in ((value-reads (start v .pre .1)) .inside, value-arity (start v .pre .1))
+
+  encode-add-encode-appends : encode-lts.Need-add-encode-appends encode-claims encode-at encode.Post
+  encode-add-encode-appends c = let v = c .before .before .before .before in omega (arith, (value-reads (start v .pre .1)) .inside)
+
+  encode-encode-appends-requires : encode-lts.Need-encode-appends-requires encode-claims encode-at encode.Post
+  encode-encode-appends-requires c κs = let v = c .before .before .before .before .before in (omega (arith, start v .pre .0, (value-reads (start v .pre .1)) .inside), rw (c .before .before .arity .ensures) (ready-as (makes-list (value-reads (start v .pre .1)) (headed v .head-of .ensures) (c .before .if3 .taken)) (value-inside (start v .pre .1) (opened v .encode-opening .ensures))))
+
+  encode-returns-3 : encode-lts.Need-returns-3 encode-claims encode-at encode.Post
+  encode-returns-3 c = let v = c .before .before .before .before .before .before .before .before in value-wrote (opened v .encode-opening .ensures) (wrote-as (makes-list (value-reads (start v .pre .1)) (headed v .head-of .ensures) (c .before .before .before .before .if3 .taken)) (rw (c .before .before .before .before .before .arity .ensures) at (c .before .before .encode-appends .ensures)))
+
+  encode-add-encode-tuple : encode-lts.Need-add-encode-tuple encode-claims encode-at encode.Post
+  encode-add-encode-tuple c = let v = c .before .before .before .before .before in omega (arith, (value-reads (start v .pre .1)) .inside)
+
+  encode-encode-tuple-requires : encode-lts.Need-encode-tuple-requires encode-claims encode-at encode.Post
+  encode-encode-tuple-requires c κs = let v = c .before .before .before .before .before .before in (omega (arith, start v .pre .0, (value-reads (start v .pre .1)) .inside), rw (c .before .before .before .arity .ensures) (ready-as (makes-tuple (value-reads (start v .pre .1)) (headed v .head-of .ensures) (c .before .if4 .taken)) (value-inside (start v .pre .1) (opened v .encode-opening .ensures))))
+
+  encode-returns-4 : encode-lts.Need-returns-4 encode-claims encode-at encode.Post
+  encode-returns-4 c = let v = c .before .before .before .before .before .before .before .before .before in value-wrote (opened v .encode-opening .ensures) (wrote-as (makes-tuple (value-reads (start v .pre .1)) (headed v .head-of .ensures) (c .before .before .before .before .if4 .taken)) (rw (c .before .before .before .before .before .before .arity .ensures) at (c .before .before .encode-tuple .ensures)))
+
+  encode-add-encode-batches : encode-lts.Need-add-encode-batches encode-claims encode-at encode.Post
+  encode-add-encode-batches c = let v = c .before .before .before .before .before .before in omega (arith, (value-reads (start v .pre .1)) .inside)
+
+  encode-encode-batches-requires : encode-lts.Need-encode-batches-requires encode-claims encode-at encode.Post
+  encode-encode-batches-requires c κs = let v = c .before .before .before .before .before .before .before in (omega (arith, start v .pre .0, (value-reads (start v .pre .1)) .inside), rw (c .before .before .before .before .arity .ensures) (ready-as (makes-dict (value-reads (start v .pre .1)) (headed v .head-of .ensures) (c .before .if5 .taken)) (value-inside (start v .pre .1) (opened v .encode-opening .ensures))))
+
+  encode-returns-5 : encode-lts.Need-returns-5 encode-claims encode-at encode.Post
+  encode-returns-5 c = let v = c .before .before .before .before .before .before .before .before .before .before in value-wrote (opened v .encode-opening .ensures) (wrote-as (makes-dict (value-reads (start v .pre .1)) (headed v .head-of .ensures) (c .before .before .before .before .if5 .taken)) (rw (c .before .before .before .before .before .before .before .arity .ensures) at (c .before .before .encode-batches .ensures)))
+
+  encode-add-encode-appends-2 : encode-lts.Need-add-encode-appends-2 encode-claims encode-at encode.Post
+  encode-add-encode-appends-2 c = let v = c .before .before .before .before .before .before in omega (arith, (value-reads (start v .pre .1)) .inside)
+
+  encode-encode-appends-requires-2 : encode-lts.Need-encode-appends-requires-2 encode-claims encode-at encode.Post
+  encode-encode-appends-requires-2 c κs = let v = c .before .before .before .before .before .before .before in (omega (arith, start v .pre .0, (value-reads (start v .pre .1)) .inside), rw (c .before .before .before .before .arity .ensures) (ready-before _ _ (ready-as (set-made (c .before)) (value-inside (start v .pre .1) (opened v .encode-opening .ensures)))))
+
+  encode-put-byte-requires : encode-lts.Need-put-byte-requires encode-claims encode-at encode.Post
+  encode-put-byte-requires c κs = let a = c .before .before .before .before in let v = a .before .before .before .before .before .before .before in room-first _ (ready-end _ _ (ready-as (set-made (a .before)) (value-inside (start v .pre .1) (opened v .encode-opening .ensures))) (rw (a .before .before .before .before .arity .ensures) at (c .before .before .before .encode-appends2 .ensures)))
+
+  encode-put-byte-requires-2 : encode-lts.Need-put-byte-requires-2 encode-claims encode-at encode.Post
+  encode-put-byte-requires-2 c κs = let a = c .before .before .before .before .before .before .before .before in let v = a .before .before .before .before .before .before .before in room-then _ (c .before .before .before .put-byte .ensures) (ready-end _ _ (ready-as (set-made (a .before)) (value-inside (start v .pre .1) (opened v .encode-opening .ensures))) (rw (a .before .before .before .before .arity .ensures) at (c .before .before .before .before .before .before .before .encode-appends2 .ensures)))
+
+  encode-returns-6 : encode-lts.Need-returns-6 encode-claims encode-at encode.Post
+  encode-returns-6 c = let a = c .before .before .before .before .before .before .before .before .before .before .before in let v = a .before .before .before .before .before .before .before in value-wrote (opened v .encode-opening .ensures) (wrote-as (set-made (a .before)) (wrote-before _ _ (rw (a .before .before .before .before .arity .ensures) at (c .before .before .before .before .before .before .before .before .before .before .encode-appends2 .ensures)) (put-then (c .before .before .before .before .before .before .put-byte .ensures) (c .before .before .put-byte2 .ensures))))
+
+  encode-appends-encode-items-requires : encode-appends-lts.Need-encode-items-requires encode-appends-claims encode-appends-at encode-appends.Post
+  encode-appends-encode-items-requires c κs = let s = c .before .before .before .before .before in (omega (arith, s .pre .0), ready-before _ _ (ready-as (appends-one (c .before .if1 .taken)) (s .pre .1)))
+
+  encode-appends-put-byte-requires : encode-appends-lts.Need-put-byte-requires encode-appends-claims encode-appends-at encode-appends.Post
+  encode-appends-put-byte-requires c κs = ready-end _ _ (ready-as (appends-one (c .before .before .before .before .before .if1 .taken)) (c .before .before .before .before .before .before .before .before .before .pre .1)) (c .before .before .before .encode-items .ensures)
+
+  encode-appends-returns : encode-appends-lts.Need-returns encode-appends-claims encode-appends-at encode-appends.Post
+  encode-appends-returns c = wrote-as (appends-one (c .before .before .before .before .before .before .before .before .if1 .taken)) (wrote-before _ _ (c .before .before .before .before .before .before .encode-items .ensures) (c .before .before .put-byte .ensures))
+
+  encode-appends-encode-batches-requires : encode-appends-lts.Need-encode-batches-requires encode-appends-claims encode-appends-at encode-appends.Post
+  encode-appends-encode-batches-requires c κs = let s = c .before .before .before .before .before in (omega (arith, s .pre .0), ready-as (appends-many (c .before .if1 .left)) (s .pre .1))
+
+  encode-appends-returns-2 : encode-appends-lts.Need-returns-2 encode-appends-claims encode-appends-at encode-appends.Post
+  encode-appends-returns-2 c = wrote-as (appends-many (c .before .before .before .before .if1 .left)) (c .before .before .encode-batches .ensures)
+
+  encode-batch-encode-items-requires : encode-batch-lts.Need-encode-items-requires encode-batch-claims encode-batch-at encode-batch.Post
+  encode-batch-encode-items-requires c κs = let s = c .before .before .before .before .before .before in (omega (arith, s .pre .0), ready-before _ _ (ready-as (batch-entry _ (c .before .before .if1 .taken) (c .before .if2 .taken)) (s .pre .1)))
+
+  encode-batch-put-byte-requires : encode-batch-lts.Need-put-byte-requires encode-batch-claims encode-batch-at encode-batch.Post
+  encode-batch-put-byte-requires c κs = ready-end _ _ (ready-as (batch-entry _ (c .before .before .before .before .before .before .if1 .taken) (c .before .before .before .before .before .if2 .taken)) (c .before .before .before .before .before .before .before .before .before .before .pre .1)) (c .before .before .before .encode-items .ensures)
+
+  encode-batch-returns : encode-batch-lts.Need-returns encode-batch-claims encode-batch-at encode-batch.Post
+  encode-batch-returns c = wrote-as (batch-entry _ (c .before .before .before .before .before .before .before .before .before .if1 .taken) (c .before .before .before .before .before .before .before .before .if2 .taken)) (wrote-before _ _ (c .before .before .before .before .before .before .encode-items .ensures) (c .before .before .put-byte .ensures))
+
+  encode-batch-put-byte-requires-2 : encode-batch-lts.Need-put-byte-requires-2 encode-batch-claims encode-batch-at encode-batch.Post
+  encode-batch-put-byte-requires-2 c κs = ready-front _ _ (ready-as (batch-entries _ (c .before .before .if1 .taken) (c .before .if2 .left)) (c .before .before .before .before .before .before .pre .1))
+
+  encode-batch-encode-items-requires-2 : encode-batch-lts.Need-encode-items-requires-2 encode-batch-claims encode-batch-at encode-batch.Post
+  encode-batch-encode-items-requires-2 c κs = let s = c .before .before .before .before .before .before .before .before .before .before in (omega (arith, s .pre .0), ready-before _ _ (ready-after _ _ (ready-as (batch-entries _ (c .before .before .before .before .before .before .if1 .taken) (c .before .before .before .before .before .if2 .left)) (s .pre .1)) (c .before .before .before .put-byte2 .ensures)))
+
+  encode-batch-put-byte-requires-3 : encode-batch-lts.Need-put-byte-requires-3 encode-batch-claims encode-batch-at encode-batch.Post
+  encode-batch-put-byte-requires-3 c κs = ready-end _ _ (ready-after _ _ (ready-as (batch-entries _ (c .before .before .before .before .before .before .before .before .before .before .if1 .taken) (c .before .before .before .before .before .before .before .before .before .if2 .left)) (c .before .before .before .before .before .before .before .before .before .before .before .before .before .before .pre .1)) (c .before .before .before .before .before .before .before .put-byte2 .ensures)) (c .before .before .before .encode-items2 .ensures)
+
+  encode-batch-returns-2 : encode-batch-lts.Need-returns-2 encode-batch-claims encode-batch-at encode-batch.Post
+  encode-batch-returns-2 c = wrote-as (batch-entries _ (c .before .before .before .before .before .before .before .before .before .before .before .before .before .if1 .taken) (c .before .before .before .before .before .before .before .before .before .before .before .before .if2 .left)) (wrote-after _ _ (c .before .before .before .before .before .before .before .before .before .before .put-byte2 .ensures) (wrote-before _ _ (c .before .before .before .before .before .before .encode-items2 .ensures) (c .before .before .put-byte3 .ensures)))
+
+  encode-batch-put-byte-requires-4 : encode-batch-lts.Need-put-byte-requires-4 encode-batch-claims encode-batch-at encode-batch.Post
+  encode-batch-put-byte-requires-4 c κs = ready-front _ _ (ready-as (batch-items _ (c .before .if1 .left)) (c .before .before .before .before .before .pre .1))
+
+  encode-batch-encode-items-requires-3 : encode-batch-lts.Need-encode-items-requires-3 encode-batch-claims encode-batch-at encode-batch.Post
+  encode-batch-encode-items-requires-3 c κs = let s = c .before .before .before .before .before .before .before .before .before in (omega (arith, s .pre .0), ready-before _ _ (ready-after _ _ (ready-as (batch-items _ (c .before .before .before .before .before .if1 .left)) (s .pre .1)) (c .before .before .before .put-byte4 .ensures)))
+
+  encode-batch-put-byte-requires-5 : encode-batch-lts.Need-put-byte-requires-5 encode-batch-claims encode-batch-at encode-batch.Post
+  encode-batch-put-byte-requires-5 c κs = ready-end _ _ (ready-after _ _ (ready-as (batch-items _ (c .before .before .before .before .before .before .before .before .before .if1 .left)) (c .before .before .before .before .before .before .before .before .before .before .before .before .before .pre .1)) (c .before .before .before .before .before .before .before .put-byte4 .ensures)) (c .before .before .before .encode-items3 .ensures)
+
+  encode-batch-returns-3 : encode-batch-lts.Need-returns-3 encode-batch-claims encode-batch-at encode-batch.Post
+  encode-batch-returns-3 c = wrote-as (batch-items _ (c .before .before .before .before .before .before .before .before .before .before .before .before .if1 .left)) (wrote-after _ _ (c .before .before .before .before .before .before .before .before .before .before .put-byte4 .ensures) (wrote-before _ _ (c .before .before .before .before .before .before .encode-items3 .ensures) (c .before .before .put-byte5 .ensures)))
+
+  encode-batches-loop-holds : encode-batches-lts.Need-loop-holds encode-batches-claims encode-batches-at encode-batches.Post encode-batches-Inv-loop encode-batches-μ-loop
+  encode-batches-loop-holds c = going-all (c .before .before .before .pre .1)
+
+  encode-batches-encode-batch-requires : encode-batches-lts.Need-encode-batch-requires encode-batches-claims encode-batches-at encode-batches.Post encode-batches-Inv-loop encode-batches-μ-loop
+  encode-batches-encode-batch-requires c κs = let s = c .before .before .before .before .before .before .before in (omega (arith, s .pre .0, c .before .before .before .loop .inv .later), rw (c .before .batch-of .ensures) (ready-cut (batches-cuts (s .args .entries) (c .before .before .before .loop .left) (c .before .before .loop-test .taken)) (c .before .before .before .loop .inv .ready)))
+
+  encode-batches-sub-left : encode-batches-lts.Need-sub-left encode-batches-claims encode-batches-at encode-batches.Post encode-batches-Inv-loop encode-batches-μ-loop
+  encode-batches-sub-left c = omega (arith, c .before .before .before .before .batch-of .ensures)
+
+  encode-batches-loop-less : encode-batches-lts.Need-loop-less encode-batches-claims encode-batches-at encode-batches.Post encode-batches-Inv-loop encode-batches-μ-loop
+  encode-batches-loop-less c = omega (arith, c .before .before .before .before .batch-of .ensures, size-some (c .before .before .before .before .before .before .before .before .before .before .args .entries), c .before .before .before .before .before .loop-test .taken)
+
+  encode-batches-loop-again : encode-batches-lts.Need-loop-again encode-batches-claims encode-batches-at encode-batches.Post encode-batches-Inv-loop encode-batches-μ-loop
+  encode-batches-loop-again c = rw (c .before .before .before .before .batch-of .ensures) (going-again (batches-cuts (c .before .before .before .before .before .before .before .before .before .before .args .entries) (c .before .before .before .before .before .before .loop .left) (c .before .before .before .before .before .loop-test .taken)) (c .before .before .before .before .before .before .loop .inv) (rw (c .before .before .before .before .batch-of .ensures) at (c .before .before .encode-batch .ensures)))
+
+  encode-batches-same-length : encode-batches-lts.Need-same-length encode-batches-claims encode-batches-at encode-batches.Post encode-batches-Inv-loop encode-batches-μ-loop
+  encode-batches-same-length c = c .before .loop .inv .kept
+
+  encode-batches-returns : encode-batches-lts.Need-returns encode-batches-claims encode-batches-at encode-batches.Post encode-batches-Inv-loop encode-batches-μ-loop
+  encode-batches-returns c = going-none (batches-none (c .before .before .before .before .before .args .entries)) (c .loop-test .left) (c .before .loop .inv)
+
+  encode-items-loop-holds : encode-items-lts.Need-loop-holds encode-items-claims encode-items-at encode-items.Post encode-items-Inv-loop encode-items-μ-loop
+  encode-items-loop-holds c = going-all (c .before .before .before .pre .1)
+
+  encode-items-mul-head-of : encode-items-lts.Need-mul-head-of encode-items-claims encode-items-at encode-items.Post encode-items-Inv-loop encode-items-μ-loop
+  encode-items-mul-head-of c = let r = value-reads (ready-cut (joined-cuts (c .before .loop .left) (c .loop-test .taken)) (c .before .loop .inv .ready)) in search needs
+
+  encode-items-mul-head-of-2 : encode-items-lts.Need-mul-head-of-2 encode-items-claims encode-items-at encode-items.Post encode-items-Inv-loop encode-items-μ-loop
+  encode-items-mul-head-of-2 c = let r = value-reads (ready-cut (joined-cuts (c .before .loop .left) (c .loop-test .taken)) (c .before .loop .inv .ready)) in search needs
+
+  encode-items-shared-slice-read-head-of : encode-items-lts.Need-shared-slice-read-head-of encode-items-claims encode-items-at encode-items.Post encode-items-Inv-loop encode-items-μ-loop
+  encode-items-shared-slice-read-head-of c = let r = value-reads (ready-cut (joined-cuts (c .before .before .loop .left) (c .before .loop-test .taken)) (c .before .before .loop .inv .ready)) in search needs
+
+  encode-items-encode-requires : encode-items-lts.Need-encode-requires encode-items-claims encode-items-at encode-items.Post encode-items-Inv-loop encode-items-μ-loop
+  encode-items-encode-requires c κs = let l = c .before .before .before .before .before in (omega (arith, l .before .before .before .before .before .pre .0, l .before .loop .inv .later), ready-cut (joined-cuts (l .before .loop .left) (l .loop-test .taken)) (l .before .loop .inv .ready))
+
+  encode-items-encode-opening-requires : encode-items-lts.Need-encode-opening-requires encode-items-claims encode-items-at encode-items.Post encode-items-Inv-loop encode-items-μ-loop
+  encode-items-encode-opening-requires c κs = let l = c .before .before .before .before .before in let y = ready-cut (joined-cuts (l .before .loop .left) (l .loop-test .taken)) (l .before .loop .inv .ready) in (value-reads y, value-room y)
+
+  encode-items-add-i : encode-items-lts.Need-add-i encode-items-claims encode-items-at encode-items.Post encode-items-Inv-loop encode-items-μ-loop
+  encode-items-add-i c = let l = c .before .before .before .before .before .before .before .before in omega (arith, (value-reads (ready-cut (joined-cuts (l .before .loop .left) (l .loop-test .taken)) (l .before .loop .inv .ready))) .inside)
+
+  encode-items-sub-left : encode-items-lts.Need-sub-left encode-items-claims encode-items-at encode-items.Post encode-items-Inv-loop encode-items-μ-loop
+  encode-items-sub-left c = omega (arith, c .before .before .before .before .loop-test .taken)
+
+  encode-items-loop-less : encode-items-lts.Need-loop-less encode-items-claims encode-items-at encode-items.Post encode-items-Inv-loop encode-items-μ-loop
+  encode-items-loop-less c = omega (arith, c .before .before .before .before .loop-test .taken)
+
+  encode-items-loop-again : encode-items-lts.Need-loop-again encode-items-claims encode-items-at encode-items.Post encode-items-Inv-loop encode-items-μ-loop
+  encode-items-loop-again c =
+      let h = c .before .before in
+      let l = h .before .before in
+      let cuts = joined-cuts (l .before .loop .left) (l .loop-test .taken) in
+      ⊎-elim
+      (λ y. rw (y .5, y .6, y .7) (going-again cuts (l .before .loop .inv) (y .2 .ensures)))
+      (λ y. rw (y .5, y .6, y .7) (going-again cuts (l .before .loop .inv) (leaf-wrote (value-reads (ready-cut (joined-cuts (l .before .loop .left) (l .loop-test .taken)) (l .before .loop .inv .ready))) (h .head-of .ensures) (sym (c .before .holds .ensures) ∙ y .0 .left) (y .2 .ensures))))
+      (c .if1 .came)
+
+  encode-items-same-length : encode-items-lts.Need-same-length encode-items-claims encode-items-at encode-items.Post encode-items-Inv-loop encode-items-μ-loop
+  encode-items-same-length c = c .before .loop .inv .kept
+
+  encode-items-returns : encode-items-lts.Need-returns encode-items-claims encode-items-at encode-items.Post encode-items-Inv-loop encode-items-μ-loop
+  encode-items-returns c = going-none joined-none (c .loop-test .left) (c .before .loop .inv)
+
+  encode-object-encode-requires : encode-object-lts.Need-encode-requires encode-object-claims encode-object-at encode-object.Post
+  encode-object-encode-requires c κs = let s = c .before .before .before .before in (omega (arith, s .pre .0), ready-cut (object-cuts (s .args .new) _ _ refl) (s .pre .1))
+
+  encode-object-put-byte-requires : encode-object-lts.Need-put-byte-requires encode-object-claims encode-object-at encode-object.Post
+  encode-object-put-byte-requires c κs = let s = c .before .before .before .before .before .before .before .before .before in ready-front _ _ (ready-rest (object-cuts (s .args .new) _ _ (c .before .object-opcode .ensures)) (c .before .before .before .before .encode .ensures) (s .pre .1))
+
+  encode-object-encode-requires-2 : encode-object-lts.Need-encode-requires-2 encode-object-claims encode-object-at encode-object.Post
+  encode-object-encode-requires-2 c κs = let s = c .before .before .before .before .before .before .before .before .before .before .before .before .before .before in (omega (arith, s .pre .0, wrote-later (ready-cut (object-cuts (s .args .new) _ _ refl) (s .pre .1)) (c .before .before .before .before .before .before .before .before .before .encode .ensures)), ready-before _ _ (ready-as built-one (rw (bit-one (s .args .state) (c .before .if1 .taken)) at (ready-after _ _ (ready-rest (object-cuts (s .args .new) _ _ (c .before .before .before .before .before .before .object-opcode .ensures)) (c .before .before .before .before .before .before .before .before .before .encode .ensures) (s .pre .1)) (c .before .before .before .before .put-byte .ensures)))))
+
+  encode-object-put-byte-requires-2 : encode-object-lts.Need-put-byte-requires-2 encode-object-claims encode-object-at encode-object.Post
+  encode-object-put-byte-requires-2 c κs = let s = c .before .before .before .before .before .before .before .before .before .before .before .before .before .before .before .before .before .before in ready-end _ _ (ready-as built-one (rw (bit-one (s .args .state) (c .before .before .before .before .before .if1 .taken)) at (ready-after _ _ (ready-rest (object-cuts (s .args .new) _ _ (c .before .before .before .before .before .before .before .before .before .before .object-opcode .ensures)) (c .before .before .before .before .before .before .before .before .before .before .before .before .before .encode .ensures) (s .pre .1)) (c .before .before .before .before .before .before .before .before .put-byte .ensures)))) (c .before .before .before .encode2 .ensures)
+
+  encode-object-returns : encode-object-lts.Need-returns encode-object-claims encode-object-at encode-object.Post
+  encode-object-returns c = let s = c .before .before .before .before .before .before .before .before .before .before .before .before .before .before .before .before .before .before .before .before .before in wrote-cut (object-cuts (s .args .new) _ _ (c .before .before .before .before .before .before .before .before .before .before .before .before .before .object-opcode .ensures)) (c .before .before .before .before .before .before .before .before .before .before .before .before .before .before .before .before .encode .ensures) (wrote-after _ _ (c .before .before .before .before .before .before .before .before .before .before .before .put-byte .ensures) (rw (bit-one (s .args .state) (c .before .before .before .before .before .before .before .before .if1 .taken)) (wrote-as built-one (wrote-before _ _ (c .before .before .before .before .before .before .encode2 .ensures) (c .before .before .put-byte2 .ensures)))))
+
+  encode-object-returns-2 : encode-object-lts.Need-returns-2 encode-object-claims encode-object-at encode-object.Post
+  encode-object-returns-2 c = let s = c .before .before .before .before .before .before .before .before .before .before .before .before .before in wrote-cut (object-cuts (s .args .new) _ _ (c .before .before .before .before .before .object-opcode .ensures)) (c .before .before .before .before .before .before .before .before .encode .ensures) (wrote-after _ _ (c .before .before .before .put-byte .ensures) (wrote-none (bit-none (s .args .state) (c .if1 .left)) built-none))
+
+  encode-tuple-tuple-mark-requires : encode-tuple-lts.Need-tuple-mark-requires encode-tuple-claims encode-tuple-at encode-tuple.Post
+  encode-tuple-tuple-mark-requires c κs = let s = c .before .before .before .before in ready-front _ _ (ready-as (tuple-parts (s .args .count) _ refl) (s .pre .1))
+
+  encode-tuple-encode-items-requires : encode-tuple-lts.Need-encode-items-requires encode-tuple-claims encode-tuple-at encode-tuple.Post
+  encode-tuple-encode-items-requires c κs = let s = c .before .before .before .before .before .before .before .before in (omega (arith, s .pre .0), ready-before _ _ (ready-after _ _ (ready-as (tuple-parts (s .args .count) _ refl) (s .pre .1)) (c .before .before .before .tuple-mark .ensures)))
+
+  encode-tuple-put-byte-requires : encode-tuple-lts.Need-put-byte-requires encode-tuple-claims encode-tuple-at encode-tuple.Post
+  encode-tuple-put-byte-requires c κs = let s = c .before .before .before .before .before .before .before .before .before .before .before .before .before in ready-end _ _ (ready-after _ _ (ready-as (tuple-parts (s .args .count) _ (c .before .tuple-opcode .ensures)) (s .pre .1)) (c .before .before .before .before .before .before .before .before .tuple-mark .ensures)) (c .before .before .before .before .encode-items .ensures)
+
+  encode-tuple-returns : encode-tuple-lts.Need-returns encode-tuple-claims encode-tuple-at encode-tuple.Post
+  encode-tuple-returns c = wrote-as (tuple-parts (c .before .before .before .before .before .before .before .before .before .before .before .before .before .before .before .before .args .count) _ (c .before .before .before .before .tuple-opcode .ensures)) (wrote-after _ _ (c .before .before .before .before .before .before .before .before .before .before .before .tuple-mark .ensures) (wrote-before _ _ (c .before .before .before .before .before .before .before .encode-items .ensures) (c .before .before .put-byte .ensures)))
 
 pub +encode+encode-appends+encode-batch+encode-batches+encode-items+encode-object+encode-tuple-spec : {M : Type 1} → statement M
-+encode+encode-appends+encode-batch+encode-batches+encode-items+encode-object+encode-tuple-spec = close μ-encode μ-encode-appends μ-encode-batch μ-encode-batches μ-encode-items μ-encode-object μ-encode-tuple (λ t. encode-lts.spec (head-of-reads.Asked, head-of-reads.Learnt, encode-opening-reads.Asked, encode-opening-reads.Learnt, encode-object-below t, encode-object.Post, arity-reads.Asked, arity-reads.Learnt, encode-appends-below t, encode-appends.Post, encode-tuple-below t, encode-tuple.Post, encode-batches-below t, encode-batches.Post, put-byte-reads.Asked, put-byte-reads.Learnt) (encode-at t) encode.Post (encode-mul-head-of t) (encode-mul-head-of-2 t) (encode-shared-slice-read-head-of t) (λ c κs. search needs) (encode-encode-opening-requires t) (encode-add-t19 t) (λ c. search needs) (encode-returns t) (encode-add-t20 t) (λ c. search needs) (encode-returns-2 t) (encode-add-encode-object t) (encode-encode-object-requires t) (λ c. search needs) (encode-returns-3 t) (encode-arity-requires t) (encode-add-encode-appends t) (encode-encode-appends-requires t) (λ c. search needs) (encode-returns-4 t) (encode-add-encode-tuple t) (encode-encode-tuple-requires t) (λ c. search needs) (encode-returns-5 t) (encode-add-encode-batches t) (encode-encode-batches-requires t) (λ c. search needs) (encode-returns-6 t) (encode-add-encode-appends-2 t) (encode-encode-appends-requires-2 t) (encode-put-byte-requires t) (encode-put-byte-requires-2 t) (λ c. search needs) (encode-returns-7 t)) (λ t. encode-appends-lts.spec (encode-items-below t, encode-items.Post, put-byte-reads.Asked, put-byte-reads.Learnt, encode-batches-below t, encode-batches.Post) (encode-appends-at t) encode-appends.Post (encode-appends-encode-items-requires t) (encode-appends-put-byte-requires t) (λ c. search needs) (encode-appends-returns t) (encode-appends-encode-batches-requires t) (λ c. search needs) (encode-appends-returns-2 t)) (λ t. encode-batch-lts.spec (encode-items-below t, encode-items.Post, put-byte-reads.Asked, put-byte-reads.Learnt) (encode-batch-at t) encode-batch.Post (encode-batch-encode-items-requires t) (encode-batch-put-byte-requires t) (λ c. search needs) (encode-batch-returns t) (encode-batch-put-byte-requires-2 t) (encode-batch-encode-items-requires-2 t) (encode-batch-put-byte-requires-3 t) (λ c. search needs) (encode-batch-returns-2 t) (encode-batch-put-byte-requires-4 t) (encode-batch-encode-items-requires-3 t) (encode-batch-put-byte-requires-5 t) (λ c. search needs) (encode-batch-returns-3 t)) (λ t. encode-batches-lts.spec (batch-of-reads.Asked, batch-of-reads.Learnt, encode-batch-below t, encode-batch.Post) (encode-batches-at t) encode-batches.Post encode-batches-Inv-loop encode-batches-μ-loop (encode-batches-loop-holds t) (λ c κs. search needs) (encode-batches-encode-batch-requires t) (encode-batches-sub-left t) (encode-batches-loop-less t) (encode-batches-loop-again t) (encode-batches-same-length t) (encode-batches-returns t)) (λ t. encode-items-lts.spec (encode-below t, encode.Post) (encode-items-at t) encode-items.Post encode-items-Inv-loop encode-items-μ-loop (encode-items-loop-holds t) (encode-items-encode-requires t) (encode-items-sub-left t) (encode-items-loop-less t) (encode-items-loop-again t) (encode-items-same-length t) (encode-items-returns t)) (λ t. encode-object-lts.spec (encode-below t, encode.Post, object-opcode-reads.Asked, object-opcode-reads.Learnt, put-byte-reads.Asked, put-byte-reads.Learnt) (encode-object-at t) encode-object.Post (encode-object-encode-requires t) (λ c κs. search needs) (encode-object-put-byte-requires t) (encode-object-encode-requires-2 t) (encode-object-put-byte-requires-2 t) (λ c. search needs) (encode-object-returns t) (λ c. search needs) (encode-object-returns-2 t)) λ t. encode-tuple-lts.spec (tuple-mark-reads.Asked, tuple-mark-reads.Learnt, encode-items-below t, encode-items.Post, tuple-opcode-reads.Asked, tuple-opcode-reads.Learnt, put-byte-reads.Asked, put-byte-reads.Learnt) (encode-tuple-at t) encode-tuple.Post (encode-tuple-tuple-mark-requires t) (encode-tuple-encode-items-requires t) (λ c κs. search needs) (encode-tuple-put-byte-requires t) (λ c. search needs) (encode-tuple-returns t)
++encode+encode-appends+encode-batch+encode-batches+encode-items+encode-object+encode-tuple-spec = close μ-encode μ-encode-appends μ-encode-batch μ-encode-batches μ-encode-items μ-encode-object μ-encode-tuple (λ t. encode-lts.spec (encode-claims t) (encode-at t) encode.Post (encode-mul-head-of t) (encode-mul-head-of-2 t) (encode-shared-slice-read-head-of t) (λ c κs. search needs) (encode-encode-opening-requires t) (λ c κs. search needs) (encode-add-t20 t) (λ c. search needs) (encode-returns t) (encode-add-encode-object t) (encode-encode-object-requires t) (λ c. search needs) (encode-returns-2 t) (encode-arity-requires t) (encode-add-encode-appends t) (encode-encode-appends-requires t) (λ c. search needs) (encode-returns-3 t) (encode-add-encode-tuple t) (encode-encode-tuple-requires t) (λ c. search needs) (encode-returns-4 t) (encode-add-encode-batches t) (encode-encode-batches-requires t) (λ c. search needs) (encode-returns-5 t) (encode-add-encode-appends-2 t) (encode-encode-appends-requires-2 t) (encode-put-byte-requires t) (encode-put-byte-requires-2 t) (λ c. search needs) (encode-returns-6 t)) (λ t. encode-appends-lts.spec (encode-appends-claims t) (encode-appends-at t) encode-appends.Post (encode-appends-encode-items-requires t) (encode-appends-put-byte-requires t) (λ c. search needs) (encode-appends-returns t) (encode-appends-encode-batches-requires t) (λ c. search needs) (encode-appends-returns-2 t)) (λ t. encode-batch-lts.spec (encode-batch-claims t) (encode-batch-at t) encode-batch.Post (encode-batch-encode-items-requires t) (encode-batch-put-byte-requires t) (λ c. search needs) (encode-batch-returns t) (encode-batch-put-byte-requires-2 t) (encode-batch-encode-items-requires-2 t) (encode-batch-put-byte-requires-3 t) (λ c. search needs) (encode-batch-returns-2 t) (encode-batch-put-byte-requires-4 t) (encode-batch-encode-items-requires-3 t) (encode-batch-put-byte-requires-5 t) (λ c. search needs) (encode-batch-returns-3 t)) (λ t. encode-batches-lts.spec (encode-batches-claims t) (encode-batches-at t) encode-batches.Post encode-batches-Inv-loop encode-batches-μ-loop (encode-batches-loop-holds t) (λ c κs. search needs) (encode-batches-encode-batch-requires t) (encode-batches-sub-left t) (encode-batches-loop-less t) (encode-batches-loop-again t) (encode-batches-same-length t) (encode-batches-returns t)) (λ t. encode-items-lts.spec (encode-items-claims t) (encode-items-at t) encode-items.Post encode-items-Inv-loop encode-items-μ-loop (encode-items-loop-holds t) (encode-items-mul-head-of t) (encode-items-mul-head-of-2 t) (encode-items-shared-slice-read-head-of t) (λ c κs. search needs) (λ c κs. search needs) (encode-items-encode-requires t) (encode-items-encode-opening-requires t) (encode-items-add-i t) (encode-items-sub-left t) (encode-items-loop-less t) (encode-items-loop-again t) (encode-items-same-length t) (encode-items-returns t)) (λ t. encode-object-lts.spec (encode-object-claims t) (encode-object-at t) encode-object.Post (encode-object-encode-requires t) (λ c κs. search needs) (encode-object-put-byte-requires t) (encode-object-encode-requires-2 t) (encode-object-put-byte-requires-2 t) (λ c. search needs) (encode-object-returns t) (λ c. search needs) (encode-object-returns-2 t)) λ t. encode-tuple-lts.spec (encode-tuple-claims t) (encode-tuple-at t) encode-tuple.Post (encode-tuple-tuple-mark-requires t) (encode-tuple-encode-items-requires t) (λ c κs. search needs) (encode-tuple-put-byte-requires t) (λ c. search needs) (encode-tuple-returns t)
