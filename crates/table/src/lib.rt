@@ -18,18 +18,22 @@ use value::SET;
 use value::STRING;
 use value::TUPLE;
 use value::compare_at;
+use value::compare_bytes;
+use value::compare_ints;
 use value::head_of;
 use value::holds;
 use value::least;
+use value::part;
 use value::word_of;
 ghost use mathlib.Core.Bool.{false};
 ghost use mathlib.Core.Logic.{_≢_};
 ghost use mathlib.Core.Path.{_≡_};
 ghost use Prim.Native.Nat.{_+_, _*_, _<_, _≤_, min};
 ghost use lib.ListN.{length, drop};
-ghost use Rattle.value.specs.Value.{Forest, count as countOf};
+ghost use Rattle.value.specs.Value.{Forest, Value, one, count as countOf};
+ghost use Rattle.value.specs.Order.{order};
 ghost use Rattle.value.specs.Shape.{kindIn, stateIn, holding, arityOf};
-ghost use Rattle.value.specs.Stands.{wordAt, Stands};
+ghost use Rattle.value.specs.Stands.{wordAt, Reads, Begins, Stands};
 ghost use Rattle.value.specs.WellFormed.{WellFormed, less, ascending};
 ghost use Rattle.table.specs.Find.{find, row};
 ghost use Rattle.table.specs.Record.{right0, right1, right2, right3, spanOf, sizeOf};
@@ -95,16 +99,16 @@ fn word1(a: u64, b: u64, at: u64) -> u64
     ensures { λ r. ⌜ r ≡ right1 (kindIn a) b at ⌝ }
 {
     let k = kind(a);
-    if k < BOOL {
-        return 0;
-    }
-    if k < I64 {
-        if b == 1 {
-            return 1;
-        }
-        return 0;
-    }
     if k < BYTES {
+        if k < BOOL {
+            return 0;
+        }
+        if k < I64 {
+            if b == 1 {
+                return 1;
+            }
+            return 0;
+        }
         return b;
     }
     if k < LIST {
@@ -305,6 +309,30 @@ fn precedes(order: Order) -> bool
     }
 }
 
+// The order of the values at records p and q. Most items and keys are Ints or Bytes: two of those need no walk.
+fn compare_items(words: &[u64], text: &[u8], p: usize, q: usize) -> Order
+    requires { ⌜ Reads (now words) (now text) p ⌝ }
+    requires { ⌜ Reads (now words) (now text) q ⌝ }
+    requires { ⌜ Begins (now words) (now text) p ⌝ }
+    requires { ⌜ Begins (now words) (now text) q ⌝ }
+    ensures { λ r. ⌜ ((v u : Value) → Stands (now (words .entry)) (now (text .entry)) p (one v) → Stands (now (words .entry)) (now (text .entry)) q (one u) → told r ≡ order v u) ⌝ }
+{
+    let k = kind(words[4 * p]);
+    if k == kind(words[4 * q]) {
+        let x = words[4 * p + 1];
+        let y = words[4 * q + 1];
+        if k == I64 {
+            return compare_ints(x, y);
+        }
+        if k == BYTES {
+            let m = words[4 * p + 2] as usize;
+            let n = words[4 * q + 2] as usize;
+            return compare_bytes(part(text, x as usize, m), part(text, y as usize, n));
+        }
+    }
+    compare_at(words, p, text, words, q, text)
+}
+
 // The m values from record i on: items (entry 1), or keys with values (entry 2), strictly ascending.
 fn ascends(words: &[u64], text: &[u8], i: usize, m: usize, entry: usize) -> bool
     requires { ⌜ Held (now words) (now text) i m ⌝ }
@@ -316,7 +344,7 @@ fn ascends(words: &[u64], text: &[u8], i: usize, m: usize, entry: usize) -> bool
     let mut left = m;
     while left > entry {
         let q = next(words, p, entry);
-        if !precedes(compare_at(words, p, text, words, q, text)) {
+        if !precedes(compare_items(words, text, p, q)) {
             return false;
         }
         p = q;

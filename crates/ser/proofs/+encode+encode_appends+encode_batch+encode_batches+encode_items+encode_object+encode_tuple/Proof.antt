@@ -2,7 +2,7 @@
 -- before the items that call it, those before a batch or a tuple, those before the batches, those before the appends. A loop's
 -- invariant: writing what is left will have written it all. Assumes nothing.
 use Prim.Native.Nat.{ℕ, _+_, _-_, _*_, _<_}
-use borrow.Fn.Kinds.{In}
+use borrow.Fn.Kinds.{In, PK}
 use borrow.Fn.PlainCycle.{Measures, is, falls, and}
 use Rattle.ser.proofs.encode.Reads as encode
 use Rattle.ser.proofs.encode.Kinds as encode-kinds
@@ -41,7 +41,7 @@ use Rattle.ser.proofs.+encode+encode_appends+encode_batch+encode_batche
   close,
 }
 use borrow.Author.Needs.{needs}
-use mathlib.Core.List.{[], _∷_, _++_}
+use mathlib.Core.List.{List, [], _∷_, _++_}
 use mathlib.Core.Logic.{⊎-elim}
 use mathlib.Core.Path.{refl, sym, _∙_}
 use borrow.Author.Tests.{not-true, not-false}
@@ -88,68 +88,53 @@ abbrev encode-items-μ-loop : encode-items-lts.MeasureT-loop
 encode-items-μ-loop words text from count output₀ at i₀ left₀ next₀ output i left next = left
 
 module _ (t : ℕ) where
-  abbrev encode-at : In 3 encode-kinds.ps
-  encode-at = and 3 encode-kinds.ps (is 3 encode-kinds.ps μ-encode t) encode.Pre
+  abbrev at : (ps : List (PK 3)) → Measures 3 ps ℕ → In 3 ps → In 3 ps
+  at ps μ pre = and 3 ps (is 3 ps μ t) pre
 
-  abbrev encode-below : In 3 encode-kinds.ps
-  encode-below = and 3 encode-kinds.ps (falls 3 encode-kinds.ps _<_ μ-encode t) encode.Pre
+  abbrev below : (ps : List (PK 3)) → Measures 3 ps ℕ → In 3 ps → In 3 ps
+  below ps μ pre = and 3 ps (falls 3 ps _<_ μ t) pre
+
+  abbrev encode-at : In 3 encode-kinds.ps
+  encode-at = at encode-kinds.ps μ-encode encode.Pre
 
   abbrev encode-appends-at : In 3 encode-appends-kinds.ps
-  encode-appends-at = and 3 encode-appends-kinds.ps (is 3 encode-appends-kinds.ps μ-encode-appends t) encode-appends.Pre
-
-  abbrev encode-appends-below : In 3 encode-appends-kinds.ps
-  encode-appends-below = and 3 encode-appends-kinds.ps (falls 3 encode-appends-kinds.ps _<_ μ-encode-appends t) encode-appends.Pre
+  encode-appends-at = at encode-appends-kinds.ps μ-encode-appends encode-appends.Pre
 
   abbrev encode-batch-at : In 3 encode-batch-kinds.ps
-  encode-batch-at = and 3 encode-batch-kinds.ps (is 3 encode-batch-kinds.ps μ-encode-batch t) encode-batch.Pre
-
-  abbrev encode-batch-below : In 3 encode-batch-kinds.ps
-  encode-batch-below = and 3 encode-batch-kinds.ps (falls 3 encode-batch-kinds.ps _<_ μ-encode-batch t) encode-batch.Pre
+  encode-batch-at = at encode-batch-kinds.ps μ-encode-batch encode-batch.Pre
 
   abbrev encode-batches-at : In 3 encode-batches-kinds.ps
-  encode-batches-at = and 3 encode-batches-kinds.ps (is 3 encode-batches-kinds.ps μ-encode-batches t) encode-batches.Pre
-
-  abbrev encode-batches-below : In 3 encode-batches-kinds.ps
-  encode-batches-below = and 3 encode-batches-kinds.ps (falls 3 encode-batches-kinds.ps _<_ μ-encode-batches t) encode-batches.Pre
+  encode-batches-at = at encode-batches-kinds.ps μ-encode-batches encode-batches.Pre
 
   abbrev encode-items-at : In 3 encode-items-kinds.ps
-  encode-items-at = and 3 encode-items-kinds.ps (is 3 encode-items-kinds.ps μ-encode-items t) encode-items.Pre
-
-  abbrev encode-items-below : In 3 encode-items-kinds.ps
-  encode-items-below = and 3 encode-items-kinds.ps (falls 3 encode-items-kinds.ps _<_ μ-encode-items t) encode-items.Pre
+  encode-items-at = at encode-items-kinds.ps μ-encode-items encode-items.Pre
 
   abbrev encode-object-at : In 3 encode-object-kinds.ps
-  encode-object-at = and 3 encode-object-kinds.ps (is 3 encode-object-kinds.ps μ-encode-object t) encode-object.Pre
-
-  abbrev encode-object-below : In 3 encode-object-kinds.ps
-  encode-object-below = and 3 encode-object-kinds.ps (falls 3 encode-object-kinds.ps _<_ μ-encode-object t) encode-object.Pre
+  encode-object-at = at encode-object-kinds.ps μ-encode-object encode-object.Pre
 
   abbrev encode-tuple-at : In 3 encode-tuple-kinds.ps
-  encode-tuple-at = and 3 encode-tuple-kinds.ps (is 3 encode-tuple-kinds.ps μ-encode-tuple t) encode-tuple.Pre
-
-  abbrev encode-tuple-below : In 3 encode-tuple-kinds.ps
-  encode-tuple-below = and 3 encode-tuple-kinds.ps (falls 3 encode-tuple-kinds.ps _<_ μ-encode-tuple t) encode-tuple.Pre
+  encode-tuple-at = at encode-tuple-kinds.ps μ-encode-tuple encode-tuple.Pre
 
   abbrev encode-claims : encode-lts.Claims
-  encode-claims = (head-of-reads.Asked, head-of-reads.Learnt, encode-opening-reads.Asked, encode-opening-reads.Learnt, holds-reads.Asked, holds-reads.Learnt, encode-object-below, encode-object.Post, arity-reads.Asked, arity-reads.Learnt, encode-appends-below, encode-appends.Post, encode-tuple-below, encode-tuple.Post, encode-batches-below, encode-batches.Post, put-byte-reads.Asked, put-byte-reads.Learnt)
+  encode-claims = (head-of-reads.Asked, head-of-reads.Learnt, encode-opening-reads.Asked, encode-opening-reads.Learnt, holds-reads.Asked, holds-reads.Learnt, below encode-object-kinds.ps μ-encode-object encode-object.Pre, encode-object.Post, arity-reads.Asked, arity-reads.Learnt, below encode-appends-kinds.ps μ-encode-appends encode-appends.Pre, encode-appends.Post, below encode-tuple-kinds.ps μ-encode-tuple encode-tuple.Pre, encode-tuple.Post, below encode-batches-kinds.ps μ-encode-batches encode-batches.Pre, encode-batches.Post, put-byte-reads.Asked, put-byte-reads.Learnt)
 
   abbrev encode-appends-claims : encode-appends-lts.Claims
-  encode-appends-claims = (encode-items-below, encode-items.Post, put-byte-reads.Asked, put-byte-reads.Learnt, encode-batches-below, encode-batches.Post)
+  encode-appends-claims = (below encode-items-kinds.ps μ-encode-items encode-items.Pre, encode-items.Post, put-byte-reads.Asked, put-byte-reads.Learnt, below encode-batches-kinds.ps μ-encode-batches encode-batches.Pre, encode-batches.Post)
 
   abbrev encode-batch-claims : encode-batch-lts.Claims
-  encode-batch-claims = (encode-items-below, encode-items.Post, put-byte-reads.Asked, put-byte-reads.Learnt)
+  encode-batch-claims = (below encode-items-kinds.ps μ-encode-items encode-items.Pre, encode-items.Post, put-byte-reads.Asked, put-byte-reads.Learnt)
 
   abbrev encode-batches-claims : encode-batches-lts.Claims
-  encode-batches-claims = (batch-of-reads.Asked, batch-of-reads.Learnt, encode-batch-below, encode-batch.Post)
+  encode-batches-claims = (batch-of-reads.Asked, batch-of-reads.Learnt, below encode-batch-kinds.ps μ-encode-batch encode-batch.Pre, encode-batch.Post)
 
   abbrev encode-items-claims : encode-items-lts.Claims
-  encode-items-claims = (head-of-reads.Asked, head-of-reads.Learnt, holds-reads.Asked, holds-reads.Learnt, encode-below, encode.Post, encode-opening-reads.Asked, encode-opening-reads.Learnt)
+  encode-items-claims = (head-of-reads.Asked, head-of-reads.Learnt, holds-reads.Asked, holds-reads.Learnt, below encode-kinds.ps μ-encode encode.Pre, encode.Post, encode-opening-reads.Asked, encode-opening-reads.Learnt)
 
   abbrev encode-object-claims : encode-object-lts.Claims
-  encode-object-claims = (encode-below, encode.Post, object-opcode-reads.Asked, object-opcode-reads.Learnt, put-byte-reads.Asked, put-byte-reads.Learnt)
+  encode-object-claims = (below encode-kinds.ps μ-encode encode.Pre, encode.Post, object-opcode-reads.Asked, object-opcode-reads.Learnt, put-byte-reads.Asked, put-byte-reads.Learnt)
 
   abbrev encode-tuple-claims : encode-tuple-lts.Claims
-  encode-tuple-claims = (tuple-mark-reads.Asked, tuple-mark-reads.Learnt, encode-items-below, encode-items.Post, tuple-opcode-reads.Asked, tuple-opcode-reads.Learnt, put-byte-reads.Asked, put-byte-reads.Learnt)
+  encode-tuple-claims = (tuple-mark-reads.Asked, tuple-mark-reads.Learnt, below encode-items-kinds.ps μ-encode-items encode-items.Pre, encode-items.Post, tuple-opcode-reads.Asked, tuple-opcode-reads.Learnt, put-byte-reads.Asked, put-byte-reads.Learnt)
 
   -- `encode` where it knows whether values are in the record: the start, the head read, the opening written
   abbrev Known : Type 0
@@ -172,26 +157,8 @@ module _ (t : ℕ) where
       let v = x .before .before in
       makes-set (value-reads (start v .pre .1)) (headed v .head-of .ensures) (sym (v .holds .ensures) ∙ not-false _ (x .before .if1 .left)) (x .if2 .left) (e .before .before .if3 .left) (e .before .if4 .left) (e .if5 .left)
 
-  encode-mul-head-of : encode-lts.Need-mul-head-of encode-claims encode-at encode.Post
-  encode-mul-head-of c = let r = value-reads (c .before .before .before .pre .1) in search needs
-
-  encode-mul-head-of-2 : encode-lts.Need-mul-head-of-2 encode-claims encode-at encode.Post
-  encode-mul-head-of-2 c = let r = value-reads (c .before .before .before .pre .1) in search needs
-
-  encode-shared-slice-read-head-of : encode-lts.Need-shared-slice-read-head-of encode-claims encode-at encode.Post
-  encode-shared-slice-read-head-of c = let r = value-reads (c .before .before .before .before .pre .1) in search needs
-
-  encode-encode-opening-requires : encode-lts.Need-encode-opening-requires encode-claims encode-at encode.Post
-  encode-encode-opening-requires c κs = let y = c .before .before .before .before .before .before .pre .1 in (value-reads y, value-room y)
-
-  encode-add-t20 : encode-lts.Need-add-t20 encode-claims encode-at encode.Post
-  encode-add-t20 c = let v = c .before in omega (arith, (value-reads (start v .pre .1)) .inside)
-
   encode-returns : encode-lts.Need-returns encode-claims encode-at encode.Post
   encode-returns c = let v = c .before in leaf-wrote (value-reads (start v .pre .1)) (headed v .head-of .ensures) (sym (v .holds .ensures) ∙ not-true _ (c .if1 .taken)) (opened v .encode-opening .ensures)
-
-  encode-add-encode-object : encode-lts.Need-add-encode-object encode-claims encode-at encode.Post
-  encode-add-encode-object c = let v = c .before .before in omega (arith, (value-reads (start v .pre .1)) .inside)
 
   encode-encode-object-requires : encode-lts.Need-encode-object-requires encode-claims encode-at encode.Post
   encode-encode-object-requires c κs = let v = c .before .before .before in (omega (arith, start v .pre .0, (value-reads (start v .pre .1)) .inside), ready-as (makes-object (value-reads (start v .pre .1)) (headed v .head-of .ensures) (c .before .if2 .taken)) (rw (object-arity (value-reads (start v .pre .1)) (headed v .head-of .ensures) (c .before .if2 .taken)) at (value-inside (start v .pre .1) (opened v .encode-opening .ensures))))
@@ -199,20 +166,11 @@ module _ (t : ℕ) where
   encode-returns-2 : encode-lts.Need-returns-2 encode-claims encode-at encode.Post
   encode-returns-2 c = let v = c .before .before .before .before .before .before in value-wrote (opened v .encode-opening .ensures) (rw (object-arity (value-reads (start v .pre .1)) (headed v .head-of .ensures) (c .before .before .before .before .if2 .taken)) (wrote-as (makes-object (value-reads (start v .pre .1)) (headed v .head-of .ensures) (c .before .before .before .before .if2 .taken)) (c .before .before .encode-object .ensures)))
 
-  encode-arity-requires : encode-lts.Need-arity-requires encode-claims encode-at encode.Post
-  encode-arity-requires c κs = let v = c .before .before in ((value-reads (start v .pre .1)) .inside, value-arity (start v .pre .1))
-
-  encode-add-encode-appends : encode-lts.Need-add-encode-appends encode-claims encode-at encode.Post
-  encode-add-encode-appends c = let v = c .before .before .before .before in omega (arith, (value-reads (start v .pre .1)) .inside)
-
   encode-encode-appends-requires : encode-lts.Need-encode-appends-requires encode-claims encode-at encode.Post
   encode-encode-appends-requires c κs = let v = c .before .before .before .before .before in (omega (arith, start v .pre .0, (value-reads (start v .pre .1)) .inside), rw (c .before .before .arity .ensures) (ready-as (makes-list (value-reads (start v .pre .1)) (headed v .head-of .ensures) (c .before .if3 .taken)) (value-inside (start v .pre .1) (opened v .encode-opening .ensures))))
 
   encode-returns-3 : encode-lts.Need-returns-3 encode-claims encode-at encode.Post
   encode-returns-3 c = let v = c .before .before .before .before .before .before .before .before in value-wrote (opened v .encode-opening .ensures) (wrote-as (makes-list (value-reads (start v .pre .1)) (headed v .head-of .ensures) (c .before .before .before .before .if3 .taken)) (rw (c .before .before .before .before .before .arity .ensures) at (c .before .before .encode-appends .ensures)))
-
-  encode-add-encode-tuple : encode-lts.Need-add-encode-tuple encode-claims encode-at encode.Post
-  encode-add-encode-tuple c = let v = c .before .before .before .before .before in omega (arith, (value-reads (start v .pre .1)) .inside)
 
   encode-encode-tuple-requires : encode-lts.Need-encode-tuple-requires encode-claims encode-at encode.Post
   encode-encode-tuple-requires c κs = let v = c .before .before .before .before .before .before in (omega (arith, start v .pre .0, (value-reads (start v .pre .1)) .inside), rw (c .before .before .before .arity .ensures) (ready-as (makes-tuple (value-reads (start v .pre .1)) (headed v .head-of .ensures) (c .before .if4 .taken)) (value-inside (start v .pre .1) (opened v .encode-opening .ensures))))
@@ -220,17 +178,11 @@ module _ (t : ℕ) where
   encode-returns-4 : encode-lts.Need-returns-4 encode-claims encode-at encode.Post
   encode-returns-4 c = let v = c .before .before .before .before .before .before .before .before .before in value-wrote (opened v .encode-opening .ensures) (wrote-as (makes-tuple (value-reads (start v .pre .1)) (headed v .head-of .ensures) (c .before .before .before .before .if4 .taken)) (rw (c .before .before .before .before .before .before .arity .ensures) at (c .before .before .encode-tuple .ensures)))
 
-  encode-add-encode-batches : encode-lts.Need-add-encode-batches encode-claims encode-at encode.Post
-  encode-add-encode-batches c = let v = c .before .before .before .before .before .before in omega (arith, (value-reads (start v .pre .1)) .inside)
-
   encode-encode-batches-requires : encode-lts.Need-encode-batches-requires encode-claims encode-at encode.Post
   encode-encode-batches-requires c κs = let v = c .before .before .before .before .before .before .before in (omega (arith, start v .pre .0, (value-reads (start v .pre .1)) .inside), rw (c .before .before .before .before .arity .ensures) (ready-as (makes-dict (value-reads (start v .pre .1)) (headed v .head-of .ensures) (c .before .if5 .taken)) (value-inside (start v .pre .1) (opened v .encode-opening .ensures))))
 
   encode-returns-5 : encode-lts.Need-returns-5 encode-claims encode-at encode.Post
   encode-returns-5 c = let v = c .before .before .before .before .before .before .before .before .before .before in value-wrote (opened v .encode-opening .ensures) (wrote-as (makes-dict (value-reads (start v .pre .1)) (headed v .head-of .ensures) (c .before .before .before .before .if5 .taken)) (rw (c .before .before .before .before .before .before .before .arity .ensures) at (c .before .before .encode-batches .ensures)))
-
-  encode-add-encode-appends-2 : encode-lts.Need-add-encode-appends-2 encode-claims encode-at encode.Post
-  encode-add-encode-appends-2 c = let v = c .before .before .before .before .before .before in omega (arith, (value-reads (start v .pre .1)) .inside)
 
   encode-encode-appends-requires-2 : encode-lts.Need-encode-appends-requires-2 encode-claims encode-at encode.Post
   encode-encode-appends-requires-2 c κs = let v = c .before .before .before .before .before .before .before in (omega (arith, start v .pre .0, (value-reads (start v .pre .1)) .inside), rw (c .before .before .before .before .arity .ensures) (ready-before _ _ (ready-as (set-made (c .before)) (value-inside (start v .pre .1) (opened v .encode-opening .ensures)))))
@@ -292,14 +244,8 @@ module _ (t : ℕ) where
   encode-batch-returns-3 : encode-batch-lts.Need-returns-3 encode-batch-claims encode-batch-at encode-batch.Post
   encode-batch-returns-3 c = wrote-as (batch-items _ (c .before .before .before .before .before .before .before .before .before .before .before .before .if1 .left)) (wrote-after _ _ (c .before .before .before .before .before .before .before .before .before .before .put-byte4 .ensures) (wrote-before _ _ (c .before .before .before .before .before .before .encode-items3 .ensures) (c .before .before .put-byte5 .ensures)))
 
-  encode-batches-loop-holds : encode-batches-lts.Need-loop-holds encode-batches-claims encode-batches-at encode-batches.Post encode-batches-Inv-loop encode-batches-μ-loop
-  encode-batches-loop-holds c = going-all (c .before .before .before .pre .1)
-
   encode-batches-encode-batch-requires : encode-batches-lts.Need-encode-batch-requires encode-batches-claims encode-batches-at encode-batches.Post encode-batches-Inv-loop encode-batches-μ-loop
   encode-batches-encode-batch-requires c κs = let s = c .before .before .before .before .before .before .before in (omega (arith, s .pre .0, c .before .before .before .loop .inv .later), rw (c .before .batch-of .ensures) (ready-cut (batches-cuts (s .args .entries) (c .before .before .before .loop .left) (c .before .before .loop-test .taken)) (c .before .before .before .loop .inv .ready)))
-
-  encode-batches-sub-left : encode-batches-lts.Need-sub-left encode-batches-claims encode-batches-at encode-batches.Post encode-batches-Inv-loop encode-batches-μ-loop
-  encode-batches-sub-left c = omega (arith, c .before .before .before .before .batch-of .ensures)
 
   encode-batches-loop-less : encode-batches-lts.Need-loop-less encode-batches-claims encode-batches-at encode-batches.Post encode-batches-Inv-loop encode-batches-μ-loop
   encode-batches-loop-less c = omega (arith, c .before .before .before .before .batch-of .ensures, size-some (c .before .before .before .before .before .before .before .before .before .before .args .entries), c .before .before .before .before .before .loop-test .taken)
@@ -307,38 +253,8 @@ module _ (t : ℕ) where
   encode-batches-loop-again : encode-batches-lts.Need-loop-again encode-batches-claims encode-batches-at encode-batches.Post encode-batches-Inv-loop encode-batches-μ-loop
   encode-batches-loop-again c = rw (c .before .before .before .before .batch-of .ensures) (going-again (batches-cuts (c .before .before .before .before .before .before .before .before .before .before .args .entries) (c .before .before .before .before .before .before .loop .left) (c .before .before .before .before .before .loop-test .taken)) (c .before .before .before .before .before .before .loop .inv) (rw (c .before .before .before .before .batch-of .ensures) at (c .before .before .encode-batch .ensures)))
 
-  encode-batches-same-length : encode-batches-lts.Need-same-length encode-batches-claims encode-batches-at encode-batches.Post encode-batches-Inv-loop encode-batches-μ-loop
-  encode-batches-same-length c = c .before .loop .inv .kept
-
-  encode-batches-returns : encode-batches-lts.Need-returns encode-batches-claims encode-batches-at encode-batches.Post encode-batches-Inv-loop encode-batches-μ-loop
-  encode-batches-returns c = going-none (batches-none (c .before .before .before .before .before .args .entries)) (c .loop-test .left) (c .before .loop .inv)
-
-  encode-items-loop-holds : encode-items-lts.Need-loop-holds encode-items-claims encode-items-at encode-items.Post encode-items-Inv-loop encode-items-μ-loop
-  encode-items-loop-holds c = going-all (c .before .before .before .pre .1)
-
-  encode-items-mul-head-of : encode-items-lts.Need-mul-head-of encode-items-claims encode-items-at encode-items.Post encode-items-Inv-loop encode-items-μ-loop
-  encode-items-mul-head-of c = let r = value-reads (ready-cut (joined-cuts (c .before .loop .left) (c .loop-test .taken)) (c .before .loop .inv .ready)) in search needs
-
-  encode-items-mul-head-of-2 : encode-items-lts.Need-mul-head-of-2 encode-items-claims encode-items-at encode-items.Post encode-items-Inv-loop encode-items-μ-loop
-  encode-items-mul-head-of-2 c = let r = value-reads (ready-cut (joined-cuts (c .before .loop .left) (c .loop-test .taken)) (c .before .loop .inv .ready)) in search needs
-
-  encode-items-shared-slice-read-head-of : encode-items-lts.Need-shared-slice-read-head-of encode-items-claims encode-items-at encode-items.Post encode-items-Inv-loop encode-items-μ-loop
-  encode-items-shared-slice-read-head-of c = let r = value-reads (ready-cut (joined-cuts (c .before .before .loop .left) (c .before .loop-test .taken)) (c .before .before .loop .inv .ready)) in search needs
-
   encode-items-encode-requires : encode-items-lts.Need-encode-requires encode-items-claims encode-items-at encode-items.Post encode-items-Inv-loop encode-items-μ-loop
   encode-items-encode-requires c κs = let l = c .before .before .before .before .before in (omega (arith, l .before .before .before .before .before .pre .0, l .before .loop .inv .later), ready-cut (joined-cuts (l .before .loop .left) (l .loop-test .taken)) (l .before .loop .inv .ready))
-
-  encode-items-encode-opening-requires : encode-items-lts.Need-encode-opening-requires encode-items-claims encode-items-at encode-items.Post encode-items-Inv-loop encode-items-μ-loop
-  encode-items-encode-opening-requires c κs = let l = c .before .before .before .before .before in let y = ready-cut (joined-cuts (l .before .loop .left) (l .loop-test .taken)) (l .before .loop .inv .ready) in (value-reads y, value-room y)
-
-  encode-items-add-i : encode-items-lts.Need-add-i encode-items-claims encode-items-at encode-items.Post encode-items-Inv-loop encode-items-μ-loop
-  encode-items-add-i c = let l = c .before .before .before .before .before .before .before .before in omega (arith, (value-reads (ready-cut (joined-cuts (l .before .loop .left) (l .loop-test .taken)) (l .before .loop .inv .ready))) .inside)
-
-  encode-items-sub-left : encode-items-lts.Need-sub-left encode-items-claims encode-items-at encode-items.Post encode-items-Inv-loop encode-items-μ-loop
-  encode-items-sub-left c = omega (arith, c .before .before .before .before .loop-test .taken)
-
-  encode-items-loop-less : encode-items-lts.Need-loop-less encode-items-claims encode-items-at encode-items.Post encode-items-Inv-loop encode-items-μ-loop
-  encode-items-loop-less c = omega (arith, c .before .before .before .before .loop-test .taken)
 
   encode-items-loop-again : encode-items-lts.Need-loop-again encode-items-claims encode-items-at encode-items.Post encode-items-Inv-loop encode-items-μ-loop
   encode-items-loop-again c =
@@ -349,12 +265,6 @@ module _ (t : ℕ) where
       (λ y. rw (y .5, y .6, y .7) (going-again cuts (l .before .loop .inv) (y .2 .ensures)))
       (λ y. rw (y .5, y .6, y .7) (going-again cuts (l .before .loop .inv) (leaf-wrote (value-reads (ready-cut (joined-cuts (l .before .loop .left) (l .loop-test .taken)) (l .before .loop .inv .ready))) (h .head-of .ensures) (sym (c .before .holds .ensures) ∙ y .0 .left) (y .2 .ensures))))
       (c .if1 .came)
-
-  encode-items-same-length : encode-items-lts.Need-same-length encode-items-claims encode-items-at encode-items.Post encode-items-Inv-loop encode-items-μ-loop
-  encode-items-same-length c = c .before .loop .inv .kept
-
-  encode-items-returns : encode-items-lts.Need-returns encode-items-claims encode-items-at encode-items.Post encode-items-Inv-loop encode-items-μ-loop
-  encode-items-returns c = going-none joined-none (c .loop-test .left) (c .before .loop .inv)
 
   encode-object-encode-requires : encode-object-lts.Need-encode-requires encode-object-claims encode-object-at encode-object.Post
   encode-object-encode-requires c κs = let s = c .before .before .before .before in (omega (arith, s .pre .0), ready-cut (object-cuts (s .args .new) _ _ refl) (s .pre .1))
@@ -387,4 +297,12 @@ module _ (t : ℕ) where
   encode-tuple-returns c = wrote-as (tuple-parts (c .before .before .before .before .before .before .before .before .before .before .before .before .before .before .before .before .args .count) _ (c .before .before .before .before .tuple-opcode .ensures)) (wrote-after _ _ (c .before .before .before .before .before .before .before .before .before .before .before .tuple-mark .ensures) (wrote-before _ _ (c .before .before .before .before .before .before .before .encode-items .ensures) (c .before .before .put-byte .ensures)))
 
 pub +encode+encode-appends+encode-batch+encode-batches+encode-items+encode-object+encode-tuple-spec : {M : Type 1} → statement M
-+encode+encode-appends+encode-batch+encode-batches+encode-items+encode-object+encode-tuple-spec = close μ-encode μ-encode-appends μ-encode-batch μ-encode-batches μ-encode-items μ-encode-object μ-encode-tuple (λ t. encode-lts.spec (encode-claims t) (encode-at t) encode.Post (encode-mul-head-of t) (encode-mul-head-of-2 t) (encode-shared-slice-read-head-of t) (λ c κs. search needs) (encode-encode-opening-requires t) (λ c κs. search needs) (encode-add-t20 t) (λ c. search needs) (encode-returns t) (encode-add-encode-object t) (encode-encode-object-requires t) (λ c. search needs) (encode-returns-2 t) (encode-arity-requires t) (encode-add-encode-appends t) (encode-encode-appends-requires t) (λ c. search needs) (encode-returns-3 t) (encode-add-encode-tuple t) (encode-encode-tuple-requires t) (λ c. search needs) (encode-returns-4 t) (encode-add-encode-batches t) (encode-encode-batches-requires t) (λ c. search needs) (encode-returns-5 t) (encode-add-encode-appends-2 t) (encode-encode-appends-requires-2 t) (encode-put-byte-requires t) (encode-put-byte-requires-2 t) (λ c. search needs) (encode-returns-6 t)) (λ t. encode-appends-lts.spec (encode-appends-claims t) (encode-appends-at t) encode-appends.Post (encode-appends-encode-items-requires t) (encode-appends-put-byte-requires t) (λ c. search needs) (encode-appends-returns t) (encode-appends-encode-batches-requires t) (λ c. search needs) (encode-appends-returns-2 t)) (λ t. encode-batch-lts.spec (encode-batch-claims t) (encode-batch-at t) encode-batch.Post (encode-batch-encode-items-requires t) (encode-batch-put-byte-requires t) (λ c. search needs) (encode-batch-returns t) (encode-batch-put-byte-requires-2 t) (encode-batch-encode-items-requires-2 t) (encode-batch-put-byte-requires-3 t) (λ c. search needs) (encode-batch-returns-2 t) (encode-batch-put-byte-requires-4 t) (encode-batch-encode-items-requires-3 t) (encode-batch-put-byte-requires-5 t) (λ c. search needs) (encode-batch-returns-3 t)) (λ t. encode-batches-lts.spec (encode-batches-claims t) (encode-batches-at t) encode-batches.Post encode-batches-Inv-loop encode-batches-μ-loop (encode-batches-loop-holds t) (λ c κs. search needs) (encode-batches-encode-batch-requires t) (encode-batches-sub-left t) (encode-batches-loop-less t) (encode-batches-loop-again t) (encode-batches-same-length t) (encode-batches-returns t)) (λ t. encode-items-lts.spec (encode-items-claims t) (encode-items-at t) encode-items.Post encode-items-Inv-loop encode-items-μ-loop (encode-items-loop-holds t) (encode-items-mul-head-of t) (encode-items-mul-head-of-2 t) (encode-items-shared-slice-read-head-of t) (λ c κs. search needs) (λ c κs. search needs) (encode-items-encode-requires t) (encode-items-encode-opening-requires t) (encode-items-add-i t) (encode-items-sub-left t) (encode-items-loop-less t) (encode-items-loop-again t) (encode-items-same-length t) (encode-items-returns t)) (λ t. encode-object-lts.spec (encode-object-claims t) (encode-object-at t) encode-object.Post (encode-object-encode-requires t) (λ c κs. search needs) (encode-object-put-byte-requires t) (encode-object-encode-requires-2 t) (encode-object-put-byte-requires-2 t) (λ c. search needs) (encode-object-returns t) (λ c. search needs) (encode-object-returns-2 t)) λ t. encode-tuple-lts.spec (encode-tuple-claims t) (encode-tuple-at t) encode-tuple.Post (encode-tuple-tuple-mark-requires t) (encode-tuple-encode-items-requires t) (λ c κs. search needs) (encode-tuple-put-byte-requires t) (λ c. search needs) (encode-tuple-returns t)
++encode+encode-appends+encode-batch+encode-batches+encode-items+encode-object+encode-tuple-spec =
+    close μ-encode μ-encode-appends μ-encode-batch μ-encode-batches μ-encode-items μ-encode-object μ-encode-tuple
+    (λ t. encode-lts.spec (encode-claims t) (encode-at t) encode.Post (λ c. let r = value-reads (c .before .before .before .pre .1) in search needs) (λ c. let r = value-reads (c .before .before .before .pre .1) in search needs) (λ c. let r = value-reads (c .before .before .before .before .pre .1) in search needs) (λ c κs. search needs) (λ c κs. let y = c .before .before .before .before .before .before .pre .1 in (value-reads y, value-room y)) (λ c κs. search needs) (λ c. let v = c .before in omega (arith, (value-reads (start t v .pre .1)) .inside)) (λ c. search needs) (encode-returns t) (λ c. let v = c .before .before in omega (arith, (value-reads (start t v .pre .1)) .inside)) (encode-encode-object-requires t) (λ c. search needs) (encode-returns-2 t) (λ c κs. let v = c .before .before in ((value-reads (start t v .pre .1)) .inside, value-arity (start t v .pre .1))) (λ c. let v = c .before .before .before .before in omega (arith, (value-reads (start t v .pre .1)) .inside)) (encode-encode-appends-requires t) (λ c. search needs) (encode-returns-3 t) (λ c. let v = c .before .before .before .before .before in omega (arith, (value-reads (start t v .pre .1)) .inside)) (encode-encode-tuple-requires t) (λ c. search needs) (encode-returns-4 t) (λ c. let v = c .before .before .before .before .before .before in omega (arith, (value-reads (start t v .pre .1)) .inside)) (encode-encode-batches-requires t) (λ c. search needs) (encode-returns-5 t) (λ c. let v = c .before .before .before .before .before .before in omega (arith, (value-reads (start t v .pre .1)) .inside)) (encode-encode-appends-requires-2 t) (encode-put-byte-requires t) (encode-put-byte-requires-2 t) (λ c. search needs) (encode-returns-6 t))
+    (λ t. encode-appends-lts.spec (encode-appends-claims t) (encode-appends-at t) encode-appends.Post (encode-appends-encode-items-requires t) (encode-appends-put-byte-requires t) (λ c. search needs) (encode-appends-returns t) (encode-appends-encode-batches-requires t) (λ c. search needs) (encode-appends-returns-2 t))
+    (λ t. encode-batch-lts.spec (encode-batch-claims t) (encode-batch-at t) encode-batch.Post (encode-batch-encode-items-requires t) (encode-batch-put-byte-requires t) (λ c. search needs) (encode-batch-returns t) (encode-batch-put-byte-requires-2 t) (encode-batch-encode-items-requires-2 t) (encode-batch-put-byte-requires-3 t) (λ c. search needs) (encode-batch-returns-2 t) (encode-batch-put-byte-requires-4 t) (encode-batch-encode-items-requires-3 t) (encode-batch-put-byte-requires-5 t) (λ c. search needs) (encode-batch-returns-3 t))
+    (λ t. encode-batches-lts.spec (encode-batches-claims t) (encode-batches-at t) encode-batches.Post encode-batches-Inv-loop encode-batches-μ-loop (λ c. going-all (c .before .before .before .pre .1)) (λ c κs. search needs) (encode-batches-encode-batch-requires t) (λ c. omega (arith, c .before .before .before .before .batch-of .ensures)) (encode-batches-loop-less t) (encode-batches-loop-again t) (λ c. c .before .loop .inv .kept) (λ c. going-none (batches-none (c .before .before .before .before .before .args .entries)) (c .loop-test .left) (c .before .loop .inv)))
+    (λ t. encode-items-lts.spec (encode-items-claims t) (encode-items-at t) encode-items.Post encode-items-Inv-loop encode-items-μ-loop (λ c. going-all (c .before .before .before .pre .1)) (λ c. let r = value-reads (ready-cut (joined-cuts (c .before .loop .left) (c .loop-test .taken)) (c .before .loop .inv .ready)) in search needs) (λ c. let r = value-reads (ready-cut (joined-cuts (c .before .loop .left) (c .loop-test .taken)) (c .before .loop .inv .ready)) in search needs) (λ c. let r = value-reads (ready-cut (joined-cuts (c .before .before .loop .left) (c .before .loop-test .taken)) (c .before .before .loop .inv .ready)) in search needs) (λ c κs. search needs) (λ c κs. search needs) (encode-items-encode-requires t) (λ c κs. let l = c .before .before .before .before .before in let y = ready-cut (joined-cuts (l .before .loop .left) (l .loop-test .taken)) (l .before .loop .inv .ready) in (value-reads y, value-room y)) (λ c. let l = c .before .before .before .before .before .before .before .before in omega (arith, (value-reads (ready-cut (joined-cuts (l .before .loop .left) (l .loop-test .taken)) (l .before .loop .inv .ready))) .inside)) (λ c. omega (arith, c .before .before .before .before .loop-test .taken)) (λ c. omega (arith, c .before .before .before .before .loop-test .taken)) (encode-items-loop-again t) (λ c. c .before .loop .inv .kept) (λ c. going-none joined-none (c .loop-test .left) (c .before .loop .inv)))
+    (λ t. encode-object-lts.spec (encode-object-claims t) (encode-object-at t) encode-object.Post (encode-object-encode-requires t) (λ c κs. search needs) (encode-object-put-byte-requires t) (encode-object-encode-requires-2 t) (encode-object-put-byte-requires-2 t) (λ c. search needs) (encode-object-returns t) (λ c. search needs) (encode-object-returns-2 t))
+    λ t. encode-tuple-lts.spec (encode-tuple-claims t) (encode-tuple-at t) encode-tuple.Post (encode-tuple-tuple-mark-requires t) (encode-tuple-encode-items-requires t) (λ c κs. search needs) (encode-tuple-put-byte-requires t) (λ c. search needs) (encode-tuple-returns t)

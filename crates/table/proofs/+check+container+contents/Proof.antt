@@ -61,21 +61,13 @@ check-returns : (t : ℕ) → check-lts.Need-returns (kind-reads.Asked, kind-rea
 check-returns t c =
     let s = c .before .before .before in
     let a = s .args in
-    let w = a .words .now in
-    let n = a .count in
-    let x = a .text .now in
-    let lent = s .pre .1 .0 in
-    is-bad _ (find-out w n x (a .levels) (a .i) (a .at) (c .if1 .taken))
+    is-bad _ (find-out (a .words .now) (a .count) (a .text .now) (a .levels) (a .i) (a .at) (c .if1 .taken))
 
 check-returns-2 : (t : ℕ) → check-lts.Need-returns-2 (kind-reads.Asked, kind-reads.Learnt, holds-reads.Asked, holds-reads.Learnt, container-below t, container.Post, leaf-reads.Asked, leaf-reads.Learnt) (check-at t) check.Post
 check-returns-2 t c =
     let s = c .before .before .before .before in
     let a = s .args in
-    let w = a .words .now in
-    let n = a .count in
-    let x = a .text .now in
-    let lent = s .pre .1 .0 in
-    is-bad _ (find-past w n x (a .levels) (a .i) (a .at) (c .if2 .taken))
+    is-bad _ (find-past (a .words .now) (a .count) (a .text .now) (a .levels) (a .i) (a .at) (c .if2 .taken))
 
 check-container-requires : (t : ℕ) → check-lts.Need-container-requires (kind-reads.Asked, kind-reads.Learnt, holds-reads.Asked, holds-reads.Learnt, container-below t, container.Post, leaf-reads.Asked, leaf-reads.Learnt) (check-at t) check.Post
 check-container-requires t c κs =
@@ -90,9 +82,8 @@ check-leaf-requires : (t : ℕ) → check-lts.Need-leaf-requires (kind-reads.Ask
 check-leaf-requires t c κs =
     let s = c .before .before .before .before .before .before .before .before in
     let a = s .args in
-    let w = a .words .now in
     let lent = s .pre .1 .0 in
-    let e0 = first-word w (a .i) in
+    let e0 = first-word (a .words .now) (a .i) in
     let l = s .pre .1 .1 .0 in
     let room = lent .room in
     (omega arith, (s .pre .1 .1 .1, (lent .short, rw e0 at (rw (c .before .before .kind .ensures) at (sym (c .before .holds .ensures) ∙ c .if3 .left)))))
@@ -101,10 +92,9 @@ check-returns-4 : (t : ℕ) → check-lts.Need-returns-4 (kind-reads.Asked, kind
 check-returns-4 t c =
     let s = c .before .before .before .before .before .before .before .before .before in
     let a = s .args in
-    let n = a .count in
     let lent = s .pre .1 .0 in
     let l = s .pre .1 .1 .0 in
-    c .leaf .ensures n (a .levels) lent (omega arith) (c .before .before .before .before .before .before .if1 .left)
+    c .leaf .ensures (a .count) (a .levels) lent (omega arith) (c .before .before .before .before .before .before .if1 .left)
 
 container-head-requires : (t : ℕ) → container-lts.Need-head-requires (head-reads.Asked, head-reads.Learnt, contents-below t, contents.Post, closes-reads.Asked, closes-reads.Learnt) (container-at t) container.Post
 container-head-requires t c κs =
@@ -116,36 +106,27 @@ container-add-contents : (t : ℕ) → container-lts.Need-add-contents (head-rea
 container-add-contents t c =
     let s = c .before .before .before .before .before .before in
     let a = s .args in
-    let w = a .words .now in
-    let n = a .count in
-    let x = a .text .now in
     let lent = s .pre .1 .0 in
     let some = s .pre .1 .1 .1 .1 in
-    let h = right w n x (a .i) (a .at) (a .levels) lent some (c .before .before .before .head .ensures) (c .before .long .given .1) in
+    let h = right (a .words .now) (a .count) (a .text .now) (a .i) (a .at) (a .levels) lent some (c .before .before .before .head .ensures) (c .before .long .given .1) in
     let few = h .few in let room = lent .room in let small = lent .few in omega arith
 
 container-add-contents-2 : (t : ℕ) → container-lts.Need-add-contents-2 (head-reads.Asked, head-reads.Learnt, contents-below t, contents.Post, closes-reads.Asked, closes-reads.Learnt) (container-at t) container.Post
 container-add-contents-2 t c =
     let s = c .before .before .before .before .before .before in
     let a = s .args in
-    let w = a .words .now in
-    let n = a .count in
-    let x = a .text .now in
     let lent = s .pre .1 .0 in
     let some = s .pre .1 .1 .1 .1 in
-    let h = right w n x (a .i) (a .at) (a .levels) lent some (c .before .before .before .head .ensures) (c .before .long .given .1) in
+    let h = right (a .words .now) (a .count) (a .text .now) (a .i) (a .at) (a .levels) lent some (c .before .before .before .head .ensures) (c .before .long .given .1) in
     let inn = h .inside in let short = lent .short in omega arith
 
 container-contents-requires : (t : ℕ) → container-lts.Need-contents-requires (head-reads.Asked, head-reads.Learnt, contents-below t, contents.Post, closes-reads.Asked, closes-reads.Learnt) (container-at t) container.Post
 container-contents-requires t c κs =
     let s = c .before .before .before .before .before .before in
     let a = s .args in
-    let w = a .words .now in
-    let n = a .count in
-    let x = a .text .now in
     let lent = s .pre .1 .0 in
     let some = s .pre .1 .1 .1 .1 in
-    let h = right w n x (a .i) (a .at) (a .levels) lent some (c .before .before .before .head .ensures) (c .before .long .given .1) in
+    let h = right (a .words .now) (a .count) (a .text .now) (a .i) (a .at) (a .levels) lent some (c .before .before .before .head .ensures) (c .before .long .given .1) in
     (omega arith, (lent, ((let few = h .few in omega arith), h .inside)))
 
 container-closes-requires : (t : ℕ) → container-lts.Need-closes-requires (head-reads.Asked, head-reads.Learnt, contents-below t, contents.Post, closes-reads.Asked, closes-reads.Learnt) (container-at t) container.Post
@@ -165,45 +146,33 @@ container-returns : (t : ℕ) → container-lts.Need-returns (head-reads.Asked, 
 container-returns t c =
     let s = c .before .before .before .before .before .before .before .before .before .before .before .before in
     let a = s .args in
-    let w = a .words .now in
-    let n = a .count in
-    let x = a .text .now in
     let lent = s .pre .1 .0 in
     let some = s .pre .1 .1 .1 .1 in
-    answer-closed w n x (a .i) (a .at) (a .levels) lent some (c .before .before .before .before .before .before .before .before .before .head .ensures) (c .before .before .before .before .before .before .before .long .given .1) (sym (c .before .before .before .before .before .contents .ensures) ∙ c .before .before .before .j .given .1) false (λ f p q. sym (not-true _ (c .if1 .taken)) ∙ c .before .closes .ensures f p q)
+    answer-closed (a .words .now) (a .count) (a .text .now) (a .i) (a .at) (a .levels) lent some (c .before .before .before .before .before .before .before .before .before .head .ensures) (c .before .before .before .before .before .before .before .long .given .1) (sym (c .before .before .before .before .before .contents .ensures) ∙ c .before .before .before .j .given .1) false (λ f p q. sym (not-true _ (c .if1 .taken)) ∙ c .before .closes .ensures f p q)
 
 container-returns-2 : (t : ℕ) → container-lts.Need-returns-2 (head-reads.Asked, head-reads.Learnt, contents-below t, contents.Post, closes-reads.Asked, closes-reads.Learnt) (container-at t) container.Post
 container-returns-2 t c =
     let s = c .before .before .before .before .before in
     let a = s .args in
-    let w = a .words .now in
-    let n = a .count in
-    let x = a .text .now in
     let lent = s .pre .1 .0 in
     let some = s .pre .1 .1 .1 .1 in
-    answer-wrong w n x (a .i) (a .at) (a .levels) lent some (c .before .before .head .ensures) (c .enum-told .given .1)
+    answer-wrong (a .words .now) (a .count) (a .text .now) (a .i) (a .at) (a .levels) lent some (c .before .before .head .ensures) (c .enum-told .given .1)
 
 container-returns-3 : (t : ℕ) → container-lts.Need-returns-3 (head-reads.Asked, head-reads.Learnt, contents-below t, contents.Post, closes-reads.Asked, closes-reads.Learnt) (container-at t) container.Post
 container-returns-3 t c =
     let s = c .before .before .before .before .before .before .before .before .before in
     let a = s .args in
-    let w = a .words .now in
-    let n = a .count in
-    let x = a .text .now in
     let lent = s .pre .1 .0 in
     let some = s .pre .1 .1 .1 .1 in
-    answer-bad w n x (a .i) (a .at) (a .levels) lent some (c .before .before .before .before .before .before .head .ensures) (c .before .before .before .before .long .given .1) (sym (c .before .before .contents .ensures) ∙ c .enum-told2 .given .1)
+    answer-bad (a .words .now) (a .count) (a .text .now) (a .i) (a .at) (a .levels) lent some (c .before .before .before .before .before .before .head .ensures) (c .before .before .before .before .long .given .1) (sym (c .before .before .contents .ensures) ∙ c .enum-told2 .given .1)
 
 container-returns-4 : (t : ℕ) → container-lts.Need-returns-4 (head-reads.Asked, head-reads.Learnt, contents-below t, contents.Post, closes-reads.Asked, closes-reads.Learnt) (container-at t) container.Post
 container-returns-4 t c =
     let s = c .before .before .before .before .before .before .before .before .before .before .before .before in
     let a = s .args in
-    let w = a .words .now in
-    let n = a .count in
-    let x = a .text .now in
     let lent = s .pre .1 .0 in
     let some = s .pre .1 .1 .1 .1 in
-    answer-closed w n x (a .i) (a .at) (a .levels) lent some (c .before .before .before .before .before .before .before .before .before .head .ensures) (c .before .before .before .before .before .before .before .long .given .1) (sym (c .before .before .before .before .before .contents .ensures) ∙ c .before .before .before .j .given .1) true (λ f p q. sym (not-false _ (c .if1 .left)) ∙ c .before .closes .ensures f p q)
+    answer-closed (a .words .now) (a .count) (a .text .now) (a .i) (a .at) (a .levels) lent some (c .before .before .before .before .before .before .before .before .before .head .ensures) (c .before .before .before .before .before .before .before .long .given .1) (sym (c .before .before .before .before .before .contents .ensures) ∙ c .before .before .before .j .given .1) true (λ f p q. sym (not-false _ (c .if1 .left)) ∙ c .before .closes .ensures f p q)
 
 abbrev contents-Inv-loop : contents-lts.InvT-loop
 contents-Inv-loop words count text i at m levels j₀ end₀ left₀ j end left = (j ≤ count) × (end ≤ length text) × (answer (row (find words count text levels) left j end) ≡ answer (row (find words count text levels) m i at))
@@ -225,12 +194,8 @@ contents-returns : (t : ℕ) → contents-lts.Need-returns (check-below t, check
 contents-returns t c =
     let s = c .before .before .before .before .before .before .before in
     let a = s .args in
-    let w = a .words .now in
-    let n = a .count in
-    let x = a .text .now in
-    let lent = s .pre .1 .0 in
     let l = c .before .before .before .before .loop in
-    row-bad (find w n x (a .levels)) (l .left) (l .j) (l .end) (c .before .before .before .loop-test .taken) (sym (c .before .before .check .ensures) ∙ c .enum-told .given .1) ∙ l .inv .2
+    row-bad (find (a .words .now) (a .count) (a .text .now) (a .levels)) (l .left) (l .j) (l .end) (c .before .before .before .loop-test .taken) (sym (c .before .before .check .ensures) ∙ c .enum-told .given .1) ∙ l .inv .2
 
 contents-loop-again : (t : ℕ) → contents-lts.Need-loop-again (check-below t, check.Post) (contents-at t) contents.Post contents-Inv-loop contents-μ-loop
 contents-loop-again t c =
@@ -249,12 +214,9 @@ contents-returns-2 : (t : ℕ) → contents-lts.Need-returns-2 (check-below t, c
 contents-returns-2 t c =
     let s = c .before .before .before .before in
     let a = s .args in
-    let w = a .words .now in
-    let n = a .count in
-    let x = a .text .now in
     let lent = s .pre .1 .0 in
     let l = c .before .loop in
-    row-done (find w n x (a .levels)) (l .left) (l .j) (l .end) (omega arith) ∙ l .inv .2
+    row-done (find (a .words .now) (a .count) (a .text .now) (a .levels)) (l .left) (l .j) (l .end) (omega arith) ∙ l .inv .2
 
 pub +check+container+contents-spec : {M : Type 1} → statement M
 +check+container+contents-spec = close μ-check μ-container μ-contents (λ t. check-lts.spec (kind-reads.Asked, kind-reads.Learnt, holds-reads.Asked, holds-reads.Learnt, container-below t, container.Post, leaf-reads.Asked, leaf-reads.Learnt) (check-at t) check.Post (check-returns t) (check-returns-2 t) (λ c. search needs) (λ c. search needs) (λ c. search needs) (λ c κs. search needs) (λ c κs. search needs) (check-container-requires t) (check-returns-3 t) (check-leaf-requires t) (check-returns-4 t)) (λ t. container-lts.spec (head-reads.Asked, head-reads.Learnt, contents-below t, contents.Post, closes-reads.Asked, closes-reads.Learnt) (container-at t) container.Post (container-head-requires t) (λ c. search needs) (λ c. search needs) (container-add-contents t) (container-add-contents-2 t) (λ c. search needs) (container-contents-requires t) (λ c. search needs) (λ c. search needs) (container-closes-requires t) (container-returns t) (container-returns-2 t) (container-returns-3 t) (container-returns-4 t)) λ t. contents-lts.spec (check-below t, check.Post) (contents-at t) contents.Post contents-Inv-loop contents-μ-loop (contents-loop-holds t) (contents-check-requires t) (λ c. search needs) (contents-returns t) (λ c. search needs) (λ c. search needs) (λ c. search needs) (contents-loop-again t) (contents-returns-2 t)

@@ -5,6 +5,8 @@ use mathlib.Core.Path.{sym, _∙_}
 use native.Mathlib.Omega.{arith}
 use borrow.Author.Tests.{not-true, not-false}
 use borrow.Author.Needs.{needs}
+use Rattle.value.specs.Value.{one}
+use Rattle.value.specs.Stands.{Stands}
 use Rattle.value.specs.Told.{told}
 use Rattle.table.specs.Items.{Rest, rest-start, rest-step, rest-done, rest-not, rest-less}
 
@@ -27,20 +29,22 @@ next-requires c κs =
     let l = c .before .loop in
     rest-step (a .words .now) (a .text .now) (a .i) (a .m) (a .entry) (s .pre .1 .0) (s .pre .1 .1) (l .p) (l .left) (l .inv) (c .loop-test .taken) .steps
 
-compare-at-requires : tie.Need-compare-at-requires Inv-loop μ-loop
-compare-at-requires c κs =
+compare-items-requires : tie.Need-compare-items-requires Inv-loop μ-loop
+unfolding Stands
+compare-items-requires c κs =
     let s = c .before .before .before .before .before in
     let a = s .args in
     let l = c .before .before .loop in
     let x = rest-step (a .words .now) (a .text .now) (a .i) (a .m) (a .entry) (s .pre .1 .0) (s .pre .1 .1) (l .p) (l .left) (l .inv) (c .before .loop-test .taken) in
-    (record { value = x .first; stands = x .first-stands }, record { value = x .second; stands = rw (c .next .ensures) (x .second-stands) })
+    let y : Stands (a .words .now) (a .text .now) (c .next .result) (one (x .second)) = rw (c .next .ensures) (x .second-stands) in
+    (x .first-stands .0 .reads, (y .0 .reads, (record { value = x .first; stands = x .first-stands }, record { value = x .second; stands = y })))
 
 returns : tie.Need-returns Inv-loop μ-loop
 returns c =
     let s = c .before .before .before .before .before .before .before .before in
     let a = s .args in
     let l = c .before .before .before .before .before .loop in
-    rest-not (a .words .now) (a .text .now) (a .i) (a .m) (a .entry) (s .pre .1 .0) (s .pre .1 .1) (l .p) (l .left) (l .inv) (c .before .before .before .before .loop-test .taken) (told (c .before .before .compare-at .result)) (rw (← c .before .before .before .next .ensures) (c .before .before .compare-at .ensures)) (sym (c .before .precedes .ensures) ∙ not-true _ (c .if1 .taken))
+    rest-not (a .words .now) (a .text .now) (a .i) (a .m) (a .entry) (s .pre .1 .0) (s .pre .1 .1) (l .p) (l .left) (l .inv) (c .before .before .before .before .loop-test .taken) (told (c .before .before .compare-items .result)) (rw (← c .before .before .before .next .ensures) (c .before .before .compare-items .ensures)) (sym (c .before .precedes .ensures) ∙ not-true _ (c .if1 .taken))
 
 loop-less : tie.Need-loop-less Inv-loop μ-loop
 loop-less c =
@@ -53,7 +57,7 @@ loop-again c =
     let s = c .before .before .before .before .before .before .before .before in
     let a = s .args in
     let l = c .before .before .before .before .before .loop in
-    rw (c .before .before .before .next .ensures) (rest-less (a .words .now) (a .text .now) (a .i) (a .m) (a .entry) (s .pre .1 .0) (s .pre .1 .1) (l .p) (l .left) (l .inv) (c .before .before .before .before .loop-test .taken) (told (c .before .before .compare-at .result)) (rw (← c .before .before .before .next .ensures) (c .before .before .compare-at .ensures)) (sym (c .before .precedes .ensures) ∙ not-false _ (c .if1 .left)))
+    rw (c .before .before .before .next .ensures) (rest-less (a .words .now) (a .text .now) (a .i) (a .m) (a .entry) (s .pre .1 .0) (s .pre .1 .1) (l .p) (l .left) (l .inv) (c .before .before .before .before .loop-test .taken) (told (c .before .before .compare-items .result)) (rw (← c .before .before .before .next .ensures) (c .before .before .compare-items .ensures)) (sym (c .before .precedes .ensures) ∙ not-false _ (c .if1 .left)))
 
 returns-2 : tie.Need-returns-2 Inv-loop μ-loop
 returns-2 c =
@@ -63,4 +67,4 @@ returns-2 c =
     rest-done (a .words .now) (a .text .now) (a .i) (a .m) (a .entry) (s .pre .1 .0) (s .pre .1 .1) (l .p) (l .left) (l .inv) (c .loop-test .left)
 
 pub ascends-spec : {M : Type 1} → statement M
-ascends-spec = tie.close (tie.spec Inv-loop μ-loop loop-holds next-requires compare-at-requires (λ c κs. search needs) returns (λ c. search needs) loop-less loop-again returns-2)
+ascends-spec = tie.close (tie.spec Inv-loop μ-loop loop-holds next-requires compare-items-requires (λ c κs. search needs) returns (λ c. search needs) loop-less loop-again returns-2)
