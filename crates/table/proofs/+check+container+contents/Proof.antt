@@ -57,26 +57,11 @@ contents-at t = and 2 contents-kinds.ps (is 2 contents-kinds.ps μ-contents t) c
 abbrev contents-below : ℕ → In 2 contents-kinds.ps
 contents-below t = and 2 contents-kinds.ps (falls 2 contents-kinds.ps _<_ μ-contents t) contents.Pre
 
-check-returns : (t : ℕ) → check-lts.Need-returns (kind-reads.Asked, kind-reads.Learnt, holds-reads.Asked, holds-reads.Learnt, container-below t, container.Post, leaf-reads.Asked, leaf-reads.Learnt) (check-at t) check.Post
-check-returns t c =
-    let s = c .before .before .before in
-    let a = s .args in
-    is-bad _ (find-out (a .words .now) (a .count) (a .text .now) (a .levels) (a .i) (a .at) (c .if1 .taken))
-
-check-returns-2 : (t : ℕ) → check-lts.Need-returns-2 (kind-reads.Asked, kind-reads.Learnt, holds-reads.Asked, holds-reads.Learnt, container-below t, container.Post, leaf-reads.Asked, leaf-reads.Learnt) (check-at t) check.Post
-check-returns-2 t c =
-    let s = c .before .before .before .before in
-    let a = s .args in
-    is-bad _ (find-past (a .words .now) (a .count) (a .text .now) (a .levels) (a .i) (a .at) (c .if2 .taken))
-
 check-container-requires : (t : ℕ) → check-lts.Need-container-requires (kind-reads.Asked, kind-reads.Learnt, holds-reads.Asked, holds-reads.Learnt, container-below t, container.Post, leaf-reads.Asked, leaf-reads.Learnt) (check-at t) check.Post
 check-container-requires t c κs =
     let s = c .before .before .before .before .before .before .before .before in
     let lent = s .pre .1 .0 in
     (omega arith, (lent, ((let l = s .pre .1 .1 .0 in omega arith), (s .pre .1 .1 .1, c .before .before .before .before .before .if1 .left))))
-
-check-returns-3 : (t : ℕ) → check-lts.Need-returns-3 (kind-reads.Asked, kind-reads.Learnt, holds-reads.Asked, holds-reads.Learnt, container-below t, container.Post, leaf-reads.Asked, leaf-reads.Learnt) (check-at t) check.Post
-check-returns-3 t c = c .container .ensures
 
 check-leaf-requires : (t : ℕ) → check-lts.Need-leaf-requires (kind-reads.Asked, kind-reads.Learnt, holds-reads.Asked, holds-reads.Learnt, container-below t, container.Post, leaf-reads.Asked, leaf-reads.Learnt) (check-at t) check.Post
 check-leaf-requires t c κs =
@@ -95,12 +80,6 @@ check-returns-4 t c =
     let lent = s .pre .1 .0 in
     let l = s .pre .1 .1 .0 in
     c .leaf .ensures (a .count) (a .levels) lent (omega arith) (c .before .before .before .before .before .before .if1 .left)
-
-container-head-requires : (t : ℕ) → container-lts.Need-head-requires (head-reads.Asked, head-reads.Learnt, contents-below t, contents.Post, closes-reads.Asked, closes-reads.Learnt) (container-at t) container.Post
-container-head-requires t c κs =
-    let s = c .before .before in
-    let lent = s .pre .1 .0 in
-    (lent, (s .pre .1 .1 .0, s .pre .1 .1 .1 .0))
 
 container-add-contents : (t : ℕ) → container-lts.Need-add-contents (head-reads.Asked, head-reads.Learnt, contents-below t, contents.Post, closes-reads.Asked, closes-reads.Learnt) (container-at t) container.Post
 container-add-contents t c =
@@ -180,16 +159,6 @@ contents-Inv-loop words count text i at m levels j₀ end₀ left₀ j end left 
 abbrev contents-μ-loop : contents-lts.MeasureT-loop
 contents-μ-loop words count text i at m levels j₀ end₀ left₀ j end left = left
 
-contents-loop-holds : (t : ℕ) → contents-lts.Need-loop-holds (check-below t, check.Post) (contents-at t) contents.Post contents-Inv-loop contents-μ-loop
-contents-loop-holds t c = let s = c .before .before in (s .pre .1 .1 .0, s .pre .1 .1 .1, refl)
-
-contents-check-requires : (t : ℕ) → contents-lts.Need-check-requires (check-below t, check.Post) (contents-at t) contents.Post contents-Inv-loop contents-μ-loop
-contents-check-requires t c κs =
-    let s = c .before .before .before .before in
-    let lent = s .pre .1 .0 in
-    let l = c .before .loop in
-    (omega arith, (lent, (l .inv .0, l .inv .1)))
-
 contents-returns : (t : ℕ) → contents-lts.Need-returns (check-below t, check.Post) (contents-at t) contents.Post contents-Inv-loop contents-μ-loop
 contents-returns t c =
     let s = c .before .before .before .before .before .before .before in
@@ -219,4 +188,8 @@ contents-returns-2 t c =
     row-done (find (a .words .now) (a .count) (a .text .now) (a .levels)) (l .left) (l .j) (l .end) (omega arith) ∙ l .inv .2
 
 pub +check+container+contents-spec : {M : Type 1} → statement M
-+check+container+contents-spec = close μ-check μ-container μ-contents (λ t. check-lts.spec (kind-reads.Asked, kind-reads.Learnt, holds-reads.Asked, holds-reads.Learnt, container-below t, container.Post, leaf-reads.Asked, leaf-reads.Learnt) (check-at t) check.Post (check-returns t) (check-returns-2 t) (λ c. search needs) (λ c. search needs) (λ c. search needs) (λ c κs. search needs) (λ c κs. search needs) (check-container-requires t) (check-returns-3 t) (check-leaf-requires t) (check-returns-4 t)) (λ t. container-lts.spec (head-reads.Asked, head-reads.Learnt, contents-below t, contents.Post, closes-reads.Asked, closes-reads.Learnt) (container-at t) container.Post (container-head-requires t) (λ c. search needs) (λ c. search needs) (container-add-contents t) (container-add-contents-2 t) (λ c. search needs) (container-contents-requires t) (λ c. search needs) (λ c. search needs) (container-closes-requires t) (container-returns t) (container-returns-2 t) (container-returns-3 t) (container-returns-4 t)) λ t. contents-lts.spec (check-below t, check.Post) (contents-at t) contents.Post contents-Inv-loop contents-μ-loop (contents-loop-holds t) (contents-check-requires t) (λ c. search needs) (contents-returns t) (λ c. search needs) (λ c. search needs) (λ c. search needs) (contents-loop-again t) (contents-returns-2 t)
++check+container+contents-spec =
+    close μ-check μ-container μ-contents
+    (λ t. check-lts.spec (kind-reads.Asked, kind-reads.Learnt, holds-reads.Asked, holds-reads.Learnt, container-below t, container.Post, leaf-reads.Asked, leaf-reads.Learnt) (check-at t) check.Post (λ c. let a = c .before .before .before .args in is-bad _ (find-out (a .words .now) (a .count) (a .text .now) (a .levels) (a .i) (a .at) (c .if1 .taken))) (λ c. let a = c .before .before .before .before .args in is-bad _ (find-past (a .words .now) (a .count) (a .text .now) (a .levels) (a .i) (a .at) (c .if2 .taken))) (λ c. search needs) (λ c. search needs) (λ c. search needs) (λ c κs. search needs) (λ c κs. search needs) (check-container-requires t) (λ c. c .container .ensures) (check-leaf-requires t) (check-returns-4 t))
+    (λ t. container-lts.spec (head-reads.Asked, head-reads.Learnt, contents-below t, contents.Post, closes-reads.Asked, closes-reads.Learnt) (container-at t) container.Post (λ c κs. let s = c .before .before in (s .pre .1 .0, (s .pre .1 .1 .0, s .pre .1 .1 .1 .0))) (λ c. search needs) (λ c. search needs) (container-add-contents t) (container-add-contents-2 t) (λ c. search needs) (container-contents-requires t) (λ c. search needs) (λ c. search needs) (container-closes-requires t) (container-returns t) (container-returns-2 t) (container-returns-3 t) (container-returns-4 t))
+    λ t. contents-lts.spec (check-below t, check.Post) (contents-at t) contents.Post contents-Inv-loop contents-μ-loop (λ c. let s = c .before .before in (s .pre .1 .1 .0, s .pre .1 .1 .1, refl)) (λ c κs. let s = c .before .before .before .before in let lent = s .pre .1 .0 in let l = c .before .loop in (omega arith, (lent, (l .inv .0, l .inv .1)))) (λ c. search needs) (contents-returns t) (λ c. search needs) (λ c. search needs) (λ c. search needs) (contents-loop-again t) (contents-returns-2 t)
