@@ -6,7 +6,7 @@ use native.Mathlib.Numerals.{add-one}
 use native.Mathlib.Omega.{arith}
 use lib.ListN.{length}
 use lib.Seq.{sets}
-use Rattle.value.specs.Value.{Label, Forest, count, size, depth, nil, node}
+use Rattle.value.specs.Value.{Label, Forest, count, size, count-size, depth, nil, node}
 use Rattle.value.specs.Stands.{labelAt, arityAt, Reads, Says, Stands, stands-one}
 use Rattle.output.specs.Put.{Put, Room, Left, left-all, left-more, left-none, left-room, room-first, put-kept}
 use Rattle.list.specs.Listing.{line, listing}
@@ -38,11 +38,6 @@ pub record Turn (w t : List ℕ) (from n d : ℕ) (o₀ : List ℕ) (at : ℕ) (
   pub shallow : d + depth r ≤ 64
   pub ends : i + 1 + size c + size r ≡ from + size (whole .values)
   pub todo : Left o₀ at (listing d (whole .values)) o next (line d l (count c) ++ (listing (suc d) c ++ listing d r))
-
-count-size : (f : Forest) → count f ≤ size f
-unfolding count size
-count-size nil = omega arith
-count-size (node l c r) = omega (arith, count-size r)
 
 none-of : (f : Forest) → count f ≡ 0 → f ≡ nil
 unfolding count

@@ -1,12 +1,12 @@
 -- Document 02, Ask 2: two well-formed values with the same listing are the same value.
-use Prim.Native.Nat.{ℕ, suc, _+_, _*_, _^_, _≤_, _<_}
+use Prim.Native.Nat.{ℕ, suc, _+_, _*_, _^_, _<_}
 use mathlib.Core.List.{List, [], _++_, append-assoc}
 use mathlib.Core.Path.{_≡_, refl, sym, _∙_, ap}
 use native.Mathlib.Omega.{arith}
 use lib.Dec.{T}
 use lib.ListN.{length, drop, take-append-drop}
 use Rattle.input.specs.Bytes.{Bytes}
-use Rattle.value.specs.Value.{Label, Forest, one, textOf, text, count, size, words, recordOf, table, nil, node}
+use Rattle.value.specs.Value.{Label, Forest, one, textOf, text, count, size, count-size, words, recordOf, table, nil, node}
 use Rattle.value.specs.Shape.{fitting, shaped, and-l, and-r}
 use Rattle.value.specs.WellFormed.{WellFormed}
 use Rattle.table.specs.CompareLaws.{Identical}
@@ -19,11 +19,6 @@ record Lent (f : Forest) (p : ℕ) : Type 0 where
   pub words : Words (table f p)
   pub bytes : Bytes (text f)
   pub few : size f < 10 ^ 20
-
-count-size : (f : Forest) → count f ≤ size f
-unfolding count size
-count-size nil = omega arith
-count-size (node l c r) = omega (arith, count-size r)
 
 module _ (l : Label) (c r : Forest) (p : ℕ) (a : Lent (node l c r) p) where
   abbrev q : ℕ

@@ -1,6 +1,6 @@
 -- Fixed widths are read back: the reader's numbers (crate `input`) of the bytes that are written.
-use Prim.Native.Nat.{ℕ, suc, zero, _+_, _*_, _^_, _/_, _%_, _<_}
-use mathlib.Core.List.{List, [], _∷_, _++_, reverse, reverse-append}
+use Prim.Native.Nat.{ℕ, suc, zero, _^_, _/_, _%_, _<_}
+use mathlib.Core.List.{List, [], _∷_, reverse, reverse-append}
 use mathlib.Core.Path.{_≡_, refl, _∙_, ap}
 use native.Mathlib.Nat.{pow-suc}
 use native.Mathlib.Omega.{arith}

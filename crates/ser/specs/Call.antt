@@ -9,7 +9,7 @@ use lib.ListN.{length}
 use Rattle.refusal.specs.declared.Answer.{Answer}
 use Rattle.refusal.specs.declared.Refusal.the-variants.{OutputFull, UnwritableName}
 use Rattle.refusal.specs.Numbers.{refusedAnswer}
-use Rattle.value.specs.Value.{Value, one, size}
+use Rattle.value.specs.Value.{Value, one}
 use Rattle.value.specs.WellFormed.{WellFormed}
 use Rattle.table.specs.Call.{Told, told, done, answered, answered-full, Call, call-one, call-good}
 use Rattle.output.specs.Whole.{whole-stands, whole-one, put-answered}

@@ -7,7 +7,7 @@ use mathlib.Core.Path.{_≡_, refl, sym, _∙_, ap}
 use native.Mathlib.Omega.{arith}
 use lib.Dec.{T, eqb, leb, ltb, eqb→eq, ltb→lt}
 use lib.ListN.{length, length-append, length-take, length-drop, getD, take, drop, take-append-drop}
-use borrow.Author.Tests.{le-ltb, eqb-true, ne-eqb}
+use borrow.Author.Tests.{le-ltb, ne-eqb}
 use Rattle.value.specs.Value.{Label, Forest, one, kind, count, size, NoneL, BoolL, I64L, F64L, BytesL, StringL, ListL, TupleL, SetL, FrozenSetL, DictL, GlobalL, ObjectL, nil, node}
 use Rattle.value.specs.Shape.{kindIn, labelsOf, labelOf, moduleOf, nameOf, namesEnd, fitting, shaped, and-l, and-r}
 use Rattle.value.specs.Stands.{wordAt, labelAt, arityAt, textEnd, Reads, Stands}
@@ -17,7 +17,7 @@ use Rattle.value.specs.WellFormed.{WellFormed}
 use Rattle.output.specs.Decimal.{either}
 use Rattle.output.specs.Whole.{whole-stands}
 use Rattle.op.specs.declared.Opcode.the-variants.{MARK, BINSTRING, «SHORT_BINSTRING», SETITEM, SETITEMS}
-use Rattle.ser.specs.Image.{op, low, high, int, float, bytes, string, global, builtin, set, frozenset, setOpening, bool, opening, tupleOpcode, joined, listBatch, dictBatch, batch, batchSize, batchesUpTo, batches, appends, tupleMark, tuple, built, object, contents, images, framed, pickled}
+use Rattle.ser.specs.Image.{op, low, int, float, bytes, string, global, setOpening, bool, opening, tupleOpcode, joined, listBatch, dictBatch, batch, batchSize, batchesUpTo, batches, appends, tupleMark, tuple, built, object, contents, images, framed, pickled}
 use Rattle.ser.specs.Parts.{images-length, size-some}
 use Rattle.ser.specs.Short.{low-length, high-length, joined-append}
 

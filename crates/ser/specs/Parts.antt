@@ -7,7 +7,7 @@ use mathlib.Core.Path.{_≡_, refl, sym, _∙_, ap, subst}
 use native.Mathlib.Omega.{arith}
 use lib.ListN.{length, take, drop, length-drop, drop-of-length-le}
 use lib.Seq.{take-all, length-sets}
-use Rattle.value.specs.Value.{Label, Forest, count, size, nil, node}
+use Rattle.value.specs.Value.{Label, Forest, count, size, count-size, nil, node}
 use Rattle.value.specs.Stands.{labelAt, arityAt, Reads, Says, Stands}
 use Rattle.output.specs.Decimal.{either}
 use Rattle.output.specs.Put.{Put, Room, put-same, put-then, put-none, room-first, room-then}
@@ -61,11 +61,6 @@ pub images-length : (f : Forest) → length (images f) ≡ count f
 unfolding images count
 images-length nil = refl
 images-length (node l c r) = ap suc (images-length r)
-
-pub count-size : (f : Forest) → count f ≤ size f
-unfolding count size
-count-size nil = omega arith
-count-size (node l c r) = omega (arith, count-size r)
 
 none-of : (f : Forest) → count f ≡ 0 → f ≡ nil
 unfolding count

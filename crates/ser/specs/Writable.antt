@@ -9,10 +9,9 @@ use native.Mathlib.Omega.{arith}
 use lib.Dec.{eqb}
 use lib.ListN.{length}
 use Rattle.input.specs.Bytes.{lt-or-le, lastByte}
-use Rattle.value.specs.Value.{Label, Forest, size, NoneL, BoolL, I64L, F64L, BytesL, StringL, ListL, TupleL, SetL, FrozenSetL, DictL, GlobalL, ObjectL, nil, node}
+use Rattle.value.specs.Value.{Label, Forest, size, count-size, NoneL, BoolL, I64L, F64L, BytesL, StringL, ListL, TupleL, SetL, FrozenSetL, DictL, GlobalL, ObjectL, nil, node}
 use Rattle.value.specs.Stands.{labelAt, arityAt, Reads, Stands}
 use Rattle.output.specs.Put.{newline}
-use Rattle.ser.specs.Parts.{count-size}
 
 unfoldable pub hasNewline : List ℕ → Bool
 hasNewline [] = false

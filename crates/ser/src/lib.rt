@@ -5,6 +5,18 @@ use input::LineEnd;
 use refusal::Answer;
 use refusal::Refusal;
 use refusal::Which;
+use value::BOOL;
+use value::BYTES;
+use value::DICT;
+use value::F64;
+use value::FROZEN_SET;
+use value::I64;
+use value::LIST;
+use value::NONE;
+use value::OBJECT;
+use value::SET;
+use value::STRING;
+use value::TUPLE;
 ghost use mathlib.Core.Path.{_≡_};
 ghost use mathlib.Core.Bool.{_&&_};
 ghost use Prim.Native.Nat.{_+_, _*_, _^_, _≤_, _<_, suc, min};
@@ -171,38 +183,38 @@ fn encode_opening(words: &[u64], text: &[u8], i: usize, output: &mut [u8], at: u
     let kind = value::head_of(words[4 * i]).kind;
     let second = words[4 * i + 1];
     let third = words[4 * i + 2];
-    if kind > 10 {
+    if kind > DICT {
         return encode_names(text, second, third, output, at);
     }
-    if kind > 5 {
-        if kind == 6 {
+    if kind > STRING {
+        if kind == LIST {
             return output::put_byte(op::EMPTY_LIST, output, at);
         }
-        if kind == 7 {
+        if kind == TUPLE {
             return at;
         }
-        if kind == 8 {
+        if kind == SET {
             return encode_set(b"set", output, at);
         }
-        if kind == 9 {
+        if kind == FROZEN_SET {
             return encode_set(b"frozenset", output, at);
         }
         return output::put_byte(op::EMPTY_DICT, output, at);
     }
-    if kind == 0 {
+    if kind == NONE {
         return output::put_byte(op::NONE, output, at);
     }
-    if kind == 1 {
+    if kind == BOOL {
         return encode_bool(second == 1, output, at);
     }
-    if kind == 2 {
+    if kind == I64 {
         return encode_i64(second, output, at);
     }
-    if kind == 3 {
+    if kind == F64 {
         return encode_f64(second, output, at);
     }
     let value = value::part(text, second as usize, third as usize);
-    if kind == 4 {
+    if kind == BYTES {
         return encode_bytes(value, output, at);
     }
     encode_string(value, output, at)
@@ -253,17 +265,17 @@ fn encode(words: &[u64], text: &[u8], i: usize, output: &mut [u8], at: usize) ->
             at: next,
         };
     }
-    if kind == 12 {
+    if kind == OBJECT {
         return encode_object(words, text, i + 1, head.new, head.state, output, next);
     }
     let count = value::arity(words, i);
-    if kind == 6 {
+    if kind == LIST {
         return encode_appends(words, text, i + 1, count, output, next);
     }
-    if kind == 7 {
+    if kind == TUPLE {
         return encode_tuple(words, text, i + 1, count, output, next);
     }
-    if kind == 10 {
+    if kind == DICT {
         return encode_batches(words, text, i + 1, count, true, output, next);
     }
     let end = encode_appends(words, text, i + 1, count, output, next);
@@ -501,34 +513,34 @@ fn opening_len(kind: u64, second: u64, third: u64) -> usize
     requires { ⌜ openingTakes kind second third < 2 ^ 64 ⌝ }
     ensures { λ r. ⌜ r ≡ openingTakes kind second third ⌝ }
 {
-    if kind > 10 {
+    if kind > DICT {
         return (third / 0x1_0000_0000) as usize + (third % 0x1_0000_0000) as usize + 3;
     }
-    if kind > 5 {
-        if kind == 7 {
+    if kind > STRING {
+        if kind == TUPLE {
             return 0;
         }
-        if kind == 8 {
+        if kind == SET {
             return 18;
         }
-        if kind == 9 {
+        if kind == FROZEN_SET {
             return 24;
         }
         return 1;
     }
-    if kind == 2 {
+    if kind == I64 {
         return int_len(second);
     }
-    if kind == 3 {
+    if kind == F64 {
         return 9;
     }
-    if kind == 4 {
+    if kind == BYTES {
         if third <= 255 {
             return third as usize + 2;
         }
         return third as usize + 5;
     }
-    if kind == 5 {
+    if kind == STRING {
         return third as usize + 5;
     }
     1
@@ -564,22 +576,22 @@ fn contents_len(kind: u64, count: usize) -> usize
     requires { ⌜ count ≤ 2048 ⌝ }
     ensures { λ r. ⌜ r ≡ around kind count ⌝ }
 {
-    if kind < 6 {
+    if kind < LIST {
         return 0;
     }
-    if kind == 6 {
+    if kind == LIST {
         return appends_len(count);
     }
-    if kind == 7 {
+    if kind == TUPLE {
         if count <= 3 {
             return 1;
         }
         return 2;
     }
-    if kind < 10 {
+    if kind < DICT {
         return appends_len(count) + 2;
     }
-    if kind == 10 {
+    if kind == DICT {
         return batches_len(count, true);
     }
     count
@@ -664,7 +676,7 @@ fn record_is_writable(words: &[u64], text: &[u8], i: usize) -> bool
     ensures { λ r. ⌜ r ≡ writableLabel (labelAt (now (words .entry)) (now (text .entry)) i) ⌝ }
 {
     let kind = value::head_of(words[4 * i]).kind;
-    if kind > 10 {
+    if kind > DICT {
         return names_are_writable(text, words[4 * i + 1], words[4 * i + 2]);
     }
     true

@@ -2,9 +2,6 @@
 use borrow.Author.Needs.{needs}
 use Rattle.ser.proofs.appends_len.Statement.{statement}
 use Rattle.ser.proofs.appends_len.Tie as tie
-use Rattle.ser.proofs.appends_len.Reads as reads
-use Rattle.ser.proofs.appends_len.Lts as lts
-use Rattle.ser.proofs.batches_len.Reads as batches-len-reads
 use mathlib.Core.Path.{sym, _∙_}
 use borrow.Author.Tests.{lt-ltb, le-ltb}
 use Rattle.ser.specs.Length.{appendsTake}

@@ -2,8 +2,6 @@
 use borrow.Author.Needs.{needs}
 use Rattle.ser.proofs.batches_len.Statement.{statement}
 use Rattle.ser.proofs.batches_len.Tie as tie
-use Rattle.ser.proofs.batches_len.Reads as reads
-use Rattle.ser.proofs.batches_len.Lts as lts
 use mathlib.Core.Path.{sym}
 use borrow.Author.Tests.{ne-eqb}
 use Prim.Native.Nat.{_%_}

@@ -2,10 +2,6 @@
 use borrow.Author.Needs.{needs}
 use Rattle.ser.proofs.contents_len.Statement.{statement}
 use Rattle.ser.proofs.contents_len.Tie as tie
-use Rattle.ser.proofs.contents_len.Reads as reads
-use Rattle.ser.proofs.contents_len.Lts as lts
-use Rattle.ser.proofs.appends_len.Reads as appends-len-reads
-use Rattle.ser.proofs.batches_len.Reads as batches-len-reads
 use mathlib.Core.Path.{sym, _∙_}
 use native.Mathlib.Omega.{arith}
 use borrow.Author.Tests.{le-leb, lt-leb}

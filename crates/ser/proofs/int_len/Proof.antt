@@ -2,10 +2,6 @@
 use borrow.Author.Needs.{needs}
 use Rattle.ser.proofs.int_len.Statement.{statement}
 use Rattle.ser.proofs.int_len.Tie as tie
-use Rattle.ser.proofs.int_len.Reads as reads
-use Rattle.ser.proofs.int_len.Lts as lts
-use Rattle.output.proofs.signed_len.Reads as signed-len-reads
-use Rattle.ser.proofs.in_i32.Reads as in-i32-reads
 use mathlib.Core.Path.{sym, _∙_, ap}
 use mathlib.Core.List.{[], _∷_}
 use native.Mathlib.Omega.{arith}

@@ -2,9 +2,6 @@
 use borrow.Author.Needs.{needs}
 use Rattle.ser.proofs.opening_len.Statement.{statement}
 use Rattle.ser.proofs.opening_len.Tie as tie
-use Rattle.ser.proofs.opening_len.Reads as reads
-use Rattle.ser.proofs.opening_len.Lts as lts
-use Rattle.ser.proofs.int_len.Reads as int-len-reads
 use mathlib.Core.Path.{sym, _∙_}
 use native.Mathlib.Omega.{arith}
 use Rattle.ser.proofs.Laws.{takes-low, takes-int, takes-float, takes-short, takes-long, takes-string, takes-held, takes-tuple, takes-set, takes-frozenset, takes-names}

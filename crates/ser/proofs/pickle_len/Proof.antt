@@ -1,13 +1,10 @@
 -- `ser::pickle_len` meets its contract: what the records from i on take is left to add. Assumes nothing.
 use Rattle.ser.proofs.pickle_len.Statement.{statement}
 use Rattle.ser.proofs.pickle_len.Tie as tie
-use Rattle.ser.proofs.pickle_len.Reads as reads
-use Rattle.ser.proofs.pickle_len.Lts as lts
-use Rattle.ser.proofs.record_len.Reads as record-len-reads
 use mathlib.Core.Path.{_≡_}
 use Prim.Native.Nat.{_+_, _-_, _≤_}
 use native.Mathlib.Omega.{arith}
-use Rattle.ser.specs.Length.{recordsTake, records-more}
+use Rattle.ser.specs.Length.{recordsTake}
 use Rattle.ser.proofs.Laws.{sum-none, sum-turn, sum-all}
 
 abbrev Inv-loop : tie.InvT-loop

@@ -1,8 +1,6 @@
 -- `ser::put_high` meets its contract: what is left of the bytes, stored before those that are, gives them all. Assumes nothing.
 use Rattle.ser.proofs.put_high.Statement.{statement}
 use Rattle.ser.proofs.put_high.Tie as tie
-use Rattle.ser.proofs.put_high.Reads as reads
-use Rattle.ser.proofs.put_high.Lts as lts
 use Prim.Native.Nat.{_+_, _-_, _≤_}
 use mathlib.Core.Path.{_≡_, refl, _∙_}
 use native.Mathlib.Omega.{arith}

@@ -2,12 +2,6 @@
 use borrow.Author.Needs.{needs}
 use Rattle.ser.proofs.record_len.Statement.{statement}
 use Rattle.ser.proofs.record_len.Tie as tie
-use Rattle.ser.proofs.record_len.Reads as reads
-use Rattle.ser.proofs.record_len.Lts as lts
-use Rattle.ser.proofs.contents_len.Reads as contents-len-reads
-use Rattle.ser.proofs.opening_len.Reads as opening-len-reads
-use Rattle.value.proofs.arity.Reads as arity-reads
-use Rattle.value.proofs.head_of.Reads as head-of-reads
 use mathlib.Core.Path.{_≡_, _∙_, ap₂}
 use native.Mathlib.Omega.{arith}
 use Prim.Native.Nat.{_+_}

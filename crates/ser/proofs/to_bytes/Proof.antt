@@ -2,13 +2,6 @@
 use borrow.Author.Needs.{needs}
 use Rattle.ser.proofs.to_bytes.Statement.{statement}
 use Rattle.ser.proofs.to_bytes.Tie as tie
-use Rattle.ser.proofs.to_bytes.Reads as reads
-use Rattle.ser.proofs.to_bytes.Lts as lts
-use Rattle.refusal.proofs.refused.Reads as refused-reads
-use Rattle.ser.proofs.encode_pickle.Reads as encode-pickle-reads
-use Rattle.ser.proofs.is_writable.Reads as is-writable-reads
-use Rattle.ser.proofs.pickle_len.Reads as pickle-len-reads
-use Rattle.table.proofs.well_formed.Reads as well-formed-reads
 use mathlib.Core.Path.{refl, sym, _∙_}
 use borrow.Author.Tests.{not-true, not-false}
 use Rattle.table.specs.Decides.{refuted}
