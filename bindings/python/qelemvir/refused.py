@@ -48,7 +48,7 @@ WORDS = {
 
 class Refused(Exception):
     """A call of the library refused. `number` and `detail` are the library's, `name` is its name for the number, and the message
-    says it in words. A number of a later edition of the library, which this package does not know, has the name "Other"."""
+    says it in words. A number of a later version of the library, which this package does not know, has the name "Other"."""
 
     def __init__(self, number, detail):
         super().__init__(number, detail)

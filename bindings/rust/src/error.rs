@@ -56,7 +56,7 @@ pub enum Error {
     UnwritableName,
     /// With the byte of an opcode that is not for plain data.
     OutsideProfile(u8),
-    /// A refusal of a later edition of the library, which this crate does not know.
+    /// A refusal of a later version of the library, which this crate does not know.
     Other { number: u64, detail: u64 },
 }
 

@@ -16,21 +16,21 @@ use Rattle.op.specs.declared.Edition.the-variants.{Full, Plain}
 use Rattle.utf8.specs.Utf8 as utf8
 use Rattle.input.specs.Bytes.{Bytes, lastByte, lowFirst}
 use Rattle.input.specs.Line.{firstFrom, newlineOf, lessCr, lineOf}
-use Rattle.value.specs.Value.{Forest, text, count, size, depth, table, GlobalL, nil, node}
-use Rattle.steps.specs.State.{_>>=_, need, leaf, bytes, byte, line, pop, top, popMany, pushId, pushNode, push, link, extend, find, has, insert, get, put}
+use Rattle.value.specs.Value.{text, count, size, depth, table, GlobalL, nil, node}
+use Rattle.steps.specs.State.{State, ok, _>>=_, need, leaf, bytes, byte, line, pop, top, popMany, pushId, pushNode, push, link, extend, find, has, insert, get, put}
 use Rattle.steps.specs.Opcodes.{proto, lowBytes, binint1, global, made, tupleN, added, append, getBytes, putBytes}
 use Rattle.steps.specs.Run.{going, does, decide, admit, step, runs, start, run}
 use Rattle.reading.specs.Build as Build
 use Rattle.reading.specs.Measure.{measured}
 use Rattle.reading.specs.Settle as Settle
-use Rattle.reading.specs.Reading.{Reading, refuses, reads, told, stopped, prefixIn, wholeIn, prefix, whole}
+use Rattle.reading.specs.Reading.{Reading, refuses, reads, told, stopped, prefixIn, wholeIn, prefix, whole, leaves}
 use Rattle.reading.specs.Success.{refusal-number}
 use Rattle.de.specs.Call.{reading, ReadCall, read-one}
 use Rattle.de.specs.Theorems.{call-answer, call-table, call-text, call-long-enough, Ends, refused as ends-refused, read as ends-read, prefix-ends, whole-ends}
 use Rattle.de.specs.Shared.{shared}
 use Rattle.profile_calls.specs.Alike.{Barred, Executes, executes}
 use Rattle.profile_calls.specs.Readings.{ReadAlike, reads-as-full, reads-barred, prefix-alike, whole-alike}
-use Rattle.profile_calls.specs.Classless.{Classless, ReadsClassless, refused, read, prefix-classless, whole-classless}
+use Rattle.profile_calls.specs.Classless.{Classless, built, ReadsClassless, refused, read, settled-classless, prefix-classless, whole-classless}
 
 -- opens what the examples compute with
 unfoldable machine : Unit {0}
@@ -73,24 +73,31 @@ module _ (p : List ℕ) (x y : Reading) (same : ReadAlike p x y) (l l′ l″ : 
       go (reads-barred i o m e) (ends-refused why f) = absurd (not-refused y l l″ b why d z f)
       go (reads-barred i o m e) (ends-read s f r q) = record { code = i; one-of-six = o; executed = executes p i s r m; answer = call-answer x l l′ a c long ∙ ap (λ (r : Reading). r .answer) e }
 
--- the answer counts the records of a value without classes, whose table and text the lent slices begin with; behind them they are as they were
-pub record Fills (l l′ : Slices) (a : Answer) : Type 0 where
-  pub forest : Forest
-  pub classless : Classless forest
-  pub count-is : a .count ≡ size forest
-  pub table-is : tableOf l′ ≡ begun (table forest 0) (tableOf l)
-  pub text-is : textOf l′ ≡ begun (text forest) (textOf l)
+-- the value left at STOP contains no class, what collapses in it included, and the answer counts the records of what is left of it, whose
+-- table and text the lent slices begin with; behind them they are as they were
+pub record Fills (p : List ℕ) (l l′ : Slices) (a : Answer) : Type 0 where
+  pub state : State
+  pub root : ℕ
+  pub stops : stopped Plain p ≡ ok (state, root)
+  pub contains : Classless (built state root)
+  pub classless : Classless (Settle.settle (built state root))
+  pub count-is : a .count ≡ size (Settle.settle (built state root))
+  pub table-is : tableOf l′ ≡ begun (table (Settle.settle (built state root)) 0) (tableOf l)
+  pub text-is : textOf l′ ≡ begun (text (Settle.settle (built state root))) (textOf l)
 
-call-fills : (x : Reading) (l l′ : Slices) (a : Answer) → ReadCall x l l′ a → a .number ≡ 0 → ReadsClassless x → Fills l l′ a
-call-fills x l l′ a c z (refused why e) = absurd (not-refused x l l′ a why c z e)
-call-fills x l l′ a c z (read n f e h) =
+call-fills : (p : List ℕ) (x : Reading) (l l′ : Slices) (a : Answer) → ReadCall x l l′ a → a .number ≡ 0 → ReadsClassless p x → Fills p l l′ a
+call-fills p x l l′ a c z (refused why e) = absurd (not-refused x l l′ a why c z e)
+call-fills p x l l′ a c z (read s r d e h) =
     let long = call-long-enough x l l′ a c z in
     record {
-      forest = f;
-      classless = h;
-      count-is = ap (λ (r : Answer). r .count) (call-answer x l l′ a c long) ∙ ap (λ (r : Reading). r .answer .count) e;
-      table-is = call-table x l l′ a c long ∙ ap (λ (r : Reading). begun (r .words) (tableOf l)) e;
-      text-is = call-text x l l′ a c long ∙ ap (λ (r : Reading). begun (r .bytes) (textOf l)) e;
+      state = s;
+      root = r;
+      stops = d;
+      contains = h;
+      classless = settled-classless (built s r) h;
+      count-is = ap (λ (y : Answer). y .count) (call-answer x l l′ a c long) ∙ ap (λ (y : Reading). y .answer .count) e;
+      table-is = call-table x l l′ a c long ∙ ap (λ (y : Reading). begun (y .words) (tableOf l)) e;
+      text-is = call-text x l l′ a c long ∙ ap (λ (y : Reading). begun (y .bytes) (textOf l)) e;
     }
 
 -- ---- the prefix reading, then the whole reading
@@ -99,8 +106,8 @@ module _ (p : List ℕ) (l l′ : Slices) (a : Answer) (c : ReadCall (prefixIn P
   pub prefix-accepted : a .number ≡ 0 → (l″ : Slices) (b : Answer) → ReadCall (prefix p) l l″ b → (b ≡ a) × (l″ ≡ l′)
   prefix-accepted z l″ b d = call-accepted p (prefixIn Plain p) (prefix p) (prefix-alike p) l l′ l″ a b c d z
 
-  pub prefix-fills : Bytes p → a .number ≡ 0 → Fills l l′ a
-  prefix-fills h z = call-fills (prefixIn Plain p) l l′ a c z (prefix-classless p h)
+  pub prefix-fills : Bytes p → a .number ≡ 0 → Fills p l l′ a
+  prefix-fills h z = call-fills p (prefixIn Plain p) l l′ a c z (prefix-classless p h)
 
   pub prefix-outside : (l″ : Slices) (b : Answer) → ReadCall (prefix p) l l″ b → b .number ≡ 0 → ¬ (a .number ≡ 0) → Outside p a
   prefix-outside l″ b d = call-outside p (prefixIn Plain p) (prefix p) (prefix-alike p) l l′ l″ a b c d (prefix-ends Full p)
@@ -109,8 +116,8 @@ module _ (p : List ℕ) (l l′ : Slices) (a : Answer) (c : ReadCall (wholeIn Pl
   pub whole-accepted : a .number ≡ 0 → (l″ : Slices) (b : Answer) → ReadCall (whole p) l l″ b → (b ≡ a) × (l″ ≡ l′)
   whole-accepted z l″ b d = call-accepted p (wholeIn Plain p) (whole p) (whole-alike p) l l′ l″ a b c d z
 
-  pub whole-fills : Bytes p → a .number ≡ 0 → Fills l l′ a
-  whole-fills h z = call-fills (wholeIn Plain p) l l′ a c z (whole-classless p h)
+  pub whole-fills : Bytes p → a .number ≡ 0 → Fills p l l′ a
+  whole-fills h z = call-fills p (wholeIn Plain p) l l′ a c z (whole-classless p h)
 
   pub whole-outside : (l″ : Slices) (b : Answer) → ReadCall (whole p) l l″ b → b .number ≡ 0 → ¬ (a .number ≡ 0) → Outside p a
   whole-outside l″ b d = call-outside p (wholeIn Plain p) (whole p) (whole-alike p) l l′ l″ a b c d (whole-ends Full p)
@@ -129,3 +136,12 @@ told-apart = (refl, refl)
 pub both-read : (prefixIn Plain shared ≡ prefix shared) × (prefix shared .answer .number ≡ 0)
 unfolding machine building
 both-read = (refl, refl)
+
+-- and so by the whole reading
+pub told-apart-whole : (whole emptyName ≡ reads 4 (node (GlobalL [] []) nil nil)) × (wholeIn Plain emptyName ≡ refuses (OutsideProfile 0x63))
+unfolding machine building wholeIn leaves
+told-apart-whole = (refl, refl)
+
+pub both-read-whole : (wholeIn Plain shared ≡ whole shared) × (whole shared .answer .number ≡ 0)
+unfolding machine building wholeIn leaves
+both-read-whole = (refl, refl)

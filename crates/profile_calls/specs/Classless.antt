@@ -65,9 +65,13 @@ stopped-classless : (p : List ℕ) → Bytes p → Out (λ (x : State × ℕ). A
 unfolding stopped At-stop
 stopped-classless p b = bind-need _ _ _ _ λ l. bind _ _ _ _ (both-out _ _ (run Plain p) (run-shaped Plain p) (run-labelled IsClassless made Plain outside-it p b)) λ s h. bind-any _ _ _ λ q e. out _ _ h
 
-tree-classless : (s : State) (root : ℕ) → At-stop s → Classless (one (tree (s .nodes) root))
+-- the tree of the value left, before equal keys and items collapse
+abbrev pub built : State → ℕ → Forest
+built s root = one (tree (s .nodes) root)
+
+built-classless : (s : State) (root : ℕ) → At-stop s → Classless (built s root)
 unfolding At-stop
-tree-classless s root h =
+built-classless s root h =
     tree-all (s .nodes) (λ l c. IsClassless l) tt
     (λ i c n a. labelled-at IsClassless tt (s .nodes) i (h .1))
     (λ i o. object-of (s .nodes) (at (s .nodes) i .label) (at (s .nodes) i .kids) (right-at (s .nodes) (h .0) i) o)
@@ -75,31 +79,35 @@ tree-classless s root h =
 
 -- ---- the readings
 
--- a reading that refuses, or has read such a value
-pub data ReadsClassless (x : Reading) : Type 0 where
-  refused : (why : Refusal) → x ≡ refuses why → ReadsClassless x
-  read : (n : ℕ) (f : Forest) → x ≡ reads n f → Classless f → ReadsClassless x
+-- a reading x of p that refuses, or has read such a value: what it contains, what collapses included, is the tree at STOP
+pub data ReadsClassless (p : List ℕ) (x : Reading) : Type 0 where
+  refused : (why : Refusal) → x ≡ refuses why → ReadsClassless p x
+  read : (s : State) (root : ℕ) → stopped Plain p ≡ ok (s, root) → x ≡ reads (consumed p s) (settle (built s root)) → Classless (built s root) → ReadsClassless p x
 
-told-classless : (n : ℕ) (f : Forest) → Classless f → ReadsClassless (told n f)
+-- and so is what is left of it
+pub settled-classless : (f : Forest) → Classless f → Classless (settle f)
+settled-classless f h = settle-labels IsClassless f h
+
+told-classless : (p : List ℕ) (s : State) (root : ℕ) → stopped Plain p ≡ ok (s, root) → Classless (built s root) → ReadsClassless p (told (consumed p s) (built s root))
 unfolding told
-told-classless n f h = go (measured f) refl
+told-classless p s root e h = go (measured (built s root)) refl
   where
-    go : (r : Res (Unit {0})) → measured f ≡ r → ReadsClassless (told n f)
-    go (no why) e = refused why (rw (e, told))
-    go (ok u) e = read n (settle f) (rw (e, told)) (settle-labels IsClassless f h)
+    go : (r : Res (Unit {0})) → measured (built s root) ≡ r → ReadsClassless p (told (consumed p s) (built s root))
+    go (no why) m = refused why (rw (m, told))
+    go (ok u) m = read s root e (rw (m, told)) h
 
-pub prefix-classless : (p : List ℕ) → Bytes p → ReadsClassless (prefixIn Plain p)
+pub prefix-classless : (p : List ℕ) → Bytes p → ReadsClassless p (prefixIn Plain p)
 unfolding prefixIn Out
 prefix-classless p b = go (stopped Plain p) refl (stopped-classless p b)
   where
-    go : (r : Res (State × ℕ)) → stopped Plain p ≡ r → Out (λ (x : State × ℕ). At-stop (x .0)) r → ReadsClassless (prefixIn Plain p)
+    go : (r : Res (State × ℕ)) → stopped Plain p ≡ r → Out (λ (x : State × ℕ). At-stop (x .0)) r → ReadsClassless p (prefixIn Plain p)
     go (no why) e h = refused why (rw (e, prefixIn))
-    go (ok x) e h = rw (e, prefixIn) (told-classless (consumed p (x .0)) (one (tree (x .0 .nodes) (x .1))) (tree-classless (x .0) (x .1) h))
+    go (ok x) e h = rw (e, prefixIn) (told-classless p (x .0) (x .1) e (built-classless (x .0) (x .1) h))
 
-pub whole-classless : (p : List ℕ) → Bytes p → ReadsClassless (wholeIn Plain p)
+pub whole-classless : (p : List ℕ) → Bytes p → ReadsClassless p (wholeIn Plain p)
 unfolding wholeIn
 whole-classless p b = go (leaves p (prefixIn Plain p))
   where
-    go : (c : Bool) → ReadsClassless (cond c (refuses TrailingData) (prefixIn Plain p))
+    go : (c : Bool) → ReadsClassless p (cond c (refuses TrailingData) (prefixIn Plain p))
     go true = refused TrailingData refl
     go false = prefix-classless p b
