@@ -2,15 +2,17 @@
 use Prim.Native.Nat.{ℕ, _+_, _-_, _*_, _^_, _/_, _%_, _<_, _≤_}
 use mathlib.Core.Bool.{Bool, true, false, cond}
 use mathlib.Core.List.{List, [], _++_}
-use mathlib.Core.Path.{_≡_, sym, _∙_, ap}
+use mathlib.Core.Path.{_≡_, refl, sym, _∙_, ap}
 use lib.ListN.{length, length-append, getD, take, drop}
 use lib.Seq.{sets}
 use lib.Dec.{eqb, ltb}
-use borrow.Author.Tests.{lt-ltb, le-ltb}
+use borrow.Author.Tests.{lt-ltb, le-ltb, ne-eqb}
+use native.Mathlib.Decide.{decLt}
+use mathlib.Core.Logic.{_≢_}
 use native.Mathlib.Omega.{arith}
 use native.Mathlib.Numerals.{add-one}
 use Rattle.value.specs.Value.{Label, kind, textOf, recordOf}
-use Rattle.value.specs.Shape.{newIn}
+use Rattle.value.specs.Shape.{kindIn, newIn}
 use Rattle.steps.specs.NodeWords.{first, second}
 use Rattle.resolved.specs.Moved.{moves}
 use Rattle.resolved.specs.Shown.{labelOf, hasText, leading, trailing, leadText, trailText, Spelled}
@@ -60,6 +62,16 @@ module _ (p d ws marks : List ℕ) (i : ℕ) (bytes : List ℕ) (at : ℕ) (g : 
   pub texts-box : 4 ≤ k → 6 ≤ k → k < 11 → TextPut p ws i bytes at bytes 0
   unfolding textBy lengthsBy
   texts-box h₄ h₆ h = let a = le-ltb k 4 h₄ in let b = le-ltb k 6 h₆ in let l = lt-ltb k 11 h in none (text-is-by ∙ rw (a, b, l)) (lengths-is-by ∙ rw (a, b, l))
+
+  -- a container that is no Object
+  pub texts-other : boxed k ≡ true → k ≢ 12 → TextPut p ws i bytes at bytes 0
+  unfolding boxed
+  texts-other b n = go (decLt k 6) (decLt k 11)
+    where
+      go : Dec (k < 6) → Dec (k < 11) → TextPut p ws i bytes at bytes 0
+      go (yes l) _ = absurd (let x : false ≡ true = rw (lt-ltb k 6 l) at b in let z : _≡_ {A = ℕ} 0 1 = cc in omega arith)
+      go (no l) (yes m) = texts-box (omega arith) (omega arith) m
+      go (no l) (no m) = absurd (let x : false ≡ true = rw (le-ltb k 6 (omega arith), le-ltb k 11 (omega arith), ne-eqb k 12 n) at b in let z : _≡_ {A = ℕ} 0 1 = cc in omega arith)
 
   -- Bytes or a String
   module _ (h₄ : 4 ≤ k) (h₆ : k < 6) (lead : List ℕ) (q : lead ≡ leadText p d ws marks i) where
@@ -128,6 +140,25 @@ module _ (p ws : List ℕ) (i : ℕ) where
   leaf-done to w table bytes table′ bytes′ words r h l q s n =
       let a = lengths-all (labelOf p ws i) (omega arith) in
       record { table-is = s ∙ ap (sets table (4 * recordIn to)) (q ∙ record-at w (textIn to) 0 1 (l .lengths)); text-is = l .text-is; next = n ∙ rw (l .lengths, a) }
+
+-- ---- a value with neither text nor contents: None, a Bool, an I64 or an F64
+
+unfoldable pub bare : List ℕ → ℕ → Bool
+bare ws i = cond (eqb i 4096) false (ltb (kindIn (first ws i)) 4)
+
+pub record BareReady (ws : List ℕ) (i to : ℕ) (table : List ℕ) : Type 0 where
+  pub words : 2 * i + 1 < length ws
+  pub records : 4 * recordIn to + 4 ≤ length table
+  pub texts : textIn to ≤ 65536
+
+pub record BarePut (ws : List ℕ) (i to : ℕ) (table table′ : List ℕ) (r : ℕ) : Type 0 where
+  pub table-is : table′ ≡ sets table (4 * recordIn to) (recordFrom (kindOf (getD ws (2 * i) 0)) (newIn (getD ws (2 * i) 0)) (getD ws (2 * i + 1) 0) 0 (textIn to) 0 1)
+  pub next : r ≡ to + 1
+
+-- it is a leaf, and the text stays
+pub bare-leaf : (p d ws marks : List ℕ) (i to : ℕ) (table bytes table′ : List ℕ) (r : ℕ) → LeafReady p d ws marks i to table bytes → kindOf (first ws i) < 4 → BarePut ws i to table table′ r → LeafPut (labelOf p ws i) to table bytes table′ bytes r
+bare-leaf p d ws marks i to table bytes table′ r g h b =
+    leaf-done p ws i to 0 table bytes table′ bytes _ r (g .texts) (texts-small p d ws marks i bytes (textIn to) (g .text-ready) (kindOf (first ws i)) refl h) refl (b .table-is) (b .next ∙ omega arith)
 
 -- ---- once more: m is the mark of what is written
 

@@ -7,11 +7,12 @@ ghost use Prim.Native.Nat.{_+_, _-_, _*_, _^_, _/_, _%_, _≤_, _<_};
 ghost use lib.ListN.{length, take, drop};
 ghost use lib.Seq.{sets};
 ghost use Rattle.value.specs.Shape.{newIn};
+ghost use Rattle.steps.specs.NodeWords.{first};
 ghost use Rattle.resolved.specs.Moved.{placed, moves};
 ghost use Rattle.emit.specs.Copies.{Copyable};
 ghost use Rattle.emit.specs.Words.{place, recordIn, textIn, writtenW, kindOf, boxed, recordFrom};
 ghost use Rattle.resolved.specs.Shown.{labelOf};
-ghost use Rattle.emit.specs.Leaves.{TextReady, TextPut, LeafReady, LeafPut, CopyReady, CopyPut, FinishReady, FinishPut, opened};
+ghost use Rattle.emit.specs.Leaves.{TextReady, TextPut, bare, BareReady, BarePut, LeafReady, LeafPut, CopyReady, CopyPut, FinishReady, FinishPut, opened};
 ghost use Rattle.emit.specs.Calls.{Flat, FlatWrites, Open};
 ghost use Rattle.emit.specs.Turns.{Writes};
 ghost use Rattle.emit.specs.Roots.{Rooted, Emits};
@@ -186,7 +187,28 @@ fn record_of(first: u64, second: u64, lengths: u64, at: u64, values: u64, size: 
     Record(word, at, lengths, 0)
 }
 
-// The text of a node; its lengths in one word, a name's below its module's.
+// The module and the name of a Global or of an Object's class; their lengths in one word, the name's below the module's.
+fn put_names<'a>(
+    node: NodeId,
+    pickle: &'a [u8],
+    decoded: &'a [u8],
+    nodes: &[u64],
+    marks: &[u64],
+    text: &mut [u8],
+    at: usize,
+) -> u64
+    requires { ⌜ TextReady (now pickle) (now decoded) (now nodes) (now marks) (node .0) (now text) at ⌝ }
+    requires { ⌜ 11 ≤ kindOf (first (now nodes) (node .0)) ⌝ }
+    ensures { λ r. ⌜ TextPut (now (pickle .entry)) (now (nodes .entry)) (node .0) (now (text .entry)) at (now (text .exit)) r ⌝ }
+{
+    let module = texts::lead_part(node, pickle, decoded, nodes, marks);
+    let name = texts::trail_part(node, pickle, decoded, nodes, marks);
+    put_bytes(module, text, at);
+    put_bytes(name, text, at + module.len());
+    module.len() as u64 * 0x1_0000_0000 + name.len() as u64
+}
+
+// The text of a node; its lengths in one word.
 fn put_text<'a>(
     node: NodeId,
     pickle: &'a [u8],
@@ -212,11 +234,28 @@ fn put_text<'a>(
     if kind < value::GLOBAL {
         return 0;
     }
-    let module = texts::lead_part(node, pickle, decoded, nodes, marks);
-    let name = texts::trail_part(node, pickle, decoded, nodes, marks);
-    put_bytes(module, text, at);
-    put_bytes(name, text, at + module.len());
-    module.len() as u64 * 0x1_0000_0000 + name.len() as u64
+    put_names(node, pickle, decoded, nodes, marks, text, at)
+}
+
+// The text of a container: only an Object has one, its class's.
+fn put_class<'a>(
+    node: NodeId,
+    pickle: &'a [u8],
+    decoded: &'a [u8],
+    nodes: &[u64],
+    marks: &[u64],
+    text: &mut [u8],
+    at: usize,
+) -> u64
+    requires { ⌜ TextReady (now pickle) (now decoded) (now nodes) (now marks) (node .0) (now text) at ⌝ }
+    requires { ⌜ boxed (kindOf (first (now nodes) (node .0))) ≡ true ⌝ }
+    ensures { λ r. ⌜ TextPut (now (pickle .entry)) (now (nodes .entry)) (node .0) (now (text .entry)) at (now (text .exit)) r ⌝ }
+{
+    let i = node.0;
+    if kind_of(nodes[2 * i]) == value::OBJECT {
+        return put_names(node, pickle, decoded, nodes, marks, text, at);
+    }
+    0
 }
 
 // The place behind one record with text of these lengths.
@@ -316,6 +355,30 @@ fn write_flat<'a>(
     write_leaf(node, to, pickle, decoded, nodes, marks, table, text)
 }
 
+// Is it a value with neither text nor contents: None, a Bool, an I64 or an F64?
+fn is_bare(node: NodeId, nodes: &[u64]) -> bool
+    requires { ⌜ (node .0 < 4096 → 2 * node .0 < length (now nodes)) ⌝ }
+    requires { ⌜ node .0 ≤ 4096 ⌝ }
+    ensures { λ r. ⌜ r ≡ bare (now (nodes .entry)) (node .0) ⌝ }
+{
+    let i = node.0;
+    if i == NOTHING {
+        return false;
+    }
+    nodes[2 * i] % 16 < value::BYTES
+}
+
+// Such a value.
+fn write_bare(node: NodeId, to: u64, nodes: &[u64], table: &mut [u64]) -> u64
+    requires { ⌜ BareReady (now nodes) (node .0) to (now table) ⌝ }
+    ensures { λ r. ⌜ BarePut (now (nodes .entry)) (node .0) to (now (table .entry)) (now (table .exit)) r ⌝ }
+{
+    let i = node.0;
+    let words = record_of(nodes[2 * i], nodes[2 * i + 1], 0, to / 0x1000, 0, 1);
+    put_record(table, (to % 0x1000) as usize, words);
+    to + 1
+}
+
 // The mark of a container that is written from `to` on and ends at `next`.
 fn written_mark(to: u64, next: u64) -> u64
     requires { ⌜ (recordIn to ≤ recordIn next) × (textIn to ≤ textIn next) × (textIn next ≤ 65536) ⌝ }
@@ -382,12 +445,14 @@ fn write<'a>(
     let from = range.at;
     let end = range.end;
     let at = (to / 0x1000) as usize;
-    let lengths = put_text(node, pickle, decoded, nodes, marks, text, at);
+    let lengths = put_class(node, pickle, decoded, nodes, marks, text, at);
     let mut next = behind(to, lengths);
     let mut j = from;
     while j < end {
         let child = NodeId(lists::item(range.log, j, children, log));
-        if is_open(child, nodes, marks) {
+        if is_bare(child, nodes) {
+            next = write_bare(child, next, nodes, table); // most are, and cost no call
+        } else if is_open(child, nodes, marks) {
             next = write(
                 child,
                 levels - 1,
