@@ -17,7 +17,7 @@ use Rattle.steps.specs.NodeWords.{first, second}
 use Rattle.resolved.specs.Moved.{moves}
 use Rattle.resolved.specs.Shown.{labelOf, hasText, leading, trailing, leadText, trailText, Spelled}
 use Rattle.texts.specs.Readable.{Readable}
-use Rattle.texts.specs.Spell.{sets-append}
+use Rattle.utf8.specs.Stores.{sets-append}
 use Rattle.emit.specs.Copies.{Copyable}
 use Rattle.emit.specs.Words.{place, recordIn, textIn, writtenW, kindOf, boxed, lengthsOf, recordFrom, textBy, lengthsBy, spoken, text-by, lengths-by, has-text, lengths-all, kind-is, record-is}
 

@@ -1,11 +1,11 @@
 -- Bytes put into a lent output that has room for them: what a function that writes something asks for and promises.
 use Prim.Native.Nat.{ℕ, suc, _+_, _≤_}
 use mathlib.Core.List.{List, [], _∷_, _++_}
-use mathlib.Core.Path.{_≡_, refl, sym, _∙_, ap}
-use native.Mathlib.Nat.{add-zero, add-suc, suc-add}
+use mathlib.Core.Path.{_≡_, refl, _∙_, ap}
 use native.Mathlib.Omega.{arith}
 use lib.ListN.{length, length-append, set}
 use lib.Seq.{sets, length-sets, set-comm}
+use Rattle.utf8.specs.Stores.{sets-append}
 
 -- what ends a line
 abbrev pub newline : ℕ
@@ -19,10 +19,6 @@ pub record Put (o : List ℕ) (at : ℕ) (b o′ : List ℕ) (next : ℕ) : Type
 -- the output goes as far as b will
 pub record Room (o : List ℕ) (at : ℕ) (b : List ℕ) : Type 0 where
   pub fits : at + length b ≤ length o
-
-pub sets-append : (a b l : List ℕ) (i : ℕ) → sets l i (a ++ b) ≡ sets (sets l i a) (i + length a) b
-sets-append [] b l i = rw add-zero
-sets-append (x ∷ a) b l i = sets-append a b (set l i x) (suc i) ∙ ap (λ (k : ℕ). sets (sets (set l i x) (suc i) a) k b) (suc-add i (length a) ∙ sym (add-suc i (length a)))
 
 pub put-same : {o b b′ o′ : List ℕ} {at p : ℕ} → b ≡ b′ → Put o at b o′ p → Put o at b′ o′ p
 put-same e x = rw e at x
@@ -38,7 +34,7 @@ put-none = record { wrote = refl; ends = omega arith }
 pub put-then : {o a o₁ b o₂ : List ℕ} {at p q : ℕ} → Put o at a o₁ p → Put o₁ p b o₂ q → Put o at (a ++ b) o₂ q
 put-then {o} {a} {o₁} {b} {o₂} {at} x y =
     record {
-      wrote = y .wrote ∙ rw (x .wrote, x .ends) (sym (sets-append a b o at));
+      wrote = y .wrote ∙ rw (x .wrote, x .ends) (sets-append a b o at);
       ends = y .ends ∙ rw (length-append a b) (omega (arith, x .ends));
     }
 
@@ -60,7 +56,7 @@ set-sets (y ∷ a) l i j x h =
 
 -- the last byte may be stored first
 pub sets-last : (a l : List ℕ) (i x : ℕ) → sets (set l (i + length a) x) i a ≡ sets l i (a ++ (x ∷ []))
-sets-last a l i x = set-sets a l i (i + length a) x (omega arith) ∙ sym (sets-append a (x ∷ []) l i)
+sets-last a l i x = set-sets a l i (i + length a) x (omega arith) ∙ sets-append a (x ∷ []) l i
 
 -- With b′ left to store, all of b will have been.
 pub record Left (o₀ : List ℕ) (at : ℕ) (b o : List ℕ) (p : ℕ) (b′ : List ℕ) : Type 0 where
@@ -74,7 +70,7 @@ left-all = record { same = refl; place = refl; kept = refl }
 pub left-more : {o₀ b o x o′ : List ℕ} {at p q : ℕ} (y : List ℕ) → Left o₀ at b o p (x ++ y) → Put o p x o′ q → Left o₀ at b o′ q y
 left-more {o₀} {b} {o} {x} {o′} {at} {p} {q} y l w =
     record {
-      same = rw (w .wrote, w .ends) (sym (sets-append x y o p)) ∙ l .same;
+      same = rw (w .wrote, w .ends) (sets-append x y o p) ∙ l .same;
       place = omega (arith, w .ends, l .place, length-append x y);
       kept = put-kept w ∙ l .kept;
     }

@@ -1,16 +1,17 @@
 -- What the loops keep: what is left of a text, after what is counted or written so far, is the whole. Assumes nothing.
 use mathlib.Core.Path.{_≡_, refl, sym, ap, _∙_}
 use mathlib.Core.Bool.{true}
-use mathlib.Core.List.{List, [], _∷_, _++_}
+use mathlib.Core.List.{List, []}
 use Prim.Native.Nat.{ℕ, suc, _+_, _*_, _≤_, _<_}
 use native.Mathlib.Nat.{zero-add}
 use native.Mathlib.Omega.{arith}
-use lib.ListN.{length, drop, set, length-append, length-drop}
+use lib.ListN.{length, drop, length-append, length-drop}
 use lib.Seq.{getD-drop, sets, sets-eq, length-sets}
 use Rattle.refusal.specs.Read.{Read, got, refused}
 use Rattle.text.specs.declared.Piece.{Piece}
 use Rattle.text.specs.declared.Piece.the-variants.{One}
 use Rattle.utf8.specs.Utf8.{scalar, encode}
+use Rattle.utf8.specs.Stores.{sets-append}
 use Rattle.text.specs.Escapes.{stringHead, unicodeHead}
 use Rattle.input.specs.Bytes.{Bytes}
 use Rattle.text.specs.Laws.{Each, string-each, unicode-each, scalar-below, texts-piece}
@@ -76,12 +77,6 @@ pub record Writing (whole left : Read (List ℕ)) (out₀ out : List ℕ) (n : �
   pub count : n + length (bytesOf left) ≡ length (bytesOf whole)
   pub long : length out ≡ length out₀
 
-sets-append : (l : List ℕ) (n : ℕ) (a b : List ℕ) → sets l n (a ++ b) ≡ sets (sets l n a) (n + length a) b
-sets-append l n [] b = ap (λ (k : ℕ). sets l k b) (omega arith)
-sets-append l n (x ∷ a) b =
-    let e : suc n + length a ≡ n + suc (length a) = omega arith in
-    sets-append (set l n x) (suc n) a b ∙ ap (λ (k : ℕ). sets (sets (set l n x) (suc n) a) k b) e
-
 pub write-none : (r : Read (List ℕ)) (out : List ℕ) → reads r ≡ true → Writing r r out out 0
 write-none r out h = record { is = h; same = refl; count = omega arith; long = refl }
 
@@ -90,7 +85,7 @@ write-more : (whole next : Read (List ℕ)) (l out₀ out : List ℕ) (n : ℕ) 
 unfolding before reads bytesOf
 write-more whole (got v) l out₀ out n w = record {
   is = refl;
-  same = sym (sets-append out n l v) ∙ w .same;
+  same = sets-append l v out n ∙ w .same;
   count = omega (arith, length-append l v, w .count);
   long = length-sets out n l ∙ w .long;
 }

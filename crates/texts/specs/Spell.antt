@@ -1,16 +1,16 @@
 -- One text put into the decoded text, or left where it stands in the pickle.
 use Prim.Native.Nat.{ℕ, suc, zero, _+_, _-_, _*_, _/_, _<_, _≤_}
 use mathlib.Core.Bool.{true}
-use mathlib.Core.List.{List, [], _∷_, _++_, append-assoc, append-nil}
+use mathlib.Core.List.{List, [], _++_, append-assoc, append-nil}
 use mathlib.Core.Path.{_≡_, refl, sym, _∙_}
 use mathlib.Core.Logic.{_≢_}
-use native.Mathlib.Nat.{add-zero}
 use native.Mathlib.Numerals.{add-one}
 use native.Mathlib.Omega.{arith}
-use lib.ListN.{length, length-take, length-drop, getD, take, drop, set}
+use lib.ListN.{length, length-take, length-drop, getD, take, drop}
 use lib.Seq.{take-length, drop-length, drop-drop, sets, sets-eq}
 use Rattle.utf8.specs.Utf8.{repair, valid}
 use Rattle.utf8.specs.Laws.{repair-valid}
+use Rattle.utf8.specs.Stores.{sets-append}
 use Rattle.text.specs.Pieces.{bytesOf}
 use Rattle.text.specs.Text.{unescapeString, unescapeUnicode}
 use Rattle.value.specs.Value.{NoneL}
@@ -65,11 +65,6 @@ module _ (v l ys : List ℕ) (at : ℕ) (h : at + length v ≤ length l) where
 
   pub sets-back : ys ≡ sets (take (length l - at) (drop at l)) 0 v → take at l ++ (ys ++ drop (length l - at) (drop at l)) ≡ sets l at v
   sets-back e = put-back (e ∙ sets-front v (take (length l - at) (drop at l)) (rw (length-take, length-drop) (omega arith)))
-
--- one behind the other
-pub sets-append : (u v l : List ℕ) (n : ℕ) → sets (sets l n u) (n + length u) v ≡ sets l n (u ++ v)
-sets-append [] v l n = rw (add-zero n)
-sets-append (a ∷ u) v l n = let e : n + suc (length u) ≡ suc n + length u = omega arith in rw e (sets-append u v (set l n a) (suc n))
 
 -- ---- one text, or two
 

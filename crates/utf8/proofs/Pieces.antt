@@ -16,7 +16,7 @@ use Rattle.utf8.specs.Utf8.{Row, within, whole, some, wellFormed, piece,
 use Rattle.utf8.specs.Rows.{Few, none, one, few, along, goes, piece-goes, well-formed-after, or-false}
 use Rattle.utf8.specs.Laws.{piece-pos, piece-within, piece-take, valid-step, repair-step}
 use Rattle.utf8.specs.Place.{Ascii, pieceIs, pieceOf, secondOf, next}
-use Rattle.utf8.proofs.Stores.{sets-append}
+use Rattle.utf8.specs.Stores.{sets-append}
 use Rattle.utf8.proofs.Table.{more, lead, table-lead}
 
 -- ---- the piece, column by column

@@ -1,18 +1,10 @@
--- Runs of stores. Assumes nothing.
+-- Copies, store by store. Assumes nothing.
 use Prim.Native.Nat.{ℕ, suc, _+_, _-_, _≤_, _<_}
 use native.Mathlib.Omega.{arith}
-use native.Mathlib.Nat.{add-zero}
-use mathlib.Core.List.{List, [], _∷_, _++_}
+use mathlib.Core.List.{List}
 use mathlib.Core.Path.{_≡_}
 use lib.ListN.{length, getD, take, drop, set}
 use lib.Seq.{drop-cons, sets}
-
--- a run after a run is one run
-pub sets-append : (u v l : List ℕ) (n : ℕ) → sets (sets l n u) (n + length u) v ≡ sets l n (u ++ v)
-sets-append [] v l n = rw (add-zero n)
-sets-append (a ∷ u) v l n =
-    let e : n + suc (length u) ≡ suc n + length u = omega arith in
-    rw e (sets-append u v (set l n a) (suc n))
 
 module _ (s : List ℕ) (i len n k : ℕ) (out : List ℕ) where
   -- what a copy has left to store, one byte on, and at its end

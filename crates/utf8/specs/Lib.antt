@@ -5,3 +5,4 @@ pub mod Laws
 pub mod Encode
 pub mod Place
 pub mod Together
+pub mod Stores

@@ -2,40 +2,17 @@
 use borrow.Author.Needs.{needs}
 use Rattle.emit.proofs.put_class.Statement.{statement}
 use Rattle.emit.proofs.put_class.Tie as tie
-use Rattle.emit.proofs.put_class.Reads as reads
-use Rattle.emit.proofs.put_class.Lts as lts
-use Rattle.emit.proofs.kind_of.Reads as kind-of-reads
-use Rattle.emit.proofs.put_names.Reads as put-names-reads
-use mathlib.Core.Path.{sym, _∙_}
 use native.Mathlib.Omega.{arith}
 use Rattle.steps.specs.NodeWords.{first}
 use Rattle.emit.specs.Leaves.{texts-other}
 
-mul-kind-of : tie.Need-mul-kind-of
-mul-kind-of c = search needs
-
-mul-kind-of-2 : tie.Need-mul-kind-of-2
-mul-kind-of-2 c = search needs
-
-shared-slice-read-kind-of : tie.Need-shared-slice-read-kind-of
-shared-slice-read-kind-of c = search needs
-
-kind-of-requires : tie.Need-kind-of-requires
-kind-of-requires c κs = search needs
-
 put-names-requires : tie.Need-put-names-requires
 unfolding first
 put-names-requires c κs = (c .before .before .before .before .before .before .before .before .before .pre .0, omega (arith, (c .before .before .kind-of .ensures), (c .before .if1 .taken)))
-
-same-length : tie.Need-same-length
-same-length c = search needs
-
-returns : tie.Need-returns
-returns c = search needs
 
 returns-2 : tie.Need-returns-2
 unfolding first
 returns-2 c = texts-other (c .before .before .before .before .before .before .before .before .args .pickle .now) (c .before .before .before .before .before .before .before .before .args .decoded .now) (c .before .before .before .before .before .before .before .before .args .nodes .now) (c .before .before .before .before .before .before .before .before .args .marks .now) (c .before .before .before .before .before .before .before .before .args .node .0) (c .before .before .before .before .before .before .before .before .args .text .now) (c .before .before .before .before .before .before .before .before .args .at) (c .before .before .before .before .before .before .before .before .pre .0) (c .before .kind-of .result) (c .before .kind-of .ensures) (rw (c .before .kind-of .ensures) (c .before .before .before .before .before .before .before .before .pre .1)) (c .if1 .left)
 
 pub put-class-spec : {M : Type 1} → statement M
-put-class-spec = tie.close (tie.spec mul-kind-of mul-kind-of-2 shared-slice-read-kind-of kind-of-requires put-names-requires same-length returns returns-2)
+put-class-spec = tie.close (tie.spec (λ c. search needs) (λ c. search needs) (λ c. search needs) (λ c κs. search needs) put-names-requires (λ c. search needs) (λ c. search needs) returns-2)

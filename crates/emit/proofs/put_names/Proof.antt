@@ -2,29 +2,14 @@
 use borrow.Author.Needs.{needs}
 use Rattle.emit.proofs.put_names.Statement.{statement}
 use Rattle.emit.proofs.put_names.Tie as tie
-use Rattle.emit.proofs.put_names.Reads as reads
-use Rattle.emit.proofs.put_names.Lts as lts
-use Rattle.emit.proofs.put_bytes.Reads as put-bytes-reads
-use Rattle.texts.proofs.lead_part.Reads as lead-part-reads
-use Rattle.texts.proofs.trail_part.Reads as trail-part-reads
 use mathlib.Core.Path.{refl, ap}
-use Prim.Native.Nat.{ℕ, _+_, _≤_}
 use native.Mathlib.Omega.{arith}
 use lib.ListN.{length}
 use lib.Seq.{length-sets}
 use Rattle.emit.specs.Leaves.{names-room, texts-names}
 
-lead-part-requires : tie.Need-lead-part-requires
-lead-part-requires c κs = search needs
-
-trail-part-requires : tie.Need-trail-part-requires
-trail-part-requires c κs = search needs
-
 put-bytes-requires : tie.Need-put-bytes-requires
 put-bytes-requires c κs = omega (arith, names-room (c .before .before .before .before .before .before .before .before .args .pickle .now) (c .before .before .before .before .before .before .before .before .args .decoded .now) (c .before .before .before .before .before .before .before .before .args .nodes .now) (c .before .before .before .before .before .before .before .before .args .marks .now) (c .before .before .before .before .before .before .before .before .args .node .0) (c .before .before .before .before .before .before .before .before .args .text .now) (c .before .before .before .before .before .before .before .before .args .at) (c .before .before .before .before .before .before .before .before .pre .0) _ refl (omega (arith, (c .before .before .before .before .before .before .before .before .pre .1))) (omega (arith, (c .before .before .before .before .before .before .before .before .pre .1))) (c .before .before .before .before .before .before .before .before .pre .1) _ _ (c .before .before .lead-part .ensures) (c .before .trail-part .ensures) .0)
-
-add-put-bytes : tie.Need-add-put-bytes
-add-put-bytes c = search needs
 
 put-bytes-requires-2 : tie.Need-put-bytes-requires-2
 put-bytes-requires-2 c κs = omega (arith, names-room (c .before .before .before .before .before .before .before .before .before .before .before .before .args .pickle .now) (c .before .before .before .before .before .before .before .before .before .before .before .before .args .decoded .now) (c .before .before .before .before .before .before .before .before .before .before .before .before .args .nodes .now) (c .before .before .before .before .before .before .before .before .before .before .before .before .args .marks .now) (c .before .before .before .before .before .before .before .before .before .before .before .before .args .node .0) (c .before .before .before .before .before .before .before .before .before .before .before .before .args .text .now) (c .before .before .before .before .before .before .before .before .before .before .before .before .args .at) (c .before .before .before .before .before .before .before .before .before .before .before .before .pre .0) _ refl (omega (arith, (c .before .before .before .before .before .before .before .before .before .before .before .before .pre .1))) (omega (arith, (c .before .before .before .before .before .before .before .before .before .before .before .before .pre .1))) (c .before .before .before .before .before .before .before .before .before .before .before .before .pre .1) _ _ (c .before .before .before .before .before .before .lead-part .ensures) (c .before .before .before .before .before .trail-part .ensures) .0, simp length-sets at (ap length (c .before .before .before .put-bytes .ensures)))
@@ -35,11 +20,8 @@ mul-result c = omega (arith, names-room (c .before .before .before .before .befo
 add-result : tie.Need-add-result
 add-result c = omega (arith, names-room (c .before .before .before .before .before .before .before .before .before .before .before .before .before .before .before .args .pickle .now) (c .before .before .before .before .before .before .before .before .before .before .before .before .before .before .before .args .decoded .now) (c .before .before .before .before .before .before .before .before .before .before .before .before .before .before .before .args .nodes .now) (c .before .before .before .before .before .before .before .before .before .before .before .before .before .before .before .args .marks .now) (c .before .before .before .before .before .before .before .before .before .before .before .before .before .before .before .args .node .0) (c .before .before .before .before .before .before .before .before .before .before .before .before .before .before .before .args .text .now) (c .before .before .before .before .before .before .before .before .before .before .before .before .before .before .before .args .at) (c .before .before .before .before .before .before .before .before .before .before .before .before .before .before .before .pre .0) _ refl (omega (arith, (c .before .before .before .before .before .before .before .before .before .before .before .before .before .before .before .pre .1))) (omega (arith, (c .before .before .before .before .before .before .before .before .before .before .before .before .before .before .before .pre .1))) (c .before .before .before .before .before .before .before .before .before .before .before .before .before .before .before .pre .1) _ _ (c .before .before .before .before .before .before .before .before .before .lead-part .ensures) (c .before .before .before .before .before .before .before .before .trail-part .ensures) .1)
 
-same-length : tie.Need-same-length
-same-length c = search needs
-
 returns : tie.Need-returns
 returns c = texts-names (c .before .before .before .before .before .before .before .before .before .before .before .before .before .before .before .args .pickle .now) (c .before .before .before .before .before .before .before .before .before .before .before .before .before .before .before .args .decoded .now) (c .before .before .before .before .before .before .before .before .before .before .before .before .before .before .before .args .nodes .now) (c .before .before .before .before .before .before .before .before .before .before .before .before .before .before .before .args .marks .now) (c .before .before .before .before .before .before .before .before .before .before .before .before .before .before .before .args .node .0) (c .before .before .before .before .before .before .before .before .before .before .before .before .before .before .before .args .text .now) (c .before .before .before .before .before .before .before .before .before .before .before .before .before .before .before .args .at) (c .before .before .before .before .before .before .before .before .before .before .before .before .before .before .before .pre .0) _ refl (omega (arith, (c .before .before .before .before .before .before .before .before .before .before .before .before .before .before .before .pre .1))) (omega (arith, (c .before .before .before .before .before .before .before .before .before .before .before .before .before .before .before .pre .1))) (c .before .before .before .before .before .before .before .before .before .before .before .before .before .before .before .pre .1) _ _ (c .before .before .before .before .before .before .before .before .before .lead-part .ensures) (c .before .before .before .before .before .before .before .before .trail-part .ensures) _ _ (c .before .before .before .before .before .before .put-bytes .ensures) (c .before .before .put-bytes2 .ensures)
 
 pub put-names-spec : {M : Type 1} → statement M
-put-names-spec = tie.close (tie.spec lead-part-requires trail-part-requires put-bytes-requires add-put-bytes put-bytes-requires-2 mul-result add-result same-length returns)
+put-names-spec = tie.close (tie.spec (λ c κs. search needs) (λ c κs. search needs) put-bytes-requires (λ c. search needs) put-bytes-requires-2 mul-result add-result (λ c. search needs) returns)
