@@ -5,6 +5,7 @@ pub mod Moves
 pub mod Arranging
 pub mod Kinds
 pub mod Due
+pub mod Ascending
 pub mod Walked
 pub mod Standing
 pub mod Turn
