@@ -7,6 +7,7 @@
 // Started with a word, it reads plain data only (document 02, Ask 7): sheet by sheet, since the profile has no batch.
 use lengths::BAD_LENGTHS;
 use lengths::add_up;
+use op::Edition;
 use refusal::Answer;
 ghost use mathlib.Core.Path.{_≡_};
 ghost use lib.ListN.{length};
@@ -27,7 +28,7 @@ fn check(sheets: &[u8], lengths: &[u64], answers: &mut [u64]) -> Answer {
     let mut measures = [0u64; 4096];
     let mut table = [0u64; 8192];
     let mut text = [0u8; 65536];
-    pickle::qelemvir_from_bytes_batch(
+    batch::from_bytes_batch(
         sheets,
         lengths,
         answers,
@@ -103,7 +104,7 @@ fn show_all(answers: &[u64]) {
 fn read_plain(sheet: &[u8]) -> Answer {
     let mut table = [0u64; 8192];
     let mut text = [0u8; 65536];
-    console::read(true, sheet, &mut table, &mut text)
+    console::read(Edition::Plain, sheet, &mut table, &mut text)
 }
 
 // The lines of sheets of plain data.
@@ -130,14 +131,14 @@ fn check_plain(sheets: &[u8], lengths: &[u64]) {
 }
 
 // The night of as many sheets as lengths are lent, with four places for the answers to each.
-fn check_night(plain: bool, lengths: &mut [u64], answers: &mut [u64]) {
+fn check_night(edition: Edition, lengths: &mut [u64], answers: &mut [u64]) {
     let mut sheets = [0u8; 524288];
     if !read_lengths(lengths) {
         console::show_refusal(BAD_LENGTHS, 0);
         return;
     }
     let n = io::read_full(0, &mut sheets);
-    if plain {
+    if let Edition::Plain = edition {
         check_plain(&sheets[0..n], lengths);
         return;
     }
@@ -162,7 +163,7 @@ fn main() {
     }
     let n = count as usize;
     check_night(
-        console::asked_plain(),
+        console::edition(),
         &mut lengths[0..n],
         &mut answers[0..4 * n],
     );

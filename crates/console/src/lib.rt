@@ -1,21 +1,25 @@
-// What the programs that take pickles on standard input share: reading one, whether plain data only is asked for, the beginning of a buffer,
-// and the line of a refusal.
+// What the programs that take pickles on standard input share: reading one, the edition that is asked for, the beginning of a buffer, and the
+// line of a refusal.
+use op::Edition;
 use refusal::Answer;
 
-// Whether the program was started to read plain data only: with a word, whatever it is.
-pub fn asked_plain() -> bool {
-    os::arg_count() > 1
+// The edition to read in: that of plain data where the program was started with a word, whatever it is.
+pub fn edition() -> Edition {
+    if os::arg_count() > 1 {
+        return Edition::Plain;
+    }
+    Edition::Full
 }
 
 // Standard input as whole data. One byte more than a pickle may have is enough to know that it is too long.
-pub fn read_input(plain: bool, table: &mut [u64], text: &mut [u8]) -> Answer {
+pub fn read_input(edition: Edition, table: &mut [u64], text: &mut [u8]) -> Answer {
     let mut input = [0u8; 65537];
     let n = io::read_full(0, &mut input);
-    read(plain, &input[0..n], table, text)
+    read(edition, &input[0..n], table, text)
 }
 
-// A pickle as whole data, or as plain data only, in rooms that are made here.
-pub fn read(plain: bool, pickle: &[u8], table: &mut [u64], text: &mut [u8]) -> Answer {
+// A pickle as whole data, in rooms that are made here.
+pub fn read(edition: Edition, pickle: &[u8], table: &mut [u64], text: &mut [u8]) -> Answer {
     let mut nodes = [0u64; 8192];
     let mut owners = [0u16; 8192];
     let mut children = [0u16; 8192];
@@ -27,25 +31,9 @@ pub fn read(plain: bool, pickle: &[u8], table: &mut [u64], text: &mut [u8]) -> A
     let mut starts = [0u16; 4098];
     let mut sorted = [0u16; 16384];
     let mut measures = [0u64; 4096];
-    if plain {
-        return pickle::qelemvir_plain_from_bytes(
-            pickle,
-            &mut nodes,
-            &mut owners,
-            &mut children,
-            &mut stack,
-            &mut marks,
-            &mut keys,
-            &mut held,
-            &mut unescaped,
-            &mut starts,
-            &mut sorted,
-            &mut measures,
-            table,
-            text,
-        );
-    }
-    pickle::qelemvir_from_bytes(
+    de::reading(
+        edition,
+        true,
         pickle,
         &mut nodes,
         &mut owners,

@@ -14,8 +14,8 @@ fn show_header(read: Answer) {
 // Nothing is printed before the list call has succeeded.
 fn show(read: Answer, table: &[u64], text: &[u8], output: &mut [u8]) {
     let count = read.count as usize;
-    let n = pickle::qelemvir_text_len(table, count);
-    let listed = pickle::qelemvir_list(table, count, console::first(text, n), output);
+    let n = table::text_len(table, count);
+    let listed = list::list_table(table, count, console::first(text, n), output);
     if listed.number != 0 {
         console::show_refusal(listed.number, listed.detail);
         return;
@@ -28,7 +28,7 @@ fn main() {
     let mut table = [0u64; 8192];
     let mut text = [0u8; 65536];
     let mut output = [0u8; 65536];
-    let read = console::read_input(console::asked_plain(), &mut table, &mut text);
+    let read = console::read_input(console::edition(), &mut table, &mut text);
     if read.number != 0 {
         console::show_refusal(read.number, read.detail);
         return;

@@ -2,6 +2,7 @@
 // the pickle. For each a line has the answer: number, detail, length and count, and after a success the words of the records and the
 // text, in hex. Every element of the rooms and outputs is lent with a mark in it, another one for each case: the line ends with `dirty` where
 // a room is not all zero after the reading, and with `spilled` where an output has changed behind what the reading filled.
+use op::Edition;
 use refusal::Answer;
 
 // A room must be zero; an output must have the mark, which is not zero.
@@ -104,7 +105,7 @@ fn show(answer: Answer, table: &[u64], text: &[u8], mark: u8, mark64: u64) {
     console::tab();
     io::print_decimal(1, answer.count);
     let words = words_in(answer.count);
-    let bytes = pickle::qelemvir_text_len(table, answer.count as usize);
+    let bytes = table::text_len(table, answer.count as usize);
     if answer.number == 0 {
         console::tab();
         show_words(table, words);
@@ -113,60 +114,6 @@ fn show(answer: Answer, table: &[u64], text: &[u8], mark: u8, mark64: u64) {
     }
     hold64(table, words, mark64);
     hold8(text, bytes, mark);
-}
-
-// The one or the other reading.
-fn read(
-    whole: bool,
-    pickle: &[u8],
-    nodes: &mut [u64],
-    owners: &mut [u16],
-    children: &mut [u16],
-    stack: &mut [u16],
-    marks: &mut [u16],
-    keys: &mut [u32],
-    held: &mut [u16],
-    unescaped: &mut [u8],
-    starts: &mut [u16],
-    sorted: &mut [u16],
-    measures: &mut [u64],
-    table: &mut [u64],
-    text: &mut [u8],
-) -> Answer {
-    if whole {
-        return pickle::qelemvir_from_bytes(
-            pickle,
-            nodes,
-            owners,
-            children,
-            stack,
-            marks,
-            keys,
-            held,
-            unescaped,
-            starts,
-            sorted,
-            measures,
-            table,
-            text,
-        );
-    }
-    pickle::qelemvir_from_bytes_prefix(
-        pickle,
-        nodes,
-        owners,
-        children,
-        stack,
-        marks,
-        keys,
-        held,
-        unescaped,
-        starts,
-        sorted,
-        measures,
-        table,
-        text,
-    )
 }
 
 // A case, in a line, with the mark in every byte of what is lent.
@@ -187,7 +134,8 @@ fn replay(whole: bool, pickle: &[u8], mark: u8) {
     let mut measures = [mark64; 4096];
     let mut table = [mark64; 8192];
     let mut text = [mark; 65536];
-    let answer = read(
+    let answer = de::reading(
+        Edition::Full,
         whole,
         pickle,
         &mut nodes,

@@ -65,9 +65,9 @@ fn changed(output: &[u8], from: usize) -> usize
 // List, or write.
 fn put(call: usize, words: &[u64], count: usize, text: &[u8], output: &mut [u8]) -> Answer {
     if call == 3 {
-        return pickle::qelemvir_to_bytes(words, count, text, output);
+        return ser::to_bytes(words, count, text, output);
     }
-    pickle::qelemvir_list(words, count, text, output)
+    list::list_table(words, count, text, output)
 }
 
 fn show_list(call: usize, words: &[u64], count: usize, text: &[u8], output: &mut [u8]) {
@@ -90,7 +90,7 @@ fn show_list(call: usize, words: &[u64], count: usize, text: &[u8], output: &mut
 }
 
 fn show_score(words: &[u64], count: usize, text: &[u8]) {
-    let r = pickle::qelemvir_score(words, count, text);
+    let r = scorer::score(words, count, text);
     io::print_decimal(1, r.number);
     tab();
     io::print_decimal(1, r.detail);
@@ -190,7 +190,7 @@ fn compare_rest(
         return;
     }
     fill(second, rest);
-    let c = pickle::qelemvir_compare(
+    let c = table::compare(
         words,
         count,
         text,

@@ -1,9 +1,10 @@
 // Writes the pickle on standard input, which it reads as whole data, anew: the bytes that the writer gives its value; of a refusal only the
 // line `refused`, its number and its detail. The output is as long as the longest image.
+use op::Edition;
 
 fn show(count: usize, table: &[u64], text: &[u8], output: &mut [u8]) {
-    let n = pickle::qelemvir_text_len(table, count);
-    let written = pickle::qelemvir_to_bytes(table, count, console::first(text, n), output);
+    let n = table::text_len(table, count);
+    let written = ser::to_bytes(table, count, console::first(text, n), output);
     if written.number != 0 {
         console::show_refusal(written.number, written.detail);
         return;
@@ -15,7 +16,7 @@ fn main() {
     let mut table = [0u64; 8192];
     let mut text = [0u8; 65536];
     let mut output = [0u8; 122883];
-    let read = console::read_input(false, &mut table, &mut text);
+    let read = console::read_input(Edition::Full, &mut table, &mut text);
     if read.number != 0 {
         console::show_refusal(read.number, read.detail);
         return;

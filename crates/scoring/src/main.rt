@@ -1,5 +1,6 @@
 // Scores the sheet on standard input, a pickle that it reads as whole data: the line `score`, the score and how many items were answered;
 // of a refusal, of the reading or of the scoring, the line `refused`, its number and its detail.
+use op::Edition;
 use refusal::Answer;
 use scorer::Scored;
 
@@ -14,14 +15,14 @@ fn show(scored: Scored) {
 // The score of the table that was read.
 fn score(read: Answer, table: &[u64], text: &[u8]) -> Scored {
     let count = read.count as usize;
-    let n = pickle::qelemvir_text_len(table, count);
-    pickle::qelemvir_score(table, count, console::first(text, n))
+    let n = table::text_len(table, count);
+    scorer::score(table, count, console::first(text, n))
 }
 
 fn main() {
     let mut table = [0u64; 8192];
     let mut text = [0u8; 65536];
-    let read = console::read_input(false, &mut table, &mut text);
+    let read = console::read_input(Edition::Full, &mut table, &mut text);
     if read.number != 0 {
         console::show_refusal(read.number, read.detail);
         return;
