@@ -9,10 +9,13 @@ use op::Edition;
 use refusal::Answer;
 use refusal::Refusal;
 use refusal::refused;
-use rooms::clear_bytes;
 use rooms::clear_ints;
 use rooms::clear_shorts;
 use rooms::clear_words;
+use rooms::zero_bytes;
+use rooms::zero_ints;
+use rooms::zero_shorts;
+use rooms::zero_words;
 ghost use Prim.Native.Nat.{_≤_};
 ghost use mathlib.Core.List.{[], _∷_};
 ghost use mathlib.Core.Path.{_≡_};
@@ -198,13 +201,13 @@ pub fn clear_machine(
         (now (nodes .entry) ∷ now (owners .entry) ∷ now (children .entry) ∷ now (stack .entry)
         ∷ now (marks .entry) ∷ now (keys .entry) ∷ now (held .entry) ∷ []) ⌝ }
 {
-    clear_words(nodes, 8192);
-    clear_shorts(owners, 8192);
-    clear_shorts(children, 8192);
-    clear_shorts(stack, 2048);
-    clear_shorts(marks, 256);
-    clear_ints(keys, 2048);
-    clear_shorts(held, 1024);
+    zero_words(nodes, 8192);
+    zero_shorts(owners, 8192);
+    zero_shorts(children, 8192);
+    zero_shorts(stack, 2048);
+    zero_shorts(marks, 256);
+    zero_ints(keys, 2048);
+    zero_shorts(held, 1024);
 }
 
 // The builder's rooms zero up to their stated lengths.
@@ -220,10 +223,10 @@ pub fn clear_builder(
         ≡ blank builderLengths
         (now (unescaped .entry) ∷ now (starts .entry) ∷ now (sorted .entry) ∷ now (measures .entry) ∷ []) ⌝ }
 {
-    clear_bytes(unescaped, 65536);
-    clear_shorts(starts, 4098);
-    clear_shorts(sorted, 16384);
-    clear_words(measures, 4096);
+    zero_bytes(unescaped, 65536);
+    zero_shorts(starts, 4098);
+    zero_shorts(sorted, 16384);
+    zero_words(measures, 4096);
 }
 
 // Either reading in an edition, of any slices: 1, then the rooms made zero, then the inner reading.

@@ -1,5 +1,5 @@
-// The public calls (mod.rs's `pub use`), for Rattle and, exported, for other languages: numbers and slices go in, a slice as a
-// pointer and a length, and a struct comes back. Every input is accepted, and every call ends.
+// The public calls (mod.rs's `pub use`), exported for other languages: numbers and slices go in, a slice as a pointer and a length, and a
+// struct comes back. Every input is accepted, and every call ends. Each calls the function that does the work; so do the programs here.
 use op::Edition;
 use refusal::Answer;
 use scorer::Scored;

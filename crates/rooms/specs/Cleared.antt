@@ -1,8 +1,10 @@
 -- The first n numbers of a list zero, the others as they were.
 use Prim.Native.Nat.{ℕ, _+_, _<_, _≤_}
 use mathlib.Core.List.{List, _++_}
-use mathlib.Core.Path.{_≡_, refl, ap, _∙_}
-use lib.ListN.{length, set, drop, replicate, length-set}
+use mathlib.Core.Path.{_≡_, refl, sym, ap, _∙_}
+use lib.ListN.{length, getD, set, drop, replicate, length-set}
+use lib.Seq.{set-getD}
+use lib.Bits.{bitOr, or-add-and, and-le-l, and-le-r}
 use borrow.Author.Fill.{fill-more}
 use native.Mathlib.Omega.{arith}
 
@@ -26,3 +28,29 @@ module _ (l : List ℕ) (n : ℕ) where
 
   pub clearing-end : (i : ℕ) (m : List ℕ) → Clearing l n i m → n ≤ i → m ≡ cleared n l
   clearing-end i m c h = let x = c .low in let e : i ≡ n = omega arith in rw (← e) (c .is)
+
+-- ---- a list that is zero already
+
+-- a loop that has come to i, with every number so far in `any`
+abbrev pub Looked : List ℕ → ℕ → ℕ → Type 0
+Looked l i any = any ≡ 0 → cleared i l ≡ l
+
+or-left : (a b : ℕ) → bitOr a b ≡ 0 → a ≡ 0
+or-left a b e = omega (arith, or-add-and a b, and-le-r a b)
+
+or-right : (a b : ℕ) → bitOr a b ≡ 0 → b ≡ 0
+or-right a b e = omega (arith, or-add-and a b, and-le-l a b)
+
+pub looked-none : (l : List ℕ) → Looked l 0 0
+unfolding cleared
+looked-none l e = refl
+
+pub looked-more : (l : List ℕ) (i any : ℕ) → i < length l → Looked l i any → Looked l (i + 1) (bitOr any (getD l i 0))
+unfolding cleared
+looked-more l i any h k e =
+    let a : cleared i l ≡ l = k (or-left any (getD l i 0) e) in
+    let b : getD l i 0 ≡ 0 = or-right any (getD l i 0) e in
+    sym (fill-more i 0 l h) ∙ ap (λ (x : List ℕ). set x i 0) a ∙ ap (set l i) (sym b) ∙ set-getD l i 0
+
+pub looked-all : (l : List ℕ) (n i any : ℕ) → i ≤ n → n ≤ i → Looked l i any → any ≡ 0 → cleared n l ≡ l
+looked-all l n i any a b k e = let q : i ≡ n = omega arith in rw (← q) (k e)

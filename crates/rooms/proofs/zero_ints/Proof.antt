@@ -1,0 +1,11 @@
+-- What is zero is as if it had been cleared.
+use borrow.Author.Needs.{needs}
+use mathlib.Core.Path.{sym}
+use Rattle.rooms.proofs.zero_ints.Statement.{statement}
+use Rattle.rooms.proofs.zero_ints.Tie as tie
+
+returns : tie.Need-returns
+returns c = sym ((c .before .ints-are-zero .ensures) (c .if1 .taken))
+
+pub zero-ints-spec : {M : Type 1} → statement M
+zero-ints-spec = tie.close (tie.spec (λ c κs. search needs) (λ c. search needs) returns (λ c κs. search needs) (λ c. search needs) (λ c. search needs))
