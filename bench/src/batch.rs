@@ -12,7 +12,7 @@ use crate::rooms::Rooms;
 use crate::{inputs, ours, table};
 
 pub const ABOUT: &str = "a night of 300 sheets, the same one 300 times; the times are those of one sheet.
-In one call ours (qelemvir_from_bytes_batch) makes its rooms zero once a night; by a call each (qelemvir_from_bytes) once a sheet.
+In one call ours (qelemvir_from_bytes_batch) looks at its rooms once a night; by a call each (qelemvir_from_bytes) once a sheet.
 The Rust (from_bytes) and CPython (pickle.loads, str as bytes) read sheet by sheet in both rows, making a value and freeing it.";
 
 const SHEETS: usize = 300;

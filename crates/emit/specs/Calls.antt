@@ -24,7 +24,7 @@ use Rattle.texts.specs.Readable.{Readable, shown-readable, spelled-mark}
 use Rattle.emit.specs.Stores.{sets-before, sets-behind, sets-there}
 use Rattle.emit.specs.Words.{place, recordIn, textIn, writtenW, written-record, written-size, written-text, written-long, kindOf, kind-same, boxed, recordFrom, container-is}
 use Rattle.emit.specs.Places.{written-copyable}
-use Rattle.emit.specs.Leaves.{TextReady, LeafReady, LeafPut, bare, BareReady, BarePut, bare-leaf, CopyReady, CopyPut, opened}
+use Rattle.emit.specs.Leaves.{TextReady, LeafReady, LeafPut, atom, AtomReady, AtomPut, atom-leaf, CopyReady, CopyPut, opened}
 use Rattle.emit.specs.Since.{Stored, Since, since-leaf, since-stored}
 
 -- ---- given
@@ -314,37 +314,37 @@ module _ {p d ws : List ℕ} {i to : ℕ} {marks table bytes : List ℕ} (F : Fl
 
 -- ---- a node with neither text nor contents
 
-module _ {p d ws starts children log : List ℕ} {i to : ℕ} {marks table bytes : List ℕ} (R : ReadyNode p d ws starts children log i to marks table bytes) (e : bare ws i ≡ true) where
-  bare-small : i < 4096
-  unfolding bare
-  bare-small = go (ℕ-discrete i 4096)
+module _ {p d ws starts children log : List ℕ} {i to : ℕ} {marks table bytes : List ℕ} (R : ReadyNode p d ws starts children log i to marks table bytes) (e : atom ws i ≡ true) where
+  atom-small : i < 4096
+  unfolding atom
+  atom-small = go (ℕ-discrete i 4096)
     where
       go : Dec (i ≡ 4096) → i < 4096
       go (yes q) = absurd (let x : false ≡ true = rw q at e in let z : _≡_ {A = ℕ} 0 1 = cc in omega arith)
       go (no q) = omega (arith, ready-most R)
 
-  bare-kind : kindOf (first ws i) < 4
-  unfolding bare
-  bare-kind = go (decLt (kindIn (first ws i)) 4)
+  atom-kind : kindOf (first ws i) < 4
+  unfolding atom
+  atom-kind = go (decLt (kindIn (first ws i)) 4)
     where
       go : Dec (kindIn (first ws i) < 4) → kindOf (first ws i) < 4
       go (yes l) = rw (kind-same (first ws i) (omega arith)) l
-      go (no l) = absurd (let x : false ≡ true = rw (ne-eqb i 4096 (λ q. omega (arith, bare-small)), le-ltb (kindIn (first ws i)) 4 (omega arith)) at e in let z : _≡_ {A = ℕ} 0 1 = cc in omega arith)
+      go (no l) = absurd (let x : false ≡ true = rw (ne-eqb i 4096 (λ q. omega (arith, atom-small)), le-ltb (kindIn (first ws i)) 4 (omega arith)) at e in let z : _≡_ {A = ℕ} 0 1 = cc in omega arith)
 
-  bare-unboxed : boxed (kindOf (first ws i)) ≡ false
+  atom-unboxed : boxed (kindOf (first ws i)) ≡ false
   unfolding boxed
-  bare-unboxed = rw (lt-ltb (kindOf (first ws i)) 6 (omega (arith, bare-kind)))
+  atom-unboxed = rw (lt-ltb (kindOf (first ws i)) 6 (omega (arith, atom-kind)))
 
-  bare-closed : opened ws marks i ≡ false
+  atom-closed : opened ws marks i ≡ false
   unfolding opened
-  bare-closed = rw (ne-eqb i 4096 (λ q. omega (arith, bare-small)), bare-unboxed)
+  atom-closed = rw (ne-eqb i 4096 (λ q. omega (arith, atom-small)), atom-unboxed)
 
-  bare-flat : Flat p d ws i to marks table bytes
-  bare-flat = record { starts = starts; children = children; log = log; ready = R; closed = bare-closed }
+  atom-flat : Flat p d ws i to marks table bytes
+  atom-flat = record { starts = starts; children = children; log = log; ready = R; closed = atom-closed }
 
-  pub bare-ready : BareReady ws i to table
-  bare-ready = let l = flat-leaf-ready bare-flat bare-small bare-unboxed in record { words = ready-readable R bare-small .words; records = l .records; texts = omega (arith, l .texts) }
+  pub atom-ready : AtomReady ws i to table
+  atom-ready = let l = flat-leaf-ready atom-flat atom-small atom-unboxed in record { words = ready-readable R atom-small .words; records = l .records; texts = omega (arith, l .texts) }
 
-  pub bare-made : (table′ : List ℕ) (r : ℕ) → BarePut ws i to table table′ r → Made (R .t) (R .h) (R .v) i to table bytes table′ bytes r
-  unfolding bare-flat
-  bare-made table′ r b = flat-made bare-flat bare-small bare-unboxed table′ bytes r (bare-leaf p d ws marks i to table bytes table′ r (flat-leaf-ready bare-flat bare-small bare-unboxed) bare-kind b)
+  pub atom-made : (table′ : List ℕ) (r : ℕ) → AtomPut ws i to table table′ r → Made (R .t) (R .h) (R .v) i to table bytes table′ bytes r
+  unfolding atom-flat
+  atom-made table′ r b = flat-made atom-flat atom-small atom-unboxed table′ bytes r (atom-leaf p d ws marks i to table bytes table′ r (flat-leaf-ready atom-flat atom-small atom-unboxed) atom-kind b)

@@ -143,21 +143,21 @@ module _ (p ws : List ℕ) (i : ℕ) where
 
 -- ---- a value with neither text nor contents: None, a Bool, an I64 or an F64
 
-unfoldable pub bare : List ℕ → ℕ → Bool
-bare ws i = cond (eqb i 4096) false (ltb (kindIn (first ws i)) 4)
+unfoldable pub atom : List ℕ → ℕ → Bool
+atom ws i = cond (eqb i 4096) false (ltb (kindIn (first ws i)) 4)
 
-pub record BareReady (ws : List ℕ) (i to : ℕ) (table : List ℕ) : Type 0 where
+pub record AtomReady (ws : List ℕ) (i to : ℕ) (table : List ℕ) : Type 0 where
   pub words : 2 * i + 1 < length ws
   pub records : 4 * recordIn to + 4 ≤ length table
   pub texts : textIn to ≤ 65536
 
-pub record BarePut (ws : List ℕ) (i to : ℕ) (table table′ : List ℕ) (r : ℕ) : Type 0 where
+pub record AtomPut (ws : List ℕ) (i to : ℕ) (table table′ : List ℕ) (r : ℕ) : Type 0 where
   pub table-is : table′ ≡ sets table (4 * recordIn to) (recordFrom (kindOf (getD ws (2 * i) 0)) (newIn (getD ws (2 * i) 0)) (getD ws (2 * i + 1) 0) 0 (textIn to) 0 1)
   pub next : r ≡ to + 1
 
 -- it is a leaf, and the text stays
-pub bare-leaf : (p d ws marks : List ℕ) (i to : ℕ) (table bytes table′ : List ℕ) (r : ℕ) → LeafReady p d ws marks i to table bytes → kindOf (first ws i) < 4 → BarePut ws i to table table′ r → LeafPut (labelOf p ws i) to table bytes table′ bytes r
-bare-leaf p d ws marks i to table bytes table′ r g h b =
+pub atom-leaf : (p d ws marks : List ℕ) (i to : ℕ) (table bytes table′ : List ℕ) (r : ℕ) → LeafReady p d ws marks i to table bytes → kindOf (first ws i) < 4 → AtomPut ws i to table table′ r → LeafPut (labelOf p ws i) to table bytes table′ bytes r
+atom-leaf p d ws marks i to table bytes table′ r g h b =
     leaf-done p ws i to 0 table bytes table′ bytes _ r (g .texts) (texts-small p d ws marks i bytes (textIn to) (g .text-ready) (kindOf (first ws i)) refl h) refl (b .table-is) (b .next ∙ omega arith)
 
 -- ---- once more: m is the mark of what is written

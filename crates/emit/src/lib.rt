@@ -12,7 +12,7 @@ ghost use Rattle.resolved.specs.Moved.{placed, moves};
 ghost use Rattle.emit.specs.Copies.{Copyable};
 ghost use Rattle.emit.specs.Words.{place, recordIn, textIn, writtenW, kindOf, boxed, recordFrom};
 ghost use Rattle.resolved.specs.Shown.{labelOf};
-ghost use Rattle.emit.specs.Leaves.{TextReady, TextPut, bare, BareReady, BarePut, LeafReady, LeafPut, CopyReady, CopyPut, FinishReady, FinishPut, opened};
+ghost use Rattle.emit.specs.Leaves.{TextReady, TextPut, atom, AtomReady, AtomPut, LeafReady, LeafPut, CopyReady, CopyPut, FinishReady, FinishPut, opened};
 ghost use Rattle.emit.specs.Calls.{Flat, FlatWrites, Open};
 ghost use Rattle.emit.specs.Turns.{Writes};
 ghost use Rattle.emit.specs.Roots.{Rooted, Emits};
@@ -355,11 +355,11 @@ fn write_flat<'a>(
     write_leaf(node, to, pickle, decoded, nodes, marks, table, text)
 }
 
-// Is it a value with neither text nor contents: None, a Bool, an I64 or an F64?
-fn is_bare(node: NodeId, nodes: &[u64]) -> bool
+// Is it a node with neither text nor contents: None, a Bool, an I64 or an F64?
+fn is_atom(node: NodeId, nodes: &[u64]) -> bool
     requires { ⌜ (node .0 < 4096 → 2 * node .0 < length (now nodes)) ⌝ }
     requires { ⌜ node .0 ≤ 4096 ⌝ }
-    ensures { λ r. ⌜ r ≡ bare (now (nodes .entry)) (node .0) ⌝ }
+    ensures { λ r. ⌜ r ≡ atom (now (nodes .entry)) (node .0) ⌝ }
 {
     let i = node.0;
     if i == NOTHING {
@@ -369,9 +369,9 @@ fn is_bare(node: NodeId, nodes: &[u64]) -> bool
 }
 
 // Such a value.
-fn write_bare(node: NodeId, to: u64, nodes: &[u64], table: &mut [u64]) -> u64
-    requires { ⌜ BareReady (now nodes) (node .0) to (now table) ⌝ }
-    ensures { λ r. ⌜ BarePut (now (nodes .entry)) (node .0) to (now (table .entry)) (now (table .exit)) r ⌝ }
+fn write_atom(node: NodeId, to: u64, nodes: &[u64], table: &mut [u64]) -> u64
+    requires { ⌜ AtomReady (now nodes) (node .0) to (now table) ⌝ }
+    ensures { λ r. ⌜ AtomPut (now (nodes .entry)) (node .0) to (now (table .entry)) (now (table .exit)) r ⌝ }
 {
     let i = node.0;
     let words = record_of(nodes[2 * i], nodes[2 * i + 1], 0, to / 0x1000, 0, 1);
@@ -450,8 +450,8 @@ fn write<'a>(
     let mut j = from;
     while j < end {
         let child = NodeId(lists::item(range.log, j, children, log));
-        if is_bare(child, nodes) {
-            next = write_bare(child, next, nodes, table); // most are, and cost no call
+        if is_atom(child, nodes) {
+            next = write_atom(child, next, nodes, table); // most are: no call that lends the texts
         } else if is_open(child, nodes, marks) {
             next = write(
                 child,

@@ -1,4 +1,4 @@
--- Each exception shown by a pickle, and the words that stand for more than one kind.
+-- The exceptions shown by pickles (of the PUTs, BINPUT), and the words that stand for more than one kind.
 use Prim.Native.Nat.{ℕ}
 use mathlib.Core.Bool.{true, false}
 use mathlib.Core.List.{List, [], _∷_, _++_}
@@ -56,9 +56,10 @@ pub other-kinds :
     (run Full (0x29 ∷ 0x29 ∷ 0x52 ∷ 0x2E ∷ []) ≡ no (Invalid Class))
     × (run Full (0x29 ∷ 0x29 ∷ 0x81 ∷ 0x2E ∷ []) ≡ no (Invalid Class))
     × (run Full (0x63 ∷ 0x61 ∷ 0x0A ∷ 0x62 ∷ 0x0A ∷ 0x5D ∷ 0x52 ∷ 0x2E ∷ []) ≡ no (Invalid Arguments))
+    × (run Full (0x63 ∷ 0x61 ∷ 0x0A ∷ 0x62 ∷ 0x0A ∷ 0x5D ∷ 0x81 ∷ 0x2E ∷ []) ≡ no (Invalid Arguments))
     × (run Full (0x5D ∷ 0x4E ∷ 0x62 ∷ 0x2E ∷ []) ≡ no (Invalid Object))
 unfolding evaluates
-other-kinds = (refl, refl, refl, refl)
+other-kinds = (refl, refl, refl, refl, refl)
 
 -- STOP by itself: the machine stops as it began. BINPUT by itself: no top
 pub by-themselves : (run Full (0x2E ∷ []) ≡ ok (start [])) × (run Full (0x71 ∷ 0x00 ∷ 0x2E ∷ []) ≡ no StackUnderflow)

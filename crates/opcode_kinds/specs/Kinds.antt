@@ -1,4 +1,5 @@
--- An opcode that the machine accepts takes and leaves values of the kinds that its row of Words.antt names.
+-- Where the machine accepts an opcode, values of the kinds that its row of StackWords.antt names stand on the stack before it, and on it
+-- behind it. How many are taken and left, and which nodes, is said by `does-fits` of steps: the two belong together.
 use Prim.Native.Nat.{ℕ, suc, _+_, _-_, _<_, _≤_}
 use mathlib.Core.Bool.{Bool, true, false, cond, _&&_, _||_}
 use mathlib.Core.List.{List, [], _∷_, _++_}
@@ -27,7 +28,7 @@ use Rattle.steps.specs.Effect.{labelled, values-count}
 use Rattle.steps.specs.Arguments.{taken, byte-read, Claim, putLine-claim, putBytes-claim}
 use Rattle.steps.specs.Pickletools.{decided, byte-leads, admit-out}
 use Rattle.steps.specs.Keeps.{after}
-use Rattle.opcode_kinds.specs.Words.{Word, any, None, bool as aBool, int as anInt, «int_or_bool», float as aFloat, «bytes_or_str», str, list as aList, tuple as aTuple, dict as aDict, aGlobal, anObject, setOrObject, allows, Kinds, topmost, belowMark, markOnly, KindRow, pickletools, exceptions, kindsIn, kindsOf, isAny, allAny, says, saysRow, sayMore, exceptions-say-more}
+use Rattle.opcode_kinds.specs.StackWords.{Word, any, None, bool as aBool, int as anInt, «int_or_bool», float as aFloat, «bytes_or_str», str, list as aList, tuple as aTuple, dict as aDict, aGlobal, anObject, setOrObject, allows, Kinds, topmost, belowMark, markOnly, KindRow, pickletools, exceptions, kindsIn, kindsOf, isAny, allAny, says, saysRow, sayMore, exceptions-say-more}
 
 -- ---- values by their words
 
@@ -43,14 +44,14 @@ pub record Ends (ws : List Word) (e : ℕ) (s : State) : Type 0 where
   pub inside : e ≤ length (s .stack)
   pub each : Each ws start s
 
-unfoldable pub Stand : Kinds → State → Type 0
-Stand (topmost ws) s = Ends ws (length (s .stack)) s
-Stand (belowMark ws) s = (0 < length (s .marks)) × Ends ws (last (s .marks)) s
-Stand markOnly s = 0 < length (s .marks)
+unfoldable pub Stocked : Kinds → State → Type 0
+Stocked (topmost ws) s = Ends ws (length (s .stack)) s
+Stocked (belowMark ws) s = (0 < length (s .marks)) × Ends ws (last (s .marks)) s
+Stocked markOnly s = 0 < length (s .marks)
 
 -- from s to t: taken from s, left on t
-unfoldable pub Kept : Kinds → Kinds → State → State → Type 0
-Kept tk lv s t = Stand tk s × Stand lv t
+unfoldable pub TakenAndLeft : Kinds → Kinds → State → State → Type 0
+TakenAndLeft tk lv s t = Stocked tk s × Stocked lv t
 
 -- ---- laws of words
 
@@ -58,16 +59,16 @@ nothing-ends : (e : ℕ) (s : State) → e ≤ length (s .stack) → Ends [] e s
 unfolding Each
 nothing-ends e s h = record { start = e; reaches = omega arith; inside = h; each = tt }
 
-nothing-stands : (s : State) → Stand (topmost []) s
-unfolding Stand
+nothing-stands : (s : State) → Stocked (topmost []) s
+unfolding Stocked
 nothing-stands s = nothing-ends (length (s .stack)) s (omega arith)
 
 -- the top by itself
-top-stands : (w : Word) (s : State) → 0 < length (s .stack) → T (allows w (nodeAt s (last (s .stack)) .label)) → Stand (topmost (w ∷ [])) s
-unfolding Stand Each
+top-stands : (w : Word) (s : State) → 0 < length (s .stack) → T (allows w (nodeAt s (last (s .stack)) .label)) → Stocked (topmost (w ∷ [])) s
+unfolding Stocked Each
 top-stands w s h a = record { start = length (s .stack) - 1; reaches = omega arith; inside = omega arith; each = (a, tt) }
 
-any-stands : (s : State) → 0 < length (s .stack) → Stand (topmost (any ∷ [])) s
+any-stands : (s : State) → 0 < length (s .stack) → Stocked (topmost (any ∷ [])) s
 unfolding allows
 any-stands s h = top-stands any s h tt
 
@@ -90,8 +91,8 @@ each-less (w ∷ ws) n k s t e f h a =
     let l : k < n = omega arith in
     (rw (e, f, getD-take n (s .stack) k 0 l) at (a .0), each-less ws n (suc k) s t e f (omega arith) (a .1))
 
-ends-less : (ws : List Word) (n : ℕ) (s t : State) → t .nodes ≡ s .nodes → t .stack ≡ take n (s .stack) → n ≤ length (s .stack) → Stand (topmost ws) t → Ends ws n s
-unfolding Stand
+ends-less : (ws : List Word) (n : ℕ) (s t : State) → t .nodes ≡ s .nodes → t .stack ≡ take n (s .stack) → n ≤ length (s .stack) → Stocked (topmost ws) t → Ends ws n s
+unfolding Stocked
 ends-less ws n s t e f h a =
     let z : length (t .stack) ≡ n = rw f (simp length-take (omega arith)) in
     let r = a .reaches in
@@ -113,7 +114,7 @@ unfolding popMark
 popMark-gives s = bind-need _ _ _ _ λ h. bind-need _ _ _ _ λ u. out _ _ (ltb→lt 0 (length (s .marks)) h, leb→le (last (s .marks)) (length (s .stack)) u, refl)
 
 -- a new node is on top
-pushNode-stands : (w : Word) (n : Node) (s : State) → T (allows w (n .label)) → Out (Stand (topmost (w ∷ []))) (pushNode n s)
+pushNode-stands : (w : Word) (n : Node) (s : State) → T (allows w (n .label)) → Out (Stocked (topmost (w ∷ []))) (pushNode n s)
 unfolding pushNode pushId
 pushNode-stands w n s a =
     let z : length (s .stack ++ (length (s .nodes) ∷ [])) ≡ suc (length (s .stack)) = rw length-append (omega arith) in
@@ -121,16 +122,16 @@ pushNode-stands w n s a =
     bind-need _ _ _ _ λ h. bind-need _ _ _ _ λ u.
     out _ _ (top-stands w _ (omega arith) (rw (i, getD-append-seam (s .stack) (length (s .nodes)) [] 0, getD-append-seam (s .nodes) n [] (plain NoneL)) a))
 
-push-stands : (w : Word) (l : Label) (s : State) → T (allows w l) → Out (Stand (topmost (w ∷ []))) (push l s)
+push-stands : (w : Word) (l : Label) (s : State) → T (allows w l) → Out (Stocked (topmost (w ∷ []))) (push l s)
 unfolding push
 push-stands w l s a = pushNode-stands w (plain l) s a
 
 -- any number, once more
-pushId-stands : (i : ℕ) (s : State) → Out (Stand (topmost (any ∷ []))) (pushId i s)
+pushId-stands : (i : ℕ) (s : State) → Out (Stocked (topmost (any ∷ []))) (pushId i s)
 unfolding pushId
 pushId-stands i s = bind-need _ _ _ _ λ h. out _ _ (any-stands _ (rw length-append (omega arith)))
 
-made-stands : (w : Word) (l : Label) (is : List ℕ) (s : State) → T (allows w l) → Out (Stand (topmost (w ∷ []))) (made l is s)
+made-stands : (w : Word) (l : Label) (is : List ℕ) (s : State) → T (allows w l) → Out (Stocked (topmost (w ∷ []))) (made l is s)
 unfolding made
 made-stands w l is s a = bind-any _ _ _ λ t e. pushNode-stands w _ t a
 
@@ -139,8 +140,8 @@ relabelled : (w : Word) (s : State) (i : ℕ) (ks : List ℕ) → (T (allows w N
 relabelled w s i ks z a = rw (getD-set-same (s .nodes) i (record { label = nodeAt s i .label; kids = ks }) (plain NoneL) (labelled (λ (l : Label). T (allows w l)) (s .nodes) i z a)) a
 
 -- a container on top, which gets items
-added-kept : (w : Word) (why : Refusal) (is : List ℕ) (s : State) → (T (allows w NoneL) → ⊥) → Out (Kept (topmost (w ∷ [])) (topmost (w ∷ [])) s) (added (allows w) why is s)
-unfolding added extend link Kept _>>=_
+added-kept : (w : Word) (why : Refusal) (is : List ℕ) (s : State) → (T (allows w NoneL) → ⊥) → Out (TakenAndLeft (topmost (w ∷ [])) (topmost (w ∷ [])) s) (added (allows w) why is s)
+unfolding added extend link TakenAndLeft _>>=_
 added-kept w why is s z =
     bind _ _ _ _ (top-gives s) λ i h. bind-need _ _ _ _ λ a. join-need _ _ _ _ _ λ u.
     let b = rw (h .1) at a in
@@ -149,70 +150,70 @@ added-kept w why is s z =
 -- ---- the opcodes
 
 -- nothing is taken
-only-leaves : (lv : Kinds) (s : State) (r : Res State) → Out (Stand lv) r → Out (Kept (topmost []) lv s) r
-unfolding Kept
+only-leaves : (lv : Kinds) (s : State) (r : Res State) → Out (Stocked lv) r → Out (TakenAndLeft (topmost []) lv s) r
+unfolding TakenAndLeft
 only-leaves lv s r h = weaken _ _ _ h λ t u. (nothing-stands s, u)
 
-mark-kept : (s : State) → Out (Kept (topmost []) markOnly s) (mark s)
-unfolding mark Kept Stand
+mark-kept : (s : State) → Out (TakenAndLeft (topmost []) markOnly s) (mark s)
+unfolding mark TakenAndLeft Stocked
 mark-kept s = bind-need _ _ _ _ λ h. out _ _ (nothing-stands s, rw length-append (omega arith))
 
-popOne-kept : (s : State) → Out (Kept (topmost (any ∷ [])) (topmost []) s) (popOne s)
-unfolding popOne Kept
+popOne-kept : (s : State) → Out (TakenAndLeft (topmost (any ∷ [])) (topmost []) s) (popOne s)
+unfolding popOne TakenAndLeft
 popOne-kept s = bind _ _ _ _ (pop-gives s) λ p h. out _ _ (any-stands s (h .0), nothing-stands (p .1))
 
-popToMark-kept : (s : State) → Out (Kept (belowMark []) (topmost []) s) (popToMark s)
-unfolding popToMark Kept Stand
+popToMark-kept : (s : State) → Out (TakenAndLeft (belowMark []) (topmost []) s) (popToMark s)
+unfolding popToMark TakenAndLeft Stocked
 popToMark-kept s = bind _ _ _ _ (popMark-gives s) λ p h. out _ _ ((h .0, nothing-ends _ s (h .1)), nothing-stands (p .1))
 
-dup-kept : (s : State) → Out (Kept (topmost (any ∷ [])) (topmost (any ∷ any ∷ [])) s) (dup s)
-unfolding dup pushId Kept Stand Each allows
+dup-kept : (s : State) → Out (TakenAndLeft (topmost (any ∷ [])) (topmost (any ∷ any ∷ [])) s) (dup s)
+unfolding dup pushId TakenAndLeft Stocked Each allows
 dup-kept s = bind _ _ _ _ (top-gives s) λ i h. bind-need _ _ _ _ λ u.
     let z = h .0 in
     out _ _ (any-stands s z, record { start = length (s .stack) - 1; reaches = rw length-append (omega arith); inside = omega arith; each = (tt, (tt, tt)) })
 
 -- LIST, TUPLE, DICT take whatever is above the mark
-gathered-kept : (w : Word) (s : State) (f : List ℕ × State → Res State) → ((p : List ℕ × State) → Out (Stand (topmost (w ∷ []))) (f p)) → Out (Kept (belowMark []) (topmost (w ∷ [])) s) (popMark s >>= f)
-unfolding Kept Stand
+gathered-kept : (w : Word) (s : State) (f : List ℕ × State → Res State) → ((p : List ℕ × State) → Out (Stocked (topmost (w ∷ []))) (f p)) → Out (TakenAndLeft (belowMark []) (topmost (w ∷ [])) s) (popMark s >>= f)
+unfolding TakenAndLeft Stocked
 gathered-kept w s f k = bind _ _ _ _ (popMark-gives s) λ p h. weaken _ _ _ (k p) λ t u. ((h .0, nothing-ends _ s (h .1)), u)
 
-list-kept : (s : State) → Out (Kept (belowMark []) (topmost (aList ∷ [])) s) (list s)
+list-kept : (s : State) → Out (TakenAndLeft (belowMark []) (topmost (aList ∷ [])) s) (list s)
 unfolding list allows
 list-kept s = gathered-kept aList s _ λ p. made-stands aList ListL (p .0) (p .1) tt
 
-tuple-kept : (s : State) → Out (Kept (belowMark []) (topmost (aTuple ∷ [])) s) (tuple s)
+tuple-kept : (s : State) → Out (TakenAndLeft (belowMark []) (topmost (aTuple ∷ [])) s) (tuple s)
 unfolding tuple allows
 tuple-kept s = gathered-kept aTuple s _ λ p. made-stands aTuple TupleL (p .0) (p .1) tt
 
-dict-kept : (s : State) → Out (Kept (belowMark []) (topmost (aDict ∷ [])) s) (dict s)
+dict-kept : (s : State) → Out (TakenAndLeft (belowMark []) (topmost (aDict ∷ [])) s) (dict s)
 unfolding dict allows
 dict-kept s = gathered-kept aDict s _ λ p. bind-any _ _ _ λ x e. made-stands aDict DictL (p .0) (p .1) tt
 
-tupleN-kept : (ws : List Word) (s : State) → ((k : ℕ) → Each ws k s) → Out (Kept (topmost ws) (topmost (aTuple ∷ [])) s) (tupleN (length ws) s)
-unfolding tupleN popMany Kept Stand allows
+tupleN-kept : (ws : List Word) (s : State) → ((k : ℕ) → Each ws k s) → Out (TakenAndLeft (topmost ws) (topmost (aTuple ∷ [])) s) (tupleN (length ws) s)
+unfolding tupleN popMany TakenAndLeft Stocked allows
 tupleN-kept ws s a = join-need _ _ _ _ _ λ h.
     let n = leb→le (length ws) (length (s .stack)) h in
     bind-any _ _ _ λ p e. weaken _ _ _ (made-stands aTuple TupleL (p .0) (p .1) tt) λ t u. (record { start = length (s .stack) - length ws; reaches = omega arith; inside = omega arith; each = a _ }, u)
 
 -- APPENDS and SETITEMS: the container is below the mark
-batch-kept : (w : Word) (s : State) (f : List ℕ × State → Res State) → ((p : List ℕ × State) → Out (Kept (topmost (w ∷ [])) (topmost (w ∷ [])) (p .1)) (f p)) → Out (Kept (belowMark (w ∷ [])) (topmost (w ∷ [])) s) (popMark s >>= f)
-unfolding Kept Stand
+batch-kept : (w : Word) (s : State) (f : List ℕ × State → Res State) → ((p : List ℕ × State) → Out (TakenAndLeft (topmost (w ∷ [])) (topmost (w ∷ [])) (p .1)) (f p)) → Out (TakenAndLeft (belowMark (w ∷ [])) (topmost (w ∷ [])) s) (popMark s >>= f)
+unfolding TakenAndLeft Stocked
 batch-kept w s f k = bind _ _ _ _ (popMark-gives s) λ p h. weaken _ _ _ (k p) λ t u.
     ((h .0, ends-less (w ∷ []) (last (s .marks)) s (p .1) (ap (λ (x : State). x .nodes) (h .2)) (ap (λ (x : State). x .stack) (h .2)) (h .1) (u .0)), u .1)
 
-appends-kept : (s : State) → Out (Kept (belowMark (aList ∷ [])) (topmost (aList ∷ [])) s) (appends s)
+appends-kept : (s : State) → Out (TakenAndLeft (belowMark (aList ∷ [])) (topmost (aList ∷ [])) s) (appends s)
 unfolding appends allows
 appends-kept s = batch-kept aList s _ λ p. added-kept aList _ (p .0) (p .1) (λ h. h)
 
-setitems-kept : (s : State) → Out (Kept (belowMark (aDict ∷ [])) (topmost (aDict ∷ [])) s) (setitems s)
+setitems-kept : (s : State) → Out (TakenAndLeft (belowMark (aDict ∷ [])) (topmost (aDict ∷ [])) s) (setitems s)
 unfolding setitems allows
 setitems-kept s = batch-kept aDict s _ λ p. bind-any _ _ _ λ x e. added-kept aDict _ (p .0) (p .1) (λ h. h)
 
 -- a value popped, and what stood below it
 popped : (ws : List Word) (w : Word) (lv : Kinds) (s : State) (f : ℕ × State → Res State)
-    → ((p : ℕ × State) → 0 < length (s .stack) → p ≡ (last (s .stack), withStack s (butLast (s .stack))) → Out (λ (t : State). Kept (topmost ws) lv (p .1) t × T (allows w (nodeAt s (p .0) .label))) (f p))
-    → Out (Kept (topmost (ws ++ (w ∷ []))) lv s) (pop s >>= f)
-unfolding Kept Stand
+    → ((p : ℕ × State) → 0 < length (s .stack) → p ≡ (last (s .stack), withStack s (butLast (s .stack))) → Out (λ (t : State). TakenAndLeft (topmost ws) lv (p .1) t × T (allows w (nodeAt s (p .0) .label))) (f p))
+    → Out (TakenAndLeft (topmost (ws ++ (w ∷ []))) lv s) (pop s >>= f)
+unfolding TakenAndLeft Stocked
 popped ws w lv s f k = bind _ _ _ _ (pop-gives s) λ p h. weaken _ _ _ (k p (h .0) (h .1)) λ t u.
     let z = h .0 in
     let n : suc (length (s .stack) - 1) ≡ length (s .stack) = omega arith in
@@ -221,20 +222,20 @@ popped ws w lv s f k = bind _ _ _ _ (pop-gives s) λ p h. weaken _ _ _ (k p (h .
     (rw n at (ends-more ws w (length (s .stack) - 1) s b (omega arith) a), u .0 .1)
 
 -- a value of any kind
-popped-any : (ws : List Word) (lv : Kinds) (s : State) (f : ℕ × State → Res State) → ((p : ℕ × State) → Out (Kept (topmost ws) lv (p .1)) (f p)) → Out (Kept (topmost (ws ++ (any ∷ []))) lv s) (pop s >>= f)
+popped-any : (ws : List Word) (lv : Kinds) (s : State) (f : ℕ × State → Res State) → ((p : ℕ × State) → Out (TakenAndLeft (topmost ws) lv (p .1)) (f p)) → Out (TakenAndLeft (topmost (ws ++ (any ∷ []))) lv s) (pop s >>= f)
 unfolding allows
 popped-any ws lv s f k = popped ws any lv s f λ p h e. weaken _ _ _ (k p) λ t u. (u, tt)
 
-append-kept : (s : State) → Out (Kept (topmost (aList ∷ any ∷ [])) (topmost (aList ∷ [])) s) (append s)
+append-kept : (s : State) → Out (TakenAndLeft (topmost (aList ∷ any ∷ [])) (topmost (aList ∷ [])) s) (append s)
 unfolding append allows
 append-kept s = popped-any (aList ∷ []) _ s _ λ p. added-kept aList _ _ (p .1) (λ h. h)
 
-setitem-kept : (s : State) → Out (Kept (topmost (aDict ∷ any ∷ any ∷ [])) (topmost (aDict ∷ [])) s) (setitem s)
+setitem-kept : (s : State) → Out (TakenAndLeft (topmost (aDict ∷ any ∷ any ∷ [])) (topmost (aDict ∷ [])) s) (setitem s)
 unfolding setitem allows
 setitem-kept s = popped-any (aDict ∷ any ∷ []) _ s _ λ p. popped-any (aDict ∷ []) _ (p .1) _ λ q. added-kept aDict _ _ (q .1) (λ h. h)
 
-build-kept : (s : State) → Out (Kept (topmost (anObject ∷ any ∷ [])) (topmost (anObject ∷ [])) s) (buildState s)
-unfolding buildState Kept allows
+build-kept : (s : State) → Out (TakenAndLeft (topmost (anObject ∷ any ∷ [])) (topmost (anObject ∷ [])) s) (buildState s)
+unfolding buildState TakenAndLeft allows
 build-kept s = popped-any (anObject ∷ []) _ s _ λ p. bind _ _ _ _ (top-gives (p .1)) λ i h. bind-need _ _ _ _ λ a.
     let b = rw (h .1) at a in
     out _ _ (top-stands anObject (p .1) (h .0) b, top-stands anObject _ (h .0) (rw (h .1) (relabelled anObject (p .1) (last (p .1 .stack)) _ (λ u. u) b)))
@@ -260,8 +261,8 @@ class-global (GlobalL m n) c e = tt
 class-global (ObjectL m n b) c e = refuses e
 
 -- both pops, the class and the arguments, whatever is made of them
-called-kept : (w : Word) (makes : List ℕ × List ℕ → ℕ → List ℕ → Node) (s : State) → ((c : List ℕ × List ℕ) (args : ℕ) (items : List ℕ) → T (allows w (makes c args items .label))) → Out (Kept (topmost (aGlobal ∷ aTuple ∷ [])) (topmost (w ∷ [])) s) (called makes s)
-unfolding called Kept allows
+called-kept : (w : Word) (makes : List ℕ × List ℕ → ℕ → List ℕ → Node) (s : State) → ((c : List ℕ × List ℕ) (args : ℕ) (items : List ℕ) → T (allows w (makes c args items .label))) → Out (TakenAndLeft (topmost (aGlobal ∷ aTuple ∷ [])) (topmost (w ∷ [])) s) (called makes s)
+unfolding called TakenAndLeft allows
 called-kept w makes s k = popped (aGlobal ∷ []) aTuple _ s _ λ p h e.
     bind _ _ _ _ (pop-gives (p .1)) λ q g. bind-any _ _ _ λ c r. bind-need _ _ _ _ λ a.
     let n : q .1 .nodes ≡ s .nodes = ap (λ (x : ℕ × State). x .1 .nodes) (g .1) ∙ ap (λ (x : ℕ × State). x .1 .nodes) e in
@@ -270,11 +271,11 @@ called-kept w makes s k = popped (aGlobal ∷ []) aTuple _ s _ λ p h e.
     weaken _ _ _ (pushNode-stands w _ (q .1) (k c (p .0) (nodeAt (q .1) (p .0) .kids))) λ t u.
     ((top-stands aGlobal (p .1) (g .0) (rw (m, i) at (class-global (nodeAt (q .1) (q .0) .label) c r)), u), rw n at a)
 
-newobj-kept : (s : State) → Out (Kept (topmost (aGlobal ∷ aTuple ∷ [])) (topmost (anObject ∷ [])) s) (newobj s)
+newobj-kept : (s : State) → Out (TakenAndLeft (topmost (aGlobal ∷ aTuple ∷ [])) (topmost (anObject ∷ [])) s) (newobj s)
 unfolding newobj allows
 newobj-kept s = called-kept anObject _ s λ c args items. tt
 
-reduce-kept : (s : State) → Out (Kept (topmost (aGlobal ∷ aTuple ∷ [])) (topmost (setOrObject ∷ [])) s) (reduce s)
+reduce-kept : (s : State) → Out (TakenAndLeft (topmost (aGlobal ∷ aTuple ∷ [])) (topmost (setOrObject ∷ [])) s) (reduce s)
 unfolding reduce reduced allows
 reduce-kept s = called-kept setOrObject reduced s λ c args items. go c args items (same (c .0) builtin && leb (length items) 1) (same (c .1) setName) (same (c .1) frozensetName)
   where
@@ -285,7 +286,7 @@ reduce-kept s = called-kept setOrObject reduced s λ c args items. go c args ite
     go c args items false b d = tt
 
 -- the PUTs ask for a top, and leave it
-put-stands : (k : ℕ) (s : State) → Out (Stand (topmost (any ∷ []))) (put k s)
+put-stands : (k : ℕ) (s : State) → Out (Stocked (topmost (any ∷ []))) (put k s)
 unfolding put
 put-stands k s = bind _ _ _ _ (top-gives s) λ i h. bind-need _ _ _ _ λ u. out _ _ (any-stands _ (h .0))
 
@@ -294,19 +295,19 @@ unfolding Out
 both P Q (ok a) p q = (p, q)
 both P Q (no why) p q = tt
 
-put-kept : (f : Form) (s : State) (r : Res State) → Out (Claim f (values 0) (values 0) s) r → Out (Stand (topmost (any ∷ []))) r → Out (Kept (topmost (any ∷ [])) (topmost (any ∷ [])) s) r
-unfolding Kept Stand
+put-kept : (f : Form) (s : State) (r : Res State) → Out (Claim f (values 0) (values 0) s) r → Out (Stocked (topmost (any ∷ []))) r → Out (TakenAndLeft (topmost (any ∷ [])) (topmost (any ∷ [])) s) r
+unfolding TakenAndLeft Stocked
 put-kept f s r c h = weaken _ _ _ (both _ _ r c h) λ t u.
     let n = values-count 0 0 (u .0 .then) t (u .0 .did .stacks) in
     let e : length (u .0 .then .stack) ≡ length (s .stack) = ap (λ (x : State). length (x .stack)) (u .0 .reads .rest) in
     let z = u .1 .reaches in
     (any-stands s (omega arith), u .1)
 
-putLine-kept : (s : State) → Out (Kept (topmost (any ∷ [])) (topmost (any ∷ [])) s) (putLine s)
+putLine-kept : (s : State) → Out (TakenAndLeft (topmost (any ∷ [])) (topmost (any ∷ [])) s) (putLine s)
 unfolding putLine
 putLine-kept s = put-kept _ s _ (putLine-claim s) (bind-any _ _ _ λ p e. bind-any _ _ _ λ k e. put-stands k (p .1))
 
-putBytes-kept : (n : ℕ) (f : Form) (s : State) → taken f (s .input) ≡ n → Out (Kept (topmost (any ∷ [])) (topmost (any ∷ [])) s) (putBytes n s)
+putBytes-kept : (n : ℕ) (f : Form) (s : State) → taken f (s .input) ≡ n → Out (TakenAndLeft (topmost (any ∷ [])) (topmost (any ∷ [])) s) (putBytes n s)
 unfolding putBytes
 putBytes-kept n f s e = put-kept _ s _ (putBytes-claim s n f e) (bind-any _ _ _ λ p e. put-stands (p .0) (p .1))
 
@@ -318,74 +319,74 @@ int-allowed (whole z) = tt
 
 -- the values: an argument read, and pushed
 module _ (s : State) where
-  int-kept : Out (Kept (topmost []) (topmost («int_or_bool» ∷ [])) s) (int s)
+  int-kept : Out (TakenAndLeft (topmost []) (topmost («int_or_bool» ∷ [])) s) (int s)
   unfolding int
   int-kept = only-leaves _ s _ (bind-any _ _ _ λ p e. bind-any _ _ _ λ v e. push-stands «int_or_bool» (intLabel v) (p .1) (int-allowed v))
 
-  binint-kept : Out (Kept (topmost []) (topmost (anInt ∷ [])) s) (binint s)
+  binint-kept : Out (TakenAndLeft (topmost []) (topmost (anInt ∷ [])) s) (binint s)
   unfolding binint allows
   binint-kept = only-leaves _ s _ (bind-any _ _ _ λ p e. push-stands anInt _ (p .1) tt)
 
-  binint1-kept : Out (Kept (topmost []) (topmost (anInt ∷ [])) s) (binint1 s)
+  binint1-kept : Out (TakenAndLeft (topmost []) (topmost (anInt ∷ [])) s) (binint1 s)
   unfolding binint1 allows
   binint1-kept = only-leaves _ s _ (bind-any _ _ _ λ p e. push-stands anInt _ (p .1) tt)
 
-  binint2-kept : Out (Kept (topmost []) (topmost (anInt ∷ [])) s) (binint2 s)
+  binint2-kept : Out (TakenAndLeft (topmost []) (topmost (anInt ∷ [])) s) (binint2 s)
   unfolding binint2 allows
   binint2-kept = only-leaves _ s _ (bind-any _ _ _ λ p e. push-stands anInt _ (p .1) tt)
 
-  long-kept : Out (Kept (topmost []) (topmost (anInt ∷ [])) s) (long s)
+  long-kept : Out (TakenAndLeft (topmost []) (topmost (anInt ∷ [])) s) (long s)
   unfolding long allows
   long-kept = only-leaves _ s _ (bind-any _ _ _ λ p e. bind-any _ _ _ λ v e. push-stands anInt _ (p .1) tt)
 
-  longN-kept : (n : ℕ) → Out (Kept (topmost []) (topmost (anInt ∷ [])) s) (longN n s)
+  longN-kept : (n : ℕ) → Out (TakenAndLeft (topmost []) (topmost (anInt ∷ [])) s) (longN n s)
   unfolding longN allows
   longN-kept n = only-leaves _ s _ (bind-any _ _ _ λ p e. bind-any _ _ _ λ q e. bind-any _ _ _ λ v e. push-stands anInt _ (q .1) tt)
 
-  float-kept : Out (Kept (topmost []) (topmost (aFloat ∷ [])) s) (float s)
+  float-kept : Out (TakenAndLeft (topmost []) (topmost (aFloat ∷ [])) s) (float s)
   unfolding float allows
   float-kept = only-leaves _ s _ (bind-any _ _ _ λ p e. bind-any _ _ _ λ v e. push-stands aFloat _ (p .1) tt)
 
-  binfloat-kept : Out (Kept (topmost []) (topmost (aFloat ∷ [])) s) (binfloat s)
+  binfloat-kept : Out (TakenAndLeft (topmost []) (topmost (aFloat ∷ [])) s) (binfloat s)
   unfolding binfloat allows
   binfloat-kept = only-leaves _ s _ (bind-any _ _ _ λ p e. push-stands aFloat _ (p .1) tt)
 
-  string-kept : Out (Kept (topmost []) (topmost («bytes_or_str» ∷ [])) s) (string s)
+  string-kept : Out (TakenAndLeft (topmost []) (topmost («bytes_or_str» ∷ [])) s) (string s)
   unfolding string allows
   string-kept = only-leaves _ s _ (bind-any _ _ _ λ p e. bind-any _ _ _ λ v e. push-stands «bytes_or_str» _ (p .1) tt)
 
-  binstring-kept : Out (Kept (topmost []) (topmost («bytes_or_str» ∷ [])) s) (binstring s)
+  binstring-kept : Out (TakenAndLeft (topmost []) (topmost («bytes_or_str» ∷ [])) s) (binstring s)
   unfolding binstring allows
   binstring-kept = only-leaves _ s _ (bind-any _ _ _ λ p e. bind-any _ _ _ λ n e. bind-any _ _ _ λ q e. push-stands «bytes_or_str» _ (q .1) tt)
 
-  shortBinstring-kept : Out (Kept (topmost []) (topmost («bytes_or_str» ∷ [])) s) (shortBinstring s)
+  shortBinstring-kept : Out (TakenAndLeft (topmost []) (topmost («bytes_or_str» ∷ [])) s) (shortBinstring s)
   unfolding shortBinstring allows
   shortBinstring-kept = only-leaves _ s _ (bind-any _ _ _ λ p e. bind-any _ _ _ λ q e. push-stands «bytes_or_str» _ (q .1) tt)
 
-  unicode-kept : Out (Kept (topmost []) (topmost (str ∷ [])) s) (unicode s)
+  unicode-kept : Out (TakenAndLeft (topmost []) (topmost (str ∷ [])) s) (unicode s)
   unfolding unicode allows
   unicode-kept = only-leaves _ s _ (bind-any _ _ _ λ p e. bind-any _ _ _ λ v e. push-stands str _ (p .1) tt)
 
-  binunicode-kept : Out (Kept (topmost []) (topmost (str ∷ [])) s) (binunicode s)
+  binunicode-kept : Out (TakenAndLeft (topmost []) (topmost (str ∷ [])) s) (binunicode s)
   unfolding binunicode allows
   binunicode-kept = only-leaves _ s _ (bind-any _ _ _ λ p e. bind-any _ _ _ λ q e. push-stands str _ (q .1) tt)
 
-  global-kept : Out (Kept (topmost []) (topmost (aGlobal ∷ [])) s) (global s)
+  global-kept : Out (TakenAndLeft (topmost []) (topmost (aGlobal ∷ [])) s) (global s)
   unfolding global allows
   global-kept = only-leaves _ s _ (bind-any _ _ _ λ p e. bind-any _ _ _ λ q e. push-stands aGlobal _ (q .1) tt)
 
-  push-kept : (w : Word) (l : Label) → T (allows w l) → Out (Kept (topmost []) (topmost (w ∷ [])) s) (push l s)
+  push-kept : (w : Word) (l : Label) → T (allows w l) → Out (TakenAndLeft (topmost []) (topmost (w ∷ [])) s) (push l s)
   push-kept w l a = only-leaves _ s _ (push-stands w l s a)
 
-  getLine-kept : Out (Kept (topmost []) (topmost (any ∷ [])) s) (getLine s)
+  getLine-kept : Out (TakenAndLeft (topmost []) (topmost (any ∷ [])) s) (getLine s)
   unfolding getLine get
   getLine-kept = only-leaves _ s _ (bind-any _ _ _ λ p e. bind-any _ _ _ λ k e. bind-any _ _ _ λ i e. pushId-stands i (p .1))
 
-  getBytes-kept : (n : ℕ) → Out (Kept (topmost []) (topmost (any ∷ [])) s) (getBytes n s)
+  getBytes-kept : (n : ℕ) → Out (TakenAndLeft (topmost []) (topmost (any ∷ [])) s) (getBytes n s)
   unfolding getBytes get
   getBytes-kept n = only-leaves _ s _ (bind-any _ _ _ λ p e. bind-any _ _ _ λ i e. pushId-stands i (p .1))
 
-  proto-kept : (v : ℕ) → Out (Kept (topmost []) (topmost []) s) (proto v s)
+  proto-kept : (v : ℕ) → Out (TakenAndLeft (topmost []) (topmost []) s) (proto v s)
   unfolding proto
   proto-kept v = only-leaves _ s _ (bind-any _ _ _ λ p e. bind-any _ _ _ λ x e. out _ _ (nothing-stands (p .1)))
 
@@ -393,19 +394,19 @@ module _ (s : State) where
 
 unfoldable pub FitsKinds : Option KindRow → State → Next → Type 0
 FitsKinds none s n = ⊥
-FitsKinds (some r) s n = Kept (r .takes) (r .leaves) s (after n)
+FitsKinds (some r) s n = TakenAndLeft (r .takes) (r .leaves) s (after n)
 
-goes-kept : (r : KindRow) (s : State) (x : Res State) → Out (Kept (r .takes) (r .leaves) s) x → Out (FitsKinds (some r) s) (going x)
+goes-kept : (r : KindRow) (s : State) (x : Res State) → Out (TakenAndLeft (r .takes) (r .leaves) s) x → Out (FitsKinds (some r) s) (going x)
 unfolding Out FitsKinds going after
 goes-kept r s (ok t) h = h
 goes-kept r s (no why) h = tt
 
-stop-kept : (r : KindRow) (s : State) → Kept (r .takes) (r .leaves) s s → Out (FitsKinds (some r) s) (ok (stops s))
+stop-kept : (r : KindRow) (s : State) → TakenAndLeft (r .takes) (r .leaves) s s → Out (FitsKinds (some r) s) (ok (stops s))
 unfolding Out FitsKinds after
 stop-kept r s h = h
 
 pub does-kinds : (v : ℕ) (o : Opcode) (s : State) → Out (FitsKinds (kindsOf o) s) (does v o s)
-unfolding does taken kindsOf kindsIn isNamed place allows Each Kept
+unfolding does taken kindsOf kindsIn isNamed place allows Each TakenAndLeft
 does-kinds v MARK s = goes-kept _ s _ (mark-kept s)
 does-kinds v STOP s = stop-kept _ s (nothing-stands s, nothing-stands s)
 does-kinds v POP s = goes-kept _ s _ (popOne-kept s)
@@ -492,8 +493,8 @@ unfolding allAny Each
 each-any [] k s h = tt
 each-any (w ∷ ws) k s h = (any-allowed w _ (and-l (isAny w) (allAny ws) h), each-any ws (suc k) s (and-r (isAny w) (allAny ws) h))
 
-said : (k j : Kinds) (s : State) → T (says k j) → Stand k s → Stand j s
-unfolding says Stand
+said : (k j : Kinds) (s : State) → T (says k j) → Stocked k s → Stocked j s
+unfolding says Stocked
 said (topmost ws) (topmost vs) s h a =
     let n = leb→le (length vs) (length ws) (and-r (allAny vs) _ h) in
     let r = a .reaches in
@@ -504,7 +505,7 @@ said (belowMark ws) j s h a = absurd h
 said markOnly j s h a = absurd h
 
 said-row : (k : KindRow) (r : Option KindRow) (s : State) (n : Next) → T (saysRow k r) → FitsKinds (some k) s n → FitsKinds r s n
-unfolding saysRow FitsKinds Kept
+unfolding saysRow FitsKinds TakenAndLeft
 said-row k none s n h f = absurd h
 said-row k (some r) s n h f =
     (said (k .takes) (r .takes) s (and-l (says (k .takes) (r .takes)) _ h) (f .0), said (k .leaves) (r .leaves) (after n) (and-r (says (k .takes) (r .takes)) _ h) (f .1))

@@ -58,7 +58,7 @@ module _ (ed : Edition) (s : State) (n : ℕ) (rest : List ℕ) (begins : s .inp
   pub proto-forgotten : n ≤ highest ed → finish ed s ≡ finish ed (withInput s rest)
   proto-forgotten h = finish-goes ed s (withInput s rest) (proto-leaves h)
 
--- a pickle with PROTO is read as without
+-- a pickle with PROTO in front runs as without
 pub proto-first : (ed : Edition) (n : ℕ) (p : List ℕ) → n ≤ highest ed → run ed (0x80 ∷ n ∷ p) ≡ run ed p
 unfolding start
 proto-first ed n p h = run-finish ed (0x80 ∷ n ∷ p) ∙ proto-forgotten ed (start (0x80 ∷ n ∷ p)) n p refl h ∙ sym (run-finish ed p)

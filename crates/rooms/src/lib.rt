@@ -1,5 +1,5 @@
 // Rooms made zero, up to a count: the only loops that clear. `clear_words` and its kin store zeros; `zero_words` and its kin look first, which
-// is quicker where a whole room is zero already, as it is after every reading.
+// is quicker where a whole room is zero already, as it is after a reading.
 ghost use mathlib.Core.Bool.{true};
 ghost use mathlib.Core.Path.{_≡_};
 ghost use Prim.Native.Nat.{_≤_};

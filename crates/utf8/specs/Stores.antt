@@ -1,4 +1,4 @@
--- Runs of stores: one behind the other is one run. It stands here because every crate that fills a slice rests on this one.
+-- Runs of stores: one behind the other is one run. It stands here because every crate that puts text or lists into a slice rests on this one.
 use Prim.Native.Nat.{ℕ, suc, _+_}
 use native.Mathlib.Omega.{arith}
 use native.Mathlib.Nat.{add-zero}

@@ -1,5 +1,5 @@
 -- pickletools' words for the values that an opcode takes from the stack and leaves on it (`stack_before`, `stack_after`), one row for
--- each opcode that the Rust knows, in pickletools' order; and the rows where this reader differs. A test holds both against pickletools.
+-- each opcode that the Rust knows, in pickletools' order; and the rows where this reader differs. tests/opcodes holds the first against pickletools and the second against its own list.
 use mathlib.Core.Bool.{Bool, true, false, cond, _&&_, _||_}
 use mathlib.Core.List.{List, [], _∷_, _++_}
 use mathlib.Core.Option.{Option, none, some}

@@ -1,23 +1,23 @@
--- `emit::is_bare` meets its contract. Assumes nothing.
+-- `emit::is_atom` meets its contract. Assumes nothing.
 use borrow.Author.Needs.{needs}
-use Rattle.emit.proofs.is_bare.Statement.{statement}
-use Rattle.emit.proofs.is_bare.Tie as tie
+use Rattle.emit.proofs.is_atom.Statement.{statement}
+use Rattle.emit.proofs.is_atom.Tie as tie
 use native.Mathlib.Omega.{arith}
 use borrow.Author.Tests.{ne-eqb}
 use Rattle.value.specs.Shape.{kindIn}
 use Rattle.steps.specs.NodeWords.{first}
-use Rattle.emit.specs.Leaves.{bare}
+use Rattle.emit.specs.Leaves.{atom}
 
 returns : tie.Need-returns
-unfolding bare
+unfolding atom
 returns c = rw (c .if1 .taken)
 
 shared-slice-read-result : tie.Need-shared-slice-read-result
 shared-slice-read-result c = (c .before .before .pre .0) (omega (arith, (c .before .before .pre .1), (c .before .if1 .left)))
 
 returns-2 : tie.Need-returns-2
-unfolding bare first kindIn
+unfolding atom first kindIn
 returns-2 c = rw (ne-eqb _ 4096 (c .before .if1 .left))
 
-pub is-bare-spec : {M : Type 1} → statement M
-is-bare-spec = tie.close (tie.spec returns (λ c. search needs) (λ c. search needs) shared-slice-read-result returns-2)
+pub is-atom-spec : {M : Type 1} → statement M
+is-atom-spec = tie.close (tie.spec returns (λ c. search needs) (λ c. search needs) shared-slice-read-result returns-2)
