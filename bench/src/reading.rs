@@ -12,8 +12,8 @@ use crate::rooms::Rooms;
 use crate::{hostile, inputs, ours, table};
 
 pub const ABOUT: &str = "the value at the start of a pickle, of sheets and of hostile pickles.
-Ours (qelemvir_from_bytes_prefix) fills a table and text, in rooms that are made once; it makes them zero on each call,
-which is nearly all of the None row. The Rust (from_bytes_prefix) and CPython (pickle.loads, str as bytes) make a value and
+Ours (qelemvir_from_bytes_prefix) fills a table and text, in rooms that are made once; it looks at them on each call,
+and makes zero what is not, which is nearly all of the None row. The Rust (from_bytes_prefix) and CPython (pickle.loads, str as bytes) make a value and
 free it.";
 
 /// A pickle with what the prefix reading must answer, and whether the other sides are asked too.
