@@ -37,14 +37,15 @@ use Rattle.value.specs.Value.{Label, BoolL, I64L, F64L, BytesL, StringL, Global
 use Rattle.decoder.specs.declared.Effect.{Effect}
 use Rattle.decoder.specs.declared.Effect.the-variants.{Push, Go}
 use Rattle.decoder.specs.declared.Part.{Part}
-use Rattle.decoder.specs.declared.Part.the-variants.{Short, At}
+use Rattle.decoder.specs.declared.Part.the-variants.{At}
+use Rattle.decoder.specs.declared.LongRead.the-variants as reads
 use Rattle.steps.specs.State.{ok, no, _>>=_, need, leaf, byte, bytes, push}
-use Rattle.steps.specs.Opcodes.{intLabel, signedLength, proto, longN, binstring, global}
+use Rattle.steps.specs.Opcodes.{intLabel, signedLength, proto, binstring, global}
 use Rattle.steps.specs.Run.{going}
 use Rattle.decoder.specs.Rooms.{Rooms, Counts, stateOf, atTo}
 use Rattle.decoder.specs.Effects.{Sound, Lent, Decides, refusing}
 use Rattle.decoder.specs.Reads.{cutTo, bytes-short, bytes-got, line-none, line-got}
-use Rattle.decoder.specs.ReadsPickle.{Found, counted, counted-is, part, part-inside, part-ends, part-bad, part-push, same-step, makes-i64, Makes, refused-going, says-go, pushed-step, short, enough, ended, lined, first-byte, line-part, line-inside, makes-as, makes-bytes, makes-escaped, makes-unicode, makes-global}
+use Rattle.decoder.specs.ReadsPickle.{Found, counted, ReadsLong, long-got, long-large, Makes, refused-going, says-go, pushed-step, short, enough, ended, lined, first-byte, line-part, line-inside, makes-as, makes-bytes, makes-escaped, makes-unicode, makes-global}
 
 -- ---- PROTO, with v as the highest protocol
 
@@ -125,35 +126,22 @@ module _ (l : List ℕ) (x : F64Literal) (e : f64Read x ≡ parseF64 l) where
   unfolding turned f64Read
   float-outside d = ap (turned F64L) (sym e ∙ ap f64Read d)
 
-module _ (l : List ℕ) (x : Integer) (e : integer x ≡ longOf l) where
-  part-whole : (v : ℕ) → x ≡ integers.Value v → turned I64L (longOf l) ≡ got (I64L v)
-  unfolding turned integer
-  part-whole v d = ap (turned I64L) (sym e ∙ ap integer d)
-
-  part-large : x ≡ integers.TooLarge → turned I64L (longOf l) ≡ refused IntegerTooLarge 0
-  unfolding turned integer
-  part-large d = ap (turned I64L) (sym e ∙ ap integer d)
-
 -- a part from its place to its end
 cut-part : (p : List ℕ) (a m : ℕ) → take (a + m - a) (drop a p) ≡ take m (drop a p)
 cut-part p a m = let e : a + m - a ≡ m = omega arith in rw e
 
--- ---- LONG1, LONG4: t is the part behind a length of n bytes
+-- x is the integer of the part behind a length of n bytes
+module _ (p : List ℕ) (n at : ℕ) (t : Part) (h : Found at p (counted n) t) (a m : ℕ) (e : t ≡ At a m) (x : Integer) (d : integer x ≡ longOf (take (a + m - a) (drop a p))) where
+  part-says : longOf (take m (drop a p)) ≡ integer x
+  part-says = sym (d ∙ ap longOf (cut-part p a m))
 
-module _ (c : Counts) (p : List ℕ) (n : ℕ) (t : Part) (h : Found c (λ r. r .pickle ≡ p) (counted n) t) where
-  by-part : (e : Effect) → Decides c (λ r. r .pickle ≡ p) (λ s. going (part longOf I64L (counted n s))) e → Decides c (λ r. r .pickle ≡ p) (λ s. going (longN n s)) e
-  unfolding longN
-  by-part e = same-step c (λ r. r .pickle ≡ p) (longN n) (λ s. part longOf I64L (counted n s)) e (λ s. counted-is n s (λ q. leaf (longOf (q .0)) >>= λ v. push (I64L v) (q .1)))
+  pub long-value : (v : ℕ) → x ≡ integers.Value v → ReadsLong n at p (reads.At (a + m) v)
+  unfolding integer
+  long-value v k = long-got p n at t h a m e v (part-says ∙ ap integer k)
 
-  pub long-ends : t ≡ Short → Decides c (λ r. r .pickle ≡ p) (λ s. going (longN n s)) (refusing c EndOfInput)
-  long-ends e = by-part (refusing c EndOfInput) (part-ends c p n (λ q. leaf (longOf (q .0)) >>= λ v. push (I64L v) (q .1)) t h e)
-
-  module _ (a m : ℕ) (e : t ≡ At a m) (x : Integer) (d : integer x ≡ longOf (take (a + m - a) (drop a p))) where
-    pub long-pushed : Lent c (λ r. r .pickle ≡ p) → (v : ℕ) → x ≡ integers.Value v → (c₁ : Counts) → c₁ ≡ cutTo c (a + m) (c .stack) (c .marks) → Decides c (λ r. r .pickle ≡ p) (λ s. going (longN n s)) (Push c₁ 2 v)
-    long-pushed l v k c₁ g = by-part (Push c₁ 2 v) (part-push c p n a m t h e longOf I64L _ (cut-part p a m) 2 v _ c₁ (part-inside c p n a m t h e l) (part-whole _ x d v k) (makes-i64 p v) g)
-
-    pub long-large : x ≡ integers.TooLarge → Decides c (λ r. r .pickle ≡ p) (λ s. going (longN n s)) (refusing c IntegerTooLarge)
-    long-large k = by-part (refusing c IntegerTooLarge) (part-bad c p n a m t h e longOf I64L _ (cut-part p a m) IntegerTooLarge _ (part-large _ x d k))
+  pub long-outside : x ≡ integers.TooLarge → ReadsLong n at p (reads.None IntegerTooLarge)
+  unfolding integer
+  long-outside k = long-large p n at t h a m e (part-says ∙ ap integer k)
 
 -- ---- a line's own part
 

@@ -10,9 +10,10 @@ use native.Mathlib.Omega.{arith}
 use mir.Val.{boolByte}
 use Rattle.refusal.specs.Read.{Read, got, refused}
 use Rattle.refusal.specs.declared.Refusal.{Refusal}
-use Rattle.refusal.specs.declared.Refusal.the-variants.{EndOfInput}
+use Rattle.refusal.specs.declared.Refusal.the-variants.{EndOfInput, IntegerTooLarge}
 use Rattle.input.specs.Line.{lineEnd, newlineOf, lineOf, lessCr, newline-first}
 use Rattle.input.specs.Bytes.{lowFirst, lastByte}
+use Rattle.input.specs.Long.{longOf}
 use Rattle.number.specs.Number.{turned}
 use Rattle.utf8.specs.Utf8.{repair}
 use Rattle.text.specs.Pieces.{bytesOf}
@@ -25,8 +26,10 @@ use Rattle.decoder.specs.declared.Effect.{Effect}
 use Rattle.decoder.specs.declared.Part.{Part}
 use Rattle.decoder.specs.declared.Part.the-variants.{Short, At}
 use Rattle.decoder.specs.declared.Effect.the-variants.{Push, Go}
+use Rattle.decoder.specs.declared.LongRead.{LongRead}
+use Rattle.decoder.specs.declared.LongRead.the-variants as reads
 use Rattle.steps.specs.State.{State, Res, ok, no, _>>=_, leaf, plain, bytes, line, push}
-use Rattle.steps.specs.Opcodes.{lowBytes}
+use Rattle.steps.specs.Opcodes.{lowBytes, longN}
 use Rattle.steps.specs.Run.{going}
 use Rattle.decoder.specs.Rooms.{Rooms, Counts, stateOf, atTo}
 use Rattle.steps.specs.NodeWords.{moduleOf, nameOf, nodeIs, HoldsLinks, aList, aTuple, aDict, within-at, node-kind, kind-made, rest-made}
@@ -42,14 +45,36 @@ counted n s = do
   (z, s₁) ← lowBytes n s
   bytes z s₁
 
--- a part of the pickle at or behind the counts' place is what m reads
+-- a part of the pickle is what m reads
 unfoldable pub Is : Part → Rooms → Counts → Res (List ℕ × State) → Type 0
 Is Short r c m = m ≡ no EndOfInput
-Is (At from n) r c m = (m ≡ ok (take n (drop from (r .pickle)), stateOf r (atTo c (from + n)))) × (c .at ≤ from) × (from + n ≤ length (r .pickle))
+Is (At from n) r c m = m ≡ ok (take n (drop from (r .pickle)), stateOf r (atTo c (from + n)))
 
--- in all rooms of which P holds, t is what `reads` reads
-unfoldable pub Found : Counts → (Rooms → Type 0) → (State → Res (List ℕ × State)) → Part → Type 0
-Found c P reads t = (r : Rooms) → Sound r c → P r → Is t r c (reads (stateOf r c))
+-- it stands at or behind a place
+unfoldable pub Behind : ℕ → List ℕ → Part → Type 0
+Behind at p Short = Unit
+Behind at p (At from n) = (at ≤ from) × (from + n ≤ length p)
+
+-- in all rooms with the pickle p and with all counts at this place, t is what `reads` reads
+pub record Found (at : ℕ) (p : List ℕ) (reads : State → Res (List ℕ × State)) (t : Part) : Type 0 where
+  pub behind : Behind at p t
+  pub is : (c : Counts) → c .at ≡ at → (r : Rooms) → Sound r c → r .pickle ≡ p → Is t r c (reads (stateOf r c))
+
+-- the integer of a part whose length is told in n bytes
+unfoldable pub longRead : ℕ → State → Res (ℕ × State)
+longRead n s = do
+  (b, s₁) ← counted n s
+  v ← leaf (longOf b)
+  ok (v, s₁)
+
+-- what the code says of it: why there is none, or the integer and the place behind it
+unfoldable pub IsLong : LongRead → Rooms → Counts → Res (ℕ × State) → Type 0
+IsLong (reads.None why) r c m = m ≡ no why
+IsLong (reads.At a v) r c m = (m ≡ ok (v, stateOf r (atTo c a))) × (c .at ≤ a) × (a ≤ length (r .pickle))
+
+-- in all rooms with the pickle p, with all counts at this place
+unfoldable pub ReadsLong : ℕ → ℕ → List ℕ → LongRead → Type 0
+ReadsLong n at p x = (c : Counts) → c .at ≡ at → (r : Rooms) → Sound r c → r .pickle ≡ p → IsLong x r c (longRead n (stateOf r c))
 
 -- ---- what they are put together to
 
@@ -64,10 +89,6 @@ fixed n label s = bytes n s >>= λ q. push (label (q .0)) (q .1)
 -- the same as an integer, low byte first
 abbrev pub unsigned : ℕ → State → Res State
 unsigned n s = lowBytes n s >>= λ q. push (I64L (q .0)) (q .1)
-
--- the literal of what was read
-abbrev pub part : {A : Type 0} → (List ℕ → Read A) → (A → Label) → Res (List ℕ × State) → Res State
-part read label m = m >>= λ q. leaf (read (q .0)) >>= λ v. push (label v) (q .1)
 
 -- the kinds of values and Globals
 unfoldable pub leafy : ℕ → Bool
@@ -215,51 +236,63 @@ pub counted-is : {A : Type 0} (n : ℕ) (s : State) (f : List ℕ × State → R
 unfolding counted
 counted-is n s f = sym (bind-assoc (lowBytes n s) (λ q. bytes (q .0) (q .1)) f)
 
-module _ (c : Counts) (p : List ℕ) (n : ℕ) where
+module _ (p : List ℕ) (n : ℕ) where
   -- z is the number of the n bytes at the counts' place
-  module _ (z : ℕ) (at : c .at ≤ length p) (h : n ≤ length p - c .at) (e : z ≡ lowFirst (take n (drop (c .at) p))) where
-    behind : (r : Rooms) → Sound r c → r .pickle ≡ p → counted n (stateOf r c) ≡ bytes z (stateOf r (atTo c (c .at + n)))
+  module _ (c : Counts) (z : ℕ) (h : n ≤ length p - c .at) (e : z ≡ lowFirst (take n (drop (c .at) p))) where
+    behind-length : (r : Rooms) → Sound r c → r .pickle ≡ p → counted n (stateOf r c) ≡ bytes z (stateOf r (atTo c (c .at + n)))
     unfolding counted _>>=_
-    behind r s q = low-is n (stateOf r c) (λ x. bytes (x .0) (x .1)) ∙ rw (enough c p n h r s q, e)
+    behind-length r s q = low-is n (stateOf r c) (λ x. bytes (x .0) (x .1)) ∙ rw (enough c p n h r s q, e)
 
-    pub count-short : length p - c .at - n < z → Found c (λ r. r .pickle ≡ p) (counted n) Short
-    unfolding Found Is
-    count-short k r s q = behind r s q ∙ bytes-short r (atTo c (c .at + n)) z (rw q (omega arith)) (rw q (omega arith))
+  -- likewise at any place
+  module _ (at z : ℕ) (l : at ≤ length p) (h : n ≤ length p - at) (e : z ≡ lowFirst (take n (drop at p))) where
+    pub count-short : length p - at - n < z → Found at p (counted n) Short
+    unfolding Behind Is
+    count-short k = record {
+      behind = tt;
+      is = λ c d r s q. behind-length c z (rw d h) (rw d e) r s q ∙ bytes-short r (atTo c (c .at + n)) z (rw (q, d) (omega arith)) (rw (q, d) (omega arith));
+    }
 
-    pub count-got : z ≤ length p - c .at - n → Found c (λ r. r .pickle ≡ p) (counted n) (At (c .at + n) z)
-    unfolding Found Is
-    count-got k r s q = (behind r s q ∙ bytes-got r (atTo c (c .at + n)) z (rw q (omega arith)) (rw q (omega arith)), omega arith, rw q (omega arith))
+    pub count-got : z ≤ length p - at - n → Found at p (counted n) (At (at + n) z)
+    unfolding Behind Is
+    count-got k = record {
+      behind = (omega arith, omega arith);
+      is = λ c d r s q. rw (← d) (behind-length c z (rw d h) (rw d e) r s q ∙ bytes-got r (atTo c (c .at + n)) z (rw (q, d) (omega arith)) (rw (q, d) (omega arith)));
+    }
 
-  pub none-counted : length p - c .at < n → Found c (λ r. r .pickle ≡ p) (counted n) Short
-  unfolding Found Is counted _>>=_
-  none-counted h r s q = low-is n (stateOf r c) (λ x. bytes (x .0) (x .1)) ∙ rw (short c p n h r s q)
+  pub none-counted : (at : ℕ) → length p - at < n → Found at p (counted n) Short
+  unfolding Behind Is counted _>>=_
+  none-counted at h = record {
+    behind = tt;
+    is = λ c d r s q. low-is n (stateOf r c) (λ x. bytes (x .0) (x .1)) ∙ rw (short c p n (rw d h) r s q);
+  }
 
-  pub part-ends : (f : List ℕ × State → Res State) (t : Part) → Found c (λ r. r .pickle ≡ p) (counted n) t → t ≡ Short → Decides c (λ r. r .pickle ≡ p) (λ s. going (counted n s >>= f)) (refusing c EndOfInput)
-  unfolding Found Is
-  part-ends f t h e = refused-step c p (counted n) f EndOfInput (rw e at h)
+-- t is the part behind a length of n bytes
+module _ (p : List ℕ) (n at : ℕ) (t : Part) (h : Found at p (counted n) t) where
+  module _ (e : t ≡ Short) where
+    pub none-found : (c : Counts) → c .at ≡ at → (r : Rooms) → Sound r c → r .pickle ≡ p → counted n (stateOf r c) ≡ no EndOfInput
+    unfolding Is
+    none-found c d r s q = (rw e at h) .is c d r s q
 
-  module _ (a m : ℕ) (t : Part) (h : Found c (λ r. r .pickle ≡ p) (counted n) t) (e : t ≡ At a m) where
-    pub found : (r : Rooms) → Sound r c → r .pickle ≡ p → (counted n (stateOf r c) ≡ ok (take m (drop a p), stateOf r (atTo c (a + m)))) × (c .at ≤ a) × (a + m ≤ length p)
-    unfolding Found Is
-    found r s q =
-        let x = (rw e at h) r s q in
-        (x .0 ∙ ap (λ (l : List ℕ). ok (take m (drop a l), stateOf r (atTo c (a + m)))) q, x .1, rw q at (x .2))
+  module _ (a m : ℕ) (e : t ≡ At a m) where
+    pub found : (c : Counts) → c .at ≡ at → (r : Rooms) → Sound r c → r .pickle ≡ p → counted n (stateOf r c) ≡ ok (take m (drop a p), stateOf r (atTo c (a + m)))
+    unfolding Is
+    found c d r s q = (rw e at h) .is c d r s q ∙ ap (λ (l : List ℕ). ok (take m (drop a l), stateOf r (atTo c (a + m)))) q
 
-    pub part-inside : Lent c (λ r. r .pickle ≡ p) → (c .at ≤ a) × (a + m ≤ length p)
-    part-inside l = let x = found (l .rooms) (l .sound) (l .agrees) in (x .1, x .2)
+    pub part-inside : (at ≤ a) × (a + m ≤ length p)
+    unfolding Behind
+    part-inside = (rw e at h) .behind
 
-    -- l is the part
-    module _ {A : Type 0} (read : List ℕ → Read A) (label : A → Label) (l : List ℕ) (d : l ≡ take m (drop a p)) where
-      pub part-bad : (why : Refusal) (j : ℕ) → turned label (read l) ≡ refused why j → Decides c (λ r. r .pickle ≡ p) (λ s. going (part read label (counted n s))) (refusing c why)
-      unfolding Decides _>>=_
-      part-bad why j f r s q =
-          refused-going r c s why (part read label (counted n (stateOf r c))) (rw (found r s q .0, ← d) (leaf-bad label (read l) why j (stateOf r (atTo c (a + m))) f))
+-- a step f that makes a value of the part: `label` of it
+module _ (c : Counts) (p : List ℕ) (n : ℕ) (t : Part) (h : Found (c .at) p (counted n) t) (label : List ℕ → Label) (f : State → Res State) (by : (s : State) → f s ≡ (counted n s >>= λ q. push (label (q .0)) (q .1))) where
+  pub part-ends : t ≡ Short → Decides c (λ r. r .pickle ≡ p) (λ s. going (f s)) (refusing c EndOfInput)
+  part-ends e = same-step c (λ r. r .pickle ≡ p) f (λ s. counted n s >>= λ q. push (label (q .0)) (q .1)) (refusing c EndOfInput) by (refused-step c p (counted n) (λ q. push (label (q .0)) (q .1)) EndOfInput (none-found p n (c .at) t h e c refl))
 
-      pub part-push : (k b : ℕ) (o : Label) (c₁ : Counts) → (c .at ≤ a) × (a + m ≤ length p) → turned label (read l) ≡ got o → Makes p k b o → c₁ ≡ cutTo c (a + m) (c .stack) (c .marks)
-          → Decides c (λ r. r .pickle ≡ p) (λ s. going (part read label (counted n s))) (Push c₁ k b)
-      unfolding _>>=_
-      part-push k b o c₁ i f w =
-          pushed-step c p (λ s. part read label (counted n s)) (a + m) k b o c₁ (λ r s q. rw (found r s q .0, ← d) (leaf-got label (read l) o (stateOf r (atTo c (a + m))) f)) w (let x = i .0 in omega arith) (i .1)
+  pub part-push : (a m : ℕ) → t ≡ At a m → (k b : ℕ) (c₁ : Counts) → Makes p k b (label (take m (drop a p))) → c₁ ≡ cutTo c (a + m) (c .stack) (c .marks) → Decides c (λ r. r .pickle ≡ p) (λ s. going (f s)) (Push c₁ k b)
+  unfolding _>>=_
+  part-push a m e k b c₁ w =
+      let i = part-inside p n (c .at) t h a m e in
+      let x = i .0 in
+      pushed-step c p f (a + m) k b (label (take m (drop a p))) c₁ (λ r s q. by (stateOf r c) ∙ rw (found p n (c .at) t h a m e c refl r s q)) w (omega arith) (i .1)
 
 -- ---- the words of values and Globals
 
@@ -308,6 +341,49 @@ module _ (p : List ℕ) where
         kind = rw e;
         node = λ ws. rw (node-kind p ws [] (11 + 16 * w) (n * 2 ^ 32 + from) 11 e, rest-made 11 w (omega arith), within-at 24 at m p h, within-at 32 from n p k);
       }
+
+-- ---- LONG1, LONG4
+
+-- x is the integer's reading at a place
+module _ (p : List ℕ) (n at : ℕ) (t : Part) (h : Found at p (counted n) t) where
+  pub long-short : t ≡ Short → ReadsLong n at p (reads.None EndOfInput)
+  unfolding ReadsLong IsLong longRead _>>=_
+  long-short e c d r s q = rw (none-found p n at t h e c d r s q)
+
+  module _ (a m : ℕ) (e : t ≡ At a m) where
+    pub long-large : longOf (take m (drop a p)) ≡ refused IntegerTooLarge 0 → ReadsLong n at p (reads.None IntegerTooLarge)
+    unfolding ReadsLong IsLong longRead leaf _>>=_
+    long-large k c d r s q = rw (found p n at t h a m e c d r s q, k)
+
+    pub long-got : (v : ℕ) → longOf (take m (drop a p)) ≡ got v → ReadsLong n at p (reads.At (a + m) v)
+    unfolding ReadsLong IsLong longRead leaf _>>=_
+    long-got v k c d r s q =
+        let i = part-inside p n at t h a m e in
+        let x = i .0 in
+        (rw (found p n at t h a m e c d r s q, k), rw d (omega arith), rw q (i .1))
+
+-- and what its opcode does with it
+long-is : (n : ℕ) (s : State) → longN n s ≡ (longRead n s >>= λ (x : ℕ × State). push (I64L (x .0)) (x .1))
+unfolding longN longRead _>>=_
+long-is n s = counted-is n s (λ q. leaf (longOf (q .0)) >>= λ v. push (I64L v) (q .1)) ∙ go (counted n s)
+  where
+    integer : (q : List ℕ × State) → Res (ℕ × State)
+    integer q = leaf (longOf (q .0)) >>= λ (v : ℕ). ok (v, q .1)
+
+    go : (m : Res (List ℕ × State)) → (m >>= λ q. leaf (longOf (q .0)) >>= λ (v : ℕ). push (I64L v) (q .1)) ≡ (m >>= integer >>= λ (x : ℕ × State). push (I64L (x .0)) (x .1))
+    go (no why) = refl
+    go (ok q) = sym (bind-assoc (leaf (longOf (q .0))) (λ (v : ℕ). ok (v, q .1)) (λ (x : ℕ × State). push (I64L (x .0)) (x .1)))
+
+module _ (c : Counts) (x : LongRead) (n : ℕ) (p : List ℕ) (h : ReadsLong n (c .at) p x) where
+  pub long-none : (why : Refusal) → x ≡ reads.None why → Decides c (λ r. r .pickle ≡ p) (λ s. going (longN n s)) (refusing c why)
+  unfolding Decides ReadsLong IsLong _>>=_
+  long-none why e r s q = refused-going r c s why (longN n (stateOf r c)) (long-is n (stateOf r c) ∙ rw ((rw e at h) c refl r s q))
+
+  pub long-push : (a v : ℕ) → x ≡ reads.At a v → (c₁ : Counts) → c₁ ≡ cutTo c a (c .stack) (c .marks) → Decides c (λ r. r .pickle ≡ p) (λ s. going (longN n s)) (Push c₁ 2 v)
+  unfolding Decides ReadsLong IsLong _>>=_
+  long-push a v e c₁ d r s q =
+      let z = (rw e at h) c refl r s q in
+      rw d (says-push r c s a 2 v (I64L v) (longN n (stateOf r c)) (long-is n (stateOf r c) ∙ rw (z .0)) (makes-i64 (r .pickle) v) (z .1) (z .2))
 
 -- ---- a line as a place and a length
 

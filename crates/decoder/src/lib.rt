@@ -20,6 +20,7 @@ use text::Quoted;
 use text::string_len;
 use text::unicode_len;
 ghost use mathlib.Core.Bool.{true};
+ghost use mathlib.Core.List.{List};
 ghost use mathlib.Core.Path.{_≡_};
 ghost use Prim.Native.Nat.{ℕ, _+_, _-_, _*_, _^_, _/_, _<_, _≤_};
 ghost use lib.ListN.{length, getD, take, drop};
@@ -28,7 +29,7 @@ ghost use Rattle.steps.specs.Opcodes.{proto, popOne, popToMark, dup, int, binin
 ghost use Rattle.steps.specs.Run.{going};
 ghost use Rattle.decoder.specs.Effects.{Lent, Decides};
 ghost use Rattle.decoder.specs.Reads.{cutTo};
-ghost use Rattle.decoder.specs.ReadsPickle.{Found, counted, unsigned};
+ghost use Rattle.decoder.specs.ReadsPickle.{Found, counted, unsigned, ReadsLong};
 ghost use Rattle.decoder.specs.Items.{TakesMark, GrowingKind, Adds, gathered};
 ghost use Rattle.value.specs.Shape.{kindIn};
 ghost use Rattle.decoder.specs.Rooms.{Absent, Passed, Numbered};
@@ -144,11 +145,10 @@ fn text_word(at: usize, len: usize) -> u64
 }
 
 // A length of `width` bytes, and so many bytes.
-fn counted(pickle: &[u8], c: Counts, width: usize) -> Part
-    requires { ⌜ Lent c (λ r. r .pickle ≡ now pickle) × (width ≤ 8) ⌝ }
-    ensures { λ t. ⌜ Found c (λ r. r .pickle ≡ now (pickle .entry)) (counted width) t ⌝ }
+fn counted(pickle: &[u8], at: usize, width: usize) -> Part
+    requires { ⌜ (at ≤ length (now pickle)) × (width ≤ 8) ⌝ }
+    ensures { λ t. ⌜ Found at (now (pickle .entry)) (counted width) t ⌝ }
 {
-    let at = c.at;
     if pickle.len() - at < width {
         return Part::Short;
     }
@@ -229,20 +229,39 @@ pub fn long(pickle: &[u8], c: Counts) -> Effect
     }
 }
 
-// LONG1, LONG4: bytes that are missing come before an integer that is too large.
-pub fn long_n(pickle: &[u8], c: Counts, width: usize) -> Effect
-    requires { ⌜ Lent c (λ r. r .pickle ≡ now pickle) × (width ≤ 8) ⌝ }
-    ensures { λ e. ⌜ Decides c (λ r. r .pickle ≡ now (pickle .entry)) (λ s. going (longN width s)) e ⌝ }
+// The integer of a LONG1 or LONG4, with the place behind it, or why there is none.
+pub enum LongRead {
+    None(Refusal),
+    At(usize, u64),
+}
+
+// Bytes that are missing come before an integer that is too large. It takes the place, not the counts: where the compiler makes a call of
+// it, they stay in registers.
+pub fn long_at(pickle: &[u8], at: usize, width: usize) -> LongRead
+    requires { ⌜ (at ≤ length (now pickle)) × (width ≤ 8) ⌝ }
+    ensures { λ r. ⌜ ReadsLong width at (now (pickle .entry)) r ⌝ }
 {
-    match counted(pickle, c, width) {
-        Part::Short => Effect::Refused(c, 0, 0, Refusal::EndOfInput),
-        Part::At(at, len) => {
-            let end = at + len;
-            match input::long(&pickle[at..end]) {
-                Integer::Value(v) => Effect::Push(read_to(c, end), KIND_I64, v),
-                Integer::TooLarge => Effect::Refused(c, 0, 0, Refusal::IntegerTooLarge),
+    match counted(pickle, at, width) {
+        Part::Short => LongRead::None(Refusal::EndOfInput),
+        Part::At(from, len) => {
+            let end = from + len;
+            match input::long(&pickle[from..end]) {
+                Integer::Value(v) => LongRead::At(end, v),
+                Integer::TooLarge => LongRead::None(Refusal::IntegerTooLarge),
             }
         }
+    }
+}
+
+// LONG1, LONG4: what was read at the counts' place.
+pub fn long_n(c: Counts, read: LongRead) -> Effect
+    ensures { λ e.
+        ⌜ ((n : ℕ) (p : List ℕ) → ReadsLong n (c .at) p read
+        → Decides c (λ r. r .pickle ≡ p) (λ s. going (longN n s)) e) ⌝ }
+{
+    match read {
+        LongRead::None(why) => Effect::Refused(c, 0, 0, why),
+        LongRead::At(end, v) => Effect::Push(read_to(c, end), KIND_I64, v),
     }
 }
 
@@ -329,7 +348,7 @@ pub fn short_binstring(pickle: &[u8], c: Counts) -> Effect
     requires { ⌜ Lent c (λ r. r .pickle ≡ now pickle) ⌝ }
     ensures { λ e. ⌜ Decides c (λ r. r .pickle ≡ now (pickle .entry)) (λ s. going (shortBinstring s)) e ⌝ }
 {
-    match counted(pickle, c, 1) {
+    match counted(pickle, c.at, 1) {
         Part::Short => Effect::Refused(c, 0, 0, Refusal::EndOfInput),
         Part::At(at, len) => Effect::Push(read_to(c, at + len), KIND_BYTES, text_word(at, len)),
     }
@@ -360,7 +379,7 @@ pub fn binunicode(pickle: &[u8], c: Counts) -> Effect
     requires { ⌜ Lent c (λ r. r .pickle ≡ now pickle) ⌝ }
     ensures { λ e. ⌜ Decides c (λ r. r .pickle ≡ now (pickle .entry)) (λ s. going (binunicode s)) e ⌝ }
 {
-    match counted(pickle, c, 4) {
+    match counted(pickle, c.at, 4) {
         Part::Short => Effect::Refused(c, 0, 0, Refusal::EndOfInput),
         Part::At(at, len) => Effect::Push(read_to(c, at + len), KIND_STRING, text_word(at, len)),
     }

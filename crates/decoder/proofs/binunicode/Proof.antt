@@ -3,30 +3,39 @@ use borrow.Author.Needs.{needs}
 use Rattle.decoder.proofs.binunicode.Statement.{statement}
 use Rattle.decoder.proofs.binunicode.Tie as tie
 use native.Mathlib.Omega.{arith}
-use mathlib.Core.Path.{refl}
-use Rattle.decoder.specs.ReadsPickle.{counted, counted-is, part, part-inside, part-ends, part-push, same-step, lent-size, makes-as, makes-string}
+use mathlib.Core.Path.{_≡_}
+use Rattle.decoder.specs.ReadsPickle.{counted, counted-is, part-inside, part-ends, part-push, lent-at, lent-size, makes-as, makes-string}
 use Rattle.steps.specs.Opcodes.{binunicode}
-use Rattle.steps.specs.State.{_>>=_, leaf, push}
+use Rattle.steps.specs.State.{State, _>>=_, push}
 use Rattle.value.specs.Value.{StringL}
-use Rattle.refusal.specs.Read.{got}
-use Rattle.number.specs.Number.{turned}
 use Rattle.utf8.specs.Utf8.{repair}
 
+by-part : (s : State) → binunicode s ≡ (counted 4 s >>= λ q. push (StringL (repair (q .0))) (q .1))
+unfolding binunicode
+by-part s = counted-is 4 s (λ q. push (StringL (repair (q .0))) (q .1))
+
+counted-requires : tie.Need-counted-requires
+counted-requires c κs = (lent-at _ _ (c .before .pre), omega arith)
+
 add-read-to : tie.Need-add-read-to
-add-read-to c = let h = part-inside _ _ 4 _ _ _ (c .before .before .before .counted .ensures) (c .before .at .given .1) (c .before .before .before .before .before .pre) in let x = h .1 in omega arith
+add-read-to c = let x = part-inside _ _ _ _ (c .before .before .before .counted .ensures) _ _ (c .before .at .given .1) .1 in omega arith
 
 text-word-requires : tie.Need-text-word-requires
-text-word-requires c κs = let h = part-inside _ _ 4 _ _ _ (c .before .before .before .before .counted .ensures) (c .before .before .at .given .1) (c .before .before .before .before .before .before .pre) in let x = h .1 in let z = lent-size _ _ (c .before .before .before .before .before .before .pre) in omega arith
+text-word-requires c κs =
+    let x = part-inside _ _ _ _ (c .before .before .before .before .counted .ensures) _ _ (c .before .before .at .given .1) .1 in
+    let z = lent-size _ _ (c .before .before .before .before .before .before .pre) in
+    omega arith
 
 returns : tie.Need-returns
-unfolding binunicode leaf _>>=_
-returns c = same-step _ _ binunicode (λ s. part got (λ b. StringL (repair b)) (counted 4 s)) _ (λ s. counted-is 4 s (λ q. leaf (got (q .0)) >>= λ v. push (StringL (repair v)) (q .1))) (part-ends _ _ 4 (λ q. leaf (got (q .0)) >>= λ v. push (StringL (repair v)) (q .1)) _ (c .before .before .counted .ensures) (c .enum-told .given .1))
+returns c = part-ends _ _ _ _ (c .before .before .counted .ensures) (λ b. StringL (repair b)) binunicode by-part (c .enum-told .given .1)
 
 returns-2 : tie.Need-returns-2
-unfolding binunicode leaf _>>=_ turned
 returns-2 c =
-    let h = part-inside _ _ 4 _ _ _ (c .before .before .before .before .before .counted .ensures) (c .before .before .before .at .given .1) (c .before .before .before .before .before .before .before .pre) in let x = h .1 in let z = lent-size _ _ (c .before .before .before .before .before .before .before .pre) in
-    same-step _ _ binunicode (λ s. part got (λ b. StringL (repair b)) (counted 4 s)) _ (λ s. counted-is 4 s (λ q. leaf (got (q .0)) >>= λ v. push (StringL (repair v)) (q .1))) (part-push _ _ 4 _ _ _ (c .before .before .before .before .before .counted .ensures) (c .before .before .before .at .given .1) got (λ b. StringL (repair b)) _ refl _ _ _ _ h refl (makes-as _ _ _ _ _ (c .text-word .ensures) (makes-string _ _ _ (omega arith))) (c .before .read-to .ensures))
+    let h = c .before .before .before .before .before .counted .ensures in
+    let e = c .before .before .before .at .given .1 in
+    let x = part-inside _ _ _ _ h _ _ e .1 in
+    let z = lent-size _ _ (c .before .before .before .before .before .before .before .pre) in
+    part-push _ _ _ _ h (λ b. StringL (repair b)) binunicode by-part _ _ e _ _ _ (makes-as _ _ _ _ _ (c .text-word .ensures) (makes-string _ _ _ (omega arith))) (c .before .read-to .ensures)
 
 pub binunicode-spec : {M : Type 1} → statement M
-binunicode-spec = tie.close (tie.spec (λ c κs. search needs) (λ c. search needs) (λ c. search needs) add-read-to (λ c κs. search needs) text-word-requires returns returns-2)
+binunicode-spec = tie.close (tie.spec counted-requires (λ c. search needs) (λ c. search needs) add-read-to (λ c κs. search needs) text-word-requires returns returns-2)

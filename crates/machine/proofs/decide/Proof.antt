@@ -122,11 +122,11 @@ proto-requires c κs = lent _ _ _ _ _ _ _ _ (asked (c .before .before) .before .
 newobj-requires : tie.Need-newobj-requires
 newobj-requires c κs = lent _ _ _ _ _ _ _ _ (asked (c .before) .before .before .if1 .left) _ (start (asked (c .before)) .pre) (λ r a. (a .nodes, a .stack))
 
-long-n-requires : tie.Need-long-n-requires
-long-n-requires c κs = (lent _ _ _ _ _ _ _ _ (asked (c .before) .before .before .if1 .left) _ (start (asked (c .before)) .pre) (λ r a. a .pickle), omega arith)
+long-at-requires : tie.Need-long-at-requires
+long-at-requires c κs = (omega (arith, asked (c .before) .before .before .if1 .left), omega arith)
 
-long-n-requires-2 : tie.Need-long-n-requires-2
-long-n-requires-2 c κs = (lent _ _ _ _ _ _ _ _ (asked (c .before) .before .before .if1 .left) _ (start (asked (c .before)) .pre) (λ r a. a .pickle), omega arith)
+long-at-requires-2 : tie.Need-long-at-requires-2
+long-at-requires-2 c κs = (omega (arith, asked (c .before) .before .before .if1 .left), omega arith)
 
 small-tuple-requires : tie.Need-small-tuple-requires
 small-tuple-requires c κs = (omega (arith, c .before .if2 .left), omega (arith, c .if3 .taken))
@@ -303,11 +303,11 @@ returns-44 c = arm _ _ _ _ _ _ _ _ _ (asked (c .before) .before .before .if1 .le
 
 returns-45 : tie.Need-returns-45
 unfolding does numberOf numberIn isNamed place
-returns-45 c = arm _ _ _ _ _ _ _ _ _ (asked (c .before .before) .before .before .if1 .left) (free (c .before .before)) LONG1 _ _ (c .before .match2 .keys42) (λ r a. a .pickle) (c .long-n .ensures)
+returns-45 c = arm _ _ _ _ _ _ _ _ _ (asked (c .before .before .before) .before .before .if1 .left) (free (c .before .before .before)) LONG1 _ _ (c .before .before .match2 .keys42) (λ r a. a .pickle) (c .long-n .ensures _ _ (c .before .long-at .ensures))
 
 returns-46 : tie.Need-returns-46
 unfolding does numberOf numberIn isNamed place
-returns-46 c = arm _ _ _ _ _ _ _ _ _ (asked (c .before .before) .before .before .if1 .left) (free (c .before .before)) LONG4 _ _ (c .before .match2 .keys43) (λ r a. a .pickle) (c .long-n2 .ensures)
+returns-46 c = arm _ _ _ _ _ _ _ _ _ (asked (c .before .before .before) .before .before .if1 .left) (free (c .before .before .before)) LONG4 _ _ (c .before .before .match2 .keys43) (λ r a. a .pickle) (c .long-n2 .ensures _ _ (c .before .long-at2 .ensures))
 
 returns-47 : tie.Need-returns-47
 returns-47 c = tuples _ _ _ _ _ _ _ _ _ (asked (c .before .before .before .before) .before .before .if1 .left) (free (c .before .before .before .before)) _ (c .before .before .if2 .left) (omega (arith, c .before .if3 .taken)) (c .small-tuple .ensures)
@@ -328,8 +328,8 @@ decide-spec =
     pop-mark-requires dup-requires float-requires int-requires binint-requires unsigned-requires long-requires unsigned-requires-2 reduce-requires
     string-requires binstring-requires short-binstring-requires unicode-requires binunicode-requires append-requires build-state-requires global-requires
     dict-requires appends-requires get-by-requires get-by-requires-2 get-by-requires-3 list-requires put-by-requires put-by-requires-2 put-by-requires-3
-    setitem-requires tuple-requires setitems-requires binfloat-requires (λ c κs. search needs) proto-requires newobj-requires long-n-requires
-    long-n-requires-2 small-tuple-requires returns-2 returns-3 returns-4 returns-5 returns-6 returns-7 returns-8 returns-9 returns-10 returns-11
+    setitem-requires tuple-requires setitems-requires binfloat-requires (λ c κs. search needs) proto-requires newobj-requires long-at-requires
+    (λ c κs. tt) long-at-requires-2 (λ c κs. tt) small-tuple-requires returns-2 returns-3 returns-4 returns-5 returns-6 returns-7 returns-8 returns-9 returns-10 returns-11
     returns-12 returns-13 returns-14 returns-15 returns-16 returns-17 returns-18 returns-19 returns-20 returns-21 returns-22 returns-23 returns-24
     returns-25 returns-26 returns-27 returns-28 returns-29 returns-30 returns-31 returns-32 returns-33 returns-34 returns-35 returns-36 returns-37
     returns-38 returns-39 returns-40 returns-41 returns-42 returns-43 returns-44 returns-45 returns-46 returns-47 returns-48 returns-49)
