@@ -24,7 +24,7 @@ use Rattle.texts.specs.Readable.{Readable, shown-readable, spelled-mark}
 use Rattle.emit.specs.Stores.{sets-before, sets-behind, sets-there}
 use Rattle.emit.specs.Words.{place, recordIn, textIn, writtenW, written-record, written-size, written-text, written-long, kindOf, kind-same, boxed, recordFrom, container-is}
 use Rattle.emit.specs.Places.{written-copyable}
-use Rattle.emit.specs.Leaves.{TextReady, LeafReady, LeafPut, atom, AtomReady, AtomPut, atom-leaf, CopyReady, CopyPut, opened}
+use Rattle.emit.specs.Leaves.{TextReady, LeafReady, LeafPut, below, CopyReady, CopyPut, opened}
 use Rattle.emit.specs.Since.{Stored, Since, since-leaf, since-stored}
 
 -- ---- given
@@ -312,39 +312,54 @@ module _ {p d ws : List ℕ} {i to : ℕ} {marks table bytes : List ℕ} (F : Fl
           let q = ready-label R u in
           leaf-made (R .t) (R .h) (R .v) i to table bytes table′ bytes′ r (R .stands) (R .begun .shown .leaves i (R .known) (ready-below R u) flat-leaf) (R .fits) (rw q l)
 
--- ---- a node with neither text nor contents
+-- ---- a node of a kind before the containers', with its text if it has any
 
-module _ {p d ws starts children log : List ℕ} {i to : ℕ} {marks table bytes : List ℕ} (R : ReadyNode p d ws starts children log i to marks table bytes) (e : atom ws i ≡ true) where
-  atom-small : i < 4096
-  unfolding atom
-  atom-small = go (ℕ-discrete i 4096)
+module _ {p d ws starts children log : List ℕ} {i to : ℕ} {marks table bytes : List ℕ} (R : ReadyNode p d ws starts children log i to marks table bytes) (n : ℕ) (few : n ≤ 6) (e : below n ws i ≡ true) where
+  below-small : i < 4096
+  unfolding below
+  below-small = go (ℕ-discrete i 4096)
     where
       go : Dec (i ≡ 4096) → i < 4096
       go (yes q) = absurd (let x : false ≡ true = rw q at e in let z : _≡_ {A = ℕ} 0 1 = cc in omega arith)
       go (no q) = omega (arith, ready-most R)
 
-  atom-kind : kindOf (first ws i) < 4
-  unfolding atom
-  atom-kind = go (decLt (kindIn (first ws i)) 4)
+  in-below : kindIn (first ws i) < n
+  unfolding below
+  in-below = go (decLt (kindIn (first ws i)) n)
     where
-      go : Dec (kindIn (first ws i) < 4) → kindOf (first ws i) < 4
-      go (yes l) = rw (kind-same (first ws i) (omega arith)) l
-      go (no l) = absurd (let x : false ≡ true = rw (ne-eqb i 4096 (λ q. omega (arith, atom-small)), le-ltb (kindIn (first ws i)) 4 (omega arith)) at e in let z : _≡_ {A = ℕ} 0 1 = cc in omega arith)
+      go : Dec (kindIn (first ws i) < n) → kindIn (first ws i) < n
+      go (yes l) = l
+      go (no l) = absurd (let x : false ≡ true = rw (ne-eqb i 4096 (λ q. omega (arith, below-small)), le-ltb (kindIn (first ws i)) n (omega arith)) at e in let z : _≡_ {A = ℕ} 0 1 = cc in omega arith)
 
-  atom-unboxed : boxed (kindOf (first ws i)) ≡ false
+  below-same : kindOf (first ws i) ≡ kindIn (first ws i)
+  below-same = kind-same (first ws i) (omega (arith, in-below))
+
+  pub below-kind : kindOf (first ws i) < n
+  below-kind = rw below-same in-below
+
+  below-unboxed : boxed (kindOf (first ws i)) ≡ false
   unfolding boxed
-  atom-unboxed = rw (lt-ltb (kindOf (first ws i)) 6 (omega (arith, atom-kind)))
+  below-unboxed = rw (lt-ltb (kindOf (first ws i)) 6 (omega (arith, below-kind)))
 
-  atom-closed : opened ws marks i ≡ false
+  below-closed : opened ws marks i ≡ false
   unfolding opened
-  atom-closed = rw (ne-eqb i 4096 (λ q. omega (arith, atom-small)), atom-unboxed)
+  below-closed = rw (ne-eqb i 4096 (λ q. omega (arith, below-small)), below-unboxed)
 
-  atom-flat : Flat p d ws i to marks table bytes
-  atom-flat = record { starts = starts; children = children; log = log; ready = R; closed = atom-closed }
+  below-flat : Flat p d ws i to marks table bytes
+  below-flat = record { starts = starts; children = children; log = log; ready = R; closed = below-closed }
 
-  pub atom-ready : AtomReady ws i to table
-  atom-ready = let l = flat-leaf-ready atom-flat atom-small atom-unboxed in record { words = ready-readable R atom-small .words; records = l .records; texts = omega (arith, l .texts) }
+  pub below-ready : LeafReady p d ws marks i to table bytes
+  below-ready = flat-leaf-ready below-flat below-small below-unboxed
 
-  pub atom-made : (table′ : List ℕ) (r : ℕ) → AtomPut ws i to table table′ r → Made (R .t) (R .h) (R .v) i to table bytes table′ bytes r
-  unfolding atom-flat
-  atom-made table′ r b = flat-made atom-flat atom-small atom-unboxed table′ bytes r (atom-leaf p d ws marks i to table bytes table′ r (flat-leaf-ready atom-flat atom-small atom-unboxed) atom-kind b)
+  pub below-made : (table′ bytes′ : List ℕ) (r : ℕ) → LeafPut (labelOf p ws i) to table bytes table′ bytes′ r → Made (R .t) (R .h) (R .v) i to table bytes table′ bytes′ r
+  unfolding below-flat
+  below-made table′ bytes′ r l = flat-made below-flat below-small below-unboxed table′ bytes′ r l
+
+  -- but not of one below m
+  pub not-below : (m : ℕ) → below m ws i ≡ false → m ≤ kindOf (first ws i)
+  unfolding below
+  not-below m f = go (decLt (kindIn (first ws i)) m)
+    where
+      go : Dec (kindIn (first ws i) < m) → m ≤ kindOf (first ws i)
+      go (yes l) = absurd (let x : true ≡ false = rw (ne-eqb i 4096 (λ q. omega (arith, below-small)), lt-ltb (kindIn (first ws i)) m l) at f in let z : _≡_ {A = ℕ} 0 1 = cc in omega arith)
+      go (no l) = omega (arith, below-same)

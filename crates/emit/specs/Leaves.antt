@@ -1,13 +1,13 @@
 -- What is written without a walk: a node's text, a leaf, a container once more.
 use Prim.Native.Nat.{ℕ, _+_, _-_, _*_, _^_, _/_, _%_, _<_, _≤_}
 use mathlib.Core.Bool.{Bool, true, false, cond}
-use mathlib.Core.List.{List, [], _++_}
+use mathlib.Core.List.{List, [], _∷_, _++_}
 use mathlib.Core.Path.{_≡_, refl, sym, _∙_, ap}
 use lib.ListN.{length, length-append, getD, take, drop}
 use lib.Seq.{sets}
 use lib.Dec.{eqb, ltb}
 use borrow.Author.Tests.{lt-ltb, le-ltb, ne-eqb}
-use native.Mathlib.Decide.{decLt}
+use native.Mathlib.Decide.{decLt, ℕ-discrete}
 use mathlib.Core.Logic.{_≢_}
 use native.Mathlib.Omega.{arith}
 use native.Mathlib.Numerals.{add-one}
@@ -19,7 +19,7 @@ use Rattle.resolved.specs.Shown.{labelOf, hasText, leading, trailing, leadText,
 use Rattle.texts.specs.Readable.{Readable}
 use Rattle.utf8.specs.Stores.{sets-append}
 use Rattle.emit.specs.Copies.{Copyable}
-use Rattle.emit.specs.Words.{place, recordIn, textIn, writtenW, kindOf, boxed, lengthsOf, recordFrom, textBy, lengthsBy, spoken, text-by, lengths-by, has-text, lengths-all, kind-is, record-is}
+use Rattle.emit.specs.Words.{place, recordIn, textIn, writtenW, kindOf, boxed, lengthsOf, recordFrom, textBy, lengthsBy, spoken, text-by, lengths-by, has-text, lengths-all, kind-is, kind-small, record-is, from-text, from-names}
 
 -- ---- a node's text
 
@@ -55,11 +55,11 @@ module _ (p d ws marks : List ℕ) (i : ℕ) (bytes : List ℕ) (at : ℕ) (g : 
   none : textOf (labelOf p ws i) ≡ [] → lengthsOf (labelOf p ws i) ≡ 0 → TextPut p ws i bytes at bytes 0
   none x y = record { text-is = rw x; lengths = sym y }
 
-  pub texts-small : k < 4 → TextPut p ws i bytes at bytes 0
+  texts-small : k < 4 → TextPut p ws i bytes at bytes 0
   unfolding textBy lengthsBy
   texts-small h = let l = lt-ltb k 4 h in none (text-is-by ∙ rw l) (lengths-is-by ∙ rw l)
 
-  pub texts-box : 4 ≤ k → 6 ≤ k → k < 11 → TextPut p ws i bytes at bytes 0
+  texts-box : 4 ≤ k → 6 ≤ k → k < 11 → TextPut p ws i bytes at bytes 0
   unfolding textBy lengthsBy
   texts-box h₄ h₆ h = let a = le-ltb k 4 h₄ in let b = le-ltb k 6 h₆ in let l = lt-ltb k 11 h in none (text-is-by ∙ rw (a, b, l)) (lengths-is-by ∙ rw (a, b, l))
 
@@ -83,10 +83,10 @@ module _ (p d ws marks : List ℕ) (i : ℕ) (bytes : List ℕ) (at : ℕ) (g : 
     unfolding textBy
     one-text = text-is-by ∙ rw (le-ltb k 4 h₄, lt-ltb k 6 h₆) (sym leads)
 
-    pub lead-room : at + length lead ≤ length bytes
+    lead-room : at + length lead ≤ length bytes
     lead-room = rw (← one-text) (g .room)
 
-    pub texts-lead : (bytes′ : List ℕ) → bytes′ ≡ sets bytes at lead → TextPut p ws i bytes at bytes′ (length lead)
+    texts-lead : (bytes′ : List ℕ) → bytes′ ≡ sets bytes at lead → TextPut p ws i bytes at bytes′ (length lead)
     unfolding lengthsBy
     texts-lead bytes′ s = record { text-is = rw one-text s; lengths = ap length leads ∙ sym (lengths-is-by ∙ rw (le-ltb k 4 h₄, lt-ltb k 6 h₆)) }
 
@@ -141,10 +141,11 @@ module _ (p ws : List ℕ) (i : ℕ) where
       let a = lengths-all (labelOf p ws i) (omega arith) in
       record { table-is = s ∙ ap (sets table (4 * recordIn to)) (q ∙ record-at w (textIn to) 0 1 (l .lengths)); text-is = l .text-is; next = n ∙ rw (l .lengths, a) }
 
--- ---- a value with neither text nor contents: None, a Bool, an I64 or an F64
+-- is it a node of a kind below n?
+unfoldable pub below : ℕ → List ℕ → ℕ → Bool
+below n ws i = cond (eqb i 4096) false (ltb (kindIn (first ws i)) n)
 
-unfoldable pub atom : List ℕ → ℕ → Bool
-atom ws i = cond (eqb i 4096) false (ltb (kindIn (first ws i)) 4)
+-- ---- a value with neither text nor contents: None, a Bool, an I64 or an F64
 
 pub record AtomReady (ws : List ℕ) (i to : ℕ) (table : List ℕ) : Type 0 where
   pub words : 2 * i + 1 < length ws
@@ -155,10 +156,60 @@ pub record AtomPut (ws : List ℕ) (i to : ℕ) (table table′ : List ℕ) (r :
   pub table-is : table′ ≡ sets table (4 * recordIn to) (recordFrom (kindOf (getD ws (2 * i) 0)) (newIn (getD ws (2 * i) 0)) (getD ws (2 * i + 1) 0) 0 (textIn to) 0 1)
   pub next : r ≡ to + 1
 
--- it is a leaf, and the text stays
-pub atom-leaf : (p d ws marks : List ℕ) (i to : ℕ) (table bytes table′ : List ℕ) (r : ℕ) → LeafReady p d ws marks i to table bytes → kindOf (first ws i) < 4 → AtomPut ws i to table table′ r → LeafPut (labelOf p ws i) to table bytes table′ bytes r
-atom-leaf p d ws marks i to table bytes table′ r g h b =
-    leaf-done p ws i to 0 table bytes table′ bytes _ r (g .texts) (texts-small p d ws marks i bytes (textIn to) (g .text-ready) (kindOf (first ws i)) refl h) refl (b .table-is) (b .next ∙ omega arith)
+-- ---- each kind of leaf
+
+module _ {p d ws marks : List ℕ} {i to : ℕ} {table bytes : List ℕ} (g : LeafReady p d ws marks i to table bytes) where
+  leaf-words : 2 * i + 1 < length ws
+  leaf-words = g .text-ready .readable .words
+
+  pub atom-ready : AtomReady ws i to table
+  atom-ready = record { words = leaf-words; records = g .records; texts = omega (arith, g .texts) }
+
+  -- the text stays
+  pub atom-leaf : kindOf (first ws i) < 4 → (table′ : List ℕ) (r : ℕ) → AtomPut ws i to table table′ r → LeafPut (labelOf p ws i) to table bytes table′ bytes r
+  atom-leaf h table′ r b =
+      leaf-done p ws i to 0 table bytes table′ bytes _ r (g .texts) (texts-small p d ws marks i bytes (textIn to) (g .text-ready) (kindOf (first ws i)) refl h) refl (b .table-is) (b .next ∙ omega arith)
+
+  -- Bytes or a String: its text is what leads
+  module _ (h : (4 ≤ kindOf (first ws i)) × (kindOf (first ws i) < 6)) (lead : List ℕ) (q : lead ≡ leadText p d ws marks i) where
+    pub text-room : textIn to + length lead ≤ length bytes
+    text-room = lead-room p d ws marks i bytes (textIn to) (g .text-ready) (kindOf (first ws i)) refl (h .0) (h .1) lead q
+
+    text-put : (bytes′ : List ℕ) → bytes′ ≡ sets bytes (textIn to) lead → TextPut p ws i bytes (textIn to) bytes′ (length lead)
+    text-put = texts-lead p d ws marks i bytes (textIn to) (g .text-ready) (kindOf (first ws i)) refl (h .0) (h .1) lead q
+
+    lead-text : textOf (labelOf p ws i) ≡ lead
+    lead-text = one-text p d ws marks i bytes (textIn to) (g .text-ready) (kindOf (first ws i)) refl (h .0) (h .1) lead q
+
+    pub text-fits : textIn to + length lead ≤ 65536
+    text-fits = rw (← lead-text) (g .texts)
+
+    pub text-leaf : (bytes′ table′ : List ℕ) (r : ℕ) → bytes′ ≡ sets bytes (textIn to) lead → table′ ≡ sets table (4 * recordIn to) (kindOf (first ws i) ∷ textIn to ∷ length lead ∷ 0 ∷ []) → r ≡ to + 1 + 4096 * length lead → LeafPut (labelOf p ws i) to table bytes table′ bytes′ r
+    unfolding first
+    text-leaf bytes′ table′ r s t n =
+        let h₀ = h .0 in
+        let f = text-fits in
+        leaf-done p ws i to (length lead) table bytes table′ bytes′ _ r (g .texts) (text-put bytes′ s) (from-text (kindOf (first ws i)) _ _ _ _ _ _ _ (omega arith) (λ z. omega arith) (λ z. omega arith) h₀ (h .1)) t (n ∙ omega arith)
+
+  -- a Global: its module and name
+  module _ (b : boxed (kindOf (first ws i)) ≡ false) (h : 6 ≤ kindOf (first ws i)) where
+    pub named-kind : kindOf (first ws i) ≡ 11
+    unfolding boxed
+    named-kind = let l = kind-small (first ws i) in go (decLt (kindOf (first ws i)) 11) (ℕ-discrete (kindOf (first ws i)) 12)
+      where
+        go : Dec (kindOf (first ws i) < 11) → Dec (kindOf (first ws i) ≡ 12) → kindOf (first ws i) ≡ 11
+        go (yes l) _ = absurd (let x : true ≡ false = rw (le-ltb (kindOf (first ws i)) 6 h, lt-ltb (kindOf (first ws i)) 11 l) at b in let z : _≡_ {A = ℕ} 0 1 = cc in omega arith)
+        go (no l) (yes e) = absurd (let x : true ≡ false = rw e at b in let z : _≡_ {A = ℕ} 0 1 = cc in omega arith)
+        go (no l) (no e) = omega (arith, kind-small (first ws i))
+
+    module _ (w : ℕ) (bytes′ : List ℕ) (t : TextPut p ws i bytes (textIn to) bytes′ w) where
+      pub names-fit : textIn to + (w / 2 ^ 32 + w % 2 ^ 32) ≤ 65536
+      names-fit = rw (t .lengths, lengths-all (labelOf p ws i) (g .text-ready .short)) (g .texts)
+
+      pub names-leaf : (table′ : List ℕ) (r : ℕ) → table′ ≡ sets table (4 * recordIn to) (kindOf (first ws i) ∷ textIn to ∷ w ∷ 0 ∷ []) → r ≡ place (recordIn to + 1) (textIn to + (w / 2 ^ 32 + w % 2 ^ 32)) → LeafPut (labelOf p ws i) to table bytes table′ bytes′ r
+      unfolding first
+      names-leaf table′ r s n =
+          leaf-done p ws i to w table bytes table′ bytes′ _ r (g .texts) t (from-names (kindOf (first ws i)) _ _ _ _ _ _ _ (omega arith) (omega (arith, named-kind)) (λ z. omega (arith, named-kind)) (omega (arith, named-kind)) (λ z. omega (arith, named-kind))) s n
 
 -- ---- once more: m is the mark of what is written
 

@@ -1,7 +1,7 @@
 // The last pass of the reading: a root's value straight into the lent table and text, records in preorder, each text behind those before
 // it. A container is written once; at any other place its records and its text are copied, text places moved.
 ghost use mathlib.Core.Path.{_≡_};
-ghost use mathlib.Core.Bool.{true, cond};
+ghost use mathlib.Core.Bool.{true, false, cond};
 ghost use mathlib.Core.List.{[], _∷_};
 ghost use Prim.Native.Nat.{_+_, _-_, _*_, _^_, _/_, _%_, _≤_, _<_};
 ghost use lib.ListN.{length, take, drop};
@@ -12,7 +12,7 @@ ghost use Rattle.resolved.specs.Moved.{placed, moves};
 ghost use Rattle.emit.specs.Copies.{Copyable};
 ghost use Rattle.emit.specs.Words.{place, recordIn, textIn, writtenW, kindOf, boxed, recordFrom};
 ghost use Rattle.resolved.specs.Shown.{labelOf};
-ghost use Rattle.emit.specs.Leaves.{TextReady, TextPut, atom, AtomReady, AtomPut, LeafReady, LeafPut, CopyReady, CopyPut, FinishReady, FinishPut, opened};
+ghost use Rattle.emit.specs.Leaves.{TextReady, TextPut, below, AtomReady, AtomPut, LeafReady, LeafPut, CopyReady, CopyPut, FinishReady, FinishPut, opened};
 ghost use Rattle.emit.specs.Calls.{Flat, FlatWrites, Open};
 ghost use Rattle.emit.specs.Turns.{Writes};
 ghost use Rattle.emit.specs.Roots.{Rooted, Emits};
@@ -208,35 +208,6 @@ fn put_names<'a>(
     module.len() as u64 * 0x1_0000_0000 + name.len() as u64
 }
 
-// The text of a node; its lengths in one word.
-fn put_text<'a>(
-    node: NodeId,
-    pickle: &'a [u8],
-    decoded: &'a [u8],
-    nodes: &[u64],
-    marks: &[u64],
-    text: &mut [u8],
-    at: usize,
-) -> u64
-    requires { ⌜ TextReady (now pickle) (now decoded) (now nodes) (now marks) (node .0) (now text) at ⌝ }
-    ensures { λ r. ⌜ TextPut (now (pickle .entry)) (now (nodes .entry)) (node .0) (now (text .entry)) at (now (text .exit)) r ⌝ }
-{
-    let i = node.0;
-    let kind = kind_of(nodes[2 * i]);
-    if kind < value::BYTES {
-        return 0;
-    }
-    if kind < value::LIST {
-        let bytes = texts::lead_part(node, pickle, decoded, nodes, marks);
-        put_bytes(bytes, text, at);
-        return bytes.len() as u64;
-    }
-    if kind < value::GLOBAL {
-        return 0;
-    }
-    put_names(node, pickle, decoded, nodes, marks, text, at)
-}
-
 // The text of a container: only an Object has one, its class's.
 fn put_class<'a>(
     node: NodeId,
@@ -266,6 +237,57 @@ fn behind(to: u64, lengths: u64) -> u64
     to + 1 + 0x1000 * (lengths / 0x1_0000_0000 + lengths % 0x1_0000_0000)
 }
 
+// Is it a node whose kind comes before this one?
+fn is_below(node: NodeId, kind: u64, nodes: &[u64]) -> bool
+    requires { ⌜ (node .0 < 4096 → 2 * node .0 < length (now nodes)) ⌝ }
+    requires { ⌜ node .0 ≤ 4096 ⌝ }
+    ensures { λ r. ⌜ r ≡ below kind (now (nodes .entry)) (node .0) ⌝ }
+{
+    let i = node.0;
+    if i == NOTHING {
+        return false;
+    }
+    nodes[2 * i] % 16 < kind
+}
+
+// A value with neither text nor contents: None, a Bool, an I64 or an F64.
+fn write_atom(node: NodeId, to: u64, nodes: &[u64], table: &mut [u64]) -> u64
+    requires { ⌜ AtomReady (now nodes) (node .0) to (now table) ⌝ }
+    ensures { λ r. ⌜ AtomPut (now (nodes .entry)) (node .0) to (now (table .entry)) (now (table .exit)) r ⌝ }
+{
+    let i = node.0;
+    let words = record_of(nodes[2 * i], nodes[2 * i + 1], 0, to / 0x1000, 0, 1);
+    put_record(table, (to % 0x1000) as usize, words);
+    to + 1
+}
+
+// Bytes or a String.
+fn write_text<'a>(
+    node: NodeId,
+    to: u64,
+    pickle: &'a [u8],
+    decoded: &'a [u8],
+    nodes: &[u64],
+    marks: &[u64],
+    table: &mut [u64],
+    text: &mut [u8],
+) -> u64
+    requires { ⌜ LeafReady (now pickle) (now decoded) (now nodes) (now marks) (node .0) to (now table) (now text) ⌝ }
+    requires { ⌜ (4 ≤ kindOf (first (now nodes) (node .0))) × (kindOf (first (now nodes) (node .0)) < 6) ⌝ }
+    ensures { λ r. ⌜ LeafPut
+        (labelOf (now (pickle .entry)) (now (nodes .entry)) (node .0)) to (now (table .entry))
+        (now (text .entry)) (now (table .exit)) (now (text .exit)) r ⌝ }
+{
+    let i = node.0;
+    let at = to / 0x1000;
+    let bytes = texts::lead_part(node, pickle, decoded, nodes, marks);
+    put_bytes(bytes, text, at as usize);
+    let len = bytes.len() as u64;
+    let words = Record(kind_of(nodes[2 * i]), at, len, 0);
+    put_record(table, (to % 0x1000) as usize, words);
+    to + 1 + 0x1000 * len
+}
+
 // A leaf.
 fn write_leaf<'a>(
     node: NodeId,
@@ -278,15 +300,22 @@ fn write_leaf<'a>(
     text: &mut [u8],
 ) -> u64
     requires { ⌜ LeafReady (now pickle) (now decoded) (now nodes) (now marks) (node .0) to (now table) (now text) ⌝ }
+    requires { ⌜ boxed (kindOf (first (now nodes) (node .0))) ≡ false ⌝ }
     ensures { λ r. ⌜ LeafPut
         (labelOf (now (pickle .entry)) (now (nodes .entry)) (node .0)) to (now (table .entry))
         (now (text .entry)) (now (table .exit)) (now (text .exit)) r ⌝ }
 {
     let i = node.0;
+    let kind = kind_of(nodes[2 * i]);
+    if kind < value::BYTES {
+        return write_atom(node, to, nodes, table);
+    }
+    if kind < value::LIST {
+        return write_text(node, to, pickle, decoded, nodes, marks, table, text);
+    }
     let at = to / 0x1000;
-    let lengths = put_text(node, pickle, decoded, nodes, marks, text, at as usize);
-    let words = record_of(nodes[2 * i], nodes[2 * i + 1], lengths, at, 0, 1);
-    put_record(table, (to % 0x1000) as usize, words);
+    let lengths = put_names(node, pickle, decoded, nodes, marks, text, at as usize);
+    put_record(table, (to % 0x1000) as usize, Record(kind, at, lengths, 0));
     behind(to, lengths)
 }
 
@@ -353,30 +382,6 @@ fn write_flat<'a>(
         return write_again(marks[i], to, table, text);
     }
     write_leaf(node, to, pickle, decoded, nodes, marks, table, text)
-}
-
-// Is it a node with neither text nor contents: None, a Bool, an I64 or an F64?
-fn is_atom(node: NodeId, nodes: &[u64]) -> bool
-    requires { ⌜ (node .0 < 4096 → 2 * node .0 < length (now nodes)) ⌝ }
-    requires { ⌜ node .0 ≤ 4096 ⌝ }
-    ensures { λ r. ⌜ r ≡ atom (now (nodes .entry)) (node .0) ⌝ }
-{
-    let i = node.0;
-    if i == NOTHING {
-        return false;
-    }
-    nodes[2 * i] % 16 < value::BYTES
-}
-
-// Such a value.
-fn write_atom(node: NodeId, to: u64, nodes: &[u64], table: &mut [u64]) -> u64
-    requires { ⌜ AtomReady (now nodes) (node .0) to (now table) ⌝ }
-    ensures { λ r. ⌜ AtomPut (now (nodes .entry)) (node .0) to (now (table .entry)) (now (table .exit)) r ⌝ }
-{
-    let i = node.0;
-    let words = record_of(nodes[2 * i], nodes[2 * i + 1], 0, to / 0x1000, 0, 1);
-    put_record(table, (to % 0x1000) as usize, words);
-    to + 1
 }
 
 // The mark of a container that is written from `to` on and ends at `next`.
@@ -450,8 +455,10 @@ fn write<'a>(
     let mut j = from;
     while j < end {
         let child = NodeId(lists::item(range.log, j, children, log));
-        if is_atom(child, nodes) {
+        if is_below(child, value::BYTES, nodes) {
             next = write_atom(child, next, nodes, table); // most are: no call that lends the texts
+        } else if is_below(child, value::LIST, nodes) {
+            next = write_text(child, next, pickle, decoded, nodes, marks, table, text);
         } else if is_open(child, nodes, marks) {
             next = write(
                 child,

@@ -28,7 +28,7 @@ write-leaf-requires c κs =
     let R = (c .before .before .before .before .before .before .before .before .before .before .before .before .before .pre .ready) in
     let k = (c .before .before .before .before .kind-of .ensures) in
     let b = rw k at (sym (c .before .before .before .is-box .ensures) ∙ (c .before .before .if2 .left)) in
-    flat-leaf-ready (c .before .before .before .before .before .before .before .before .before .before .before .before .before .pre) (omega (arith, ready-most R, (c .before .before .before .before .before .before .if1 .left))) b
+    (flat-leaf-ready (c .before .before .before .before .before .before .before .before .before .before .before .before .before .pre) (omega (arith, ready-most R, (c .before .before .before .before .before .before .if1 .left))) b, b)
 
 returns-3 : tie.Need-returns-3
 unfolding first
