@@ -17,10 +17,10 @@ use lib.Seq.{drop-cons, take-all, drop-drop, getD-drop}
 use Rattle.number.specs.Number.{decimal}
 use Rattle.float.specs.Digits.{digit, lead, past, lead-length, drop-lead}
 use Rattle.number.specs.Space.{same}
-use Rattle.float.specs.Form.{minus, unsigned, fraction, beyond, digits, small, inf, infinity, nan, word, unformed, signedPower, power, exponent}
+use Rattle.float.specs.Form.{minus, behindSign, fraction, beyond, digits, small, inf, infinity, nan, word, unformed, signedPower, power, exponent}
 use Rattle.float.specs.Nearest.{ten-pos}
 use Rattle.float.specs.Scan.{cap, readOn, runOf, Scanned, capped}
-use Rattle.float.specs.declared.Run.{Run}
+use Rattle.float.specs.declared.Digits.{Digits}
 use Rattle.float.specs.declared.Power.the-variants.{Up, Down, Unformed}
 
 -- ---- lists
@@ -44,25 +44,25 @@ pub minus-none : (s : List ℕ) → length s ≤ 0 → false ≡ minus s
 unfolding minus
 minus-none s h = rw (empty-is s h)
 
-pub sign-empty : (s : List ℕ) → length s ≤ 0 → s ≡ unsigned s
-unfolding unsigned
+pub sign-empty : (s : List ℕ) → length s ≤ 0 → s ≡ behindSign s
+unfolding behindSign
 sign-empty s h = rw (empty-is s h)
 
 module _ (s : List ℕ) (h : 0 < length s) where
-  pub sign-off : (getD s 0 0 ≡ 0x2B) ⊎ (getD s 0 0 ≡ 0x2D) → take (length s - 1) (drop 1 s) ≡ unsigned s
-  unfolding unsigned
+  pub sign-off : (getD s 0 0 ≡ 0x2B) ⊎ (getD s 0 0 ≡ 0x2D) → take (length s - 1) (drop 1 s) ≡ behindSign s
+  unfolding behindSign
   sign-off k = part-is s 1 ∙ go s h k
     where
-      go : (t : List ℕ) → 0 < length t → (getD t 0 0 ≡ 0x2B) ⊎ (getD t 0 0 ≡ 0x2D) → drop 1 t ≡ unsigned t
+      go : (t : List ℕ) → 0 < length t → (getD t 0 0 ≡ 0x2B) ⊎ (getD t 0 0 ≡ 0x2D) → drop 1 t ≡ behindSign t
       go [] l e = absurd (omega arith)
       go (b ∷ t) l (inl e) = rw e
       go (b ∷ t) l (inr e) = rw e
 
-  pub sign-none : ((getD s 0 0 ≡ 0x2B) ⊎ (getD s 0 0 ≡ 0x2D) → ⊥) → s ≡ unsigned s
-  unfolding unsigned
+  pub sign-none : ((getD s 0 0 ≡ 0x2B) ⊎ (getD s 0 0 ≡ 0x2D) → ⊥) → s ≡ behindSign s
+  unfolding behindSign
   sign-none k = go s k
     where
-      go : (t : List ℕ) → ((getD t 0 0 ≡ 0x2B) ⊎ (getD t 0 0 ≡ 0x2D) → ⊥) → t ≡ unsigned t
+      go : (t : List ℕ) → ((getD t 0 0 ≡ 0x2B) ⊎ (getD t 0 0 ≡ 0x2D) → ⊥) → t ≡ behindSign t
       go [] n = refl
       go (b ∷ t) n = rw (ne-eqb b 0x2B (λ e. n (inl e)), ne-eqb b 0x2D (λ e. n (inr e)))
 
@@ -102,7 +102,7 @@ decimal-append (d ∷ a) b =
 
 -- ---- a run of digits, with k of them behind
 
-abbrev pub onward : ℕ → ℕ → List ℕ → Run
+abbrev pub onward : ℕ → ℕ → List ℕ → Digits
 onward v k s = record { value = readOn v s; count = k + length (lead s) }
 
 read-capped : (x : ℕ) (t : List ℕ) → readOn (min x cap) t ≡ min (x * 10 ^ length (lead t) + decimal (lead t)) cap
@@ -137,14 +137,14 @@ pub run-end : (v at : ℕ) (s : List ℕ) → v ≤ cap → lead s ≡ [] → re
 unfolding readOn decimal
 run-end v at s h e = rw (e, mul-one, add-zero, add-zero, min-eq-left h)
 
-module _ (v : ℕ) (s : List ℕ) (r : Run) (e : r ≡ runOf v s) where
+module _ (v : ℕ) (s : List ℕ) (r : Digits) (e : r ≡ runOf v s) where
   pub run-count : r .count ≡ length (lead s)
   unfolding runOf
-  run-count = ap (λ (x : Run). x .count) e
+  run-count = ap (λ (x : Digits). x .count) e
 
   pub run-value : r .value ≡ readOn v s
   unfolding runOf
-  run-value = ap (λ (x : Run). x .value) e
+  run-value = ap (λ (x : Digits). x .value) e
 
   pub run-room : r .count ≤ length s
   run-room =
@@ -275,7 +275,7 @@ module _ (m : Bool) (s : List ℕ) where
       let l = lead-length s in
       rw (lt-ltb 0 (length (lead s)) (omega arith), eq-eqb (length (past s)) 0 (omega arith))
 
-pub power-read : (m : Bool) (s : List ℕ) (r : Run) → r ≡ runOf 0 s → (r .count ≡ 0 → ⊥) → length s ≤ r .count
+pub power-read : (m : Bool) (s : List ℕ) (r : Digits) → r ≡ runOf 0 s → (r .count ≡ 0 → ⊥) → length s ≤ r .count
     → cond m (Down (r .value)) (Up (r .value)) ≡ capped (power m s)
 unfolding capped signedPower
 power-read m s r e n h =
@@ -292,13 +292,13 @@ exponent-empty s h = rw (empty-is s h)
 
 module _ (s : List ℕ) (h : 0 < length s) where
   pub exponent-read : (u : List ℕ) (m : Bool) → (getD s 0 0 ≡ 0x45) ⊎ (getD s 0 0 ≡ 0x65)
-      → m ≡ minus (take (length s - 1) (drop 1 s)) → u ≡ unsigned (take (length s - 1) (drop 1 s))
+      → m ≡ minus (take (length s - 1) (drop 1 s)) → u ≡ behindSign (take (length s - 1) (drop 1 s))
       → capped (power m u) ≡ capped (exponent s)
   unfolding exponent
   exponent-read u m k n f = rw (n, f, part-is s 1) (go s h k)
     where
       go : (t : List ℕ) → 0 < length t → (getD t 0 0 ≡ 0x45) ⊎ (getD t 0 0 ≡ 0x65)
-          → capped (power (minus (drop 1 t)) (unsigned (drop 1 t))) ≡ capped (exponent t)
+          → capped (power (minus (drop 1 t)) (behindSign (drop 1 t))) ≡ capped (exponent t)
       go [] l e = absurd (omega arith)
       go (b ∷ t) l (inl e) = rw e
       go (b ∷ t) l (inr e) = rw e

@@ -14,7 +14,7 @@ use Rattle.refusal.specs.Read.{got, refused}
 use Rattle.refusal.specs.declared.Refusal.the-variants.{InvalidLiteral, FloatOutside}
 use Rattle.number.specs.Number.{decimal}
 use Rattle.float.specs.Digits.{lead, past, lead-length}
-use Rattle.float.specs.Form.{minus, unsigned, word, fraction, beyond, digits, Exponent, raised, lowered, unformed, exponent, number, scaled, written}
+use Rattle.float.specs.Form.{minus, behindSign, word, fraction, beyond, digits, Exponent, raised, lowered, unformed, exponent, number, scaled, written}
 use Rattle.float.specs.Scan.{cap, capped, Scanned}
 use Rattle.float.specs.Literal.{signed, inside, bitsOf, within, valued, value, floatLiteral, bits-below}
 use Rattle.float.specs.declared.Mantissa.{Mantissa}
@@ -190,10 +190,10 @@ module _ (m : Bool) (s : List ℕ) (r : Mantissa) (p : Power) (k : Scanned s r) 
 pub shift-room : (s : List ℕ) (r : Mantissa) → Scanned s r → r .shift ≤ length s
 shift-room s r k = rw (k .after) (shift-short s)
 
-pub float-named : (s u : List ℕ) → u ≡ unsigned s → word u ≡ true → refused FloatOutside 0 ≡ floatLiteral s
+pub float-named : (s u : List ℕ) → u ≡ behindSign s → word u ≡ true → refused FloatOutside 0 ≡ floatLiteral s
 unfolding floatLiteral
 float-named s u e w = rw (← e, w)
 
-pub float-number : (s u : List ℕ) (m : Bool) → u ≡ unsigned s → word u ≡ false → m ≡ minus s → value m (written u) ≡ floatLiteral s
+pub float-number : (s u : List ℕ) (m : Bool) → u ≡ behindSign s → word u ≡ false → m ≡ minus s → value m (written u) ≡ floatLiteral s
 unfolding floatLiteral
 float-number s u m e w n = rw (← e, w, n)

@@ -15,9 +15,9 @@ minus [] = false
 minus (b ∷ s) = eqb b 0x2D
 
 -- [+-]?: the text after it
-unfoldable pub unsigned : List ℕ → List ℕ
-unsigned [] = []
-unsigned (b ∷ s) = cond (eqb b 0x2B || eqb b 0x2D) s (b ∷ s)
+unfoldable pub behindSign : List ℕ → List ℕ
+behindSign [] = []
+behindSign (b ∷ s) = cond (eqb b 0x2B || eqb b 0x2D) s (b ∷ s)
 
 -- [. digits*]: the digits after the point
 unfoldable pub fraction : List ℕ → List ℕ
@@ -47,7 +47,7 @@ power m s = cond (ltb 0 (length (lead s)) && eqb (length (past s)) 0) (signedPow
 -- ([eE] [+-]? digits)?: none is 10 ^ 0
 unfoldable pub exponent : List ℕ → Exponent
 exponent [] = raised 0
-exponent (b ∷ s) = cond (eqb b 0x65 || eqb b 0x45) (power (minus s) (unsigned s)) unformed
+exponent (b ∷ s) = cond (eqb b 0x65 || eqb b 0x45) (power (minus s) (behindSign s)) unformed
 
 -- A number as it is written, w * 10 ^ up / 10 ^ down. Document 01's e, the exponent less the digits after the point, is up - down.
 pub data Number : Type 0 where

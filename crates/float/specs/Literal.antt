@@ -15,7 +15,7 @@ use Rattle.refusal.specs.declared.Refusal.{Refusal}
 use Rattle.refusal.specs.declared.Refusal.the-variants.{InvalidLiteral, FloatOutside}
 use Rattle.utf8.specs.Utf8.{valid}
 use Rattle.number.specs.Space.{trimmed}
-use Rattle.float.specs.Form.{minus, unsigned, Number, number, formless, written, word}
+use Rattle.float.specs.Form.{minus, behindSign, Number, number, formless, written, word}
 use Rattle.float.specs.Nearest.{Nearest, middle-up, middle-down, round-nearest, round-below}
 use Rattle.float.specs.declared.F64Literal.{F64Literal}
 use Rattle.float.specs.declared.F64Literal.the-variants.{Bits, Invalid, Outside}
@@ -60,7 +60,7 @@ value m formless = refused InvalidLiteral 0
 
 -- FLOAT's text, white space trimmed. What is FloatOutside here Rust reads: its own `parse::<f64>` has no such bounds.
 unfoldable pub floatLiteral : List ℕ → Read ℕ
-floatLiteral s = cond (word (unsigned s)) (refused FloatOutside 0) (value (minus s) (written (unsigned s)))
+floatLiteral s = cond (word (behindSign s)) (refused FloatOutside 0) (value (minus s) (written (behindSign s)))
 
 -- de.rs, `parse::<f64>`: the line is UTF-8, and its text less White_Space is read
 unfoldable pub parseF64 : List ℕ → Read ℕ
@@ -145,23 +145,23 @@ value-bits m (number w up down) bits a = go (eq-zero-or-pos w)
         let d = value-nearest m w up down bits p a in
         rw (d .sign) (signs m (d .size) (d .below))
 
-literal-value : (s : List ℕ) (bits : ℕ) → floatLiteral s ≡ got bits → value (minus s) (written (unsigned s)) ≡ got bits
+literal-value : (s : List ℕ) (bits : ℕ) → floatLiteral s ≡ got bits → value (minus s) (written (behindSign s)) ≡ got bits
 unfolding floatLiteral
-literal-value s bits a = go (word (unsigned s)) a
+literal-value s bits a = go (word (behindSign s)) a
   where
-    go : (x : Bool) → cond x (refused FloatOutside 0) (value (minus s) (written (unsigned s))) ≡ got bits
-        → value (minus s) (written (unsigned s)) ≡ got bits
+    go : (x : Bool) → cond x (refused FloatOutside 0) (value (minus s) (written (behindSign s))) ≡ got bits
+        → value (minus s) (written (behindSign s)) ≡ got bits
     go true q = never q
     go false q = q
 
 -- every literal that is accepted with w above 0 is its nearest double, with its sign
-pub literal-nearest : (s : List ℕ) (w up down bits : ℕ) → written (unsigned s) ≡ number w up down → 0 < w
+pub literal-nearest : (s : List ℕ) (w up down bits : ℕ) → written (behindSign s) ≡ number w up down → 0 < w
     → floatLiteral s ≡ got bits → Double (minus s) w up down bits
 literal-nearest s w up down bits n p a = value-nearest (minus s) w up down bits p (rw n at (literal-value s bits a))
 
 -- what is read fits a table's word
 pub literal-bits : (s : List ℕ) (bits : ℕ) → floatLiteral s ≡ got bits → bits < 2 ^ 64
-literal-bits s bits a = value-bits (minus s) (written (unsigned s)) bits (literal-value s bits a)
+literal-bits s bits a = value-bits (minus s) (written (behindSign s)) bits (literal-value s bits a)
 
 -- what a line says, its text says
 pub line-literal : (line : List ℕ) (bits : ℕ) → parseF64 line ≡ got bits → floatLiteral (trimmed line) ≡ got bits

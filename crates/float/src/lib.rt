@@ -6,7 +6,7 @@ ghost use mathlib.Core.List.{map};
 ghost use Prim.Native.Nat.{_+_, _-_, _*_, _^_, _<_, _≤_, min};
 ghost use Rattle.number.specs.Space.{same};
 ghost use Rattle.float.specs.Digits.{digit};
-ghost use Rattle.float.specs.Form.{minus, unsigned, power, exponent, written, word};
+ghost use Rattle.float.specs.Form.{minus, behindSign, power, exponent, written, word};
 ghost use Rattle.float.specs.Scan.{cap, runOf, Scanned, capped};
 ghost use Rattle.float.specs.Literal.{f64Read, double, signed, value, floatLiteral, parseF64};
 ghost use Rattle.float.specs.Form as Form;
@@ -19,7 +19,7 @@ pub enum F64Literal {
 }
 
 // A run of digits: its number, or the cap where it is larger, and how many they are.
-struct Run {
+struct Digits {
     value: u64,
     count: usize,
 }
@@ -85,7 +85,7 @@ fn append(value: u64, b: u8) -> u64
 }
 
 // The digits that `text` begins with, put after those of `start`.
-fn digit_run(text: &[u8], start: u64) -> Run
+fn digit_run(text: &[u8], start: u64) -> Digits
     requires { ⌜ start ≤ cap ⌝ }
     ensures { λ r. ⌜ r ≡ runOf start (now (text .entry)) ⌝ }
 {
@@ -96,11 +96,11 @@ fn digit_run(text: &[u8], start: u64) -> Run
         if is_digit(b) {
             value = append(value, b);
         } else {
-            return Run { value, count: at };
+            return Digits { value, count: at };
         }
         at += 1;
     }
-    Run { value, count: at }
+    Digits { value, count: at }
 }
 
 fn is_minus(text: &[u8]) -> bool
@@ -114,7 +114,7 @@ fn is_minus(text: &[u8]) -> bool
 }
 
 fn after_sign(text: &[u8]) -> &[u8]
-    ensures { λ r. ⌜ now r ≡ unsigned (now (text .entry)) ⌝ }
+    ensures { λ r. ⌜ now r ≡ behindSign (now (text .entry)) ⌝ }
 {
     if 0 < text.len() {
         let b = text[0];

@@ -10,8 +10,8 @@ use borrow.Author.Tests.{ne-eqb}
 use Rattle.utf8.specs.Rows.{and-left, and-right}
 use Rattle.output.specs.Decimal.{figures}
 use Rattle.output.specs.Put.{Put, Room, Left, left-more, left-room, room-first}
-use Rattle.list.specs.Listing.{plain, listedByte, listedText}
-use Rattle.list.specs.Verbatim.{Verbatim, Run}
+use Rattle.list.specs.Listing.{printable, listedByte, listedText}
+use Rattle.list.specs.Verbatim.{Verbatim, VerbatimTo}
 
 -- ---- what the branches write
 
@@ -19,11 +19,11 @@ pub listed-slash : {b : ℕ} → b ≡ 0x5C → listedByte b ≡ (b ∷ []) ++ (
 unfolding listedByte
 listed-slash e = rw e
 
-pub listed-plain : {b : ℕ} → (b ≡ 0x5C → ⊥) → plain b ≡ true → listedByte b ≡ b ∷ []
+pub listed-plain : {b : ℕ} → (b ≡ 0x5C → ⊥) → printable b ≡ true → listedByte b ≡ b ∷ []
 unfolding listedByte
 listed-plain {b} n h = rw (ne-eqb b 0x5C n, h)
 
-pub listed-escape : {b : ℕ} → (b ≡ 0x5C → ⊥) → plain b ≡ false → listedByte b ≡ (0x5C ∷ []) ++ ((0x78 ∷ []) ++ figures 16 2 b)
+pub listed-escape : {b : ℕ} → (b ≡ 0x5C → ⊥) → printable b ≡ false → listedByte b ≡ (0x5C ∷ []) ++ ((0x78 ∷ []) ++ figures 16 2 b)
 unfolding listedByte
 listed-escape {b} n h = rw (ne-eqb b 0x5C n, h)
 
@@ -54,11 +54,11 @@ verbatim-length t i n h x = omega (arith, ap length x, length-take n (drop i t),
 pub both : {a b : Bool} (t : List ℕ) (i m n : ℕ) → (a ≡ true → Verbatim t i m) → (b ≡ true → Verbatim t (i + m) n) → (a && b) ≡ true → Verbatim t i (m + n)
 both {a} {b} t i m n x y h = verbatim-then t i m n (x (and-left a b h)) (y (and-right a b h))
 
-pub run-none : (t : List ℕ) (i e : ℕ) → i ≤ e → Run t i e i
+pub run-none : (t : List ℕ) (i e : ℕ) → i ≤ e → VerbatimTo t i e i
 unfolding listedText
 run-none t i e h = let k : i - i ≡ 0 = omega arith in record { ahead = omega arith; within = h; same = rw k }
 
-pub run-more : {t : List ℕ} {i e j : ℕ} (n : ℕ) → j + n ≤ e → Verbatim t j n → Run t i e j → Run t i e (j + n)
+pub run-more : {t : List ℕ} {i e j : ℕ} (n : ℕ) → j + n ≤ e → Verbatim t j n → VerbatimTo t i e j → VerbatimTo t i e (j + n)
 run-more {t} {i} {e} {j} n h y r =
     let k : j + n - i ≡ j - i + n = omega (arith, r .ahead) in
     let s : i + (j - i) ≡ j = omega (arith, r .ahead) in
@@ -82,7 +82,7 @@ rest-part t e i n h = let k : e - i ≡ n + (e - (i + n)) = omega arith in rw (k
 pub rest-length : (t : List ℕ) (e i n : ℕ) → i + n ≤ e → length (rest t e i) ≡ length (listedText (take n (drop i t))) + length (rest t e (i + n))
 rest-length t e i n h = ap length (rest-part t e i n h) ∙ length-append (listedText (take n (drop i t))) (rest t e (i + n))
 
-pub run-length : {t : List ℕ} {e i j : ℕ} → Run t i e j → e ≤ length t → length (rest t e i) ≡ j - i + length (rest t e j)
+pub run-length : {t : List ℕ} {e i j : ℕ} → VerbatimTo t i e j → e ≤ length t → length (rest t e i) ≡ j - i + length (rest t e j)
 run-length {t} {e} {i} {j} r l =
     let k : i + (j - i) ≡ j = omega (arith, r .ahead) in
     omega (arith, rw k at (rest-length t e i (j - i) (omega (arith, r .ahead, r .within))), verbatim-length t i (j - i) (omega (arith, r .ahead, r .within)) (r .same))

@@ -13,14 +13,10 @@ use Rattle.input.specs.Bytes.{Bytes}
 use Rattle.number.specs.Space.{same}
 use Rattle.number.specs.Number.{digits, decimal}
 use Rattle.value.specs.Value.{Label, half, kind, textOf, words, NoneL, BoolL, I64L, F64L, BytesL, StringL, ListL, TupleL, SetL, FrozenSetL, DictL, GlobalL, ObjectL}
-use Rattle.value.specs.Shape.{fitting, and-l, and-r}
+use Rattle.value.specs.Shape.{Words, fitting, and-l, and-r}
 use Rattle.output.specs.Decimal.{figure, figures, noZeros, decimalText, signedText, either-way, decimal-back, decimal-digits, decimal-some, digit-first}
 use Rattle.output.specs.Put.{newline}
-use Rattle.list.specs.Listing.{plain, listedByte, listedText, tab, names, kindName, flag, listedNames, contentOf, line}
-
--- every number is below 2 ^ 64, as in a slice of u64
-abbrev pub Words : List ℕ → Type 0
-Words l = (i : ℕ) → getD l i 0 < 2 ^ 64
+use Rattle.list.specs.Listing.{printable, listedByte, listedText, tab, names, kindName, flag, listedNames, contentOf, line}
 
 -- numbers below a bound, and the parts of a list of them
 module _ (b : ℕ) where
@@ -181,10 +177,10 @@ abbrev textIn : List ℕ → List ℕ
 textIn s = unlisted s nothing
 
 byte-visible : (b : ℕ) → visible (listedByte b) ≡ true
-unfolding listedByte visible plain
-byte-visible b = go (eqb b 0x5C) (plain b) refl
+unfolding listedByte visible printable
+byte-visible b = go (eqb b 0x5C) (printable b) refl
   where
-    go : (t u : Bool) → plain b ≡ u → visible (cond t (0x5C ∷ 0x5C ∷ []) (cond u (b ∷ []) (0x5C ∷ 0x78 ∷ figures 16 2 b))) ≡ true
+    go : (t u : Bool) → printable b ≡ u → visible (cond t (0x5C ∷ 0x5C ∷ []) (cond u (b ∷ []) (0x5C ∷ 0x78 ∷ figures 16 2 b))) ≡ true
     go true u e = refl
     go false true e = visible-more b [] (leb-true 0x20 b (and-left (leb 0x20 b) (leb b 0x7E) e)) refl
     go false false e = figures-visible 16 2 b
@@ -196,7 +192,7 @@ text-visible (b ∷ s) = visible-append (listedByte b) (listedText s) (byte-visi
 
 byte-back : (b : ℕ) (s : List ℕ) → b < 256 → unlisted (listedByte b ++ s) nothing ≡ b ∷ unlisted s nothing
 unfolding listedByte unlisted figures
-byte-back b s h = go (eqb b 0x5C) (plain b) refl
+byte-back b s h = go (eqb b 0x5C) (printable b) refl
   where
     go : (t u : Bool) → eqb b 0x5C ≡ t → unlisted (cond t (0x5C ∷ 0x5C ∷ []) (cond u (b ∷ []) (0x5C ∷ 0x78 ∷ figures 16 2 b)) ++ s) nothing ≡ b ∷ unlisted s nothing
     go true u e = rw (eqb-true b 0x5C e)

@@ -20,7 +20,7 @@ use Rattle.table.specs.CompareLaws.{Identical}
 use Rattle.table.specs.Call.{told, done, answered, answered-full, Call, call-one, call-good}
 use Rattle.output.specs.Whole.{whole-stands, whole-one, put-answered}
 use Rattle.list.specs.Listing.{listing, listing-short}
-use Rattle.list.specs.Back.{Words}
+use Rattle.value.specs.Shape.{Words}
 use Rattle.list.specs.One.{listing-one}
 use Rattle.list.specs.Walk.{Ready, Wrote, Countable, Counted}
 

@@ -5,11 +5,11 @@ use mathlib.Core.List.{[], _∷_}
 use mathlib.Core.Path.{_≡_, refl}
 use Rattle.value.specs.Value.{count, NoneL, BoolL, I64L, F64L, BytesL, ListL, TupleL, DictL, GlobalL, ObjectL, nil, node}
 use Rattle.output.specs.Decimal.{figure, figures, noZeros, decimalText, signedText}
-use Rattle.list.specs.Listing.{plain, listedByte, listedText, names, kindName, flag, listedNames, contentOf, line, listing}
+use Rattle.list.specs.Listing.{printable, listedByte, listedText, names, kindName, flag, listedNames, contentOf, line, listing}
 
 -- what computes on given values
 unfoldable evaluates : Unit {0}
-unfolding figure figures noZeros decimalText signedText plain listedByte listedText names kindName flag listedNames contentOf line listing count
+unfolding figure figures noZeros decimalText signedText printable listedByte listedText names kindName flag listedNames contentOf line listing count
 evaluates = tt
 
 -- document 01's input: ([5], [5])

@@ -11,12 +11,12 @@ use Rattle.output.specs.Put.{newline}
 use Rattle.output.specs.Decimal.{figures, decimalText, signedText, figures-length, decimal-short, signed-short, either-way}
 
 -- bytes 20 to 7E hex stand for themselves
-unfoldable pub plain : ℕ → Bool
-plain b = leb 0x20 b && leb b 0x7E
+unfoldable pub printable : ℕ → Bool
+printable b = leb 0x20 b && leb b 0x7E
 
 -- a byte of a text: a backslash as two; any other as itself, or as `\x` and two lower-case hex digits
 unfoldable pub listedByte : ℕ → List ℕ
-listedByte b = cond (eqb b 0x5C) (0x5C ∷ 0x5C ∷ []) (cond (plain b) (b ∷ []) (0x5C ∷ 0x78 ∷ figures 16 2 b))
+listedByte b = cond (eqb b 0x5C) (0x5C ∷ 0x5C ∷ []) (cond (printable b) (b ∷ []) (0x5C ∷ 0x78 ∷ figures 16 2 b))
 
 -- a text, byte by byte
 unfoldable pub listedText : List ℕ → List ℕ
@@ -92,8 +92,8 @@ unfolding listedByte
 listed-byte-short b =
     let e = figures-length 16 2 b in
     let x : List ℕ = 0x5C ∷ 0x78 ∷ figures 16 2 b in
-    let few : length (cond (plain b) (b ∷ []) x) ≤ 4 = either-way (λ (u : List ℕ). length u ≤ 4) (plain b) (b ∷ []) x (omega arith) (omega arith) in
-    either-way (λ (u : List ℕ). length u ≤ 4) (eqb b 0x5C) (0x5C ∷ 0x5C ∷ []) (cond (plain b) (b ∷ []) x) (omega arith) few
+    let few : length (cond (printable b) (b ∷ []) x) ≤ 4 = either-way (λ (u : List ℕ). length u ≤ 4) (printable b) (b ∷ []) x (omega arith) (omega arith) in
+    either-way (λ (u : List ℕ). length u ≤ 4) (eqb b 0x5C) (0x5C ∷ 0x5C ∷ []) (cond (printable b) (b ∷ []) x) (omega arith) few
 
 listed-short : (s : List ℕ) → length (listedText s) ≤ 4 * length s
 unfolding listedText

@@ -7,11 +7,11 @@ use lib.Dec.{T}
 use lib.ListN.{length, drop, take-append-drop}
 use Rattle.input.specs.Bytes.{Bytes}
 use Rattle.value.specs.Value.{Label, Forest, one, textOf, text, count, size, count-size, words, recordOf, table, nil, node}
-use Rattle.value.specs.Shape.{fitting, shaped, and-l, and-r}
+use Rattle.value.specs.Shape.{Words, fitting, shaped, and-l, and-r}
 use Rattle.value.specs.WellFormed.{WellFormed}
 use Rattle.table.specs.CompareLaws.{Identical}
 use Rattle.list.specs.Listing.{line, listing}
-use Rattle.list.specs.Back.{Words, words-left, words-right, bytes-left, bytes-right, Readable, line-one}
+use Rattle.list.specs.Back.{words-left, words-right, bytes-left, bytes-right, Readable, line-one}
 
 -- values whose table, with the texts from p on, is of words, and whose text is of bytes
 record Lent (f : Forest) (p : ℕ) : Type 0 where

@@ -10,7 +10,7 @@ abbrev pub Verbatim : List ℕ → ℕ → ℕ → Type 0
 Verbatim t i n = listedText (take n (drop i t)) ≡ take n (drop i t)
 
 -- those from i to j, which is not past the end
-pub record Run (t : List ℕ) (i end j : ℕ) : Type 0 where
+pub record VerbatimTo (t : List ℕ) (i end j : ℕ) : Type 0 where
   pub ahead : i ≤ j
   pub within : j ≤ end
   pub same : Verbatim t i (j - i)

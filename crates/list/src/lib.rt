@@ -17,13 +17,13 @@ ghost use lib.ListN.{length, take, drop};
 ghost use Rattle.value.specs.Shape.{namesEnd};
 ghost use Rattle.value.specs.Stands.{labelAt, arityAt, Reads};
 ghost use Rattle.output.specs.Put.{Put, Room};
-ghost use Rattle.list.specs.Listing.{tab, plain, listedByte, listedText, kindName, flag, namesAt, contentOf, line};
-ghost use Rattle.list.specs.Verbatim.{Verbatim, Run};
+ghost use Rattle.list.specs.Listing.{tab, printable, listedByte, listedText, kindName, flag, namesAt, contentOf, line};
+ghost use Rattle.list.specs.Verbatim.{Verbatim, VerbatimTo};
 ghost use Rattle.list.specs.Walk.{Ready, Wrote, Countable, Counted};
 ghost use Rattle.list.specs.Call.{ListCall};
 
 fn stands(byte: u8) -> bool
-    ensures { λ r. ⌜ r ≡ plain byte ⌝ }
+    ensures { λ r. ⌜ r ≡ printable byte ⌝ }
 {
     (0x20 <= byte) & (byte <= 0x7E)
 }
@@ -125,7 +125,7 @@ fn put_eight(text: &[u8], i: usize, output: &mut [u8], at: usize) -> usize
 fn run_by_eight(text: &[u8], from: usize, end: usize) -> usize
     requires { ⌜ from ≤ end ⌝ }
     requires { ⌜ end ≤ length (now text) ⌝ }
-    ensures { λ r. ⌜ Run (now (text .entry)) from end r ⌝ }
+    ensures { λ r. ⌜ VerbatimTo (now (text .entry)) from end r ⌝ }
 {
     let mut i = from;
     while 8 <= end - i {
@@ -138,7 +138,7 @@ fn run_by_eight(text: &[u8], from: usize, end: usize) -> usize
 }
 
 // How long the text of `count` bytes at `from` is. Most texts are one run; the bytes behind it are added with no branch for each.
-fn text_len(text: &[u8], from: usize, count: usize) -> usize
+fn listed_len(text: &[u8], from: usize, count: usize) -> usize
     requires { ⌜ from + count ≤ length (now text) ⌝ }
     requires { ⌜ length (listedText (take count (drop from (now text)))) < 2 ^ 64 ⌝ }
     ensures { λ r. ⌜ r ≡ length (listedText (take count (drop from (now (text .entry))))) ⌝ }
@@ -209,7 +209,7 @@ fn names_len(text: &[u8], from: u64, lengths: u64) -> usize
     let start = from as usize;
     let first = (lengths / 0x1_0000_0000) as usize;
     let second = (lengths % 0x1_0000_0000) as usize;
-    text_len(text, start, first) + 1 + text_len(text, start + first, second)
+    listed_len(text, start, first) + 1 + listed_len(text, start + first, second)
 }
 
 fn put_names(text: &[u8], from: u64, lengths: u64, output: &mut [u8], at: usize) -> usize
@@ -255,7 +255,7 @@ fn content_len(words: &[u64], text: &[u8], i: usize) -> usize
         return 16;
     }
     if kind < LIST {
-        return text_len(text, second as usize, third as usize);
+        return listed_len(text, second as usize, third as usize);
     }
     if kind < GLOBAL {
         return output::digits(second);

@@ -137,13 +137,13 @@ unfoldable pub countsRow : KindRow → Option Row → Bool
 countsRow k none = false
 countsRow k (some r) = counts (k .takes) (r .takes) && counts (k .leaves) (r .leaves)
 
-unfoldable pub counted : List KindRow → Bool
-counted [] = true
-counted (k ∷ t) = countsRow k (rowOf (numberOf (k .opcode))) && counted t
+unfoldable pub allCount : List KindRow → Bool
+allCount [] = true
+allCount (k ∷ t) = countsRow k (rowOf (numberOf (k .opcode))) && allCount t
 
-pub words-counted : T (counted pickletools)
-unfolding counted countsRow counts rowOf rowIn numberOf numberIn isNamed place
-words-counted = tt
+pub words-count : T (allCount pickletools)
+unfolding allCount countsRow counts rowOf rowIn numberOf numberIn isNamed place
+words-count = tt
 
 -- ---- the exceptions say more than pickletools, which says `any` there or names nothing; STOP's says less
 

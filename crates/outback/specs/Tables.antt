@@ -9,7 +9,7 @@ use lib.Dec.{T, eqb, ltb, eqb→eq, ltb→lt}
 use native.Mathlib.Omega.{arith}
 use Rattle.utf8.specs.Utf8.{valid}
 use Rattle.value.specs.Value.{Label, Forest, one, half, textOf, text, count, size, recordOf, table, NoneL, BoolL, I64L, F64L, BytesL, StringL, ListL, TupleL, SetL, FrozenSetL, DictL, GlobalL, ObjectL, nil, node}
-use Rattle.value.specs.Shape.{fitting, shaped, and-l, and-r}
+use Rattle.value.specs.Shape.{Words, fitting, shaped, and-l, and-r}
 use Rattle.value.specs.WellFormed.{WellFormed, isTuple, firstIsTuple, proper, settled}
 use Rattle.ser.specs.Writable.{writable, writableLabel, writableIn}
 use Rattle.outback.specs.SetCalls.{twoArguments, twoArgumentsIn}
@@ -17,11 +17,7 @@ use Rattle.outback.specs.Returnable.{Named, Arguments, arguments, Return
 
 -- ---- words
 
--- every word is below 2^64, as in a slice of u64
-abbrev pub Words : List ℕ → Type 0
-Words l = (i : ℕ) → getD l i 0 < 2 ^ 64
-
--- the same, word by word
+-- `Words`, word by word
 unfoldable EachWord : List ℕ → Type 0
 EachWord [] = Unit {0}
 EachWord (x ∷ l) = (x < 2 ^ 64) × EachWord l

@@ -17,7 +17,8 @@ use Rattle.ser.specs.Image.{pickled}
 use Rattle.ser.specs.Writable.{writableIn}
 use Rattle.outback.specs.SetCalls.{twoArgumentsIn}
 use Rattle.outback.specs.Reading.{Unhindered, value-back}
-use Rattle.outback.specs.Tables.{Words, table-returnable}
+use Rattle.value.specs.Shape.{Words}
+use Rattle.outback.specs.Tables.{table-returnable}
 
 -- the premises on a table of n records in w, with the text t
 pub record Outgoing (w : List ℕ) (n : ℕ) (t : List ℕ) : Type 0 where

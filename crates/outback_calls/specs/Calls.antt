@@ -17,6 +17,7 @@ use Rattle.refusal.specs.declared.Refusal.the-variants.{ShortRoom, BadTable, Ou
 use Rattle.refusal.specs.declared.Which.the-variants.{First}
 use Rattle.refusal.specs.Numbers.{numberOf, refusedAnswer}
 use Rattle.value.specs.Value.{one}
+use Rattle.value.specs.Shape.{Words}
 use Rattle.value.specs.WellFormed.{WellFormed}
 use Rattle.table.specs.Compare.{decided}
 use Rattle.table.specs.CompareLaws.{Identical}
@@ -30,7 +31,7 @@ use Rattle.de.specs.Call.{Left, reading, ReadCall}
 use Rattle.de.specs.Theorems.{call-answer, call-table, call-text}
 use Rattle.outback.specs.Added.{added}
 use Rattle.outback.specs.SetCalls.{twoArgumentsIn}
-use Rattle.outback.specs.Tables.{Words, true-of}
+use Rattle.outback.specs.Tables.{true-of}
 use Rattle.outback.specs.Theorem.{Outgoing, image, gives, out-and-back, no-beginning}
 
 -- ---- the writing

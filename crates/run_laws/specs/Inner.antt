@@ -11,7 +11,7 @@ use Rattle.utf8.specs.Utf8.{valid}
 use Rattle.input.specs.Long.{denotes, inI64, longOf}
 use Rattle.number.specs.Space.{same, trimmed}
 use Rattle.number.specs.Number.{whole, invalid, turned, only, digits, natural, plus, integer, parseI64, parseU32, intLiteral, lessL, longLiteral}
-use Rattle.float.specs.Form.{unsigned, Number, number, formless, word}
+use Rattle.float.specs.Form.{behindSign, Number, number, formless, word}
 use Rattle.float.specs.Literal.{within, valued, value, floatLiteral, parseF64}
 use Rattle.text.specs.declared.Piece.{Piece}
 use Rattle.text.specs.declared.Piece.the-variants.{One, Bad}
@@ -111,7 +111,7 @@ value-inner m formless = tt
 
 pub parseF64-inner : (line : List ℕ) → InnerRead (parseF64 line)
 unfolding parseF64 floatLiteral InnerRead
-parseF64-inner line = either (valid line) _ _ (either (word (unsigned (trimmed line))) _ _ tt (value-inner _ _)) tt
+parseF64-inner line = either (valid line) _ _ (either (word (behindSign (trimmed line))) _ _ tt (value-inner _ _)) tt
 
 -- ---- texts
 

@@ -12,7 +12,7 @@ use Rattle.value.specs.Shape.{fitting, shaped, and-l, and-r}
 use Rattle.value.specs.Stands.{wordAt, labelAt, arityAt, Says}
 use Rattle.value.specs.Tabled.{says-at}
 use Rattle.value.specs.WellFormed.{WellFormed}
-use Rattle.table.specs.Sound.{sizeAt, Words, own}
+use Rattle.table.specs.Sound.{sizeAt, RecordWords, own}
 
 pub record Lies (w t : List ℕ) (i : ℕ) (f : Forest) : Type 0 where
   pub place : ℕ
@@ -89,7 +89,7 @@ module _ {w t : List ℕ} {i : ℕ} {l : Label} {c r : Forest} where
       let says = says-at w t l p i n z y (text c ++ (text r ++ s)) fits e0 d0 b in
       let word : (k : ℕ) → wordAt w i k ≡ getD (recordOf l p n z ++ y) k 0 = λ k. sym (getD-drop (4 * i) w k 0) ∙ ap (λ (a : List ℕ). getD a k 0) e0 in
       let same : (k : ℕ) → k < 4 → wordAt w i k ≡ getD (recordOf l p n z) k 0 = λ k j. word k ∙ List·getD-append (recordOf l p n z) y 0 k (rw (record-length l p n z) j) in
-      let here : Words w i (recordOf (labelAt w t i) p (arityAt w i) z) = rw (says .label, says .arity) (record { w0 = same 0 (lit< tt); w1 = same 1 (lit< tt); w2 = same 2 (lit< tt); w3 = same 3 (lit< tt) }) in
+      let here : RecordWords w i (recordOf (labelAt w t i) p (arityAt w i) z) = rw (says .label, says .arity) (record { w0 = same 0 (lit< tt); w1 = same 1 (lit< tt); w2 = same 2 (lit< tt); w3 = same 3 (lit< tt) }) in
       record {
         says = says;
         sized = own w t i p z here .size (λ o. leaf-size c (arityAt w i) (sym (says .arity)) o);

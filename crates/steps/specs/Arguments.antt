@@ -33,8 +33,8 @@ unfoldable pub lineLength : List ℕ → ℕ
 lineLength i = past (newlineOf i 0)
 
 -- a length of n bytes, and so many bytes
-unfoldable pub counted : ℕ → List ℕ → ℕ
-counted n i = n + lowFirst (take n i)
+unfoldable pub countedLength : ℕ → List ℕ → ℕ
+countedLength n i = n + lowFirst (take n i)
 
 -- string4 has a signed length
 unfoldable pub magnitude : ℤ → ℕ
@@ -48,14 +48,14 @@ taken int4 i = 4
 taken uint1 i = 1
 taken uint2 i = 2
 taken «decimalnl_long» i = lineLength i
-taken long1 i = counted 1 i
-taken long4 i = counted 4 i
+taken long1 i = countedLength 1 i
+taken long4 i = countedLength 4 i
 taken stringnl i = lineLength i
 taken string4 i = 4 + magnitude (denotes (take 4 i))
-taken string1 i = counted 1 i
+taken string1 i = countedLength 1 i
 taken nothing i = 0
 taken unicodestringnl i = lineLength i
-taken unicodestring4 i = counted 4 i
+taken unicodestring4 i = countedLength 4 i
 taken floatnl i = lineLength i
 taken float8 i = 8
 taken uint4 i = 4
@@ -119,8 +119,8 @@ of-bytes : (n : ℕ) (f : Form) (s : State) (g : List ℕ → State → Res Stat
 of-bytes n f s g e k = bind _ _ _ _ (bytes-read n s) λ p h. claim f (values 0) (values 1) s (p .1) _ (rw e (h .1)) (k (p .0) (p .1))
 
 -- bytes with their number before them
-of-counted : (n : ℕ) (f : Form) (s : State) (g : List ℕ → State → Res State) → taken f (s .input) ≡ counted n (s .input) → ((a : List ℕ) (t : State) → Out (Did (values 0) (values 1) t) (g a t)) → Out (Claim f (values 0) (values 1) s) (lowBytes n s >>= λ p. bytes (p .0) (p .1) >>= λ q. g (q .0) (q .1))
-unfolding counted
+of-counted : (n : ℕ) (f : Form) (s : State) (g : List ℕ → State → Res State) → taken f (s .input) ≡ countedLength n (s .input) → ((a : List ℕ) (t : State) → Out (Did (values 0) (values 1) t) (g a t)) → Out (Claim f (values 0) (values 1) s) (lowBytes n s >>= λ p. bytes (p .0) (p .1) >>= λ q. g (q .0) (q .1))
+unfolding countedLength
 of-counted n f s g e k = bind _ _ _ _ (lowBytes-read n s) λ p h. bind _ _ _ _ (bytes-read (p .0) (p .1)) λ q u. claim f (values 0) (values 1) s (q .1) _ (rw (e, ← h .0) (reads-more n (p .0) s (p .1) (q .1) (h .1) (u .1))) (k (q .0) (q .1))
 
 sized : (z : ℤ) (n : ℕ) → signedLength z ≡ ok n → magnitude z ≡ n
@@ -177,7 +177,7 @@ module _ (s : State) where
   unfolding binunicode taken Right
   binunicode-claim = of-counted 4 unicodestring4 s _ refl λ v t. push-did (StringL _) t refl
 
-  pub longN-claim : (n : ℕ) (f : Form) → taken f (s .input) ≡ counted n (s .input) → Out (Claim f (values 0) (values 1) s) (longN n s)
+  pub longN-claim : (n : ℕ) (f : Form) → taken f (s .input) ≡ countedLength n (s .input) → Out (Claim f (values 0) (values 1) s) (longN n s)
   unfolding longN Right
   longN-claim n f e = of-counted n f s _ e λ v t. bind-leaf _ _ _ λ z h. push-did (I64L z) t refl
 

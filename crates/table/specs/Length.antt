@@ -14,7 +14,7 @@ use Rattle.value.specs.Tabled.{table-stands}
 use Rattle.value.specs.WellFormed.{WellFormed}
 use Rattle.table.specs.Record.{Below, below, right1, spanOf, back1, back-text}
 use Rattle.table.specs.Complete.{parts, same-at, says-first}
-use Rattle.table.specs.Sound.{Words, same-words, own}
+use Rattle.table.specs.Sound.{RecordWords, same-words, own}
 
 -- Bytes, String, Global and Object have text
 unfoldable pub hasText : ℕ → Bool
@@ -53,7 +53,7 @@ module _ (w t : List ℕ) (short : length t ≤ 65536) where
   unfolding lastEnd labelAt arityAt
   record-end i p z l n y says e b q last =
       let a = wordAt w i 0 in
-      let r : Words w i (recordOf (labelAt w t i) p (arityAt w i) z) = rw (says .label, says .arity) (same-words w i (recordOf l p n z) (same-at w t i p n z l y e)) in
+      let r : RecordWords w i (recordOf (labelAt w t i) p (arityAt w i) z) = rw (says .label, says .arity) (same-words w i (recordOf l p n z) (same-at w t i p n z l y e)) in
       let o = own w t i p z r in
       let x = drop (wordAt w i 1) t in
       let long : length (textOf l) ≡ spanOf (kindIn a) (wordAt w i 2) = ap (λ (m : Label). length (textOf m)) (sym (says .label)) ∙ back-text a (wordAt w i 1) (wordAt w i 2) p z x (o .known) (o .fit) in

@@ -67,13 +67,13 @@ both {a = true} h = (refl, h)
 both {a = false} h = let z : _≡_ {A = ℕ} 0 1 = cc in absurd (omega arith)
 
 -- the four words of record i
-pub record Words (w : List ℕ) (i : ℕ) (r : List ℕ) : Type 0 where
+pub record RecordWords (w : List ℕ) (i : ℕ) (r : List ℕ) : Type 0 where
   pub w0 : wordAt w i 0 ≡ getD r 0 0
   pub w1 : wordAt w i 1 ≡ getD r 1 0
   pub w2 : wordAt w i 2 ≡ getD r 2 0
   pub w3 : wordAt w i 3 ≡ getD r 3 0
 
-pub same-words : (w : List ℕ) (i : ℕ) (r : List ℕ) → same w i r ≡ true → Words w i r
+pub same-words : (w : List ℕ) (i : ℕ) (r : List ℕ) → same w i r ≡ true → RecordWords w i r
 unfolding same
 same-words w i r h =
     let a = both h in
@@ -90,7 +90,7 @@ same-words w i r h =
 record Closed (w : List ℕ) (i p : ℕ) (l : Label) (m : ℕ) (s : Found) (f : Forest) (j e : ℕ) : Type 0 where
   contents : Forest
   found : s ≡ good contents j e
-  right : Words w i (recordOf l p m (suc (size contents)))
+  right : RecordWords w i (recordOf l p m (suc (size contents)))
   suits : T (proper l contents)
   is : f ≡ node l contents nil
 
@@ -177,7 +177,7 @@ four w i h =
     let b3 : drop (k + 3) w ≡ getD w (k + 3) 0 ∷ drop (4 * (i + 1)) w = drop-cons w (k + 3) 0 (omega arith) ∙ ap (λ (m : ℕ). getD w (k + 3) 0 ∷ drop m w) a4 in
     b0 ∙ ap (λ (v : List ℕ). getD w (k + 0) 0 ∷ v) (b1 ∙ ap (λ (v : List ℕ). getD w (k + 1) 0 ∷ v) (b2 ∙ ap (λ (v : List ℕ). getD w (k + 2) 0 ∷ v) b3))
 
-record-at : (w : List ℕ) (i : ℕ) (l : Label) (p n z : ℕ) → 4 * i + 4 ≤ length w → Words w i (recordOf l p n z) → drop (4 * i) w ≡ recordOf l p n z ++ drop (4 * (i + 1)) w
+record-at : (w : List ℕ) (i : ℕ) (l : Label) (p n z : ℕ) → 4 * i + 4 ≤ length w → RecordWords w i (recordOf l p n z) → drop (4 * i) w ≡ recordOf l p n z ++ drop (4 * (i + 1)) w
 record-at w i l p n z h r = four w i h ∙ rw (words-three l p n z, r .w0, r .w1, r .w2, r .w3)
 
 module _ (w t : List ℕ) (i p z : ℕ) where
@@ -190,7 +190,7 @@ module _ (w t : List ℕ) (i p z : ℕ) where
     pub inside : p ≤ length t → p + length (textOf (labelAt w t i)) ≤ length t
     pub size : (arityAt w i ≡ 0 → z ≡ 1) → sizeAt w i ≡ z
 
-  pub own : Words w i (recordOf (labelAt w t i) p (arityAt w i) z) → Own
+  pub own : RecordWords w i (recordOf (labelAt w t i) p (arityAt w i) z) → Own
   unfolding labelAt arityAt
   own r =
       let a = wordAt w i 0 in
@@ -219,7 +219,7 @@ leaf-size (node l c r) m e h = absurd (omega arith)
 
 module _ (w : List ℕ) (n : ℕ) (t : List ℕ) (room : 4 * n ≤ length w) where
   -- a label with its contents
-  node-placed : (k i p : ℕ) (c : Forest) (j e : ℕ) → i < n → p ≤ length t → Words w i (recordOf (labelAt w t i) p (arityAt w i) (suc (size c))) → T (proper (labelAt w t i) c)
+  node-placed : (k i p : ℕ) (c : Forest) (j e : ℕ) → i < n → p ≤ length t → RecordWords w i (recordOf (labelAt w t i) p (arityAt w i) (suc (size c))) → T (proper (labelAt w t i) c)
       → Placed w n t (arityAt w i) k (i + 1) (p + length (textOf (labelAt w t i))) c j e → Placed w n t 1 (suc k) i p (node (labelAt w t i) c nil) j e
   unfolding count shaped settled depth size table text Sized
   node-placed k i p c j e lt b r suits q =

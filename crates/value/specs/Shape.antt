@@ -13,6 +13,10 @@ use native.Mathlib.Omega.{arith}
 use Rattle.value.specs.declared.Head.{Head}
 use Rattle.value.specs.Value.{Label, Forest, bit, half, kind, textOf, count, word0, words, NoneL, BoolL, I64L, F64L, BytesL, StringL, ListL, TupleL, SetL, FrozenSetL, DictL, GlobalL, ObjectL, nil, node}
 
+-- every word is below 2^64, as in a slice of u64
+abbrev pub Words : List ℕ → Type 0
+Words l = (i : ℕ) → getD l i 0 < 2 ^ 64
+
 -- ---- word 0
 
 unfoldable pub kindIn : ℕ → ℕ

@@ -24,8 +24,8 @@ not-float c = head (c .before .before .before)
 abbrev names : tie.Else5 → tie.After-head-of
 names c = not-float (c .before .before)
 
-text-len-requires : tie.Need-text-len-requires
-text-len-requires c κs =
+listed-len-requires : tie.Need-listed-len-requires
+listed-len-requires c κs =
     let h = not-float (c .before) in
     (text-fits (opened h) (omega arith) (c .if4 .taken), omega (arith, ap length (content-text (opened h) (omega arith) (c .if4 .taken)), start h .pre .1))
 
@@ -42,7 +42,7 @@ content-len-spec =
     (λ c. content-one (opened (head (c .before))) (c .if1 .taken))
     (λ c κs. search needs) (λ c. c .signed-len .ensures ∙ sym (ap length (content-int (opened (head (c .before .before .before))) (c .before .if2 .taken))))
     (λ c. sym (ap length (content-float (opened (head (c .before .before .before))) (c .if3 .taken)) ∙ figures-length 16 16 _))
-    text-len-requires (λ c. c .text-len .ensures ∙ sym (ap length (content-text (opened (not-float (c .before .before))) (omega arith) (c .before .if4 .taken))))
+    listed-len-requires (λ c. c .listed-len .ensures ∙ sym (ap length (content-text (opened (not-float (c .before .before))) (omega arith) (c .before .if4 .taken))))
     (λ c κs. search needs)
     (λ c. c .digits .ensures ∙ sym (ap length (content-count (opened (not-float (c .before .before .before))) (omega arith) (c .before .if5 .taken))))
     (λ c κs. let h = names c in (names-fit (opened h) (omega arith), omega (arith, names-few (opened h) (omega arith), start h .pre .1)))

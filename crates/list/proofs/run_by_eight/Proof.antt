@@ -3,13 +3,13 @@ use Prim.Native.Nat.{_-_}
 use native.Mathlib.Omega.{arith}
 use borrow.Author.Needs.{needs}
 use borrow.Author.Tests.{not-false}
-use Rattle.list.specs.Verbatim.{Run}
+use Rattle.list.specs.Verbatim.{VerbatimTo}
 use Rattle.list.proofs.Laws.{run-none, run-more}
 use Rattle.list.proofs.run_by_eight.Statement.{statement}
 use Rattle.list.proofs.run_by_eight.Tie as tie
 
 abbrev Inv-loop : tie.InvT-loop
-Inv-loop text from end i₀ i = Run text from end i
+Inv-loop text from end i₀ i = VerbatimTo text from end i
 
 abbrev μ-loop : tie.MeasureT-loop
 μ-loop text from end i₀ i = end - i

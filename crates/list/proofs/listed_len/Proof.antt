@@ -1,11 +1,11 @@
--- `list::text_len` meets its contract: a run, and the bytes behind it. Assumes nothing.
+-- `list::listed_len` meets its contract: a run, and the bytes behind it. Assumes nothing.
 use native.Mathlib.Omega.{arith}
 use mathlib.Core.Path.{ap}
 use lib.ListN.{length}
 use borrow.Author.Needs.{needs}
 use Rattle.list.proofs.Laws.{rest-all, run-length}
-use Rattle.list.proofs.text_len.Statement.{statement}
-use Rattle.list.proofs.text_len.Tie as tie
+use Rattle.list.proofs.listed_len.Statement.{statement}
+use Rattle.list.proofs.listed_len.Tie as tie
 
 each-len-requires : tie.Need-each-len-requires
 each-len-requires c κs =
@@ -20,8 +20,8 @@ returns c =
     let a = start .args in
     omega (arith, run-length (run .run-by-eight .ensures) (start .pre .0), ap length (rest-all (a .text .now) (a .from) (a .count)))
 
-pub text-len-spec : {M : Type 1} → statement M
-text-len-spec =
+pub listed-len-spec : {M : Type 1} → statement M
+listed-len-spec =
     tie.close
     (tie.spec
     (λ c. search needs) (λ c κs. search needs)
