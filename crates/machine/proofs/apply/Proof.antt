@@ -2,7 +2,9 @@
 use borrow.Author.Needs.{needs}
 use Rattle.machine.proofs.apply.Statement.{statement}
 use Rattle.machine.proofs.apply.Tie as tie
-use mathlib.Core.Path.{refl}
+use mathlib.Core.Path.{_≡_, refl, subst}
+use Rattle.decoder.specs.declared.Effect.{Effect}
+use Rattle.decoder.specs.Rooms.{Rooms}
 use Rattle.decoder.specs.Effects.{Fits, enacted}
 use Rattle.effects.specs.Push.{PushNode, PushId, PutMark}
 use Rattle.effects.specs.Containers.{MakesNode, Extends}
@@ -11,66 +13,121 @@ use Rattle.effects.specs.Words.{Builds}
 use Rattle.machine.specs.Lent.{roomsOf}
 use Rattle.machine.specs.Applied.{Applies, push-lengths, share-lengths, mark-lengths, makeable, extendable, rememberable, buildable, goes-on, stops, refuses}
 
+-- from the match back to the beginning
+abbrev start : tie.After-slice-known7 → tie.Start
+start c = c .before .before .before .before .before .before .before
+
+-- the rooms, and that the effect, once it is told, fits them
+abbrev rooms : tie.After-slice-known7 → Rooms
+rooms c = roomsOf (start c .pre .pickle) (start c .args .nodes .now) (start c .args .owners .now) (start c .args .children .now) (start c .args .stack .now) (start c .args .marks .now) (start c .args .keys .now) (start c .args .held .now)
+
+fits : (c : tie.After-slice-known7) (e : Effect) → start c .args .e ≡ e → Fits e (rooms c) (start c .args .had)
+fits c e is = subst (λ (x : Effect). Fits x (rooms c) (start c .args .had)) is (start c .pre .fits)
+
+-- from a call back to the effect of its arm
+abbrev push : tie.After-push-node-arg2 → tie.After-e
+push c = c .before .before .before
+
+abbrev share : tie.After-push-id-arg → tie.After-e2
+share c = c .before .before
+
+abbrev mark : tie.After-put-mark-arg → tie.After-e3
+mark c = c .before .before
+
+abbrev make : tie.After-make-arg4 → tie.After-e5
+make c = c .before .before .before .before .before
+
+abbrev extend : tie.After-extend-arg4 → tie.After-e6
+extend c = c .before .before .before .before .before
+
+abbrev remember : tie.After-remember-arg2 → tie.After-e7
+remember c = c .before .before .before
+
+abbrev build : tie.After-set-state-arg → tie.After-e8
+build c = c .before .before
+
 push-node-requires : tie.Need-push-node-requires
-push-node-requires c κs = push-lengths (roomsOf (c .before .before .before .before .before .before .before .before .before .before .before .before .pre .pickle) (c .before .before .before .before .before .before .before .before .before .before .before .before .args .nodes .now) (c .before .before .before .before .before .before .before .before .before .before .before .before .args .owners .now) (c .before .before .before .before .before .before .before .before .before .before .before .before .args .children .now) (c .before .before .before .before .before .before .before .before .before .before .before .before .args .stack .now) (c .before .before .before .before .before .before .before .before .before .before .before .before .args .marks .now) (c .before .before .before .before .before .before .before .before .before .before .before .before .args .keys .now) (c .before .before .before .before .before .before .before .before .before .before .before .before .args .held .now)) _ _ _ _ (rw (c .before .before .before .e .given .1) at (c .before .before .before .before .before .before .before .before .before .before .before .before .pre .fits))
+push-node-requires c κs = push-lengths _ _ _ _ _ (fits (push c .before .before) _ (push c .e .given .1))
 
 push-id-requires : tie.Need-push-id-requires
-push-id-requires c κs = share-lengths (roomsOf (c .before .before .before .before .before .before .before .before .before .before .before .pre .pickle) (c .before .before .before .before .before .before .before .before .before .before .before .args .nodes .now) (c .before .before .before .before .before .before .before .before .before .before .before .args .owners .now) (c .before .before .before .before .before .before .before .before .before .before .before .args .children .now) (c .before .before .before .before .before .before .before .before .before .before .before .args .stack .now) (c .before .before .before .before .before .before .before .before .before .before .before .args .marks .now) (c .before .before .before .before .before .before .before .before .before .before .before .args .keys .now) (c .before .before .before .before .before .before .before .before .before .before .before .args .held .now)) _ _ _ (rw (c .before .before .e2 .given .1) at (c .before .before .before .before .before .before .before .before .before .before .before .pre .fits))
+push-id-requires c κs = share-lengths _ _ _ _ (fits (share c .before .before) _ (share c .e2 .given .1))
 
 put-mark-requires : tie.Need-put-mark-requires
-put-mark-requires c κs = mark-lengths (roomsOf (c .before .before .before .before .before .before .before .before .before .before .before .pre .pickle) (c .before .before .before .before .before .before .before .before .before .before .before .args .nodes .now) (c .before .before .before .before .before .before .before .before .before .before .before .args .owners .now) (c .before .before .before .before .before .before .before .before .before .before .before .args .children .now) (c .before .before .before .before .before .before .before .before .before .before .before .args .stack .now) (c .before .before .before .before .before .before .before .before .before .before .before .args .marks .now) (c .before .before .before .before .before .before .before .before .before .before .before .args .keys .now) (c .before .before .before .before .before .before .before .before .before .before .before .args .held .now)) _ _ (rw (c .before .before .e3 .given .1) at (c .before .before .before .before .before .before .before .before .before .before .before .pre .fits))
+put-mark-requires c κs = mark-lengths _ _ _ (fits (mark c .before .before) _ (mark c .e3 .given .1))
 
 make-requires : tie.Need-make-requires
-make-requires c κs = makeable (roomsOf (c .before .before .before .before .before .before .before .before .before .before .before .before .before .before .pre .pickle) (c .before .before .before .before .before .before .before .before .before .before .before .before .before .before .args .nodes .now) (c .before .before .before .before .before .before .before .before .before .before .before .before .before .before .args .owners .now) (c .before .before .before .before .before .before .before .before .before .before .before .before .before .before .args .children .now) (c .before .before .before .before .before .before .before .before .before .before .before .before .before .before .args .stack .now) (c .before .before .before .before .before .before .before .before .before .before .before .before .before .before .args .marks .now) (c .before .before .before .before .before .before .before .before .before .before .before .before .before .before .args .keys .now) (c .before .before .before .before .before .before .before .before .before .before .before .before .before .before .args .held .now)) _ _ _ (rw (c .before .before .before .before .before .e5 .given .1) at (c .before .before .before .before .before .before .before .before .before .before .before .before .before .before .pre .fits))
+make-requires c κs = makeable _ _ _ _ (fits (make c .before .before) _ (make c .e5 .given .1))
 
 extend-requires : tie.Need-extend-requires
-extend-requires c κs = extendable (roomsOf (c .before .before .before .before .before .before .before .before .before .before .before .before .before .before .pre .pickle) (c .before .before .before .before .before .before .before .before .before .before .before .before .before .before .args .nodes .now) (c .before .before .before .before .before .before .before .before .before .before .before .before .before .before .args .owners .now) (c .before .before .before .before .before .before .before .before .before .before .before .before .before .before .args .children .now) (c .before .before .before .before .before .before .before .before .before .before .before .before .before .before .args .stack .now) (c .before .before .before .before .before .before .before .before .before .before .before .before .before .before .args .marks .now) (c .before .before .before .before .before .before .before .before .before .before .before .before .before .before .args .keys .now) (c .before .before .before .before .before .before .before .before .before .before .before .before .before .before .args .held .now)) _ _ _ (rw (c .before .before .before .before .before .e6 .given .1) at (c .before .before .before .before .before .before .before .before .before .before .before .before .before .before .pre .fits))
+extend-requires c κs = extendable _ _ _ _ (fits (extend c .before .before) _ (extend c .e6 .given .1))
 
 remember-requires : tie.Need-remember-requires
-remember-requires c κs = rememberable (roomsOf (c .before .before .before .before .before .before .before .before .before .before .before .before .pre .pickle) (c .before .before .before .before .before .before .before .before .before .before .before .before .args .nodes .now) (c .before .before .before .before .before .before .before .before .before .before .before .before .args .owners .now) (c .before .before .before .before .before .before .before .before .before .before .before .before .args .children .now) (c .before .before .before .before .before .before .before .before .before .before .before .before .args .stack .now) (c .before .before .before .before .before .before .before .before .before .before .before .before .args .marks .now) (c .before .before .before .before .before .before .before .before .before .before .before .before .args .keys .now) (c .before .before .before .before .before .before .before .before .before .before .before .before .args .held .now)) _ _ _ _ _ (rw (c .before .before .before .e7 .given .1) at (c .before .before .before .before .before .before .before .before .before .before .before .before .pre .fits))
+remember-requires c κs = rememberable _ _ _ _ _ _ (fits (remember c .before .before) _ (remember c .e7 .given .1))
 
 set-state-requires : tie.Need-set-state-requires
-set-state-requires c κs = buildable (roomsOf (c .before .before .before .before .before .before .before .before .before .before .before .pre .pickle) (c .before .before .before .before .before .before .before .before .before .before .before .args .nodes .now) (c .before .before .before .before .before .before .before .before .before .before .before .args .owners .now) (c .before .before .before .before .before .before .before .before .before .before .before .args .children .now) (c .before .before .before .before .before .before .before .before .before .before .before .args .stack .now) (c .before .before .before .before .before .before .before .before .before .before .before .args .marks .now) (c .before .before .before .before .before .before .before .before .before .before .before .args .keys .now) (c .before .before .before .before .before .before .before .before .before .before .before .args .held .now)) _ _ _ _ (rw (c .before .before .e8 .given .1) at (c .before .before .before .before .before .before .before .before .before .before .before .pre .fits))
+set-state-requires c κs = buildable _ _ _ _ _ (fits (build c .before .before) _ (build c .e8 .given .1))
 
 returns : tie.Need-returns
 unfolding Applies PushNode
-returns c = λ p f. rw (c .before .before .before .before .before .before .before .before .e .given .1) (c .before .before .before .before .push-node .ensures (roomsOf p (c .before .before .before .before .before .before .before .before .before .before .before .before .before .before .before .before .before .args .nodes .now) (c .before .before .before .before .before .before .before .before .before .before .before .before .before .before .before .before .before .args .owners .now) (c .before .before .before .before .before .before .before .before .before .before .before .before .before .before .before .before .before .args .children .now) (c .before .before .before .before .before .before .before .before .before .before .before .before .before .before .before .before .before .args .stack .now) (c .before .before .before .before .before .before .before .before .before .before .before .before .before .before .before .before .before .args .marks .now) (c .before .before .before .before .before .before .before .before .before .before .before .before .before .before .before .before .before .args .keys .now) (c .before .before .before .before .before .before .before .before .before .before .before .before .before .before .before .before .before .args .held .now)) _ refl refl (rw (c .before .before .before .before .before .before .before .before .e .given .1) at f))
+returns c = λ p f.
+    let done = c .before .before .before .before in
+    let e = push (done .before) .e .given .1 in
+    rw e (done .push-node .ensures _ _ refl refl (rw e at f))
 
 returns-2 : tie.Need-returns-2
 unfolding Applies PushId
-returns-2 c = λ p f. rw (c .before .before .before .before .before .e2 .given .1) (c .before .before .push-id .ensures (roomsOf p (c .before .before .before .before .before .before .before .before .before .before .before .before .before .before .args .nodes .now) (c .before .before .before .before .before .before .before .before .before .before .before .before .before .before .args .owners .now) (c .before .before .before .before .before .before .before .before .before .before .before .before .before .before .args .children .now) (c .before .before .before .before .before .before .before .before .before .before .before .before .before .before .args .stack .now) (c .before .before .before .before .before .before .before .before .before .before .before .before .before .before .args .marks .now) (c .before .before .before .before .before .before .before .before .before .before .before .before .before .before .args .keys .now) (c .before .before .before .before .before .before .before .before .before .before .before .before .before .before .args .held .now)) _ refl (rw (c .before .before .before .before .before .e2 .given .1) at f))
+returns-2 c = λ p f.
+    let done = c .before .before in
+    let e = share (done .before) .e2 .given .1 in
+    rw e (done .push-id .ensures _ _ refl (rw e at f))
 
 returns-3 : tie.Need-returns-3
 unfolding Applies PutMark
-returns-3 c = λ p f. rw (c .before .before .before .before .before .e3 .given .1) (c .before .before .put-mark .ensures (roomsOf p (c .before .before .before .before .before .before .before .before .before .before .before .before .before .before .args .nodes .now) (c .before .before .before .before .before .before .before .before .before .before .before .before .before .before .args .owners .now) (c .before .before .before .before .before .before .before .before .before .before .before .before .before .before .args .children .now) (c .before .before .before .before .before .before .before .before .before .before .before .before .before .before .args .stack .now) (c .before .before .before .before .before .before .before .before .before .before .before .before .before .before .args .marks .now) (c .before .before .before .before .before .before .before .before .before .before .before .before .before .before .args .keys .now) (c .before .before .before .before .before .before .before .before .before .before .before .before .before .before .args .held .now)) _ refl (rw (c .before .before .before .before .before .e3 .given .1) at f))
+returns-3 c = λ p f.
+    let done = c .before .before in
+    let e = mark (done .before) .e3 .given .1 in
+    rw e (done .put-mark .ensures _ _ refl (rw e at f))
 
 returns-4 : tie.Need-returns-4
 unfolding Applies
-returns-4 c = λ p f. rw (c .before .e4 .given .1) (goes-on (roomsOf p (c .before .before .before .before .before .before .before .before .before .before .args .nodes .now) (c .before .before .before .before .before .before .before .before .before .before .args .owners .now) (c .before .before .before .before .before .before .before .before .before .before .args .children .now) (c .before .before .before .before .before .before .before .before .before .before .args .stack .now) (c .before .before .before .before .before .before .before .before .before .before .args .marks .now) (c .before .before .before .before .before .before .before .before .before .before .args .keys .now) (c .before .before .before .before .before .before .before .before .before .before .args .held .now)) _ _ (rw (c .before .e4 .given .1) at f))
+returns-4 c = λ p f. let e = c .before .e4 .given .1 in rw e (goes-on _ _ _ (rw e at f))
 
 returns-5 : tie.Need-returns-5
 unfolding Applies MakesNode
-returns-5 c = λ p f. rw (c .before .before .before .before .before .before .before .before .before .before .before .before .before .before .e5 .given .1) (c .before .before .before .before .before .before .before .before .make .ensures (roomsOf p (c .before .before .before .before .before .before .before .before .before .before .before .before .before .before .before .before .before .before .before .before .before .before .before .args .nodes .now) (c .before .before .before .before .before .before .before .before .before .before .before .before .before .before .before .before .before .before .before .before .before .before .before .args .owners .now) (c .before .before .before .before .before .before .before .before .before .before .before .before .before .before .before .before .before .before .before .before .before .before .before .args .children .now) (c .before .before .before .before .before .before .before .before .before .before .before .before .before .before .before .before .before .before .before .before .before .before .before .args .stack .now) (c .before .before .before .before .before .before .before .before .before .before .before .before .before .before .before .before .before .before .before .before .before .before .before .args .marks .now) (c .before .before .before .before .before .before .before .before .before .before .before .before .before .before .before .before .before .before .before .before .before .before .before .args .keys .now) (c .before .before .before .before .before .before .before .before .before .before .before .before .before .before .before .before .before .before .before .before .before .before .before .args .held .now)) refl refl refl refl (rw (c .before .before .before .before .before .before .before .before .before .before .before .before .before .before .e5 .given .1) at f))
+returns-5 c = λ p f.
+    let done = c .before .before .before .before .before .before .before .before in
+    let e = make (done .before) .e5 .given .1 in
+    rw e (done .make .ensures _ refl refl refl refl (rw e at f))
 
 returns-6 : tie.Need-returns-6
 unfolding Applies Extends
-returns-6 c = λ p f. rw (c .before .before .before .before .before .before .before .before .before .before .before .before .e6 .given .1) (c .before .before .before .before .before .before .extend .ensures (roomsOf p (c .before .before .before .before .before .before .before .before .before .before .before .before .before .before .before .before .before .before .before .before .before .args .nodes .now) (c .before .before .before .before .before .before .before .before .before .before .before .before .before .before .before .before .before .before .before .before .before .args .owners .now) (c .before .before .before .before .before .before .before .before .before .before .before .before .before .before .before .before .before .before .before .before .before .args .children .now) (c .before .before .before .before .before .before .before .before .before .before .before .before .before .before .before .before .before .before .before .before .before .args .stack .now) (c .before .before .before .before .before .before .before .before .before .before .before .before .before .before .before .before .before .before .before .before .before .args .marks .now) (c .before .before .before .before .before .before .before .before .before .before .before .before .before .before .before .before .before .before .before .before .before .args .keys .now) (c .before .before .before .before .before .before .before .before .before .before .before .before .before .before .before .before .before .before .before .before .before .args .held .now)) refl refl refl refl (rw (c .before .before .before .before .before .before .before .before .before .before .before .before .e6 .given .1) at f))
+returns-6 c = λ p f.
+    let done = c .before .before .before .before .before .before in
+    let e = extend (done .before) .e6 .given .1 in
+    rw e (done .extend .ensures _ refl refl refl refl (rw e at f))
 
 returns-7 : tie.Need-returns-7
 unfolding Applies Remembers Fits enacted
-returns-7 c = λ p f. rw (c .before .before .before .before .before .before .before .before .e7 .given .1) (c .before .before .before .before .remember .ensures (roomsOf p (c .before .before .before .before .before .before .before .before .before .before .before .before .before .before .before .before .before .args .nodes .now) (c .before .before .before .before .before .before .before .before .before .before .before .before .before .before .before .before .before .args .owners .now) (c .before .before .before .before .before .before .before .before .before .before .before .before .before .before .before .before .before .args .children .now) (c .before .before .before .before .before .before .before .before .before .before .before .before .before .before .before .before .before .args .stack .now) (c .before .before .before .before .before .before .before .before .before .before .before .before .before .before .before .before .before .args .marks .now) (c .before .before .before .before .before .before .before .before .before .before .before .before .before .before .before .before .before .args .keys .now) (c .before .before .before .before .before .before .before .before .before .before .before .before .before .before .before .before .before .args .held .now)) (c .before .before .before .before .before .before .before .before .before .before .before .before .before .before .before .before .before .args .had) refl refl (rw (c .before .before .before .before .before .before .before .before .e7 .given .1) at f))
+returns-7 c = λ p f.
+    let done = c .before .before .before .before in
+    let arm = remember (done .before) in
+    let e = arm .e7 .given .1 in
+    rw e (done .remember .ensures _ (start (arm .before .before) .args .had) refl refl (rw e at f))
 
 returns-8 : tie.Need-returns-8
 unfolding Applies Builds
-returns-8 c = λ p f. rw (c .before .before .before .before .before .e8 .given .1) (c .before .before .set-state .ensures (roomsOf p (c .before .before .before .before .before .before .before .before .before .before .before .before .before .before .args .nodes .now) (c .before .before .before .before .before .before .before .before .before .before .before .before .before .before .args .owners .now) (c .before .before .before .before .before .before .before .before .before .before .before .before .before .before .args .children .now) (c .before .before .before .before .before .before .before .before .before .before .before .before .before .before .args .stack .now) (c .before .before .before .before .before .before .before .before .before .before .before .before .before .before .args .marks .now) (c .before .before .before .before .before .before .before .before .before .before .before .before .before .before .args .keys .now) (c .before .before .before .before .before .before .before .before .before .before .before .before .before .before .args .held .now)) _ refl (rw (c .before .before .before .before .before .e8 .given .1) at f))
+returns-8 c = λ p f.
+    let done = c .before .before in
+    let e = build (done .before) .e8 .given .1 in
+    rw e (done .set-state .ensures _ _ refl (rw e at f))
 
 returns-9 : tie.Need-returns-9
 unfolding Applies
-returns-9 c = λ p f. rw (c .before .e9 .given .1) (stops (roomsOf p (c .before .before .before .before .before .before .before .before .before .before .args .nodes .now) (c .before .before .before .before .before .before .before .before .before .before .args .owners .now) (c .before .before .before .before .before .before .before .before .before .before .args .children .now) (c .before .before .before .before .before .before .before .before .before .before .args .stack .now) (c .before .before .before .before .before .before .before .before .before .before .args .marks .now) (c .before .before .before .before .before .before .before .before .before .before .args .keys .now) (c .before .before .before .before .before .before .before .before .before .before .args .held .now)) _ _ (rw (c .before .e9 .given .1) at f))
+returns-9 c = λ p f. let e = c .before .e9 .given .1 in rw e (stops _ _ _ (rw e at f))
 
 returns-10 : tie.Need-returns-10
 unfolding Applies
-returns-10 c = λ p f. rw (c .before .e10 .given .1) (refuses (roomsOf p (c .before .before .before .before .before .before .before .before .before .before .args .nodes .now) (c .before .before .before .before .before .before .before .before .before .before .args .owners .now) (c .before .before .before .before .before .before .before .before .before .before .args .children .now) (c .before .before .before .before .before .before .before .before .before .before .args .stack .now) (c .before .before .before .before .before .before .before .before .before .before .args .marks .now) (c .before .before .before .before .before .before .before .before .before .before .args .keys .now) (c .before .before .before .before .before .before .before .before .before .before .args .held .now)) _ _ _ _ _)
+returns-10 c = λ p f. rw (c .before .e10 .given .1) (refuses _ _ _ _ _ _)
 
 pub apply-spec : {M : Type 1} → statement M
 apply-spec =

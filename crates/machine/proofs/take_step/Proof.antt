@@ -3,22 +3,42 @@ use borrow.Author.Needs.{needs}
 use Rattle.machine.proofs.take_step.Statement.{statement}
 use Rattle.machine.proofs.take_step.Tie as tie
 use mathlib.Core.Path.{refl}
+use Rattle.decoder.specs.Rooms.{Rooms}
 use Rattle.decoder.specs.Effects.{Decides}
-use Rattle.machine.specs.Lent.{roomsOf}
+use Rattle.machine.specs.Lent.{roomsOf, Agrees}
 use Rattle.machine.specs.Applied.{Applies}
 
+agrees : (r : Rooms) → Agrees (r .pickle) (r .nodes) (r .children) (r .stack) (r .marks) (r .keys) (r .held) r
+agrees r = record { pickle = refl; nodes = refl; children = refl; stack = refl; marks = refl; keys = refl; held = refl }
+
+-- from the call of decide back to the beginning
+abbrev start : tie.After-decide-arg6 → tie.Start
+start c = c .before .before .before .before .before .before .before .before .before .before .before .before .before .before
+
+module _ (c : tie.After-decide-arg6) where
+  abbrev rooms : Rooms
+  rooms = roomsOf (start c .args .pickle .now) (start c .args .nodes .now) (start c .args .owners .now) (start c .args .children .now) (start c .args .stack .now) (start c .args .marks .now) (start c .args .keys .now) (start c .args .held .now)
+
 decide-requires : tie.Need-decide-requires
-decide-requires c κs = record { rooms = roomsOf (c .before .before .before .before .before .before .before .before .before .before .before .before .before .before .args .pickle .now) (c .before .before .before .before .before .before .before .before .before .before .before .before .before .before .args .nodes .now) (c .before .before .before .before .before .before .before .before .before .before .before .before .before .before .args .owners .now) (c .before .before .before .before .before .before .before .before .before .before .before .before .before .before .args .children .now) (c .before .before .before .before .before .before .before .before .before .before .before .before .before .before .args .stack .now) (c .before .before .before .before .before .before .before .before .before .before .before .before .before .before .args .marks .now) (c .before .before .before .before .before .before .before .before .before .before .before .before .before .before .args .keys .now) (c .before .before .before .before .before .before .before .before .before .before .before .before .before .before .args .held .now); sound = c .before .before .before .before .before .before .before .before .before .before .before .before .before .before .pre; agrees = record { pickle = refl; nodes = refl; children = refl; stack = refl; marks = refl; keys = refl; held = refl } }
+decide-requires c κs = record { rooms = rooms c; sound = start c .pre; agrees = agrees (rooms c) }
+
+-- from the call of apply back to what is decided
+abbrev decided : tie.After-apply-arg7 → tie.After-decide
+decided c = c .before .before .before .before .before .before .before
 
 apply-requires : tie.Need-apply-requires
 unfolding Decides
-apply-requires c κs = record { pickle = c .before .before .before .before .before .before .before .before .before .before .before .before .before .before .before .before .before .before .before .before .before .before .args .pickle .now; fits = c .before .before .before .before .before .before .before .decide .ensures (roomsOf (c .before .before .before .before .before .before .before .before .before .before .before .before .before .before .before .before .before .before .before .before .before .before .args .pickle .now) (c .before .before .before .before .before .before .before .before .before .before .before .before .before .before .before .before .before .before .before .before .before .before .args .nodes .now) (c .before .before .before .before .before .before .before .before .before .before .before .before .before .before .before .before .before .before .before .before .before .before .args .owners .now) (c .before .before .before .before .before .before .before .before .before .before .before .before .before .before .before .before .before .before .before .before .before .before .args .children .now) (c .before .before .before .before .before .before .before .before .before .before .before .before .before .before .before .before .before .before .before .before .before .before .args .stack .now) (c .before .before .before .before .before .before .before .before .before .before .before .before .before .before .before .before .before .before .before .before .before .before .args .marks .now) (c .before .before .before .before .before .before .before .before .before .before .before .before .before .before .before .before .before .before .before .before .before .before .args .keys .now) (c .before .before .before .before .before .before .before .before .before .before .before .before .before .before .before .before .before .before .before .before .before .before .args .held .now)) (c .before .before .before .before .before .before .before .before .before .before .before .before .before .before .before .before .before .before .before .before .before .before .pre) (record { pickle = refl; nodes = refl; children = refl; stack = refl; marks = refl; keys = refl; held = refl }) .fits }
+apply-requires c κs =
+    let d = decided c in
+    record { pickle = start (d .before) .args .pickle .now; fits = d .decide .ensures (rooms (d .before)) (start (d .before) .pre) (agrees _) .fits }
 
 returns : tie.Need-returns
 unfolding Decides Applies
 returns c =
-    let says = c .before .before .before .before .before .before .before .before .before .before .before .before .before .before .before .before .before .before .before .before .before .before .decide .ensures (roomsOf (c .before .before .before .before .before .before .before .before .before .before .before .before .before .before .before .before .before .before .before .before .before .before .before .before .before .before .before .before .before .before .before .before .before .before .before .before .before .args .pickle .now) (c .before .before .before .before .before .before .before .before .before .before .before .before .before .before .before .before .before .before .before .before .before .before .before .before .before .before .before .before .before .before .before .before .before .before .before .before .before .args .nodes .now) (c .before .before .before .before .before .before .before .before .before .before .before .before .before .before .before .before .before .before .before .before .before .before .before .before .before .before .before .before .before .before .before .before .before .before .before .before .before .args .owners .now) (c .before .before .before .before .before .before .before .before .before .before .before .before .before .before .before .before .before .before .before .before .before .before .before .before .before .before .before .before .before .before .before .before .before .before .before .before .before .args .children .now) (c .before .before .before .before .before .before .before .before .before .before .before .before .before .before .before .before .before .before .before .before .before .before .before .before .before .before .before .before .before .before .before .before .before .before .before .before .before .args .stack .now) (c .before .before .before .before .before .before .before .before .before .before .before .before .before .before .before .before .before .before .before .before .before .before .before .before .before .before .before .before .before .before .before .before .before .before .before .before .before .args .marks .now) (c .before .before .before .before .before .before .before .before .before .before .before .before .before .before .before .before .before .before .before .before .before .before .before .before .before .before .before .before .before .before .before .before .before .before .before .before .before .args .keys .now) (c .before .before .before .before .before .before .before .before .before .before .before .before .before .before .before .before .before .before .before .before .before .before .before .before .before .before .before .before .before .before .before .before .before .before .before .before .before .args .held .now)) (c .before .before .before .before .before .before .before .before .before .before .before .before .before .before .before .before .before .before .before .before .before .before .before .before .before .before .before .before .before .before .before .before .before .before .before .before .before .pre) (record { pickle = refl; nodes = refl; children = refl; stack = refl; marks = refl; keys = refl; held = refl }) in
-    rw (says .enacts) at (c .before .before .before .before .before .before .before .before .before .before .before .before .before .before .apply .ensures (c .before .before .before .before .before .before .before .before .before .before .before .before .before .before .before .before .before .before .before .before .before .before .before .before .before .before .before .before .before .before .before .before .before .before .before .before .before .args .pickle .now) (says .fits))
+    let done = c .before .before .before .before .before .before .before .before .before .before .before .before .before .before in
+    let d = decided (done .before) in
+    let says = d .decide .ensures (rooms (d .before)) (start (d .before) .pre) (agrees _) in
+    rw (says .enacts) at (done .apply .ensures (start (d .before) .args .pickle .now) (says .fits))
 
 pub take-step-spec : {M : Type 1} → statement M
 take-step-spec =
