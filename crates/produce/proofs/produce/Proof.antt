@@ -7,23 +7,39 @@ use Rattle.produce.specs.Rooms.{zeros-long, part-again}
 use Rattle.produce.specs.Texts.{decodable}
 use Rattle.produce.specs.Steps.{spelt-all, outputs, decoded-fits, decoded-again, produces}
 
+-- from the writing back to the decoding, and from there to the beginning
+abbrev decoded : tie.After-write-all → tie.After-decode-all
+decoded c = c .before .before .before .before .before .before .before .before .before .before .before .before
+
+abbrev start : tie.After-decode-all → tie.Start
+start c = c .before .before .before .before .before .before .before .before .before .before .before .before .before .before
+
 decode-all-requires : tie.Need-decode-all-requires
-decode-all-requires c κs = decodable (c .before .before .before .before .before .before .before .before .before .before .before .before .before .pre .0 .are) _ (c .before .before .before .before .before .before .before .before .before .before .before .before .before .pre .1 .decoded-zero)
+decode-all-requires c κs = let s = c .before .before .before .before .before .before .before .before .before .before .before .before .before in decodable (s .pre .0 .are) _ (s .pre .1 .decoded-zero)
 
 part-write-all-end : tie.Need-part-write-all-end
-part-write-all-end c = zeros-long (c .before .before .before .before .before .before .before .before .before .before .before .before .before .before .before .before .before .before .before .before .before .pre .1 .log-zero)
+part-write-all-end c = zeros-long (start (c .before .before .before .before .before .before .before) .pre .1 .log-zero)
 
 part-write-all-end-2 : tie.Need-part-write-all-end-2
-part-write-all-end-2 c = zeros-long (c .before .before .before .before .before .before .before .before .before .before .before .before .before .before .before .before .before .before .before .before .before .before .pre .1 .list-zero)
+part-write-all-end-2 c = zeros-long (start (c .before .before .before .before .before .before .before .before) .pre .1 .list-zero)
 
 write-all-requires : tie.Need-write-all-requires
-write-all-requires c κs = (spelt-all (c .before .before .before .before .before .before .before .before .before .before .before .before .before .before .before .before .before .before .before .before .before .before .before .before .before .pre .0) (c .before .before .before .before .before .before .before .before .before .before .before .before .before .before .before .before .before .before .before .before .before .before .before .before .before .pre .1) (c .before .before .before .before .before .before .before .before .before .before .before .decode-all .ensures), outputs (c .before .before .before .before .before .before .before .before .before .before .before .before .before .before .before .before .before .before .before .before .before .before .before .before .before .pre .0) (c .before .before .before .before .before .before .before .before .before .before .before .before .before .before .before .before .before .before .before .before .before .before .before .before .before .pre .1) (c .before .before .before .before .before .before .before .before .before .before .before .decode-all .ensures))
+write-all-requires c κs =
+    let d = c .before .before .before .before .before .before .before .before .before .before .before in
+    let s = start d in
+    (spelt-all (s .pre .0) (s .pre .1) (d .decode-all .ensures), outputs (s .pre .0) (s .pre .1) (d .decode-all .ensures))
 
 clear-bytes-requires : tie.Need-clear-bytes-requires
-clear-bytes-requires c κs = decoded-fits (c .before .before .before .before .before .before .before .before .before .before .before .before .before .before .before .before .before .before .before .before .before .before .before .before .before .before .before .before .before .before .before .before .before .before .before .before .before .before .before .pre .0) (c .before .before .before .before .before .before .before .before .before .before .before .before .before .before .before .before .before .before .before .before .before .before .before .before .before .before .before .before .before .before .before .before .before .before .before .before .before .before .before .pre .1) (c .before .before .before .before .before .before .before .before .before .before .before .before .before .before .before .before .before .before .before .before .before .before .before .before .before .decode-all .ensures)
+clear-bytes-requires c κs =
+    let d = decoded (c .before .before .before .before .before .before .before .before .before .before .before .before .before) in
+    decoded-fits (start d .pre .0) (start d .pre .1) (d .decode-all .ensures)
 
 returns : tie.Need-returns
-returns c = (produces (c .before .before .before .before .before .before .before .before .before .before .before .before .before .before .before .before .before .before .before .before .before .before .before .before .before .before .before .before .before .before .before .before .before .before .before .before .before .before .before .before .before .before .pre .0) (c .before .before .before .before .before .before .before .before .before .before .before .before .before .before .before .before .before .before .before .before .before .before .before .before .before .before .before .before .before .before .before .before .before .before .before .before .before .before .before .before .before .before .pre .1) (c .before .before .before .before .before .before .before .before .before .before .before .before .before .before .before .before .before .before .before .before .before .before .before .before .before .before .before .before .decode-all .ensures) (c .before .before .before .before .before .before .before .before .before .before .before .before .before .before .before .before .write-all .ensures .0), record { decoded-same = c .before .before .clear-bytes .ensures ∙ decoded-again (c .before .before .before .before .before .before .before .before .before .before .before .before .before .before .before .before .before .before .before .before .before .before .before .before .before .before .before .before .before .before .before .before .before .before .before .before .before .before .before .before .before .before .pre .0) (c .before .before .before .before .before .before .before .before .before .before .before .before .before .before .before .before .before .before .before .before .before .before .before .before .before .before .before .before .before .before .before .before .before .before .before .before .before .before .before .before .before .before .pre .1) (c .before .before .before .before .before .before .before .before .before .before .before .before .before .before .before .before .before .before .before .before .before .before .before .before .before .before .before .before .decode-all .ensures); log-same = part-again 8192 _ _ (c .before .before .before .before .before .before .before .before .before .before .before .before .before .before .before .before .write-all .ensures .1 .0); list-same = part-again 2048 _ _ (c .before .before .before .before .before .before .before .before .before .before .before .before .before .before .before .before .write-all .ensures .1 .1) })
+returns c =
+    let w = c .before .before .before .before .before .before .before .before .before .before .before .before .before .before .before .before in
+    let d = decoded w in
+    let s = start d in
+    (produces (s .pre .0) (s .pre .1) (d .decode-all .ensures) (w .write-all .ensures .0), record { decoded-same = c .before .before .clear-bytes .ensures ∙ decoded-again (s .pre .0) (s .pre .1) (d .decode-all .ensures); log-same = part-again 8192 _ _ (w .write-all .ensures .1 .0); list-same = part-again 2048 _ _ (w .write-all .ensures .1 .1) })
 
 pub produce-spec : {M : Type 1} → statement M
 produce-spec =

@@ -2,22 +2,34 @@
 use borrow.Author.Needs.{needs}
 use Rattle.produce.proofs.settle_all.Statement.{statement}
 use Rattle.produce.proofs.settle_all.Tie as tie
+use mathlib.Core.Path.{_≡_}
+use lib.ListN.{length}
 use Rattle.produce.specs.Steps.{arranges, most-few, list-begins, list-fits, list-again}
 
+-- from the settling back to the beginning
+abbrev start : tie.After-settle → tie.Start
+start c = c .before .before .before .before .before .before .before .before .before .before .before .before .before .before
+
+-- the settling leaves the list as long as it was
+same : (c : tie.After-settle) → length (c .settle .last .1 .1 .1 .1 .1 .1 .1 .1 .0) ≡ length (start c .args .list .now)
+same c = c .settle .kept .1 .1 .1 .1 .1 .1 .1 .1 .0
+
 sub-begin : tie.Need-sub-begin
-sub-begin c = most-few (c .before .before .before .before .before .before .before .before .before .before .before .before .before .before .before .before .before .before .before .before .before .before .before .pre .0) (c .before .before .before .before .before .before .before .before .before .settle .ensures) (c .before .before .before .before .before .before .before .before .before .before .before .before .before .before .before .before .before .before .before .before .before .before .before .pre .1)
+sub-begin c = let d = c .before .before .before .before .before .before .before .before .before in most-few (start d .pre .0) (d .settle .ensures) (start d .pre .1)
 
 sub-clear-ints : tie.Need-sub-clear-ints
-sub-clear-ints c = list-begins (c .before .before .before .before .before .before .before .before .before .before .before .before .before .before .before .before .before .before .before .before .before .before .before .pre .0) (c .before .before .before .before .before .before .before .before .before .settle .ensures) (c .before .before .before .before .before .before .before .before .before .before .before .before .before .before .before .before .before .before .before .before .before .before .before .pre .1) (c .before .before .before .before .before .before .before .before .before .settle .kept .1 .1 .1 .1 .1 .1 .1 .1 .0)
+sub-clear-ints c = let d = c .before .before .before .before .before .before .before .before .before in list-begins (start d .pre .0) (d .settle .ensures) (start d .pre .1) (same d)
 
 part-clear-ints-start : tie.Need-part-clear-ints-start
-part-clear-ints-start c = list-begins (c .before .before .before .before .before .before .before .before .before .before .before .before .before .before .before .before .before .before .before .before .before .before .before .pre .0) (c .before .before .before .before .before .before .before .before .before .settle .ensures) (c .before .before .before .before .before .before .before .before .before .before .before .before .before .before .before .before .before .before .before .before .before .before .before .pre .1) (c .before .before .before .before .before .before .before .before .before .settle .kept .1 .1 .1 .1 .1 .1 .1 .1 .0)
+part-clear-ints-start c = let d = c .before .before .before .before .before .before .before .before .before in list-begins (start d .pre .0) (d .settle .ensures) (start d .pre .1) (same d)
 
 clear-ints-requires : tie.Need-clear-ints-requires
-clear-ints-requires c κs = list-fits (c .before .before .before .before .before .before .before .before .before .before .before .before .before .before .before .before .before .before .before .before .before .before .before .before .pre .0) (c .before .before .before .before .before .before .before .before .before .before .settle .ensures) (c .before .before .before .before .before .before .before .before .before .before .before .before .before .before .before .before .before .before .before .before .before .before .before .before .pre .1) (c .before .before .before .before .before .before .before .before .before .before .settle .kept .1 .1 .1 .1 .1 .1 .1 .1 .0)
+clear-ints-requires c κs = let d = c .before .before .before .before .before .before .before .before .before .before in list-fits (start d .pre .0) (d .settle .ensures) (start d .pre .1) (same d)
 
 returns : tie.Need-returns
-returns c = (arranges (c .before .before .before .before .before .before .before .before .before .before .before .before .before .before .before .before .before .before .before .before .before .before .before .before .before .before .before .pre .0) (c .before .before .before .before .before .before .before .before .before .before .before .before .before .settle .ensures), list-again (c .before .before .before .before .before .before .before .before .before .before .before .before .before .before .before .before .before .before .before .before .before .before .before .before .before .before .before .pre .0) (c .before .before .before .before .before .before .before .before .before .before .before .before .before .settle .ensures) (c .before .before .before .before .before .before .before .before .before .before .before .before .before .before .before .before .before .before .before .before .before .before .before .before .before .before .before .pre .1) (c .before .before .before .before .before .before .before .before .before .before .before .before .before .settle .kept .1 .1 .1 .1 .1 .1 .1 .1 .0) _ (c .before .before .clear-ints .ensures))
+returns c =
+    let d = c .before .before .before .before .before .before .before .before .before .before .before .before .before in
+    (arranges (start d .pre .0) (d .settle .ensures), list-again (start d .pre .0) (d .settle .ensures) (start d .pre .1) (same d) _ (c .before .before .clear-ints .ensures))
 
 pub settle-all-spec : {M : Type 1} → statement M
 settle-all-spec =
