@@ -1,7 +1,8 @@
 -- `scorer::add_up` meets its contract: what is left of the walk decides for all of it. Assumes nothing.
 use Rattle.scorer.proofs.add_up.Statement.{statement}
 use Rattle.scorer.proofs.add_up.Tie as tie
-use Prim.Native.Nat.{ℕ, _+_, _*_, _≤_}
+use Prim.Native.Nat.{ℕ, _+_, _*_, _≤_, _<_}
+use mathlib.Core.Bool.{true}
 use mathlib.Core.List.{List}
 use lib.ListN.{length}
 use mathlib.Core.Path.{_≡_, refl, sym, _∙_}
@@ -11,7 +12,7 @@ use Rattle.value.specs.Value.{Forest, count}
 use Rattle.value.specs.Stands.{wordAt}
 use Rattle.scorer.specs.Walk.{walk}
 use Rattle.scorer.specs.Place.{Lies}
-use Rattle.scorer.specs.Steps.{Going, answer, all-answered, one-left, hitAt, hit-some, hit-room, bit-back, answer-most}
+use Rattle.scorer.specs.Steps.{Going, betweenAt, answer, all-answered, one-left, hit-some, hit-room, bit-back, answer-most}
 
 abbrev Inv-loop : tie.InvT-loop
 Inv-loop words from entries first items max flipped i₀ left₀ j₀ rest₀ score₀ i left j rest score =
@@ -23,133 +24,120 @@ abbrev μ-loop : tie.MeasureT-loop
 loop-holds : tie.Need-loop-holds Inv-loop μ-loop
 loop-holds c = (λ t f g a b d e. record { answers = f; reversed = g; answers-lie = a; reversed-lie = d; answers-count = b; reversed-count = e; same = refl }, omega arith, c .before .pre .0 .inside)
 
+-- ---- the places: at the head of the loop, and past its two tests
+
+abbrev Head : Type 0
+Head = tie.At-loop Inv-loop μ-loop
+
+abbrev start : Head → tie.Start Inv-loop μ-loop
+start c = c .before .before
+
+abbrev go : tie.Else2 Inv-loop μ-loop → tie.In-loop Inv-loop μ-loop
+go c = c .before .before .before .before
+
+-- ---- what is known there
+
+abbrev words : Head → List ℕ
+words c = start c .args .words .now
+
+-- the next answer is inside the words, and so is the next reversed item
+inside : (c : tie.In-loop Inv-loop μ-loop) → 4 * c .before .loop .i + 8 ≤ length (words (c .before))
+inside c =
+    let b = start (c .before) .pre .0 in
+    answer (c .before .loop .inv .0 _ _ _ (b .answers .lies) (b .answers .counted) (b .reversed .lies) (b .reversed .counted)) (c .loop-test .taken) .inside
+
+reversed-inside : (c : tie.In-loop Inv-loop μ-loop) → 0 < c .before .loop .rest → 4 * c .before .loop .j + 4 ≤ length (words (c .before))
+reversed-inside c =
+    let b = start (c .before) .pre .0 in
+    answer (c .before .loop .inv .0 _ _ _ (b .answers .lies) (b .answers .counted) (b .reversed .lies) (b .reversed .counted)) (c .loop-test .taken) .reversed-inside
+
+-- the two records are in their ranges
+item : (c : tie.Else1 Inv-loop μ-loop) → betweenAt (words (c .before .before .before)) (c .before .before .before .loop .i) 1 200 ≡ true
+item c = sym (c .before .is-between .ensures) ∙ not-false _ (c .if1 .left)
+
+ranged : (c : tie.Else2 Inv-loop μ-loop) → betweenAt (words (go c .before)) (go c .before .loop .i + 1) 0 (start (go c .before) .args .max) ≡ true
+ranged c = sym (c .before .is-between2 .ensures) ∙ not-false _ (c .if2 .left)
+
+room : (c : tie.After-hit Inv-loop μ-loop) → let h = go (c .before .before) .before in h .loop .j + c .hit .result ≤ length (words h)
+room c = let g = go (c .before .before) in hit-room _ _ _ _ _ (c .hit .ensures) (reversed-inside g) (g .before .loop .inv .2)
+
+-- ---- the needs
+
 add-k : tie.Need-add-k Inv-loop μ-loop
-add-k c =
-    let pre = c .before .before .before .pre in
-    let an = answer (c .before .loop .inv .0 (pre .0 .text) (pre .0 .answers .values) (pre .0 .reversed .values) (pre .0 .answers .lies) (pre .0 .answers .counted) (pre .0 .reversed .lies) (pre .0 .reversed .counted)) (c .loop-test .taken) in
-    let q = an .inside in omega arith
+add-k c = omega (arith, inside c)
 
 is-between-requires : tie.Need-is-between-requires Inv-loop μ-loop
-is-between-requires c κs =
-    let pre = c .before .before .before .pre in
-    let an = answer (c .before .loop .inv .0 (pre .0 .text) (pre .0 .answers .values) (pre .0 .reversed .values) (pre .0 .answers .lies) (pre .0 .answers .counted) (pre .0 .reversed .lies) (pre .0 .reversed .counted)) (c .loop-test .taken) in
-    let q = an .inside in omega arith
+is-between-requires c κs = omega (arith, inside c)
 
 returns : tie.Need-returns Inv-loop μ-loop
-returns c = λ t f g a b d e. sym ((answer (c .before .before .before .loop .inv .0 t f g a b d e) (c .before .before .loop-test .taken)) .bad-item (sym (c .before .is-between .ensures) ∙ not-true _ (c .if1 .taken)))
+returns c t f h a b d e =
+    let g = c .before .before in
+    sym (answer (g .before .loop .inv .0 t f _ a b d e) (g .loop-test .taken) .bad-item (sym (c .before .is-between .ensures) ∙ not-true _ (c .if1 .taken)))
 
 is-between-requires-2 : tie.Need-is-between-requires-2 Inv-loop μ-loop
-is-between-requires-2 c κs =
-    let pre = c .before .before .before .before .before .pre in
-    let an = answer (c .before .before .before .loop .inv .0 (pre .0 .text) (pre .0 .answers .values) (pre .0 .reversed .values) (pre .0 .answers .lies) (pre .0 .answers .counted) (pre .0 .reversed .lies) (pre .0 .reversed .counted)) (c .before .before .loop-test .taken) in
-    let q = an .inside in omega arith
+is-between-requires-2 c κs = omega (arith, inside (c .before .before))
 
 returns-2 : tie.Need-returns-2 Inv-loop μ-loop
-returns-2 c = λ t f g a b d e. sym ((answer (c .before .before .before .before .before .loop .inv .0 t f g a b d e) (c .before .before .before .before .loop-test .taken)) .bad-answer (sym (c .before .before .before .is-between .ensures) ∙ not-false _ (c .before .before .if1 .left)) (sym (c .before .is-between2 .ensures) ∙ not-true _ (c .if2 .taken)))
+returns-2 c t f h a b d e =
+    let o = c .before .before in
+    let g = o .before .before in
+    sym (answer (g .before .loop .inv .0 t f _ a b d e) (g .loop-test .taken) .bad-answer (item o) (sym (c .before .is-between2 .ensures) ∙ not-true _ (c .if2 .taken)))
 
 mul-hit : tie.Need-mul-hit Inv-loop μ-loop
-mul-hit c =
-    let pre = c .before .before .before .before .before .before .before .pre in
-    let an = answer (c .before .before .before .before .before .loop .inv .0 (pre .0 .text) (pre .0 .answers .values) (pre .0 .reversed .values) (pre .0 .answers .lies) (pre .0 .answers .counted) (pre .0 .reversed .lies) (pre .0 .reversed .counted)) (c .before .before .before .before .loop-test .taken) in
-    let q = an .inside in omega arith
+mul-hit c = omega (arith, inside (go c))
 
 add-hit : tie.Need-add-hit Inv-loop μ-loop
-add-hit c =
-    let pre = c .before .before .before .before .before .before .before .pre in
-    let an = answer (c .before .before .before .before .before .loop .inv .0 (pre .0 .text) (pre .0 .answers .values) (pre .0 .reversed .values) (pre .0 .answers .lies) (pre .0 .answers .counted) (pre .0 .reversed .lies) (pre .0 .reversed .counted)) (c .before .before .before .before .loop-test .taken) in
-    let q = an .inside in omega arith
+add-hit c = omega (arith, inside (go c))
 
 mul-hit-2 : tie.Need-mul-hit-2 Inv-loop μ-loop
-mul-hit-2 c =
-    let pre = c .before .before .before .before .before .before .before .pre in
-    let an = answer (c .before .before .before .before .before .loop .inv .0 (pre .0 .text) (pre .0 .answers .values) (pre .0 .reversed .values) (pre .0 .answers .lies) (pre .0 .answers .counted) (pre .0 .reversed .lies) (pre .0 .reversed .counted)) (c .before .before .before .before .loop-test .taken) in
-    let q = an .inside in omega arith
+mul-hit-2 c = omega (arith, inside (go c))
 
 shared-slice-read-hit : tie.Need-shared-slice-read-hit Inv-loop μ-loop
-shared-slice-read-hit c =
-    let pre = c .before .before .before .before .before .before .before .before .pre in
-    let an = answer (c .before .before .before .before .before .before .loop .inv .0 (pre .0 .text) (pre .0 .answers .values) (pre .0 .reversed .values) (pre .0 .answers .lies) (pre .0 .answers .counted) (pre .0 .reversed .lies) (pre .0 .reversed .counted)) (c .before .before .before .before .before .loop-test .taken) in
-    let q = an .inside in omega arith
+shared-slice-read-hit c = omega (arith, inside (go (c .before)))
 
 hit-requires : tie.Need-hit-requires Inv-loop μ-loop
-hit-requires c κs =
-    let pre = c .before .before .before .before .before .before .before .before .pre in
-    let an = answer (c .before .before .before .before .before .before .loop .inv .0 (pre .0 .text) (pre .0 .answers .values) (pre .0 .reversed .values) (pre .0 .answers .lies) (pre .0 .answers .counted) (pre .0 .reversed .lies) (pre .0 .reversed .counted)) (c .before .before .before .before .before .loop-test .taken) in
-    an .reversed-inside
+hit-requires c κs = reversed-inside (go (c .before))
 
 mul-counted : tie.Need-mul-counted Inv-loop μ-loop
-mul-counted c =
-    let pre = c .before .before .before .before .before .before .before .before .before .pre in
-    let an = answer (c .before .before .before .before .before .before .before .loop .inv .0 (pre .0 .text) (pre .0 .answers .values) (pre .0 .reversed .values) (pre .0 .answers .lies) (pre .0 .answers .counted) (pre .0 .reversed .lies) (pre .0 .reversed .counted)) (c .before .before .before .before .before .before .loop-test .taken) in
-    let q = an .inside in omega arith
+mul-counted c = omega (arith, inside (go (c .before .before)))
 
 add-counted : tie.Need-add-counted Inv-loop μ-loop
-add-counted c =
-    let pre = c .before .before .before .before .before .before .before .before .before .pre in
-    let an = answer (c .before .before .before .before .before .before .before .loop .inv .0 (pre .0 .text) (pre .0 .answers .values) (pre .0 .reversed .values) (pre .0 .answers .lies) (pre .0 .answers .counted) (pre .0 .reversed .lies) (pre .0 .reversed .counted)) (c .before .before .before .before .before .before .loop-test .taken) in
-    let q = an .inside in omega arith
+add-counted c = omega (arith, inside (go (c .before .before)))
 
 mul-counted-2 : tie.Need-mul-counted-2 Inv-loop μ-loop
-mul-counted-2 c =
-    let pre = c .before .before .before .before .before .before .before .before .before .pre in
-    let an = answer (c .before .before .before .before .before .before .before .loop .inv .0 (pre .0 .text) (pre .0 .answers .values) (pre .0 .reversed .values) (pre .0 .answers .lies) (pre .0 .answers .counted) (pre .0 .reversed .lies) (pre .0 .reversed .counted)) (c .before .before .before .before .before .before .loop-test .taken) in
-    let q = an .inside in omega arith
+mul-counted-2 c = omega (arith, inside (go (c .before .before)))
 
 shared-slice-read-counted : tie.Need-shared-slice-read-counted Inv-loop μ-loop
-shared-slice-read-counted c =
-    let pre = c .before .before .before .before .before .before .before .before .before .before .pre in
-    let an = answer (c .before .before .before .before .before .before .before .before .loop .inv .0 (pre .0 .text) (pre .0 .answers .values) (pre .0 .reversed .values) (pre .0 .answers .lies) (pre .0 .answers .counted) (pre .0 .reversed .lies) (pre .0 .reversed .counted)) (c .before .before .before .before .before .before .before .loop-test .taken) in
-    let q = an .inside in omega arith
+shared-slice-read-counted c = omega (arith, inside (go (c .before .before .before)))
 
 counted-requires : tie.Need-counted-requires Inv-loop μ-loop
-counted-requires c κs =
-    let args = c .before .before .before .before .before .before .before .before .before .before .args in
-    answer-most (args .words .now) (c .before .before .before .before .before .before .before .before .loop .i + 1) 0 (args .max) (sym (c .before .before .before .before .is-between2 .ensures) ∙ not-false _ (c .before .before .before .if2 .left))
+counted-requires c κs = answer-most _ _ 0 _ (ranged (c .before .before .before))
 
 add-score : tie.Need-add-score Inv-loop μ-loop
-add-score c =
-    let loop = c .before .before .before .before .before .before .before .before .before .loop in
-    let most = c .counted .ensures .1 in let bound = loop .inv .1 in omega arith
+add-score c = omega (arith, c .counted .ensures .1, go (c .before .before .before .before) .before .loop .inv .1)
 
 add-i : tie.Need-add-i Inv-loop μ-loop
-add-i c =
-    let pre = c .before .before .before .before .before .before .before .before .before .before .before .pre in
-    let an = answer (c .before .before .before .before .before .before .before .before .before .loop .inv .0 (pre .0 .text) (pre .0 .answers .values) (pre .0 .reversed .values) (pre .0 .answers .lies) (pre .0 .answers .counted) (pre .0 .reversed .lies) (pre .0 .reversed .counted)) (c .before .before .before .before .before .before .before .before .loop-test .taken) in
-    let q = an .inside in omega arith
+add-i c = omega (arith, inside (go (c .before .before .before .before)))
 
 add-j : tie.Need-add-j Inv-loop μ-loop
-add-j c =
-    let args = c .before .before .before .before .before .before .before .before .before .before .before .args in
-    let loop = c .before .before .before .before .before .before .before .before .before .loop in
-    let hit = c .before .before .hit in
-    let pre = c .before .before .before .before .before .before .before .before .before .before .before .pre in
-    let an = answer (loop .inv .0 (pre .0 .text) (pre .0 .answers .values) (pre .0 .reversed .values) (pre .0 .answers .lies) (pre .0 .answers .counted) (pre .0 .reversed .lies) (pre .0 .reversed .counted)) (c .before .before .before .before .before .before .before .before .loop-test .taken) in
-    let room = hit-room (args .words .now) (loop .j) (loop .rest) (wordAt (args .words .now) (loop .i) 1) (hit .result) (hit .ensures) (an .reversed-inside) (loop .inv .2) in omega arith
+add-j c = omega (arith, room (c .before .before))
 
 sub-rest : tie.Need-sub-rest Inv-loop μ-loop
 sub-rest c =
-    let args = c .before .before .before .before .before .before .before .before .before .before .before .args in
-    let loop = c .before .before .before .before .before .before .before .before .before .loop in
-    let most = hit-some (args .words .now) (loop .j) (loop .rest) (wordAt (args .words .now) (loop .i) 1) in let e = c .before .before .hit .ensures in omega arith
+    let h = go (c .before .before .before .before) .before in
+    omega (arith, hit-some (words h) (h .loop .j) (h .loop .rest) (wordAt (words h) (h .loop .i) 1), c .before .before .hit .ensures)
 
 loop-again : tie.Need-loop-again Inv-loop μ-loop
 loop-again c =
-    let counted = c .counted in
-    let hit = c .before .before .hit in
-    let loop = c .before .before .before .before .before .before .before .before .before .loop in
-    let loop-test = c .before .before .before .before .before .before .before .before .loop-test in
-    let is-between2 = c .before .before .before .before .before .is-between2 in
-    let if2 = c .before .before .before .before .if2 in
-    let args = c .before .before .before .before .before .before .before .before .before .before .before .args in
-    let pre = c .before .before .before .before .before .before .before .before .before .before .before .pre in
-    let an = answer (loop .inv .0 (pre .0 .text) (pre .0 .answers .values) (pre .0 .reversed .values) (pre .0 .answers .lies) (pre .0 .answers .counted) (pre .0 .reversed .lies) (pre .0 .reversed .counted)) (loop-test .taken) in
-    (λ t f g a b d e. rw (counted .ensures .0, hit .ensures, bit-back _) ((answer (loop .inv .0 t f g a b d e) (loop-test .taken)) .on (sym (c .before .before .before .before .before .before .before .is-between .ensures) ∙ not-false _ (c .before .before .before .before .before .before .if1 .left)) (sym (is-between2 .ensures) ∙ not-false _ (if2 .left)) (hitAt (args .words .now) (loop .j) (loop .rest) (wordAt (args .words .now) (loop .i) 1)) refl), let most = counted .ensures .1 in let bound = loop .inv .1 in omega arith, hit-room (args .words .now) (loop .j) (loop .rest) (wordAt (args .words .now) (loop .i) 1) (hit .result) (hit .ensures) (an .reversed-inside) (loop .inv .2))
+    let o = c .before .before .before .before in
+    let g = go o in
+    (λ t f h a b d e. rw (c .counted .ensures .0, c .before .before .hit .ensures, bit-back _) (answer (g .before .loop .inv .0 t f h a b d e) (g .loop-test .taken) .on (item (o .before .before)) (ranged o) _ refl), omega (arith, c .counted .ensures .1, g .before .loop .inv .1), room (c .before .before))
 
 returns-3 : tie.Need-returns-3 Inv-loop μ-loop
-returns-3 c = λ t f g a b d e. sym (one-left (c .before .before .loop .inv .0 t f g a b d e) (omega arith) (omega arith))
+returns-3 c t f g a b d e = sym (one-left (c .before .before .loop .inv .0 t f g a b d e) (omega arith) (omega arith))
 
 returns-4 : tie.Need-returns-4 Inv-loop μ-loop
-returns-4 c = λ t f g a b d e. sym (all-answered (c .before .before .loop .inv .0 t f g a b d e) (omega arith) (omega arith))
+returns-4 c t f g a b d e = sym (all-answered (c .before .before .loop .inv .0 t f g a b d e) (omega arith) (omega arith))
 
 pub add-up-spec : {M : Type 1} → statement M
 add-up-spec =
