@@ -2,68 +2,84 @@
 use borrow.Author.Needs.{needs}
 use Rattle.build.proofs.answer.Statement.{statement}
 use Rattle.build.proofs.answer.Tie as tie
-use Prim.Native.Nat.{_-_}
+use Prim.Native.Nat.{_-_, _<_}
 use native.Mathlib.Omega.{arith}
-use mathlib.Core.Path.{refl}
-use Rattle.build.specs.Given.{refused-used, stopped-used, firm, gives-run, gives-empty, ready, gives-built-refused, gives-built}
+use mathlib.Core.Path.{_≡_, refl, subst}
+use Rattle.decoder.specs.declared.Counts.{Counts}
+use Rattle.machine.specs.declared.Outcome.{Outcome}
+use Rattle.machine.specs.declared.Outcome.the-variants.{Stopped}
+use Rattle.build.specs.Given.{RanIn, refused-used, stopped-used, firm, gives-run, gives-empty, ready, gives-built-refused, gives-built}
+
+-- the rooms that the run left, once its outcome is told
+ran : (s : tie.Start) (o : Outcome) → s .args .outcome ≡ o → RanIn (s .args .edition) o (s .args .pickle .now) (s .args .nodes .now) (s .args .owners .now) (s .args .children .now) (s .args .stack .now)
+ran s o is = subst (λ (x : Outcome). RanIn (s .args .edition) x (s .args .pickle .now) (s .args .nodes .now) (s .args .owners .now) (s .args .children .now) (s .args .stack .now)) is (s .pre .0)
+
+-- it refused
+abbrev begun : tie.After-outcome → tie.Start
+begun c = c .before .before .before .before .before .before .before .before .before .before .before .before .before .before
+
+-- it stopped, with these counts
+module _ (c : tie.After-outcome2) where
+  abbrev start : tie.Start
+  start = c .before .before .before .before .before .before .before .before .before .before .before .before .before .before
+
+  abbrev counts : Counts
+  counts = c .outcome2 .given .0 .0
+
+  stopped : RanIn (start .args .edition) (Stopped counts) (start .args .pickle .now) (start .args .nodes .now) (start .args .owners .now) (start .args .children .now) (start .args .stack .now)
+  stopped = ran start _ (c .outcome2 .given .1)
+
+-- with something on the stack
+abbrev told : tie.Else1 → tie.After-outcome2
+told c = c .before .before .before
+
+some : (c : tie.Else1) → 0 < counts (told c) .stack
+some c = omega (arith, c .if1 .left)
+
+-- and the root built
+abbrev building : tie.After-build → tie.Else1
+building c = c .before .before .before .before .before .before .before .before .before .before .before .before .before
 
 clear-log-requires : tie.Need-clear-log-requires
-clear-log-requires c κs =
-    let h = rw (c .before .before .before .outcome .given .1) at (c .before .before .before .before .before .before .before .before .before .before .before .before .before .before .before .before .before .pre .0) in
-    refused-used _ _ h
+clear-log-requires c κs = let d = c .before .before .before in refused-used _ _ (ran (begun d) _ (d .outcome .given .1))
 
 clear-log-requires-2 : tie.Need-clear-log-requires-2
-clear-log-requires-2 c κs =
-    let n = c .before .before .before .before .before .outcome2 .given .0 .0 in
-    let h = rw (c .before .before .before .before .before .outcome2 .given .1) at (c .before .before .before .before .before .before .before .before .before .before .before .before .before .before .before .before .before .before .before .pre .0) in
-    stopped-used n h
+clear-log-requires-2 c κs = stopped-used _ (stopped (c .before .before .before .before .before))
 
 returns : tie.Need-returns
-returns c =
-    let n = c .before .before .before .before .before .before .before .before .before .before .before .outcome2 .given .0 .0 in
-    let h = rw (c .before .before .before .before .before .before .before .before .before .before .before .outcome2 .given .1) at (c .before .before .before .before .before .before .before .before .before .before .before .before .before .before .before .before .before .before .before .before .before .before .before .before .before .pre .0) in
-    (rw (c .refused2 .ensures) (gives-empty n h _ _ _ (c .before .before .before .before .before .before .before .before .if1 .taken)), (c .before .before .before .before .before .clear-log2 .ensures, (refl, refl, refl, refl, refl)))
+returns c = (rw (c .refused2 .ensures) (gives-empty _ (stopped (c .before .before .before .before .before .before .before .before .before .before .before)) _ _ _ (c .before .before .before .before .before .before .before .before .if1 .taken)), (c .before .before .before .before .before .clear-log2 .ensures, (refl, refl, refl, refl, refl)))
 
 sub-top : tie.Need-sub-top
 sub-top c = omega (arith, c .before .if1 .left)
 
 mul-t37 : tie.Need-mul-t37
-mul-t37 c =
-    let n = c .before .before .before .before .outcome2 .given .0 .0 in
-    let h = rw (c .before .before .before .before .outcome2 .given .1) at (c .before .before .before .before .before .before .before .before .before .before .before .before .before .before .before .before .before .before .pre .0) in
-    omega (arith, firm n h .stack, firm n h .deepest)
+mul-t37 c = let f = firm _ (stopped (c .before .before .before .before)) in omega (arith, f .stack, f .deepest)
 
 shared-slice-read-t39 : tie.Need-shared-slice-read-t39
-shared-slice-read-t39 c =
-    let n = c .before .before .before .before .before .outcome2 .given .0 .0 in
-    let h = rw (c .before .before .before .before .before .outcome2 .given .1) at (c .before .before .before .before .before .before .before .before .before .before .before .before .before .before .before .before .before .before .before .pre .0) in
-    omega (arith, c .before .before .if1 .left, firm n h .stack, firm n h .deepest, firm n h .lengths .stack)
+shared-slice-read-t39 c = let f = firm _ (stopped (c .before .before .before .before .before)) in omega (arith, c .before .before .if1 .left, f .stack, f .deepest, f .lengths .stack)
 
 cast-t40 : tie.Need-cast-t40
-cast-t40 c = omega (arith, c .shared-slice-known4 .given (c .before .before .before .before .before .outcome2 .given .0 .0 .stack - 1))
+cast-t40 c = omega (arith, c .shared-slice-known4 .given (counts (c .before .before .before .before .before) .stack - 1))
 
 build-requires : tie.Need-build-requires
-build-requires c κs =
-    let n = c .before .before .before .before .before .before .before .before .before .before .before .before .before .before .before .outcome2 .given .0 .0 in
-    let h = rw (c .before .before .before .before .before .before .before .before .before .before .before .before .before .before .before .outcome2 .given .1) at (c .before .before .before .before .before .before .before .before .before .before .before .before .before .before .before .before .before .before .before .before .before .before .before .before .before .before .before .before .before .pre .0) in
-    (ready n h (omega (arith, c .before .before .before .before .before .before .before .before .before .before .before .before .if1 .left)), c .before .before .before .before .before .before .before .before .before .before .before .before .before .before .before .before .before .before .before .before .before .before .before .before .before .before .before .before .before .pre .1)
+build-requires c κs = let e = c .before .before .before .before .before .before .before .before .before .before .before .before in (ready _ (stopped (told e)) (some e), start (told e) .pre .1)
 
 returns-2 : tie.Need-returns-2
 returns-2 c =
-    let h = rw (c .before .before .before .before .before .before .before .before .before .outcome .given .1) at (c .before .before .before .before .before .before .before .before .before .before .before .before .before .before .before .before .before .before .before .before .before .before .before .pre .0) in
-    (rw (c .refused .ensures) (gives-run _ _ _ _ _ h), (c .before .before .before .before .before .clear-log .ensures, (refl, refl, refl, refl, refl)))
+    let d = c .before .before .before .before .before .before .before .before .before in
+    (rw (c .refused .ensures) (gives-run _ _ _ _ _ (ran (begun d) _ (d .outcome .given .1))), (c .before .before .before .before .before .clear-log .ensures, (refl, refl, refl, refl, refl)))
 
 returns-3 : tie.Need-returns-3
 returns-3 c =
-    let n = c .before .before .before .before .before .before .before .before .before .before .before .before .before .before .before .before .before .before .before .before .before .before .before .before .before .before .before .before .before .before .before .before .before .before .before .before .before .before .outcome2 .given .0 .0 in
-    let h = rw (c .before .before .before .before .before .before .before .before .before .before .before .before .before .before .before .before .before .before .before .before .before .before .before .before .before .before .before .before .before .before .before .before .before .before .before .before .before .before .outcome2 .given .1) at (c .before .before .before .before .before .before .before .before .before .before .before .before .before .before .before .before .before .before .before .before .before .before .before .before .before .before .before .before .before .before .before .before .before .before .before .before .before .before .before .before .before .before .before .before .before .before .before .before .before .before .before .before .pre .0) in
-    (rw (c .refused3 .ensures) (gives-built-refused n h (omega (arith, c .before .before .before .before .before .before .before .before .before .before .before .before .before .before .before .before .before .before .before .before .before .before .before .before .before .before .before .before .before .before .before .before .before .before .before .if1 .left)) _ _ _ _ _ _ (c .before .before .before .before .before .before .before .before .before .before .before .before .before .before .before .before .before .before .before .before .before .before .build .ensures .0) _ (c .before .before .why .given .1)), c .before .before .before .before .before .before .before .before .before .before .before .before .before .before .before .before .before .before .before .before .before .before .build .ensures .1)
+    let b = c .before .before .before .before .before .before .before .before .before .before .before .before .before .before .before .before .before .before .before .before .before .before in
+    let e = building b in
+    (rw (c .refused3 .ensures) (gives-built-refused _ (stopped (told e)) (some e) _ _ _ _ _ _ (b .build .ensures .0) _ (c .before .before .why .given .1)), b .build .ensures .1)
 
 returns-4 : tie.Need-returns-4
 returns-4 c =
-    let n = c .before .before .before .before .before .before .before .before .before .before .before .before .before .before .before .before .before .before .before .before .before .before .before .before .before .before .before .before .before .before .before .before .before .before .before .before .before .outcome2 .given .0 .0 in
-    let h = rw (c .before .before .before .before .before .before .before .before .before .before .before .before .before .before .before .before .before .before .before .before .before .before .before .before .before .before .before .before .before .before .before .before .before .before .before .before .before .outcome2 .given .1) at (c .before .before .before .before .before .before .before .before .before .before .before .before .before .before .before .before .before .before .before .before .before .before .before .before .before .before .before .before .before .before .before .before .before .before .before .before .before .before .before .before .before .before .before .before .before .before .before .before .before .before .before .pre .0) in
-    (gives-built n h (omega (arith, c .before .before .before .before .before .before .before .before .before .before .before .before .before .before .before .before .before .before .before .before .before .before .before .before .before .before .before .before .before .before .before .before .before .before .if1 .left)) _ _ _ _ _ _ (c .before .before .before .before .before .before .before .before .before .before .before .before .before .before .before .before .before .before .before .before .before .build .ensures .0) _ (c .before .records .given .1), c .before .before .before .before .before .before .before .before .before .before .before .before .before .before .before .before .before .before .before .before .before .build .ensures .1)
+    let b = c .before .before .before .before .before .before .before .before .before .before .before .before .before .before .before .before .before .before .before .before .before in
+    let e = building b in
+    (gives-built _ (stopped (told e)) (some e) _ _ _ _ _ _ (b .build .ensures .0) _ (c .before .records .given .1), b .build .ensures .1)
 
 pub answer-spec : {M : Type 1} → statement M
 answer-spec =
