@@ -107,7 +107,7 @@ fn unicode_text(line: &[u8]) -> usize
 }
 
 // Of a node; an Object's is its class's.
-fn text_len(pickle: &[u8], nodes: &[u64], node: NodeId) -> usize
+fn node_text_len(pickle: &[u8], nodes: &[u64], node: NodeId) -> usize
     requires { ⌜ Readable (now pickle) (now nodes) (node .0) ⌝ }
     ensures { λ r. ⌜ r ≡ textLen (now (pickle .entry)) (now (nodes .entry)) (node .0) ⌝ }
 {
@@ -160,7 +160,7 @@ fn leaf_word(node: NodeId, pickle: &[u8], nodes: &[u64]) -> u64
     requires { ⌜ Readable (now pickle) (now nodes) (node .0) ⌝ }
     ensures { λ r. ⌜ r ≡ packW 1 1 (textLen (now (pickle .entry)) (now (nodes .entry)) (node .0)) ⌝ }
 {
-    129 + 524288 * least(text_len(pickle, nodes, node) as u64, 65537)
+    129 + 524288 * least(node_text_len(pickle, nodes, node) as u64, 65537)
 }
 
 // A node as far as no walk is needed for it.

@@ -1,7 +1,7 @@
--- `resolve::text_len` meets its contract: one law for each kind.
+-- `resolve::node_text_len` meets its contract: one law for each kind.
 use borrow.Author.Needs.{needs}
-use Rattle.resolve.proofs.text_len.Statement.{statement}
-use Rattle.resolve.proofs.text_len.Tie as tie
+use Rattle.resolve.proofs.node_text_len.Statement.{statement}
+use Rattle.resolve.proofs.node_text_len.Tie as tie
 use Prim.Native.Nat.{_+_, _*_, _^_, _/_, _%_}
 use lib.ListN.{getD}
 use mathlib.Core.Path.{refl}
@@ -99,8 +99,8 @@ returns-7 c =
     let a = s .args in
     len-nothing (a .pickle .now) (a .nodes .now) (a .node .0) _ _ refl refl (c .before .before .before .before .before .if1 .left) (c .before .before .before .before .if2 .left) (c .before .before .before .if3 .left) (c .before .before .if4 .left) (c .before .if5 .left) (c .if6 .left)
 
-pub text-len-spec : {M : Type 1} → statement M
-text-len-spec =
+pub node-text-len-spec : {M : Type 1} → statement M
+node-text-len-spec =
     tie.close
     (tie.spec
     (λ c. search needs) (λ c. search needs) (λ c. search needs) (λ c. search needs) (λ c. search needs) (λ c. search needs) (λ c. search needs)
