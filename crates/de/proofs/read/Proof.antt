@@ -43,13 +43,20 @@ counted c = c .counts .ensures
 abbrev ended : tie.After-slice-known32 → tie.After-counts
 ended c = c .before .before .before .before .before .before .before .before .before .before .before .before .before
 
+-- from the end to the answer, and to the run
+abbrev told : tie.After-slice-known32 → tie.After-answer
+told c = answer (ended c)
+
+abbrev ran : tie.After-slice-known32 → tie.After-run-in
+ran c = run (told c)
+
 returns : tie.Need-returns
 returns c =
     let s = c .before .before .before .before .before .before .before .before .before .before .before .before .before .before .before .before in
     reads-long (s .args .edition) (s .args .whole) (s .args .pickle .now) (lent s) _ (c .before .if1 .taken) (c .refused .ensures)
 
 run-in-requires : tie.Need-run-in-requires
-run-in-requires c κs = let e = c .before .before .before .before .before .before .before in let s = fits e in let a = s .args in (e .if1 .left, machine-zero (a .nodes .now) (a .owners .now) (a .children .now) (a .stack .now) (a .marks .now) (a .keys .now) (a .held .now) (a .unescaped .now) (a .starts .now) (a .sorted .now) (a .measures .now) (a .table .now) (a .text .now) (s .pre))
+run-in-requires c κs = let e = c .before .before .before .before .before .before .before in let s = fits e in (e .if1 .left, machine-zero _ _ _ _ _ _ _ _ _ _ _ _ _ (s .pre))
 
 part-answer-end : tie.Need-part-answer-end
 part-answer-end c = let r = c .before .before .before .before .before .before .before .before .before .before .before .before .before .before .before in rw (r .run-in .kept .1 .1 .1 .1 .1 .0) (part-fits 2048 (start r .args .stack .now) (zero (start r) .1 .1 .1 .0))
@@ -64,7 +71,7 @@ part-answer-end-4 : tie.Need-part-answer-end-4
 part-answer-end-4 c = let r = c .before .before .before .before .before .before .before .before .before .before .before .before .before .before .before .before .before .before .before in rw (r .run-in .kept .1 .1 .1 .1 .0) (part-fits 8192 (start r .args .children .now) (zero (start r) .1 .1 .0))
 
 answer-requires : tie.Need-answer-requires
-answer-requires c κs = let r = c .before .before .before .before .before .before .before .before .before .before .before .before .before .before .before .before .before .before .before .before .before .before .before .before .before .before .before in let a = start r .args in (r .run-in .ensures .0 .ran, working (a .nodes .now) (a .owners .now) (a .children .now) (a .stack .now) (a .marks .now) (a .keys .now) (a .held .now) (a .unescaped .now) (a .starts .now) (a .sorted .now) (a .measures .now) (a .table .now) (a .text .now) (start r .pre) (r .run-in .last .1 .1 .1 .1 .1 .1 .1 .0) (r .run-in .ensures .1 .0))
+answer-requires c κs = let r = c .before .before .before .before .before .before .before .before .before .before .before .before .before .before .before .before .before .before .before .before .before .before .before .before .before .before .before in (r .run-in .ensures .0 .ran, working _ _ _ _ _ _ _ _ _ _ _ _ _ (start r .pre) (r .run-in .last .1 .1 .1 .1 .1 .1 .1 .0) (r .run-in .ensures .1 .0))
 
 mul-clear-words : tie.Need-mul-clear-words
 mul-clear-words c = let k = c .before .before in omega (arith, ap (λ (x : Counts). x .nodes) (counted k), run (answer k) .run-in .ensures .0 .ran .ran .sound .firm .nodes)
@@ -79,60 +86,60 @@ clear-shorts-requires-2 : tie.Need-clear-shorts-requires-2
 clear-shorts-requires-2 c κs = let k = c .before .before .before .before .before .before .before .before .before .before in back-fits (run (answer k) .run-in .ensures .0 .marks-back) _ (ap (λ (x : Counts). x .most) (counted k))
 
 same-length : tie.Need-same-length
-same-length c = c .before .before .before .before .before .before .before .before .before .before .clear-words .kept .0 ∙ run (answer (ended c)) .run-in .kept .1 .1 .0
+same-length c = c .before .before .before .before .before .before .before .before .before .before .clear-words .kept .0 ∙ ran c .run-in .kept .1 .1 .0
 
 same-length-2 : tie.Need-same-length-2
-same-length-2 c = length-front (run (answer (ended c)) .run-in .last .1 .1 .1 .0) (answer (ended c) .answer .last .1 .1 .1 .1 .1 .1 .0) 8192 (answer (ended c) .answer .kept .1 .1 .1 .1 .1 .1 .0) ∙ run (answer (ended c)) .run-in .kept .1 .1 .1 .0
+same-length-2 c = length-front (ran c .run-in .last .1 .1 .1 .0) (told c .answer .last .1 .1 .1 .1 .1 .1 .0) 8192 (told c .answer .kept .1 .1 .1 .1 .1 .1 .0) ∙ ran c .run-in .kept .1 .1 .1 .0
 
 same-length-3 : tie.Need-same-length-3
-same-length-3 c = length-front (run (answer (ended c)) .run-in .last .1 .1 .1 .1 .0) (answer (ended c) .answer .last .1 .1 .1 .1 .1 .1 .1 .0) 8192 (answer (ended c) .answer .kept .1 .1 .1 .1 .1 .1 .1 .0) ∙ run (answer (ended c)) .run-in .kept .1 .1 .1 .1 .0
+same-length-3 c = length-front (ran c .run-in .last .1 .1 .1 .1 .0) (told c .answer .last .1 .1 .1 .1 .1 .1 .1 .0) 8192 (told c .answer .kept .1 .1 .1 .1 .1 .1 .1 .0) ∙ ran c .run-in .kept .1 .1 .1 .1 .0
 
 same-length-4 : tie.Need-same-length-4
-same-length-4 c = c .before .before .before .before .before .before .clear-shorts .kept .0 ∙ run (answer (ended c)) .run-in .kept .1 .1 .1 .1 .1 .0
+same-length-4 c = c .before .before .before .before .before .before .clear-shorts .kept .0 ∙ ran c .run-in .kept .1 .1 .1 .1 .1 .0
 
 same-length-5 : tie.Need-same-length-5
-same-length-5 c = c .before .before .clear-shorts2 .kept .0 ∙ run (answer (ended c)) .run-in .kept .1 .1 .1 .1 .1 .1 .0
+same-length-5 c = c .before .before .clear-shorts2 .kept .0 ∙ ran c .run-in .kept .1 .1 .1 .1 .1 .1 .0
 
 same-length-6 : tie.Need-same-length-6
-same-length-6 c = answer (ended c) .answer .kept .1 .1 .1 .1 .1 .1 .1 .1 .0 ∙ run (answer (ended c)) .run-in .kept .1 .1 .1 .1 .1 .1 .1 .0
+same-length-6 c = told c .answer .kept .1 .1 .1 .1 .1 .1 .1 .1 .0 ∙ ran c .run-in .kept .1 .1 .1 .1 .1 .1 .1 .0
 
 same-length-7 : tie.Need-same-length-7
-same-length-7 c = run (answer (ended c)) .run-in .kept .1 .1 .1 .1 .1 .1 .1 .1 .0
+same-length-7 c = ran c .run-in .kept .1 .1 .1 .1 .1 .1 .1 .1 .0
 
 same-length-8 : tie.Need-same-length-8
-same-length-8 c = answer (ended c) .answer .kept .1 .1 .1 .1 .1 .1 .1 .1 .1 .0
+same-length-8 c = told c .answer .kept .1 .1 .1 .1 .1 .1 .1 .1 .1 .0
 
 same-length-9 : tie.Need-same-length-9
-same-length-9 c = answer (ended c) .answer .kept .1 .1 .1 .1 .1 .1 .1 .1 .1 .1 .0
+same-length-9 c = told c .answer .kept .1 .1 .1 .1 .1 .1 .1 .1 .1 .1 .0
 
 same-length-10 : tie.Need-same-length-10
-same-length-10 c = answer (ended c) .answer .kept .1 .1 .1 .1 .1 .1 .1 .1 .1 .1 .1 .0
+same-length-10 c = told c .answer .kept .1 .1 .1 .1 .1 .1 .1 .1 .1 .1 .1 .0
 
 same-length-11 : tie.Need-same-length-11
-same-length-11 c = answer (ended c) .answer .kept .1 .1 .1 .1 .1 .1 .1 .1 .1 .1 .1 .1 .0
+same-length-11 c = told c .answer .kept .1 .1 .1 .1 .1 .1 .1 .1 .1 .1 .1 .1 .0
 
 same-length-12 : tie.Need-same-length-12
-same-length-12 c = answer (ended c) .answer .kept .1 .1 .1 .1 .1 .1 .1 .1 .1 .1 .1 .1 .1 .0
+same-length-12 c = told c .answer .kept .1 .1 .1 .1 .1 .1 .1 .1 .1 .1 .1 .1 .1 .0
 
 same-length-13 : tie.Need-same-length-13
-same-length-13 c = answer (ended c) .answer .kept .1 .1 .1 .1 .1 .1 .1 .1 .1 .1 .1 .1 .1 .1 .0
+same-length-13 c = told c .answer .kept .1 .1 .1 .1 .1 .1 .1 .1 .1 .1 .1 .1 .1 .1 .0
 
 returns-2 : tie.Need-returns-2
 unfolding filled
 returns-2 c =
     let k = ended c in
-    let s = start (run (answer k)) in
-    let r = run (answer (ended c)) .run-in .ensures .0 in
-    let a = answer (ended c) .answer .ensures in
+    let s = start (ran c) in
+    let r = ran c .run-in .ensures .0 in
+    let a = told c .answer .ensures in
     record {
       answer = a .0 .answer;
       slices = same (back-again (r .nodes-back) _ (ap (λ (x : Counts). 2 * x .nodes) (counted k)) _ (c .before .before .before .before .before .before .before .before .before .before .clear-words .ensures))
-          (same (part-cleared 8192 (s .args .owners .now) (zero s .1 .0) (run (answer (ended c)) .run-in .last .1 .1 .1 .0) (answer (ended c) .answer .last .1 .1 .1 .1 .1 .1 .0) (run (answer (ended c)) .run-in .kept .1 .1 .1 .0) (r .owners-behind) (a .1 .0 .0))
-          (same (part-cleared 8192 (s .args .children .now) (zero s .1 .1 .0) (run (answer (ended c)) .run-in .last .1 .1 .1 .1 .0) (answer (ended c) .answer .last .1 .1 .1 .1 .1 .1 .1 .0) (run (answer (ended c)) .run-in .kept .1 .1 .1 .1 .0) (r .children-behind) (a .1 .0 .1))
+          (same (part-cleared 8192 (s .args .owners .now) (zero s .1 .0) (ran c .run-in .last .1 .1 .1 .0) (told c .answer .last .1 .1 .1 .1 .1 .1 .0) (ran c .run-in .kept .1 .1 .1 .0) (r .owners-behind) (a .1 .0 .0))
+          (same (part-cleared 8192 (s .args .children .now) (zero s .1 .1 .0) (ran c .run-in .last .1 .1 .1 .1 .0) (told c .answer .last .1 .1 .1 .1 .1 .1 .1 .0) (ran c .run-in .kept .1 .1 .1 .1 .0) (r .children-behind) (a .1 .0 .1))
           (same (back-again (r .stack-back) _ (ap (λ (x : Counts). x .deepest) (counted k)) _ (c .before .before .before .before .before .before .clear-shorts .ensures))
           (same (back-again (r .marks-back) _ (ap (λ (x : Counts). x .most) (counted k)) _ (c .before .before .clear-shorts2 .ensures))
-          (same (a .1 .1 .0 ∙ run (answer (ended c)) .run-in .ensures .1 .0)
-          (same (run (answer (ended c)) .run-in .ensures .1 .1)
+          (same (a .1 .1 .0 ∙ ran c .run-in .ensures .1 .0)
+          (same (ran c .run-in .ensures .1 .1)
           (same (a .1 .1 .1)
           (same (a .1 .1 .2)
           (same (a .1 .1 .3)

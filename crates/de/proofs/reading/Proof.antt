@@ -21,11 +21,14 @@ enough : (c : tie.Else1) → short stated (lent (start c)) ≡ false
 enough c = sym (c .before .is-short .ensures) ∙ c .if1 .left
 
 -- the rooms made zero
-abbrev else1 : tie.After-clear-builder → tie.Else1
-else1 c = c .before .before .before .before .before .before .before .before .before .before .before .before .before .before .before .before .before .before .before .before .before .before .before .before .before .before .before
+abbrev enter : tie.After-clear-machine → tie.Else1
+enter c = c .before .before .before .before .before .before .before .before
 
 abbrev machine : tie.After-clear-builder → tie.After-clear-machine
 machine c = c .before .before .before .before .before .before .before .before .before .before .before .before .before .before .before .before .before .before .before
+
+abbrev else1 : tie.After-clear-builder → tie.Else1
+else1 c = enter (machine c)
 
 abbrev zeroed : tie.After-clear-builder → Slices
 zeroed c =
@@ -46,13 +49,15 @@ abbrev builder : tie.After-read → tie.After-clear-builder
 builder c = c .before .before .before .before .before .before .before .before .before .before .before .before .before .before .before .before .before .before .before .before .before .before
 
 returns : tie.Need-returns
-returns c = call-short (due (c .before .before .before .before .before .before .before .before .before .before .before .before .before .before .before .before .before .before .before .before .before .before .before .before .before .before .before .before .before .before .args .edition) (c .before .before .before .before .before .before .before .before .before .before .before .before .before .before .before .before .before .before .before .before .before .before .before .before .before .before .before .before .before .before .args .whole) (c .before .before .before .before .before .before .before .before .before .before .before .before .before .before .before .before .before .before .before .before .before .before .before .before .before .before .before .before .before .before .args .pickle .now)) (lent (c .before .before .before .before .before .before .before .before .before .before .before .before .before .before .before .before .before .before .before .before .before .before .before .before .before .before .before .before .before .before)) _ (sym (c .before .before .is-short .ensures) ∙ c .before .if1 .taken) (c .refused .ensures)
+returns c =
+    let s = c .before .before .before .before .before .before .before .before .before .before .before .before .before .before .before .before .before .before .before .before .before .before .before .before .before .before .before .before .before .before in
+    call-short (due (s .args .edition) (s .args .whole) (s .args .pickle .now)) (lent s) _ (sym (c .before .before .is-short .ensures) ∙ c .before .if1 .taken) (c .refused .ensures)
 
 clear-machine-requires : tie.Need-clear-machine-requires
 clear-machine-requires c κs = let e = c .before .before .before .before .before .before .before in let h = long stated (lent (start e)) (enough e) in (h .0, (h .1 .0, (h .1 .1 .0, (h .1 .1 .1 .0, (h .1 .1 .1 .1 .0, (h .1 .1 .1 .1 .1 .0, (h .1 .1 .1 .1 .1 .1 .0, tt)))))))
 
 clear-builder-requires : tie.Need-clear-builder-requires
-clear-builder-requires c κs = let e = c .before .before .before .before .before .before .before .before .before .before .before .before .before .before .before .before .before .before .before .before .before .before .before .before .before .before in let h = long stated (lent (start e)) (enough e) in (h .1 .1 .1 .1 .1 .1 .1 .0, (h .1 .1 .1 .1 .1 .1 .1 .1 .0, (h .1 .1 .1 .1 .1 .1 .1 .1 .1 .0, (h .1 .1 .1 .1 .1 .1 .1 .1 .1 .1 .0, tt))))
+clear-builder-requires c κs = let e = enter (c .before .before .before .before .before .before .before .before .before .before .before .before .before .before .before .before .before .before) in let h = long stated (lent (start e)) (enough e) in (h .1 .1 .1 .1 .1 .1 .1 .0, (h .1 .1 .1 .1 .1 .1 .1 .1 .0, (h .1 .1 .1 .1 .1 .1 .1 .1 .1 .0, (h .1 .1 .1 .1 .1 .1 .1 .1 .1 .1 .0, tt))))
 
 read-requires : tie.Need-read-requires
 read-requires c κs = let z = c .before .before .before .before .before .before .before .before .before .before .before .before .before .before .before .before .before .before .before .before .before in ready (lent (start (else1 z))) (zeroed z) (enough (else1 z)) (made-zero z)

@@ -22,34 +22,34 @@ start c = c .before .before .before .before .before .before .before .before .bef
 ran : (c : tie.After-run)
     → Runs (start c .args .edition) (c .run .result) (start c .args .pickle .now) (start c .args .nodes .now) (start c .args .owners .now) (start c .args .children .now) (start c .args .stack .now) (start c .args .marks .now)
     (c .run .last .1 .1 .0 ++ drop 8192 (start c .args .nodes .now)) (c .run .last .1 .1 .1 .0 ++ drop 8192 (start c .args .owners .now)) (c .run .last .1 .1 .1 .1 .0 ++ drop 8192 (start c .args .children .now)) (c .run .last .1 .1 .1 .1 .1 .0 ++ drop 2048 (start c .args .stack .now)) (c .run .last .1 .1 .1 .1 .1 .1 .0 ++ drop 256 (start c .args .marks .now))
-ran c = let a = start c .args in let r = c .run in runs (a .pickle .now) (a .nodes .now) (a .owners .now) (a .children .now) (a .stack .now) (a .marks .now) (a .keys .now) (a .held .now) (start c .pre .1) (start c .args .edition) (r .result) (r .last .1 .1 .0) (r .last .1 .1 .1 .0) (r .last .1 .1 .1 .1 .0) (r .last .1 .1 .1 .1 .1 .0) (r .last .1 .1 .1 .1 .1 .1 .0) (r .last .1 .1 .1 .1 .1 .1 .1 .0) (r .last .1 .1 .1 .1 .1 .1 .1 .1 .0) (r .ensures) (r .kept .1 .1 .0) (r .kept .1 .1 .1 .0) (r .kept .1 .1 .1 .1 .0) (r .kept .1 .1 .1 .1 .1 .0) (r .kept .1 .1 .1 .1 .1 .1 .0)
+ran c = let a = start c .args in let r = c .run in runs (a .pickle .now) (a .nodes .now) (a .owners .now) (a .children .now) (a .stack .now) (a .marks .now) (a .keys .now) (a .held .now) (start c .pre .1) _ _ _ _ _ _ _ _ _ (r .ensures) (r .kept .1 .1 .0) (r .kept .1 .1 .1 .0) (r .kept .1 .1 .1 .1 .0) (r .kept .1 .1 .1 .1 .1 .0) (r .kept .1 .1 .1 .1 .1 .1 .0)
 
 keys : (c : tie.After-run) → Back (countsOf (c .run .result) .memo) (start c .args .keys .now) (c .run .last .1 .1 .1 .1 .1 .1 .1 .0 ++ drop 2048 (start c .args .keys .now))
-keys c = let a = start c .args in let r = c .run in keys-back (a .pickle .now) (a .nodes .now) (a .owners .now) (a .children .now) (a .stack .now) (a .marks .now) (a .keys .now) (a .held .now) (start c .pre .1) (start c .args .edition) (r .result) (r .last .1 .1 .0) (r .last .1 .1 .1 .0) (r .last .1 .1 .1 .1 .0) (r .last .1 .1 .1 .1 .1 .0) (r .last .1 .1 .1 .1 .1 .1 .0) (r .last .1 .1 .1 .1 .1 .1 .1 .0) (r .last .1 .1 .1 .1 .1 .1 .1 .1 .0) (r .ensures) (r .kept .1 .1 .1 .1 .1 .1 .1 .0)
+keys c = let a = start c .args in let r = c .run in keys-back (a .pickle .now) (a .nodes .now) (a .owners .now) (a .children .now) (a .stack .now) (a .marks .now) (a .keys .now) (a .held .now) (start c .pre .1) _ _ _ _ _ _ _ _ _ (r .ensures) (r .kept .1 .1 .1 .1 .1 .1 .1 .0)
 
 held : (c : tie.After-run) → Back (countsOf (c .run .result) .memo) (start c .args .held .now) (c .run .last .1 .1 .1 .1 .1 .1 .1 .1 .0 ++ drop 1024 (start c .args .held .now))
-held c = let a = start c .args in let r = c .run in held-back (a .pickle .now) (a .nodes .now) (a .owners .now) (a .children .now) (a .stack .now) (a .marks .now) (a .keys .now) (a .held .now) (start c .pre .1) (start c .args .edition) (r .result) (r .last .1 .1 .0) (r .last .1 .1 .1 .0) (r .last .1 .1 .1 .1 .0) (r .last .1 .1 .1 .1 .1 .0) (r .last .1 .1 .1 .1 .1 .1 .0) (r .last .1 .1 .1 .1 .1 .1 .1 .0) (r .last .1 .1 .1 .1 .1 .1 .1 .1 .0) (r .ensures) (r .kept .1 .1 .1 .1 .1 .1 .1 .1 .0)
+held c = let a = start c .args in let r = c .run in held-back (a .pickle .now) (a .nodes .now) (a .owners .now) (a .children .now) (a .stack .now) (a .marks .now) (a .keys .now) (a .held .now) (start c .pre .1) _ _ _ _ _ _ _ _ _ (r .ensures) (r .kept .1 .1 .1 .1 .1 .1 .1 .1 .0)
 
 part-run-end : tie.Need-part-run-end
-part-run-end c = part-fits 8192 (c .before .before .before .before .before .before .before .before .args .nodes .now) (c .before .before .before .before .before .before .before .before .pre .1 .0)
+part-run-end c = let s = c .before .before .before .before .before .before .before .before in part-fits 8192 (s .args .nodes .now) (s .pre .1 .0)
 
 part-run-end-2 : tie.Need-part-run-end-2
-part-run-end-2 c = part-fits 8192 (c .before .before .before .before .before .before .before .before .before .args .owners .now) (c .before .before .before .before .before .before .before .before .before .pre .1 .1 .0)
+part-run-end-2 c = let s = c .before .before .before .before .before .before .before .before .before in part-fits 8192 (s .args .owners .now) (s .pre .1 .1 .0)
 
 part-run-end-3 : tie.Need-part-run-end-3
-part-run-end-3 c = part-fits 8192 (c .before .before .before .before .before .before .before .before .before .before .args .children .now) (c .before .before .before .before .before .before .before .before .before .before .pre .1 .1 .1 .0)
+part-run-end-3 c = let s = c .before .before .before .before .before .before .before .before .before .before in part-fits 8192 (s .args .children .now) (s .pre .1 .1 .1 .0)
 
 part-run-end-4 : tie.Need-part-run-end-4
-part-run-end-4 c = part-fits 2048 (c .before .before .before .before .before .before .before .before .before .before .before .args .stack .now) (c .before .before .before .before .before .before .before .before .before .before .before .pre .1 .1 .1 .1 .0)
+part-run-end-4 c = let s = c .before .before .before .before .before .before .before .before .before .before .before in part-fits 2048 (s .args .stack .now) (s .pre .1 .1 .1 .1 .0)
 
 part-run-end-5 : tie.Need-part-run-end-5
-part-run-end-5 c = part-fits 256 (c .before .before .before .before .before .before .before .before .before .before .before .before .args .marks .now) (c .before .before .before .before .before .before .before .before .before .before .before .before .pre .1 .1 .1 .1 .1 .0)
+part-run-end-5 c = let s = c .before .before .before .before .before .before .before .before .before .before .before .before in part-fits 256 (s .args .marks .now) (s .pre .1 .1 .1 .1 .1 .0)
 
 part-run-end-6 : tie.Need-part-run-end-6
-part-run-end-6 c = part-fits 2048 (c .before .before .before .before .before .before .before .before .before .before .before .before .before .args .keys .now) (c .before .before .before .before .before .before .before .before .before .before .before .before .before .pre .1 .1 .1 .1 .1 .1 .0)
+part-run-end-6 c = let s = c .before .before .before .before .before .before .before .before .before .before .before .before .before in part-fits 2048 (s .args .keys .now) (s .pre .1 .1 .1 .1 .1 .1 .0)
 
 part-run-end-7 : tie.Need-part-run-end-7
-part-run-end-7 c = part-fits 1024 (c .before .before .before .before .before .before .before .before .before .before .before .before .before .before .args .held .now) (c .before .before .before .before .before .before .before .before .before .before .before .before .before .before .pre .1 .1 .1 .1 .1 .1 .1 .0)
+part-run-end-7 c = let s = c .before .before .before .before .before .before .before .before .before .before .before .before .before .before in part-fits 1024 (s .args .held .now) (s .pre .1 .1 .1 .1 .1 .1 .1 .0)
 
 run-requires : tie.Need-run-requires
 run-requires c κs = let s = c .before .before .before .before .before .before .before .before .before .before .before .before .before .before .before in let a = s .args in begins (a .pickle .now) (a .nodes .now) (a .owners .now) (a .children .now) (a .stack .now) (a .marks .now) (a .keys .now) (a .held .now) (s .pre .1) (s .pre .0)
