@@ -2,26 +2,44 @@
 use borrow.Author.Needs.{needs}
 use Rattle.emit.proofs.put_names.Statement.{statement}
 use Rattle.emit.proofs.put_names.Tie as tie
+use Prim.Native.Nat.{_+_, _≤_}
 use mathlib.Core.Path.{refl, ap}
 use native.Mathlib.Omega.{arith}
 use lib.ListN.{length}
 use lib.Seq.{length-sets}
 use Rattle.emit.specs.Leaves.{names-room, texts-names}
 
+abbrev start : tie.After-trail-part → tie.Start
+start c = c .before .before .before .before .before .before .before
+
+-- past the first text, and past the second
+abbrev first : tie.After-put-bytes-arg2 → tie.After-trail-part
+first c = c .before .before .before .before .before
+
+abbrev second : tie.After-slice-known3 → tie.After-trail-part
+second c = first (c .before .before .before)
+
+-- both texts have room
+room : (c : tie.After-trail-part) → let lead = c .before .lead-part .result .now in let trail = c .trail-part .result .now in (start c .args .at + (length lead + length trail) ≤ length (start c .args .text .now)) × (length lead + length trail ≤ 65536)
+room c = let s = start c in names-room _ _ _ _ _ _ _ (s .pre .0) _ refl (omega (arith, s .pre .1)) (omega (arith, s .pre .1)) (s .pre .1) _ _ (c .before .lead-part .ensures) (c .trail-part .ensures)
+
 put-bytes-requires : tie.Need-put-bytes-requires
-put-bytes-requires c κs = omega (arith, names-room (c .before .before .before .before .before .before .before .before .args .pickle .now) (c .before .before .before .before .before .before .before .before .args .decoded .now) (c .before .before .before .before .before .before .before .before .args .nodes .now) (c .before .before .before .before .before .before .before .before .args .marks .now) (c .before .before .before .before .before .before .before .before .args .node .0) (c .before .before .before .before .before .before .before .before .args .text .now) (c .before .before .before .before .before .before .before .before .args .at) (c .before .before .before .before .before .before .before .before .pre .0) _ refl (omega (arith, (c .before .before .before .before .before .before .before .before .pre .1))) (omega (arith, (c .before .before .before .before .before .before .before .before .pre .1))) (c .before .before .before .before .before .before .before .before .pre .1) _ _ (c .before .before .lead-part .ensures) (c .before .trail-part .ensures) .0)
+put-bytes-requires c κs = omega (arith, room (c .before) .0)
 
 put-bytes-requires-2 : tie.Need-put-bytes-requires-2
-put-bytes-requires-2 c κs = omega (arith, names-room (c .before .before .before .before .before .before .before .before .before .before .before .before .args .pickle .now) (c .before .before .before .before .before .before .before .before .before .before .before .before .args .decoded .now) (c .before .before .before .before .before .before .before .before .before .before .before .before .args .nodes .now) (c .before .before .before .before .before .before .before .before .before .before .before .before .args .marks .now) (c .before .before .before .before .before .before .before .before .before .before .before .before .args .node .0) (c .before .before .before .before .before .before .before .before .before .before .before .before .args .text .now) (c .before .before .before .before .before .before .before .before .before .before .before .before .args .at) (c .before .before .before .before .before .before .before .before .before .before .before .before .pre .0) _ refl (omega (arith, (c .before .before .before .before .before .before .before .before .before .before .before .before .pre .1))) (omega (arith, (c .before .before .before .before .before .before .before .before .before .before .before .before .pre .1))) (c .before .before .before .before .before .before .before .before .before .before .before .before .pre .1) _ _ (c .before .before .before .before .before .before .lead-part .ensures) (c .before .before .before .before .before .trail-part .ensures) .0, simp length-sets at (ap length (c .before .before .before .put-bytes .ensures)))
+put-bytes-requires-2 c κs = omega (arith, room (first c) .0, simp length-sets at (ap length (c .before .before .before .put-bytes .ensures)))
 
 mul-result : tie.Need-mul-result
-mul-result c = omega (arith, names-room (c .before .before .before .before .before .before .before .before .before .before .before .before .before .before .before .args .pickle .now) (c .before .before .before .before .before .before .before .before .before .before .before .before .before .before .before .args .decoded .now) (c .before .before .before .before .before .before .before .before .before .before .before .before .before .before .before .args .nodes .now) (c .before .before .before .before .before .before .before .before .before .before .before .before .before .before .before .args .marks .now) (c .before .before .before .before .before .before .before .before .before .before .before .before .before .before .before .args .node .0) (c .before .before .before .before .before .before .before .before .before .before .before .before .before .before .before .args .text .now) (c .before .before .before .before .before .before .before .before .before .before .before .before .before .before .before .args .at) (c .before .before .before .before .before .before .before .before .before .before .before .before .before .before .before .pre .0) _ refl (omega (arith, (c .before .before .before .before .before .before .before .before .before .before .before .before .before .before .before .pre .1))) (omega (arith, (c .before .before .before .before .before .before .before .before .before .before .before .before .before .before .before .pre .1))) (c .before .before .before .before .before .before .before .before .before .before .before .before .before .before .before .pre .1) _ _ (c .before .before .before .before .before .before .before .before .before .lead-part .ensures) (c .before .before .before .before .before .before .before .before .trail-part .ensures) .1)
+mul-result c = omega (arith, room (second c) .1)
 
 add-result : tie.Need-add-result
-add-result c = omega (arith, names-room (c .before .before .before .before .before .before .before .before .before .before .before .before .before .before .before .args .pickle .now) (c .before .before .before .before .before .before .before .before .before .before .before .before .before .before .before .args .decoded .now) (c .before .before .before .before .before .before .before .before .before .before .before .before .before .before .before .args .nodes .now) (c .before .before .before .before .before .before .before .before .before .before .before .before .before .before .before .args .marks .now) (c .before .before .before .before .before .before .before .before .before .before .before .before .before .before .before .args .node .0) (c .before .before .before .before .before .before .before .before .before .before .before .before .before .before .before .args .text .now) (c .before .before .before .before .before .before .before .before .before .before .before .before .before .before .before .args .at) (c .before .before .before .before .before .before .before .before .before .before .before .before .before .before .before .pre .0) _ refl (omega (arith, (c .before .before .before .before .before .before .before .before .before .before .before .before .before .before .before .pre .1))) (omega (arith, (c .before .before .before .before .before .before .before .before .before .before .before .before .before .before .before .pre .1))) (c .before .before .before .before .before .before .before .before .before .before .before .before .before .before .before .pre .1) _ _ (c .before .before .before .before .before .before .before .before .before .lead-part .ensures) (c .before .before .before .before .before .before .before .before .trail-part .ensures) .1)
+add-result c = omega (arith, room (second c) .1)
 
 returns : tie.Need-returns
-returns c = texts-names (c .before .before .before .before .before .before .before .before .before .before .before .before .before .before .before .args .pickle .now) (c .before .before .before .before .before .before .before .before .before .before .before .before .before .before .before .args .decoded .now) (c .before .before .before .before .before .before .before .before .before .before .before .before .before .before .before .args .nodes .now) (c .before .before .before .before .before .before .before .before .before .before .before .before .before .before .before .args .marks .now) (c .before .before .before .before .before .before .before .before .before .before .before .before .before .before .before .args .node .0) (c .before .before .before .before .before .before .before .before .before .before .before .before .before .before .before .args .text .now) (c .before .before .before .before .before .before .before .before .before .before .before .before .before .before .before .args .at) (c .before .before .before .before .before .before .before .before .before .before .before .before .before .before .before .pre .0) _ refl (omega (arith, (c .before .before .before .before .before .before .before .before .before .before .before .before .before .before .before .pre .1))) (omega (arith, (c .before .before .before .before .before .before .before .before .before .before .before .before .before .before .before .pre .1))) (c .before .before .before .before .before .before .before .before .before .before .before .before .before .before .before .pre .1) _ _ (c .before .before .before .before .before .before .before .before .before .lead-part .ensures) (c .before .before .before .before .before .before .before .before .trail-part .ensures) _ _ (c .before .before .before .before .before .before .put-bytes .ensures) (c .before .before .put-bytes2 .ensures)
+returns c =
+    let t = second c in
+    let p = start t .pre in
+    texts-names _ _ _ _ _ _ _ (p .0) _ refl (omega (arith, p .1)) (omega (arith, p .1)) (p .1) _ _ (t .before .lead-part .ensures) (t .trail-part .ensures) _ _ (c .before .before .before .before .before .before .put-bytes .ensures) (c .before .before .put-bytes2 .ensures)
 
 pub put-names-spec : {M : Type 1} → statement M
 put-names-spec = tie.close (tie.spec (λ c κs. search needs) (λ c κs. search needs) put-bytes-requires (λ c. search needs) put-bytes-requires-2 mul-result add-result (λ c. search needs) returns)

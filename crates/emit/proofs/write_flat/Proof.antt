@@ -2,40 +2,81 @@
 use borrow.Author.Needs.{needs}
 use Rattle.emit.proofs.write_flat.Statement.{statement}
 use Rattle.emit.proofs.write_flat.Tie as tie
-use mathlib.Core.Path.{refl, sym, _∙_}
+use Prim.Native.Nat.{_*_, _<_}
+use mathlib.Core.Bool.{true, false}
+use mathlib.Core.Path.{_≡_, refl, sym, _∙_}
 use native.Mathlib.Omega.{arith}
+use lib.ListN.{length}
 use Rattle.steps.specs.NodeWords.{first}
-use Rattle.emit.specs.Calls.{size-one, ready-most, ready-inside, flat-none, flat-copy, flat-copied, flat-leaf-ready, flat-made}
+use Rattle.emit.specs.Words.{kindOf, boxed}
+use Rattle.emit.specs.Calls.{Flat, size-one, ready-most, ready-inside, flat-none, flat-copy, flat-copied, flat-leaf-ready, flat-made}
+
+-- ---- the places: the node is one of the nodes, and whether it is a box
+
+abbrev start : tie.Else1 → tie.Start
+start c = c .before .before .before .before .before .before .before
+
+abbrev some : tie.After-is-box → tie.Else1
+some c = c .before .before .before
+
+-- ---- what is known there
+
+abbrev Flats : tie.Start → Type 0
+Flats s = let a = s .args in Flat (a .pickle .now) (a .decoded .now) (a .nodes .now) (a .node .0) (a .to) (a .marks .now) (a .table .now) (a .text .now)
+
+small : (c : tie.Else1) → Flats (start c) → start c .args .node .0 < 4096
+small c f = omega (arith, ready-most (f .ready), c .if1 .left)
+
+inside : (c : tie.Else1) → let a = start c .args in (2 * a .node .0 < length (a .nodes .now)) × (a .node .0 < length (a .marks .now))
+inside c = ready-inside (start c .pre .ready) (small c (start c .pre))
+
+box : (c : tie.Then2) → let a = start (some (c .before)) .args in boxed (kindOf (first (a .nodes .now) (a .node .0))) ≡ true
+unfolding first
+box c = rw (c .before .before .kind-of .ensures) at (sym (c .before .is-box .ensures) ∙ c .if2 .taken)
+
+no-box : (c : tie.Else2) → let a = start (some (c .before)) .args in boxed (kindOf (first (a .nodes .now) (a .node .0))) ≡ false
+unfolding first
+no-box c = rw (c .before .before .kind-of .ensures) at (sym (c .before .is-box .ensures) ∙ c .if2 .left)
+
+-- ---- the needs
+
+put-record-requires : tie.Need-put-record-requires
+put-record-requires c κs = let r = c .before .before .before .before .before .before .before .before .before .pre .ready in omega (arith, size-one (r .v), r .fits .records, r .fits .table-long)
+
+returns : tie.Need-returns
+returns c F = flat-none F _ _ _ (c .before .before .before .before .before .if1 .taken) (c .before .before .before .before .record-of .ensures) (c .before .before .put-record .ensures) refl
+
+mul-kind-of : tie.Need-mul-kind-of
+mul-kind-of c = omega (arith, inside c .0)
+
+mul-kind-of-2 : tie.Need-mul-kind-of-2
+mul-kind-of-2 c = omega (arith, inside c .0)
+
+shared-slice-read-kind-of : tie.Need-shared-slice-read-kind-of
+shared-slice-read-kind-of c = inside (c .before) .0
+
+mul-write-again : tie.Need-mul-write-again
+mul-write-again c = omega (arith, inside (some (c .before)) .1)
+
+shared-slice-read-write-again : tie.Need-shared-slice-read-write-again
+shared-slice-read-write-again c = inside (some (c .before .before)) .1
 
 write-again-requires : tie.Need-write-again-requires
-unfolding first
-write-again-requires c κs =
-    let R = (c .before .before .before .before .before .before .before .before .before .before .before .before .before .before .pre .ready) in
-    let k = (c .before .before .before .before .before .kind-of .ensures) in
-    let b = rw k at (sym (c .before .before .before .before .is-box .ensures) ∙ (c .before .before .before .if2 .taken)) in
-    flat-copy (c .before .before .before .before .before .before .before .before .before .before .before .before .before .before .pre) (omega (arith, ready-most R, (c .before .before .before .before .before .before .before .if1 .left))) b
+write-again-requires c κs = let b = c .before .before .before in let e = some (b .before) in flat-copy (start e .pre) (small e (start e .pre)) (box b)
 
 returns-2 : tie.Need-returns-2
-unfolding first
-returns-2 c =
-    let k = (c .before .before .before .before .before .before .before .before .before .before .kind-of .ensures) in
-    let b = rw k at (sym (c .before .before .before .before .before .before .before .before .before .is-box .ensures) ∙ (c .before .before .before .before .before .before .before .before .if2 .taken)) in
-    λ F. let R = F .ready in flat-copied F (omega (arith, ready-most R, (c .before .before .before .before .before .before .before .before .before .before .before .before .if1 .left))) b _ _ _ (c .before .before .before .before .write-again .ensures)
+returns-2 c F = let w = c .before .before .before .before in let b = w .before .before .before .before in flat-copied F (small (some (b .before)) F) (box b) _ _ _ (w .write-again .ensures)
 
 write-leaf-requires : tie.Need-write-leaf-requires
-unfolding first
-write-leaf-requires c κs =
-    let R = (c .before .before .before .before .before .before .before .before .before .before .before .before .before .pre .ready) in
-    let k = (c .before .before .before .before .kind-of .ensures) in
-    let b = rw k at (sym (c .before .before .before .is-box .ensures) ∙ (c .before .before .if2 .left)) in
-    (flat-leaf-ready (c .before .before .before .before .before .before .before .before .before .before .before .before .before .pre) (omega (arith, ready-most R, (c .before .before .before .before .before .before .if1 .left))) b, b)
+write-leaf-requires c κs = let b = c .before .before in let e = some (b .before) in (flat-leaf-ready (start e .pre) (small e (start e .pre)) (no-box b), no-box b)
 
 returns-3 : tie.Need-returns-3
-unfolding first
-returns-3 c =
-    let k = (c .before .before .before .before .before .before .before .before .before .kind-of .ensures) in
-    let b = rw k at (sym (c .before .before .before .before .before .before .before .before .is-box .ensures) ∙ (c .before .before .before .before .before .before .before .if2 .left)) in
-    λ F. let R = F .ready in flat-made F (omega (arith, ready-most R, (c .before .before .before .before .before .before .before .before .before .before .before .if1 .left))) b _ _ _ (c .before .before .before .before .write-leaf .ensures)
+returns-3 c F = let w = c .before .before .before .before in let b = w .before .before .before in flat-made F (small (some (b .before)) F) (no-box b) _ _ _ (w .write-leaf .ensures)
 
 pub write-flat-spec : {M : Type 1} → statement M
-write-flat-spec = tie.close (tie.spec (λ c κs. search needs) (λ c κs. let R = (c .before .before .before .before .before .before .before .before .before .pre .ready) in omega (arith, size-one (R .v), R .fits .records, R .fits .table-long)) (λ c. search needs) (λ c. search needs) (λ c. λ F. flat-none F _ _ _ (c .before .before .before .before .before .if1 .taken) (c .before .before .before .before .record-of .ensures) (c .before .before .put-record .ensures) refl) (λ c. let R = (c .before .before .before .before .before .before .before .pre .ready) in let n = ready-inside R (omega (arith, ready-most R, (c .if1 .left))) in omega (arith, n .0)) (λ c. let R = (c .before .before .before .before .before .before .before .pre .ready) in let n = ready-inside R (omega (arith, ready-most R, (c .if1 .left))) in omega (arith, n .0)) (λ c. let R = (c .before .before .before .before .before .before .before .before .pre .ready) in let n = ready-inside R (omega (arith, ready-most R, (c .before .if1 .left))) in n .0) (λ c κs. search needs) (λ c κs. search needs) (λ c. let R = (c .before .before .before .before .before .before .before .before .before .before .before .pre .ready) in let n = ready-inside R (omega (arith, ready-most R, (c .before .before .before .before .if1 .left))) in omega (arith, n .1)) (λ c. let R = (c .before .before .before .before .before .before .before .before .before .before .before .before .pre .ready) in let n = ready-inside R (omega (arith, ready-most R, (c .before .before .before .before .before .if1 .left))) in n .1) write-again-requires (λ c. search needs) (λ c. search needs) returns-2 write-leaf-requires (λ c. search needs) (λ c. search needs) returns-3)
+write-flat-spec =
+    tie.close
+    (tie.spec
+    (λ c κs. search needs) put-record-requires (λ c. search needs) (λ c. search needs) returns mul-kind-of mul-kind-of-2 shared-slice-read-kind-of
+    (λ c κs. search needs) (λ c κs. search needs) mul-write-again shared-slice-read-write-again write-again-requires (λ c. search needs) (λ c. search needs)
+    returns-2 write-leaf-requires (λ c. search needs) (λ c. search needs) returns-3)
