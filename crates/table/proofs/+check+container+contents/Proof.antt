@@ -57,13 +57,23 @@ contents-at t = and 2 contents-kinds.ps (is 2 contents-kinds.ps μ-contents t) c
 abbrev contents-below : ℕ → In 2 contents-kinds.ps
 contents-below t = and 2 contents-kinds.ps (falls 2 contents-kinds.ps _<_ μ-contents t) contents.Pre
 
-check-container-requires : (t : ℕ) → check-lts.Need-container-requires (kind-reads.Asked, kind-reads.Learnt, holds-reads.Asked, holds-reads.Learnt, container-below t, container.Post, leaf-reads.Asked, leaf-reads.Learnt) (check-at t) check.Post
+-- what is known of the calls
+abbrev check-calls : ℕ → check-lts.Claims
+check-calls t = (kind-reads.Asked, kind-reads.Learnt, holds-reads.Asked, holds-reads.Learnt, container-below t, container.Post, leaf-reads.Asked, leaf-reads.Learnt)
+
+abbrev container-calls : ℕ → container-lts.Claims
+container-calls t = (head-reads.Asked, head-reads.Learnt, contents-below t, contents.Post, closes-reads.Asked, closes-reads.Learnt)
+
+abbrev contents-calls : ℕ → contents-lts.Claims
+contents-calls t = (check-below t, check.Post)
+
+check-container-requires : (t : ℕ) → check-lts.Need-container-requires (check-calls t) (check-at t) check.Post
 check-container-requires t c κs =
     let s = c .before .before .before .before .before .before .before .before in
     let lent = s .pre .1 .0 in
     (omega arith, (lent, ((let l = s .pre .1 .1 .0 in omega arith), (s .pre .1 .1 .1, c .before .before .before .before .before .if1 .left))))
 
-check-leaf-requires : (t : ℕ) → check-lts.Need-leaf-requires (kind-reads.Asked, kind-reads.Learnt, holds-reads.Asked, holds-reads.Learnt, container-below t, container.Post, leaf-reads.Asked, leaf-reads.Learnt) (check-at t) check.Post
+check-leaf-requires : (t : ℕ) → check-lts.Need-leaf-requires (check-calls t) (check-at t) check.Post
 check-leaf-requires t c κs =
     let s = c .before .before .before .before .before .before .before .before in
     let a = s .args in
@@ -73,7 +83,7 @@ check-leaf-requires t c κs =
     let room = lent .room in
     (omega arith, (s .pre .1 .1 .1, (lent .short, rw e0 at (rw (c .before .before .kind .ensures) at (sym (c .before .holds .ensures) ∙ c .if3 .left)))))
 
-check-returns-4 : (t : ℕ) → check-lts.Need-returns-4 (kind-reads.Asked, kind-reads.Learnt, holds-reads.Asked, holds-reads.Learnt, container-below t, container.Post, leaf-reads.Asked, leaf-reads.Learnt) (check-at t) check.Post
+check-returns-4 : (t : ℕ) → check-lts.Need-returns-4 (check-calls t) (check-at t) check.Post
 check-returns-4 t c =
     let s = c .before .before .before .before .before .before .before .before .before in
     let a = s .args in
@@ -81,7 +91,7 @@ check-returns-4 t c =
     let l = s .pre .1 .1 .0 in
     c .leaf .ensures (a .count) (a .levels) lent (omega arith) (c .before .before .before .before .before .before .if1 .left)
 
-container-add-contents : (t : ℕ) → container-lts.Need-add-contents (head-reads.Asked, head-reads.Learnt, contents-below t, contents.Post, closes-reads.Asked, closes-reads.Learnt) (container-at t) container.Post
+container-add-contents : (t : ℕ) → container-lts.Need-add-contents (container-calls t) (container-at t) container.Post
 container-add-contents t c =
     let s = c .before .before .before .before .before .before in
     let a = s .args in
@@ -90,7 +100,7 @@ container-add-contents t c =
     let h = right (a .words .now) (a .count) (a .text .now) (a .i) (a .at) (a .levels) lent some (c .before .before .before .head .ensures) (c .before .long .given .1) in
     let few = h .few in let room = lent .room in let small = lent .few in omega arith
 
-container-add-contents-2 : (t : ℕ) → container-lts.Need-add-contents-2 (head-reads.Asked, head-reads.Learnt, contents-below t, contents.Post, closes-reads.Asked, closes-reads.Learnt) (container-at t) container.Post
+container-add-contents-2 : (t : ℕ) → container-lts.Need-add-contents-2 (container-calls t) (container-at t) container.Post
 container-add-contents-2 t c =
     let s = c .before .before .before .before .before .before in
     let a = s .args in
@@ -99,7 +109,7 @@ container-add-contents-2 t c =
     let h = right (a .words .now) (a .count) (a .text .now) (a .i) (a .at) (a .levels) lent some (c .before .before .before .head .ensures) (c .before .long .given .1) in
     let inn = h .inside in let short = lent .short in omega arith
 
-container-contents-requires : (t : ℕ) → container-lts.Need-contents-requires (head-reads.Asked, head-reads.Learnt, contents-below t, contents.Post, closes-reads.Asked, closes-reads.Learnt) (container-at t) container.Post
+container-contents-requires : (t : ℕ) → container-lts.Need-contents-requires (container-calls t) (container-at t) container.Post
 container-contents-requires t c κs =
     let s = c .before .before .before .before .before .before in
     let a = s .args in
@@ -108,7 +118,7 @@ container-contents-requires t c κs =
     let h = right (a .words .now) (a .count) (a .text .now) (a .i) (a .at) (a .levels) lent some (c .before .before .before .head .ensures) (c .before .long .given .1) in
     (omega arith, (lent, ((let few = h .few in omega arith), h .inside)))
 
-container-closes-requires : (t : ℕ) → container-lts.Need-closes-requires (head-reads.Asked, head-reads.Learnt, contents-below t, contents.Post, closes-reads.Asked, closes-reads.Learnt) (container-at t) container.Post
+container-closes-requires : (t : ℕ) → container-lts.Need-closes-requires (container-calls t) (container-at t) container.Post
 container-closes-requires t c κs =
     let s = c .before .before .before .before .before .before .before .before .before .before in
     let a = s .args in
@@ -121,7 +131,7 @@ container-closes-requires t c κs =
     let y = held w n x (a .i) (a .at) (a .levels) lent some (c .before .before .before .before .before .before .before .head .ensures) (c .before .before .before .before .before .long .given .1) (sym (c .before .before .before .contents .ensures) ∙ c .before .j .given .1) in
     ((let few = h .few in let room = lent .room in omega arith), (y .after, (y .held, ((λ q. object-some w n x (a .i) (a .at) _ _ h q), h .known))))
 
-container-returns : (t : ℕ) → container-lts.Need-returns (head-reads.Asked, head-reads.Learnt, contents-below t, contents.Post, closes-reads.Asked, closes-reads.Learnt) (container-at t) container.Post
+container-returns : (t : ℕ) → container-lts.Need-returns (container-calls t) (container-at t) container.Post
 container-returns t c =
     let s = c .before .before .before .before .before .before .before .before .before .before .before .before in
     let a = s .args in
@@ -129,7 +139,7 @@ container-returns t c =
     let some = s .pre .1 .1 .1 .1 in
     answer-closed (a .words .now) (a .count) (a .text .now) (a .i) (a .at) (a .levels) lent some (c .before .before .before .before .before .before .before .before .before .head .ensures) (c .before .before .before .before .before .before .before .long .given .1) (sym (c .before .before .before .before .before .contents .ensures) ∙ c .before .before .before .j .given .1) false (λ f p q. sym (not-true _ (c .if1 .taken)) ∙ c .before .closes .ensures f p q)
 
-container-returns-2 : (t : ℕ) → container-lts.Need-returns-2 (head-reads.Asked, head-reads.Learnt, contents-below t, contents.Post, closes-reads.Asked, closes-reads.Learnt) (container-at t) container.Post
+container-returns-2 : (t : ℕ) → container-lts.Need-returns-2 (container-calls t) (container-at t) container.Post
 container-returns-2 t c =
     let s = c .before .before .before .before .before in
     let a = s .args in
@@ -137,7 +147,7 @@ container-returns-2 t c =
     let some = s .pre .1 .1 .1 .1 in
     answer-wrong (a .words .now) (a .count) (a .text .now) (a .i) (a .at) (a .levels) lent some (c .before .before .head .ensures) (c .enum-told .given .1)
 
-container-returns-3 : (t : ℕ) → container-lts.Need-returns-3 (head-reads.Asked, head-reads.Learnt, contents-below t, contents.Post, closes-reads.Asked, closes-reads.Learnt) (container-at t) container.Post
+container-returns-3 : (t : ℕ) → container-lts.Need-returns-3 (container-calls t) (container-at t) container.Post
 container-returns-3 t c =
     let s = c .before .before .before .before .before .before .before .before .before in
     let a = s .args in
@@ -145,7 +155,7 @@ container-returns-3 t c =
     let some = s .pre .1 .1 .1 .1 in
     answer-bad (a .words .now) (a .count) (a .text .now) (a .i) (a .at) (a .levels) lent some (c .before .before .before .before .before .before .head .ensures) (c .before .before .before .before .long .given .1) (sym (c .before .before .contents .ensures) ∙ c .enum-told2 .given .1)
 
-container-returns-4 : (t : ℕ) → container-lts.Need-returns-4 (head-reads.Asked, head-reads.Learnt, contents-below t, contents.Post, closes-reads.Asked, closes-reads.Learnt) (container-at t) container.Post
+container-returns-4 : (t : ℕ) → container-lts.Need-returns-4 (container-calls t) (container-at t) container.Post
 container-returns-4 t c =
     let s = c .before .before .before .before .before .before .before .before .before .before .before .before in
     let a = s .args in
@@ -159,14 +169,14 @@ contents-Inv-loop words count text i at m levels j₀ end₀ left₀ j end left 
 abbrev contents-μ-loop : contents-lts.MeasureT-loop
 contents-μ-loop words count text i at m levels j₀ end₀ left₀ j end left = left
 
-contents-returns : (t : ℕ) → contents-lts.Need-returns (check-below t, check.Post) (contents-at t) contents.Post contents-Inv-loop contents-μ-loop
+contents-returns : (t : ℕ) → contents-lts.Need-returns (contents-calls t) (contents-at t) contents.Post contents-Inv-loop contents-μ-loop
 contents-returns t c =
     let s = c .before .before .before .before .before .before .before in
     let a = s .args in
     let l = c .before .before .before .before .loop in
     row-bad (find (a .words .now) (a .count) (a .text .now) (a .levels)) (l .left) (l .j) (l .end) (c .before .before .before .loop-test .taken) (sym (c .before .before .check .ensures) ∙ c .enum-told .given .1) ∙ l .inv .2
 
-contents-loop-again : (t : ℕ) → contents-lts.Need-loop-again (check-below t, check.Post) (contents-at t) contents.Post contents-Inv-loop contents-μ-loop
+contents-loop-again : (t : ℕ) → contents-lts.Need-loop-again (contents-calls t) (contents-at t) contents.Post contents-Inv-loop contents-μ-loop
 contents-loop-again t c =
     let s = c .before .before .before .before .before .before .before .before in
     let a = s .args in
@@ -179,7 +189,7 @@ contents-loop-again t c =
     let y = find-within w n x (a .levels) (l .j) (l .end) lent (l .inv .0) (l .inv .1) q in
     (y .0, y .1, row-next (find w n x (a .levels)) (l .left) (l .j) (l .end) (c .before .before .before .before .loop-test .taken) q ∙ l .inv .2)
 
-contents-returns-2 : (t : ℕ) → contents-lts.Need-returns-2 (check-below t, check.Post) (contents-at t) contents.Post contents-Inv-loop contents-μ-loop
+contents-returns-2 : (t : ℕ) → contents-lts.Need-returns-2 (contents-calls t) (contents-at t) contents.Post contents-Inv-loop contents-μ-loop
 contents-returns-2 t c =
     let s = c .before .before .before .before in
     let a = s .args in
@@ -190,6 +200,6 @@ contents-returns-2 t c =
 pub +check+container+contents-spec : {M : Type 1} → statement M
 +check+container+contents-spec =
     close μ-check μ-container μ-contents
-    (λ t. check-lts.spec (kind-reads.Asked, kind-reads.Learnt, holds-reads.Asked, holds-reads.Learnt, container-below t, container.Post, leaf-reads.Asked, leaf-reads.Learnt) (check-at t) check.Post (λ c. let a = c .before .before .before .args in is-bad _ (find-out (a .words .now) (a .count) (a .text .now) (a .levels) (a .i) (a .at) (c .if1 .taken))) (λ c. let a = c .before .before .before .before .args in is-bad _ (find-past (a .words .now) (a .count) (a .text .now) (a .levels) (a .i) (a .at) (c .if2 .taken))) (λ c. search needs) (λ c. search needs) (λ c. search needs) (λ c κs. search needs) (λ c κs. search needs) (check-container-requires t) (λ c. c .container .ensures) (check-leaf-requires t) (check-returns-4 t))
-    (λ t. container-lts.spec (head-reads.Asked, head-reads.Learnt, contents-below t, contents.Post, closes-reads.Asked, closes-reads.Learnt) (container-at t) container.Post (λ c κs. let s = c .before .before in (s .pre .1 .0, (s .pre .1 .1 .0, s .pre .1 .1 .1 .0))) (λ c. search needs) (λ c. search needs) (container-add-contents t) (container-add-contents-2 t) (λ c. search needs) (container-contents-requires t) (λ c. search needs) (λ c. search needs) (container-closes-requires t) (container-returns t) (container-returns-2 t) (container-returns-3 t) (container-returns-4 t))
-    λ t. contents-lts.spec (check-below t, check.Post) (contents-at t) contents.Post contents-Inv-loop contents-μ-loop (λ c. let s = c .before .before in (s .pre .1 .1 .0, s .pre .1 .1 .1, refl)) (λ c κs. let s = c .before .before .before .before in let lent = s .pre .1 .0 in let l = c .before .loop in (omega arith, (lent, (l .inv .0, l .inv .1)))) (λ c. search needs) (contents-returns t) (λ c. search needs) (λ c. search needs) (λ c. search needs) (contents-loop-again t) (contents-returns-2 t)
+    (λ t. check-lts.spec (check-calls t) (check-at t) check.Post (λ c. let a = c .before .before .before .args in is-bad _ (find-out (a .words .now) (a .count) (a .text .now) (a .levels) (a .i) (a .at) (c .if1 .taken))) (λ c. let a = c .before .before .before .before .args in is-bad _ (find-past (a .words .now) (a .count) (a .text .now) (a .levels) (a .i) (a .at) (c .if2 .taken))) (λ c. search needs) (λ c. search needs) (λ c. search needs) (λ c κs. search needs) (λ c κs. search needs) (check-container-requires t) (λ c. c .container .ensures) (check-leaf-requires t) (check-returns-4 t))
+    (λ t. container-lts.spec (container-calls t) (container-at t) container.Post (λ c κs. let s = c .before .before in (s .pre .1 .0, (s .pre .1 .1 .0, s .pre .1 .1 .1 .0))) (λ c. search needs) (λ c. search needs) (container-add-contents t) (container-add-contents-2 t) (λ c. search needs) (container-contents-requires t) (λ c. search needs) (λ c. search needs) (container-closes-requires t) (container-returns t) (container-returns-2 t) (container-returns-3 t) (container-returns-4 t))
+    λ t. contents-lts.spec (contents-calls t) (contents-at t) contents.Post contents-Inv-loop contents-μ-loop (λ c. let s = c .before .before in (s .pre .1 .1 .0, s .pre .1 .1 .1, refl)) (λ c κs. let s = c .before .before .before .before in let lent = s .pre .1 .0 in let l = c .before .loop in (omega arith, (lent, (l .inv .0, l .inv .1)))) (λ c. search needs) (contents-returns t) (λ c. search needs) (λ c. search needs) (λ c. search needs) (contents-loop-again t) (contents-returns-2 t)
