@@ -94,74 +94,71 @@ check-returns-4 t c =
 container-add-contents : (t : ℕ) → container-lts.Need-add-contents (container-calls t) (container-at t) container.Post
 container-add-contents t c =
     let s = c .before .before .before .before .before .before in
-    let a = s .args in
     let lent = s .pre .1 .0 in
     let some = s .pre .1 .1 .1 .1 in
-    let h = right (a .words .now) (a .count) (a .text .now) (a .i) (a .at) (a .levels) lent some (c .before .before .before .head .ensures) (c .before .long .given .1) in
+    let h = right _ _ _ _ _ _ lent some (c .before .before .before .head .ensures) (c .before .long .given .1) in
     let few = h .few in let room = lent .room in let small = lent .few in omega arith
 
 container-add-contents-2 : (t : ℕ) → container-lts.Need-add-contents-2 (container-calls t) (container-at t) container.Post
 container-add-contents-2 t c =
     let s = c .before .before .before .before .before .before in
-    let a = s .args in
     let lent = s .pre .1 .0 in
     let some = s .pre .1 .1 .1 .1 in
-    let h = right (a .words .now) (a .count) (a .text .now) (a .i) (a .at) (a .levels) lent some (c .before .before .before .head .ensures) (c .before .long .given .1) in
+    let h = right _ _ _ _ _ _ lent some (c .before .before .before .head .ensures) (c .before .long .given .1) in
     let inn = h .inside in let short = lent .short in omega arith
 
 container-contents-requires : (t : ℕ) → container-lts.Need-contents-requires (container-calls t) (container-at t) container.Post
 container-contents-requires t c κs =
     let s = c .before .before .before .before .before .before in
-    let a = s .args in
     let lent = s .pre .1 .0 in
     let some = s .pre .1 .1 .1 .1 in
-    let h = right (a .words .now) (a .count) (a .text .now) (a .i) (a .at) (a .levels) lent some (c .before .before .before .head .ensures) (c .before .long .given .1) in
+    let h = right _ _ _ _ _ _ lent some (c .before .before .before .head .ensures) (c .before .long .given .1) in
     (omega arith, (lent, ((let few = h .few in omega arith), h .inside)))
 
 container-closes-requires : (t : ℕ) → container-lts.Need-closes-requires (container-calls t) (container-at t) container.Post
 container-closes-requires t c κs =
-    let s = c .before .before .before .before .before .before .before .before .before .before in
+    let m = c .before .before .before in
+    let s = m .before .before .before .before .before .before .before in
     let a = s .args in
     let w = a .words .now in
     let n = a .count in
     let x = a .text .now in
     let lent = s .pre .1 .0 in
     let some = s .pre .1 .1 .1 .1 in
-    let h = right w n x (a .i) (a .at) (a .levels) lent some (c .before .before .before .before .before .before .before .head .ensures) (c .before .before .before .before .before .long .given .1) in
-    let y = held w n x (a .i) (a .at) (a .levels) lent some (c .before .before .before .before .before .before .before .head .ensures) (c .before .before .before .before .before .long .given .1) (sym (c .before .before .before .contents .ensures) ∙ c .before .j .given .1) in
+    let h = right _ _ _ _ _ _ lent some (m .before .before .before .before .head .ensures) (m .before .before .long .given .1) in
+    let y = held _ _ _ _ _ _ lent some (m .before .before .before .before .head .ensures) (m .before .before .long .given .1) (sym (m .contents .ensures) ∙ c .before .j .given .1) in
     ((let few = h .few in let room = lent .room in omega arith), (y .after, (y .held, ((λ q. object-some w n x (a .i) (a .at) _ _ h q), h .known))))
 
 container-returns : (t : ℕ) → container-lts.Need-returns (container-calls t) (container-at t) container.Post
 container-returns t c =
-    let s = c .before .before .before .before .before .before .before .before .before .before .before .before in
-    let a = s .args in
+    let m = c .before .before .before .before .before in
+    let s = m .before .before .before .before .before .before .before in
     let lent = s .pre .1 .0 in
     let some = s .pre .1 .1 .1 .1 in
-    answer-closed (a .words .now) (a .count) (a .text .now) (a .i) (a .at) (a .levels) lent some (c .before .before .before .before .before .before .before .before .before .head .ensures) (c .before .before .before .before .before .before .before .long .given .1) (sym (c .before .before .before .before .before .contents .ensures) ∙ c .before .before .before .j .given .1) false (λ f p q. sym (not-true _ (c .if1 .taken)) ∙ c .before .closes .ensures f p q)
+    answer-closed _ _ _ _ _ _ lent some (m .before .before .before .before .head .ensures) (m .before .before .long .given .1) (sym (m .contents .ensures) ∙ c .before .before .before .j .given .1) false (λ f p q. sym (not-true _ (c .if1 .taken)) ∙ c .before .closes .ensures f p q)
 
 container-returns-2 : (t : ℕ) → container-lts.Need-returns-2 (container-calls t) (container-at t) container.Post
 container-returns-2 t c =
     let s = c .before .before .before .before .before in
-    let a = s .args in
     let lent = s .pre .1 .0 in
     let some = s .pre .1 .1 .1 .1 in
-    answer-wrong (a .words .now) (a .count) (a .text .now) (a .i) (a .at) (a .levels) lent some (c .before .before .head .ensures) (c .enum-told .given .1)
+    answer-wrong _ _ _ _ _ _ lent some (c .before .before .head .ensures) (c .enum-told .given .1)
 
 container-returns-3 : (t : ℕ) → container-lts.Need-returns-3 (container-calls t) (container-at t) container.Post
 container-returns-3 t c =
-    let s = c .before .before .before .before .before .before .before .before .before in
-    let a = s .args in
+    let m = c .before .before in
+    let s = m .before .before .before .before .before .before .before in
     let lent = s .pre .1 .0 in
     let some = s .pre .1 .1 .1 .1 in
-    answer-bad (a .words .now) (a .count) (a .text .now) (a .i) (a .at) (a .levels) lent some (c .before .before .before .before .before .before .head .ensures) (c .before .before .before .before .long .given .1) (sym (c .before .before .contents .ensures) ∙ c .enum-told2 .given .1)
+    answer-bad _ _ _ _ _ _ lent some (m .before .before .before .before .head .ensures) (m .before .before .long .given .1) (sym (m .contents .ensures) ∙ c .enum-told2 .given .1)
 
 container-returns-4 : (t : ℕ) → container-lts.Need-returns-4 (container-calls t) (container-at t) container.Post
 container-returns-4 t c =
-    let s = c .before .before .before .before .before .before .before .before .before .before .before .before in
-    let a = s .args in
+    let m = c .before .before .before .before .before in
+    let s = m .before .before .before .before .before .before .before in
     let lent = s .pre .1 .0 in
     let some = s .pre .1 .1 .1 .1 in
-    answer-closed (a .words .now) (a .count) (a .text .now) (a .i) (a .at) (a .levels) lent some (c .before .before .before .before .before .before .before .before .before .head .ensures) (c .before .before .before .before .before .before .before .long .given .1) (sym (c .before .before .before .before .before .contents .ensures) ∙ c .before .before .before .j .given .1) true (λ f p q. sym (not-false _ (c .if1 .left)) ∙ c .before .closes .ensures f p q)
+    answer-closed _ _ _ _ _ _ lent some (m .before .before .before .before .head .ensures) (m .before .before .long .given .1) (sym (m .contents .ensures) ∙ c .before .before .before .j .given .1) true (λ f p q. sym (not-false _ (c .if1 .left)) ∙ c .before .closes .ensures f p q)
 
 abbrev contents-Inv-loop : contents-lts.InvT-loop
 contents-Inv-loop words count text i at m levels j₀ end₀ left₀ j end left = (j ≤ count) × (end ≤ length text) × (answer (row (find words count text levels) left j end) ≡ answer (row (find words count text levels) m i at))
