@@ -34,18 +34,17 @@ use Rattle.text.specs.declared.Decoded.the-variants as decoded
 use Rattle.text.specs.declared.Quoted.{Quoted}
 use Rattle.text.specs.declared.Quoted.the-variants as quoted
 use Rattle.value.specs.Value.{Label, BoolL, I64L, F64L, BytesL, StringL, GlobalL}
-use Rattle.decoder.specs.declared.Effect.{Effect}
 use Rattle.decoder.specs.declared.Effect.the-variants.{Push, Go}
 use Rattle.decoder.specs.declared.Part.{Part}
 use Rattle.decoder.specs.declared.Part.the-variants.{At}
-use Rattle.decoder.specs.declared.LongRead.the-variants as reads
-use Rattle.steps.specs.State.{ok, no, _>>=_, need, leaf, byte, bytes, push}
+use Rattle.decoder.specs.declared.LongRead.the-variants as long
+use Rattle.steps.specs.State.{ok, no, _>>=_, need, byte, bytes, push}
 use Rattle.steps.specs.Opcodes.{intLabel, signedLength, proto, binstring, global}
 use Rattle.steps.specs.Run.{going}
 use Rattle.decoder.specs.Rooms.{Rooms, Counts, stateOf, atTo}
-use Rattle.decoder.specs.Effects.{Sound, Lent, Decides, refusing}
+use Rattle.decoder.specs.Effects.{Sound, Decides, refusing}
 use Rattle.decoder.specs.Reads.{cutTo, bytes-short, bytes-got, line-none, line-got}
-use Rattle.decoder.specs.ReadsPickle.{Found, counted, ReadsLong, long-got, long-large, Makes, refused-going, says-go, pushed-step, short, enough, ended, lined, first-byte, line-part, line-inside, makes-as, makes-bytes, makes-escaped, makes-unicode, makes-global}
+use Rattle.decoder.specs.ReadsPickle.{ReadsPart, counted, ReadsLong, long-got, long-large, Makes, refused-going, says-go, pushed-step, short, enough, ended, lined, first-byte, line-part, line-inside, makes-as, makes-bytes, makes-escaped, makes-unicode, makes-global}
 
 -- ---- PROTO, with v as the highest protocol
 
@@ -126,20 +125,22 @@ module _ (l : List ℕ) (x : F64Literal) (e : f64Read x ≡ parseF64 l) where
   unfolding turned f64Read
   float-outside d = ap (turned F64L) (sym e ∙ ap f64Read d)
 
+-- ---- LONG1, LONG4
+
 -- a part from its place to its end
 cut-part : (p : List ℕ) (a m : ℕ) → take (a + m - a) (drop a p) ≡ take m (drop a p)
 cut-part p a m = let e : a + m - a ≡ m = omega arith in rw e
 
 -- x is the integer of the part behind a length of n bytes
-module _ (p : List ℕ) (n at : ℕ) (t : Part) (h : Found at p (counted n) t) (a m : ℕ) (e : t ≡ At a m) (x : Integer) (d : integer x ≡ longOf (take (a + m - a) (drop a p))) where
+module _ (p : List ℕ) (n at : ℕ) (t : Part) (h : ReadsPart at p (counted n) t) (a m : ℕ) (e : t ≡ At a m) (x : Integer) (d : integer x ≡ longOf (take (a + m - a) (drop a p))) where
   part-says : longOf (take m (drop a p)) ≡ integer x
   part-says = sym (d ∙ ap longOf (cut-part p a m))
 
-  pub long-value : (v : ℕ) → x ≡ integers.Value v → ReadsLong n at p (reads.At (a + m) v)
+  pub long-value : (v : ℕ) → x ≡ integers.Value v → ReadsLong n at p (long.At (a + m) v)
   unfolding integer
   long-value v k = long-got p n at t h a m e v (part-says ∙ ap integer k)
 
-  pub long-outside : x ≡ integers.TooLarge → ReadsLong n at p (reads.None IntegerTooLarge)
+  pub long-outside : x ≡ integers.TooLarge → ReadsLong n at p (long.None IntegerTooLarge)
   unfolding integer
   long-outside k = long-large p n at t h a m e (part-says ∙ ap integer k)
 

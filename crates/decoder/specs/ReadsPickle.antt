@@ -27,7 +27,7 @@ use Rattle.decoder.specs.declared.Part.{Part}
 use Rattle.decoder.specs.declared.Part.the-variants.{Short, At}
 use Rattle.decoder.specs.declared.Effect.the-variants.{Push, Go}
 use Rattle.decoder.specs.declared.LongRead.{LongRead}
-use Rattle.decoder.specs.declared.LongRead.the-variants as reads
+use Rattle.decoder.specs.declared.LongRead.the-variants as longs
 use Rattle.steps.specs.State.{State, Res, ok, no, _>>=_, leaf, plain, bytes, line, push}
 use Rattle.steps.specs.Opcodes.{lowBytes, longN}
 use Rattle.steps.specs.Run.{going}
@@ -50,13 +50,13 @@ unfoldable pub Is : Part → Rooms → Counts → Res (List ℕ × State) → Ty
 Is Short r c m = m ≡ no EndOfInput
 Is (At from n) r c m = m ≡ ok (take n (drop from (r .pickle)), stateOf r (atTo c (from + n)))
 
--- it stands at or behind a place
+-- it stands at or behind a place, inside the pickle
 unfoldable pub Behind : ℕ → List ℕ → Part → Type 0
 Behind at p Short = Unit
 Behind at p (At from n) = (at ≤ from) × (from + n ≤ length p)
 
 -- in all rooms with the pickle p and with all counts at this place, t is what `reads` reads
-pub record Found (at : ℕ) (p : List ℕ) (reads : State → Res (List ℕ × State)) (t : Part) : Type 0 where
+pub record ReadsPart (at : ℕ) (p : List ℕ) (reads : State → Res (List ℕ × State)) (t : Part) : Type 0 where
   pub behind : Behind at p t
   pub is : (c : Counts) → c .at ≡ at → (r : Rooms) → Sound r c → r .pickle ≡ p → Is t r c (reads (stateOf r c))
 
@@ -69,12 +69,18 @@ longRead n s = do
 
 -- what the code says of it: why there is none, or the integer and the place behind it
 unfoldable pub IsLong : LongRead → Rooms → Counts → Res (ℕ × State) → Type 0
-IsLong (reads.None why) r c m = m ≡ no why
-IsLong (reads.At a v) r c m = (m ≡ ok (v, stateOf r (atTo c a))) × (c .at ≤ a) × (a ≤ length (r .pickle))
+IsLong (longs.None why) r c m = m ≡ no why
+IsLong (longs.At a v) r c m = m ≡ ok (v, stateOf r (atTo c a))
 
--- in all rooms with the pickle p, with all counts at this place
-unfoldable pub ReadsLong : ℕ → ℕ → List ℕ → LongRead → Type 0
-ReadsLong n at p x = (c : Counts) → c .at ≡ at → (r : Rooms) → Sound r c → r .pickle ≡ p → IsLong x r c (longRead n (stateOf r c))
+-- that place is behind this one, inside the pickle
+unfoldable pub EndsBehind : ℕ → List ℕ → LongRead → Type 0
+EndsBehind at p (longs.None why) = Unit
+EndsBehind at p (longs.At a v) = (at ≤ a) × (a ≤ length p)
+
+-- in all rooms with the pickle p and with all counts at this place, x is what `longRead` gives
+pub record ReadsLong (n at : ℕ) (p : List ℕ) (x : LongRead) : Type 0 where
+  pub behind : EndsBehind at p x
+  pub is : (c : Counts) → c .at ≡ at → (r : Rooms) → Sound r c → r .pickle ≡ p → IsLong x r c (longRead n (stateOf r c))
 
 -- ---- what they are put together to
 
@@ -245,21 +251,21 @@ module _ (p : List ℕ) (n : ℕ) where
 
   -- likewise at any place
   module _ (at z : ℕ) (l : at ≤ length p) (h : n ≤ length p - at) (e : z ≡ lowFirst (take n (drop at p))) where
-    pub count-short : length p - at - n < z → Found at p (counted n) Short
+    pub count-short : length p - at - n < z → ReadsPart at p (counted n) Short
     unfolding Behind Is
     count-short k = record {
       behind = tt;
       is = λ c d r s q. behind-length c z (rw d h) (rw d e) r s q ∙ bytes-short r (atTo c (c .at + n)) z (rw (q, d) (omega arith)) (rw (q, d) (omega arith));
     }
 
-    pub count-got : z ≤ length p - at - n → Found at p (counted n) (At (at + n) z)
+    pub count-got : z ≤ length p - at - n → ReadsPart at p (counted n) (At (at + n) z)
     unfolding Behind Is
     count-got k = record {
       behind = (omega arith, omega arith);
       is = λ c d r s q. rw (← d) (behind-length c z (rw d h) (rw d e) r s q ∙ bytes-got r (atTo c (c .at + n)) z (rw (q, d) (omega arith)) (rw (q, d) (omega arith)));
     }
 
-  pub none-counted : (at : ℕ) → length p - at < n → Found at p (counted n) Short
+  pub none-counted : (at : ℕ) → length p - at < n → ReadsPart at p (counted n) Short
   unfolding Behind Is counted _>>=_
   none-counted at h = record {
     behind = tt;
@@ -267,14 +273,14 @@ module _ (p : List ℕ) (n : ℕ) where
   }
 
 -- t is the part behind a length of n bytes
-module _ (p : List ℕ) (n at : ℕ) (t : Part) (h : Found at p (counted n) t) where
+module _ (p : List ℕ) (n at : ℕ) (t : Part) (h : ReadsPart at p (counted n) t) where
   module _ (e : t ≡ Short) where
-    pub none-found : (c : Counts) → c .at ≡ at → (r : Rooms) → Sound r c → r .pickle ≡ p → counted n (stateOf r c) ≡ no EndOfInput
+    none-found : (c : Counts) → c .at ≡ at → (r : Rooms) → Sound r c → r .pickle ≡ p → counted n (stateOf r c) ≡ no EndOfInput
     unfolding Is
     none-found c d r s q = (rw e at h) .is c d r s q
 
   module _ (a m : ℕ) (e : t ≡ At a m) where
-    pub found : (c : Counts) → c .at ≡ at → (r : Rooms) → Sound r c → r .pickle ≡ p → counted n (stateOf r c) ≡ ok (take m (drop a p), stateOf r (atTo c (a + m)))
+    found : (c : Counts) → c .at ≡ at → (r : Rooms) → Sound r c → r .pickle ≡ p → counted n (stateOf r c) ≡ ok (take m (drop a p), stateOf r (atTo c (a + m)))
     unfolding Is
     found c d r s q = (rw e at h) .is c d r s q ∙ ap (λ (l : List ℕ). ok (take m (drop a l), stateOf r (atTo c (a + m)))) q
 
@@ -283,7 +289,7 @@ module _ (p : List ℕ) (n at : ℕ) (t : Part) (h : Found at p (counted n) t) w
     part-inside = (rw e at h) .behind
 
 -- a step f that makes a value of the part: `label` of it
-module _ (c : Counts) (p : List ℕ) (n : ℕ) (t : Part) (h : Found (c .at) p (counted n) t) (label : List ℕ → Label) (f : State → Res State) (by : (s : State) → f s ≡ (counted n s >>= λ q. push (label (q .0)) (q .1))) where
+module _ (c : Counts) (p : List ℕ) (n : ℕ) (t : Part) (h : ReadsPart (c .at) p (counted n) t) (label : List ℕ → Label) (f : State → Res State) (by : (s : State) → f s ≡ (counted n s >>= λ q. push (label (q .0)) (q .1))) where
   pub part-ends : t ≡ Short → Decides c (λ r. r .pickle ≡ p) (λ s. going (f s)) (refusing c EndOfInput)
   part-ends e = same-step c (λ r. r .pickle ≡ p) f (λ s. counted n s >>= λ q. push (label (q .0)) (q .1)) (refusing c EndOfInput) by (refused-step c p (counted n) (λ q. push (label (q .0)) (q .1)) EndOfInput (none-found p n (c .at) t h e c refl))
 
@@ -344,23 +350,23 @@ module _ (p : List ℕ) where
 
 -- ---- LONG1, LONG4
 
--- x is the integer's reading at a place
-module _ (p : List ℕ) (n at : ℕ) (t : Part) (h : Found at p (counted n) t) where
-  pub long-short : t ≡ Short → ReadsLong n at p (reads.None EndOfInput)
-  unfolding ReadsLong IsLong longRead _>>=_
-  long-short e c d r s q = rw (none-found p n at t h e c d r s q)
+-- t is the part behind a length of n bytes
+module _ (p : List ℕ) (n at : ℕ) (t : Part) (h : ReadsPart at p (counted n) t) where
+  pub long-short : t ≡ Short → ReadsLong n at p (longs.None EndOfInput)
+  unfolding EndsBehind IsLong longRead _>>=_
+  long-short e = record { behind = tt; is = λ c d r s q. rw (none-found p n at t h e c d r s q) }
 
   module _ (a m : ℕ) (e : t ≡ At a m) where
-    pub long-large : longOf (take m (drop a p)) ≡ refused IntegerTooLarge 0 → ReadsLong n at p (reads.None IntegerTooLarge)
-    unfolding ReadsLong IsLong longRead leaf _>>=_
-    long-large k c d r s q = rw (found p n at t h a m e c d r s q, k)
+    pub long-large : longOf (take m (drop a p)) ≡ refused IntegerTooLarge 0 → ReadsLong n at p (longs.None IntegerTooLarge)
+    unfolding EndsBehind IsLong longRead leaf _>>=_
+    long-large k = record { behind = tt; is = λ c d r s q. rw (found p n at t h a m e c d r s q, k) }
 
-    pub long-got : (v : ℕ) → longOf (take m (drop a p)) ≡ got v → ReadsLong n at p (reads.At (a + m) v)
-    unfolding ReadsLong IsLong longRead leaf _>>=_
-    long-got v k c d r s q =
+    pub long-got : (v : ℕ) → longOf (take m (drop a p)) ≡ got v → ReadsLong n at p (longs.At (a + m) v)
+    unfolding EndsBehind IsLong longRead leaf _>>=_
+    long-got v k =
         let i = part-inside p n at t h a m e in
         let x = i .0 in
-        (rw (found p n at t h a m e c d r s q, k), rw d (omega arith), rw q (i .1))
+        record { behind = (omega arith, i .1); is = λ c d r s q. rw (found p n at t h a m e c d r s q, k) }
 
 -- and what its opcode does with it
 long-is : (n : ℕ) (s : State) → longN n s ≡ (longRead n s >>= λ (x : ℕ × State). push (I64L (x .0)) (x .1))
@@ -375,15 +381,15 @@ long-is n s = counted-is n s (λ q. leaf (longOf (q .0)) >>= λ v. push (I64L v)
     go (ok q) = sym (bind-assoc (leaf (longOf (q .0))) (λ (v : ℕ). ok (v, q .1)) (λ (x : ℕ × State). push (I64L (x .0)) (x .1)))
 
 module _ (c : Counts) (x : LongRead) (n : ℕ) (p : List ℕ) (h : ReadsLong n (c .at) p x) where
-  pub long-none : (why : Refusal) → x ≡ reads.None why → Decides c (λ r. r .pickle ≡ p) (λ s. going (longN n s)) (refusing c why)
-  unfolding Decides ReadsLong IsLong _>>=_
-  long-none why e r s q = refused-going r c s why (longN n (stateOf r c)) (long-is n (stateOf r c) ∙ rw ((rw e at h) c refl r s q))
+  pub long-none : (why : Refusal) → x ≡ longs.None why → Decides c (λ r. r .pickle ≡ p) (λ s. going (longN n s)) (refusing c why)
+  unfolding Decides IsLong _>>=_
+  long-none why e r s q = refused-going r c s why (longN n (stateOf r c)) (long-is n (stateOf r c) ∙ rw ((rw e at h) .is c refl r s q))
 
-  pub long-push : (a v : ℕ) → x ≡ reads.At a v → (c₁ : Counts) → c₁ ≡ cutTo c a (c .stack) (c .marks) → Decides c (λ r. r .pickle ≡ p) (λ s. going (longN n s)) (Push c₁ 2 v)
-  unfolding Decides ReadsLong IsLong _>>=_
-  long-push a v e c₁ d r s q =
-      let z = (rw e at h) c refl r s q in
-      rw d (says-push r c s a 2 v (I64L v) (longN n (stateOf r c)) (long-is n (stateOf r c) ∙ rw (z .0)) (makes-i64 (r .pickle) v) (z .1) (z .2))
+  pub long-push : (a v : ℕ) → x ≡ longs.At a v → (c₁ : Counts) → c₁ ≡ cutTo c a (c .stack) (c .marks) → Decides c (λ r. r .pickle ≡ p) (λ s. going (longN n s)) (Push c₁ 2 v)
+  unfolding EndsBehind IsLong _>>=_
+  long-push a v e c₁ d =
+      let b = (rw e at h) .behind in
+      pushed-step c p (longN n) a 2 v (I64L v) c₁ (λ r s q. long-is n (stateOf r c) ∙ rw ((rw e at h) .is c refl r s q)) (makes-i64 p v) (b .0) (b .1) d
 
 -- ---- a line as a place and a length
 

@@ -94,14 +94,8 @@ linksTo c n = record { at = c .at; nodes = c .nodes; links = n; stack = c .stack
 abbrev pub stackTo : Counts → ℕ → Counts
 stackTo c n = record { at = c .at; nodes = c .nodes; links = c .links; stack = n; deepest = c .deepest; marks = c .marks; most = c .most; memo = c .memo; greatest = c .greatest }
 
-abbrev pub deepestTo : Counts → ℕ → Counts
-deepestTo c n = record { at = c .at; nodes = c .nodes; links = c .links; stack = c .stack; deepest = n; marks = c .marks; most = c .most; memo = c .memo; greatest = c .greatest }
-
 abbrev pub marksTo : Counts → ℕ → Counts
 marksTo c n = record { at = c .at; nodes = c .nodes; links = c .links; stack = c .stack; deepest = c .deepest; marks = n; most = c .most; memo = c .memo; greatest = c .greatest }
-
-abbrev pub mostTo : Counts → ℕ → Counts
-mostTo c n = record { at = c .at; nodes = c .nodes; links = c .links; stack = c .stack; deepest = c .deepest; marks = c .marks; most = n; memo = c .memo; greatest = c .greatest }
 
 abbrev pub memoTo : Counts → ℕ → Counts
 memoTo c n = record { at = c .at; nodes = c .nodes; links = c .links; stack = c .stack; deepest = c .deepest; marks = c .marks; most = c .most; memo = n; greatest = c .greatest }

@@ -29,7 +29,7 @@ ghost use Rattle.steps.specs.Opcodes.{proto, popOne, popToMark, dup, int, binin
 ghost use Rattle.steps.specs.Run.{going};
 ghost use Rattle.decoder.specs.Effects.{Lent, Decides};
 ghost use Rattle.decoder.specs.Reads.{cutTo};
-ghost use Rattle.decoder.specs.ReadsPickle.{Found, counted, unsigned, ReadsLong};
+ghost use Rattle.decoder.specs.ReadsPickle.{ReadsPart, counted, unsigned, ReadsLong};
 ghost use Rattle.decoder.specs.Items.{TakesMark, GrowingKind, Adds, gathered};
 ghost use Rattle.value.specs.Shape.{kindIn};
 ghost use Rattle.decoder.specs.Rooms.{Absent, Passed, Numbered};
@@ -147,7 +147,7 @@ fn text_word(at: usize, len: usize) -> u64
 // A length of `width` bytes, and so many bytes.
 fn counted(pickle: &[u8], at: usize, width: usize) -> Part
     requires { ⌜ (at ≤ length (now pickle)) × (width ≤ 8) ⌝ }
-    ensures { λ t. ⌜ Found at (now (pickle .entry)) (counted width) t ⌝ }
+    ensures { λ t. ⌜ ReadsPart at (now (pickle .entry)) (counted width) t ⌝ }
 {
     if pickle.len() - at < width {
         return Part::Short;

@@ -24,7 +24,7 @@ use Rattle.texts.specs.Readable.{Readable, shown-readable, spelled-mark}
 use Rattle.emit.specs.Stores.{sets-before, sets-behind, sets-there}
 use Rattle.emit.specs.Words.{place, recordIn, textIn, writtenW, written-record, written-size, written-text, written-long, kindOf, kind-same, boxed, recordFrom, container-is}
 use Rattle.emit.specs.Places.{written-copyable}
-use Rattle.emit.specs.Leaves.{TextReady, LeafReady, LeafPut, below, CopyReady, CopyPut, opened}
+use Rattle.emit.specs.Leaves.{TextReady, LeafReady, LeafPut, kindBelow, CopyReady, CopyPut, opened}
 use Rattle.emit.specs.Since.{Stored, Since, since-leaf, since-stored}
 
 -- ---- given
@@ -314,9 +314,9 @@ module _ {p d ws : List ℕ} {i to : ℕ} {marks table bytes : List ℕ} (F : Fl
 
 -- ---- a node of a kind before the containers', with its text if it has any
 
-module _ {p d ws starts children log : List ℕ} {i to : ℕ} {marks table bytes : List ℕ} (R : ReadyNode p d ws starts children log i to marks table bytes) (n : ℕ) (few : n ≤ 6) (e : below n ws i ≡ true) where
+module _ {p d ws starts children log : List ℕ} {i to : ℕ} {marks table bytes : List ℕ} (R : ReadyNode p d ws starts children log i to marks table bytes) (n : ℕ) (few : n ≤ 6) (e : kindBelow n ws i ≡ true) where
   below-small : i < 4096
-  unfolding below
+  unfolding kindBelow
   below-small = go (ℕ-discrete i 4096)
     where
       go : Dec (i ≡ 4096) → i < 4096
@@ -324,7 +324,7 @@ module _ {p d ws starts children log : List ℕ} {i to : ℕ} {marks table bytes
       go (no q) = omega (arith, ready-most R)
 
   in-below : kindIn (first ws i) < n
-  unfolding below
+  unfolding kindBelow
   in-below = go (decLt (kindIn (first ws i)) n)
     where
       go : Dec (kindIn (first ws i) < n) → kindIn (first ws i) < n
@@ -356,8 +356,8 @@ module _ {p d ws starts children log : List ℕ} {i to : ℕ} {marks table bytes
   below-made table′ bytes′ r l = flat-made below-flat below-small below-unboxed table′ bytes′ r l
 
   -- but not of one below m
-  pub not-below : (m : ℕ) → below m ws i ≡ false → m ≤ kindOf (first ws i)
-  unfolding below
+  pub not-below : (m : ℕ) → kindBelow m ws i ≡ false → m ≤ kindOf (first ws i)
+  unfolding kindBelow
   not-below m f = go (decLt (kindIn (first ws i)) m)
     where
       go : Dec (kindIn (first ws i) < m) → m ≤ kindOf (first ws i)

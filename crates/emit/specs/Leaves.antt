@@ -134,16 +134,16 @@ module _ (p ws : List ℕ) (i : ℕ) where
   unfolding first second
   record-at w at n z e = rw (e, add-one (2 * i), ← (kind-is p ws i)) (record-is p ws i at n z)
 
-  pub leaf-done : (to w : ℕ) (table bytes table′ bytes′ words : List ℕ) (r : ℕ) → textIn to + length (textOf (labelOf p ws i)) ≤ 65536 → TextPut p ws i bytes (textIn to) bytes′ w
+  leaf-done : (to w : ℕ) (table bytes table′ bytes′ words : List ℕ) (r : ℕ) → textIn to + length (textOf (labelOf p ws i)) ≤ 65536 → TextPut p ws i bytes (textIn to) bytes′ w
       → words ≡ recordFrom (kindOf (getD ws (2 * i) 0)) (newIn (getD ws (2 * i) 0)) (getD ws (2 * i + 1) 0) w (textIn to) 0 1 → table′ ≡ sets table (4 * recordIn to) words
       → r ≡ place (recordIn to + 1) (textIn to + (w / 2 ^ 32 + w % 2 ^ 32)) → LeafPut (labelOf p ws i) to table bytes table′ bytes′ r
   leaf-done to w table bytes table′ bytes′ words r h l q s n =
       let a = lengths-all (labelOf p ws i) (omega arith) in
       record { table-is = s ∙ ap (sets table (4 * recordIn to)) (q ∙ record-at w (textIn to) 0 1 (l .lengths)); text-is = l .text-is; next = n ∙ rw (l .lengths, a) }
 
--- is it a node of a kind below n?
-unfoldable pub below : ℕ → List ℕ → ℕ → Bool
-below n ws i = cond (eqb i 4096) false (ltb (kindIn (first ws i)) n)
+-- is the kind in its first word below n? Decoded text has 13 or 14 there
+unfoldable pub kindBelow : ℕ → List ℕ → ℕ → Bool
+kindBelow n ws i = cond (eqb i 4096) false (ltb (kindIn (first ws i)) n)
 
 -- ---- a value with neither text nor contents: None, a Bool, an I64 or an F64
 
@@ -178,11 +178,11 @@ module _ {p d ws marks : List ℕ} {i to : ℕ} {table bytes : List ℕ} (g : Le
     text-put : (bytes′ : List ℕ) → bytes′ ≡ sets bytes (textIn to) lead → TextPut p ws i bytes (textIn to) bytes′ (length lead)
     text-put = texts-lead p d ws marks i bytes (textIn to) (g .text-ready) (kindOf (first ws i)) refl (h .0) (h .1) lead q
 
-    lead-text : textOf (labelOf p ws i) ≡ lead
-    lead-text = one-text p d ws marks i bytes (textIn to) (g .text-ready) (kindOf (first ws i)) refl (h .0) (h .1) lead q
+    spoken-text : textOf (labelOf p ws i) ≡ lead
+    spoken-text = one-text p d ws marks i bytes (textIn to) (g .text-ready) (kindOf (first ws i)) refl (h .0) (h .1) lead q
 
     pub text-fits : textIn to + length lead ≤ 65536
-    text-fits = rw (← lead-text) (g .texts)
+    text-fits = rw (← spoken-text) (g .texts)
 
     pub text-leaf : (bytes′ table′ : List ℕ) (r : ℕ) → bytes′ ≡ sets bytes (textIn to) lead → table′ ≡ sets table (4 * recordIn to) (kindOf (first ws i) ∷ textIn to ∷ length lead ∷ 0 ∷ []) → r ≡ to + 1 + 4096 * length lead → LeafPut (labelOf p ws i) to table bytes table′ bytes′ r
     unfolding first
@@ -195,7 +195,7 @@ module _ {p d ws marks : List ℕ} {i to : ℕ} {table bytes : List ℕ} (g : Le
   module _ (b : boxed (kindOf (first ws i)) ≡ false) (h : 6 ≤ kindOf (first ws i)) where
     pub named-kind : kindOf (first ws i) ≡ 11
     unfolding boxed
-    named-kind = let l = kind-small (first ws i) in go (decLt (kindOf (first ws i)) 11) (ℕ-discrete (kindOf (first ws i)) 12)
+    named-kind = go (decLt (kindOf (first ws i)) 11) (ℕ-discrete (kindOf (first ws i)) 12)
       where
         go : Dec (kindOf (first ws i) < 11) → Dec (kindOf (first ws i) ≡ 12) → kindOf (first ws i) ≡ 11
         go (yes l) _ = absurd (let x : true ≡ false = rw (le-ltb (kindOf (first ws i)) 6 h, lt-ltb (kindOf (first ws i)) 11 l) at b in let z : _≡_ {A = ℕ} 0 1 = cc in omega arith)

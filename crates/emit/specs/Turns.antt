@@ -27,7 +27,7 @@ use Rattle.lists.specs.Listed.{Listed, shown-listed, Ranges, list-length, list-
 use Rattle.emit.specs.Stores.{sets-before, sets-behind, sets-there, earlier, later, part-late}
 use Rattle.emit.specs.Words.{place, recordIn, textIn, writtenW, kindOf, boxed, lengthsOf, lengths-all, kind-is}
 use Rattle.emit.specs.Forests.{text-append, append-none, append-next, depth-behind, written-join}
-use Rattle.emit.specs.Leaves.{TextReady, TextPut, below, LeafPut, record-at, FinishReady, FinishPut, opened}
+use Rattle.emit.specs.Leaves.{TextReady, TextPut, kindBelow, LeafPut, record-at, FinishReady, FinishPut, opened}
 use Rattle.emit.specs.Since.{Since, since-then, since-late, since-mark, since-fresh}
 use Rattle.emit.specs.Calls.{ReadyNode, Flat, Open, Made, Wrote, size-one, text-one, ready-most, ready-below, ready-label, ready-boxed, ready-text, below-made}
 
@@ -403,7 +403,7 @@ module _ {p d ws starts children log : List ℕ} {levels i to from : ℕ} {marks
       next-flat o next′ table′ bytes′ n₂ n₃ w = turn-next next′ marks table′ bytes′ refl n₂ n₃ (record { made = w; since = λ j. inl refl })
 
       -- a node of a kind before the containers'
-      pub next-leaf : (n : ℕ) (few : n ≤ 6) (o : below n ws c ≡ true) (next′ : ℕ) (table′ bytes′ : List ℕ) → length table′ ≡ length table → length bytes′ ≡ length bytes → LeafPut (labelOf p ws c) next table bytes table′ bytes′ next′
+      pub next-leaf : (n : ℕ) (few : n ≤ 6) (o : kindBelow n ws c ≡ true) (next′ : ℕ) (table′ bytes′ : List ℕ) → length table′ ≡ length table → length bytes′ ≡ length bytes → LeafPut (labelOf p ws c) next table bytes table′ bytes′ next′
           → Turn (E .walk .ready .t) (E .walk .ready .h) (E .walk .ready .v) i to from marks₀ table₀ bytes₀ next′ (j + 1) marks table′ bytes′
       unfolding turn-ready
       next-leaf n few o next′ table′ bytes′ n₂ n₃ l = turn-next next′ marks table′ bytes′ refl n₂ n₃ (record { made = below-made turn-ready n few o table′ bytes′ next′ l; since = λ j. inl refl })

@@ -12,7 +12,7 @@ ghost use Rattle.resolved.specs.Moved.{placed, moves};
 ghost use Rattle.emit.specs.Copies.{Copyable};
 ghost use Rattle.emit.specs.Words.{place, recordIn, textIn, writtenW, kindOf, boxed, recordFrom};
 ghost use Rattle.resolved.specs.Shown.{labelOf};
-ghost use Rattle.emit.specs.Leaves.{TextReady, TextPut, below, AtomReady, AtomPut, LeafReady, LeafPut, CopyReady, CopyPut, FinishReady, FinishPut, opened};
+ghost use Rattle.emit.specs.Leaves.{TextReady, TextPut, kindBelow, AtomReady, AtomPut, LeafReady, LeafPut, CopyReady, CopyPut, FinishReady, FinishPut, opened};
 ghost use Rattle.emit.specs.Calls.{Flat, FlatWrites, Open};
 ghost use Rattle.emit.specs.Turns.{Writes};
 ghost use Rattle.emit.specs.Roots.{Rooted, Emits};
@@ -237,11 +237,11 @@ fn behind(to: u64, lengths: u64) -> u64
     to + 1 + 0x1000 * (lengths / 0x1_0000_0000 + lengths % 0x1_0000_0000)
 }
 
-// Is it a node whose kind comes before this one?
+// Does the kind in a node's first word come before this one?
 fn is_below(node: NodeId, kind: u64, nodes: &[u64]) -> bool
     requires { ⌜ (node .0 < 4096 → 2 * node .0 < length (now nodes)) ⌝ }
     requires { ⌜ node .0 ≤ 4096 ⌝ }
-    ensures { λ r. ⌜ r ≡ below kind (now (nodes .entry)) (node .0) ⌝ }
+    ensures { λ r. ⌜ r ≡ kindBelow kind (now (nodes .entry)) (node .0) ⌝ }
 {
     let i = node.0;
     if i == NOTHING {

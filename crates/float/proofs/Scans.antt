@@ -20,7 +20,7 @@ use Rattle.number.specs.Space.{same}
 use Rattle.float.specs.Form.{minus, behindSign, fraction, beyond, digits, small, inf, infinity, nan, word, unformed, signedPower, power, exponent}
 use Rattle.float.specs.Nearest.{ten-pos}
 use Rattle.float.specs.Scan.{cap, readOn, runOf, Scanned, capped}
-use Rattle.float.specs.declared.Digits.{Digits}
+use Rattle.float.specs.declared.DigitRun.{DigitRun}
 use Rattle.float.specs.declared.Power.the-variants.{Up, Down, Unformed}
 
 -- ---- lists
@@ -102,7 +102,7 @@ decimal-append (d ∷ a) b =
 
 -- ---- a run of digits, with k of them behind
 
-abbrev pub onward : ℕ → ℕ → List ℕ → Digits
+abbrev pub onward : ℕ → ℕ → List ℕ → DigitRun
 onward v k s = record { value = readOn v s; count = k + length (lead s) }
 
 read-capped : (x : ℕ) (t : List ℕ) → readOn (min x cap) t ≡ min (x * 10 ^ length (lead t) + decimal (lead t)) cap
@@ -137,14 +137,14 @@ pub run-end : (v at : ℕ) (s : List ℕ) → v ≤ cap → lead s ≡ [] → re
 unfolding readOn decimal
 run-end v at s h e = rw (e, mul-one, add-zero, add-zero, min-eq-left h)
 
-module _ (v : ℕ) (s : List ℕ) (r : Digits) (e : r ≡ runOf v s) where
+module _ (v : ℕ) (s : List ℕ) (r : DigitRun) (e : r ≡ runOf v s) where
   pub run-count : r .count ≡ length (lead s)
   unfolding runOf
-  run-count = ap (λ (x : Digits). x .count) e
+  run-count = ap (λ (x : DigitRun). x .count) e
 
   pub run-value : r .value ≡ readOn v s
   unfolding runOf
-  run-value = ap (λ (x : Digits). x .value) e
+  run-value = ap (λ (x : DigitRun). x .value) e
 
   pub run-room : r .count ≤ length s
   run-room =
@@ -275,7 +275,7 @@ module _ (m : Bool) (s : List ℕ) where
       let l = lead-length s in
       rw (lt-ltb 0 (length (lead s)) (omega arith), eq-eqb (length (past s)) 0 (omega arith))
 
-pub power-read : (m : Bool) (s : List ℕ) (r : Digits) → r ≡ runOf 0 s → (r .count ≡ 0 → ⊥) → length s ≤ r .count
+pub power-read : (m : Bool) (s : List ℕ) (r : DigitRun) → r ≡ runOf 0 s → (r .count ≡ 0 → ⊥) → length s ≤ r .count
     → cond m (Down (r .value)) (Up (r .value)) ≡ capped (power m s)
 unfolding capped signedPower
 power-read m s r e n h =

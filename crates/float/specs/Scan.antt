@@ -7,7 +7,7 @@ use lib.ListN.{length, drop}
 use Rattle.number.specs.Number.{decimal}
 use Rattle.float.specs.Digits.{lead, past}
 use Rattle.float.specs.Form.{fraction, beyond, digits, Exponent, raised, lowered, unformed}
-use Rattle.float.specs.declared.Digits.{Digits}
+use Rattle.float.specs.declared.DigitRun.{DigitRun}
 use Rattle.float.specs.declared.Mantissa.{Mantissa}
 use Rattle.float.specs.declared.Power.{Power}
 use Rattle.float.specs.declared.Power.the-variants.{Up, Down, Unformed}
@@ -21,7 +21,7 @@ unfoldable pub readOn : ℕ → List ℕ → ℕ
 readOn start s = min (start * 10 ^ length (lead s) + decimal (lead s)) cap
 
 -- that number, and how many digits were read
-unfoldable pub runOf : ℕ → List ℕ → Digits
+unfoldable pub runOf : ℕ → List ℕ → DigitRun
 runOf start s = record { value = readOn start s; count = length (lead s) }
 
 -- the digits before the exponent, how many they are, how many of them stand after the point, and where the text goes on

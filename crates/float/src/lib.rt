@@ -19,7 +19,7 @@ pub enum F64Literal {
 }
 
 // A run of digits: its number, or the cap where it is larger, and how many they are.
-struct Digits {
+struct DigitRun {
     value: u64,
     count: usize,
 }
@@ -85,7 +85,7 @@ fn append(value: u64, b: u8) -> u64
 }
 
 // The digits that `text` begins with, put after those of `start`.
-fn digit_run(text: &[u8], start: u64) -> Digits
+fn digit_run(text: &[u8], start: u64) -> DigitRun
     requires { ⌜ start ≤ cap ⌝ }
     ensures { λ r. ⌜ r ≡ runOf start (now (text .entry)) ⌝ }
 {
@@ -96,11 +96,11 @@ fn digit_run(text: &[u8], start: u64) -> Digits
         if is_digit(b) {
             value = append(value, b);
         } else {
-            return Digits { value, count: at };
+            return DigitRun { value, count: at };
         }
         at += 1;
     }
-    Digits { value, count: at }
+    DigitRun { value, count: at }
 }
 
 fn is_minus(text: &[u8]) -> bool

@@ -19,9 +19,9 @@ pub listed-slash : {b : ℕ} → b ≡ 0x5C → listedByte b ≡ (b ∷ []) ++ (
 unfolding listedByte
 listed-slash e = rw e
 
-pub listed-plain : {b : ℕ} → (b ≡ 0x5C → ⊥) → printable b ≡ true → listedByte b ≡ b ∷ []
+pub listed-printable : {b : ℕ} → (b ≡ 0x5C → ⊥) → printable b ≡ true → listedByte b ≡ b ∷ []
 unfolding listedByte
-listed-plain {b} n h = rw (ne-eqb b 0x5C n, h)
+listed-printable {b} n h = rw (ne-eqb b 0x5C n, h)
 
 pub listed-escape : {b : ℕ} → (b ≡ 0x5C → ⊥) → printable b ≡ false → listedByte b ≡ (0x5C ∷ []) ++ ((0x78 ∷ []) ++ figures 16 2 b)
 unfolding listedByte

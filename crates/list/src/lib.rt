@@ -137,7 +137,7 @@ fn run_by_eight(text: &[u8], from: usize, end: usize) -> usize
     i
 }
 
-// How long the text of `count` bytes at `from` is. Most texts are one run; the bytes behind it are added with no branch for each.
+// How long the text of `count` bytes at `from` is when listed. Most texts are one run; the bytes behind it are added with no branch for each.
 fn listed_len(text: &[u8], from: usize, count: usize) -> usize
     requires { ⌜ from + count ≤ length (now text) ⌝ }
     requires { ⌜ length (listedText (take count (drop from (now text)))) < 2 ^ 64 ⌝ }

@@ -6,17 +6,17 @@ use native.Mathlib.Omega.{arith}
 use borrow.Author.Tests.{ne-eqb}
 use Rattle.value.specs.Shape.{kindIn}
 use Rattle.steps.specs.NodeWords.{first}
-use Rattle.emit.specs.Leaves.{below}
+use Rattle.emit.specs.Leaves.{kindBelow}
 
 returns : tie.Need-returns
-unfolding below
+unfolding kindBelow
 returns c = rw (c .if1 .taken)
 
 shared-slice-read-result : tie.Need-shared-slice-read-result
 shared-slice-read-result c = (c .before .before .pre .0) (omega (arith, (c .before .before .pre .1), (c .before .if1 .left)))
 
 returns-2 : tie.Need-returns-2
-unfolding below first kindIn
+unfolding kindBelow first kindIn
 returns-2 c = rw (ne-eqb _ 4096 (c .before .if1 .left))
 
 pub is-below-spec : {M : Type 1} → statement M

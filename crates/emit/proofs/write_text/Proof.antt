@@ -6,18 +6,25 @@ use native.Mathlib.Omega.{arith}
 use Rattle.steps.specs.NodeWords.{first}
 use Rattle.emit.specs.Leaves.{text-room, text-fits, text-leaf}
 
+-- from the text that leads back to the beginning
+abbrev start : tie.After-lead-part → tie.Start
+start c = c .before .before .before .before .before .before .before
+
 put-bytes-requires : tie.Need-put-bytes-requires
-put-bytes-requires c κs = text-room (c .before .before .before .before .before .before .before .before .pre .0) (c .before .before .before .before .before .before .before .before .pre .1) _ (c .before .lead-part .ensures)
+put-bytes-requires c κs = let l = c .before in text-room (start l .pre .0) (start l .pre .1) _ (l .lead-part .ensures)
 
 mul-result : tie.Need-mul-result
-mul-result c = let f = text-fits (c .before .before .before .before .before .before .before .before .before .before .before .before .before .before .before .before .before .pre .0) (c .before .before .before .before .before .before .before .before .before .before .before .before .before .before .before .before .before .pre .1) _ (c .before .before .before .before .before .before .before .before .before .before .lead-part .ensures) in omega arith
+mul-result c = let l = c .before .before .before .before .before .before .before .before .before .before in let f = text-fits (start l .pre .0) (start l .pre .1) _ (l .lead-part .ensures) in omega arith
 
 add-result-2 : tie.Need-add-result-2
-add-result-2 c = let f = text-fits (c .before .before .before .before .before .before .before .before .before .before .before .before .before .before .before .before .before .pre .0) (c .before .before .before .before .before .before .before .before .before .before .before .before .before .before .before .before .before .pre .1) _ (c .before .before .before .before .before .before .before .before .before .before .lead-part .ensures) in omega arith
+add-result-2 c = let l = c .before .before .before .before .before .before .before .before .before .before in let f = text-fits (start l .pre .0) (start l .pre .1) _ (l .lead-part .ensures) in omega arith
 
 returns : tie.Need-returns
 unfolding first
-returns c = let k = c .before .before .before .before .kind-of .ensures in text-leaf (c .before .before .before .before .before .before .before .before .before .before .before .before .before .before .before .before .before .pre .0) (c .before .before .before .before .before .before .before .before .before .before .before .before .before .before .before .before .before .pre .1) _ (c .before .before .before .before .before .before .before .before .before .before .lead-part .ensures) _ _ _ (c .before .before .before .before .before .before .before .before .put-bytes .ensures) (rw k at (c .before .before .put-record .ensures)) (omega arith)
+returns c =
+    let l = c .before .before .before .before .before .before .before .before .before .before in
+    let k = c .before .before .before .before .kind-of .ensures in
+    text-leaf (start l .pre .0) (start l .pre .1) _ (l .lead-part .ensures) _ _ _ (c .before .before .before .before .before .before .before .before .put-bytes .ensures) (rw k at (c .before .before .put-record .ensures)) (omega arith)
 
 pub write-text-spec : {M : Type 1} → statement M
 write-text-spec = tie.close (tie.spec (λ c κs. search needs) put-bytes-requires (λ c. search needs) (λ c. search needs) (λ c. search needs) (λ c κs. search needs) (λ c κs. search needs) (λ c. search needs) mul-result add-result-2 (λ c. search needs) (λ c. search needs) returns)

@@ -4,12 +4,12 @@ use mathlib.Core.Path.{sym, _∙_, ap}
 use native.Mathlib.Omega.{arith}
 use lib.ListN.{length}
 use Rattle.output.specs.Decimal.{figures-length}
-use Rattle.list.proofs.Laws.{listed-slash, listed-plain, listed-escape}
+use Rattle.list.proofs.Laws.{listed-slash, listed-printable, listed-escape}
 use Rattle.list.proofs.byte_len.Statement.{statement}
 use Rattle.list.proofs.byte_len.Tie as tie
 
 returns : tie.Need-returns
-returns c = let s = c .before in sym (ap length (listed-plain (s .before .if1 .taken) (sym (s .stands .ensures) ∙ c .if2 .taken)))
+returns c = let s = c .before in sym (ap length (listed-printable (s .before .if1 .taken) (sym (s .stands .ensures) ∙ c .if2 .taken)))
 
 returns-2 : tie.Need-returns-2
 returns-2 c =

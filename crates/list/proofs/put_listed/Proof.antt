@@ -3,7 +3,7 @@ use borrow.Author.Needs.{needs}
 use mathlib.Core.Path.{_∙_, sym}
 use native.Mathlib.Omega.{arith}
 use Rattle.output.specs.Put.{put-then, room-first, room-then}
-use Rattle.list.proofs.Laws.{listed-slash, listed-plain, listed-escape}
+use Rattle.list.proofs.Laws.{listed-slash, listed-printable, listed-escape}
 use Rattle.list.proofs.put_listed.Statement.{statement}
 use Rattle.list.proofs.put_listed.Tie as tie
 
@@ -25,13 +25,13 @@ returns c =
 put-byte-requires-3 : tie.Need-put-byte-requires-3
 put-byte-requires-3 c κs =
     let test = c .before .before in
-    rw (listed-plain (test .before .if1 .left) (sym (test .stands .ensures) ∙ c .before .if2 .taken)) at (test .before .before .before .pre)
+    rw (listed-printable (test .before .if1 .left) (sym (test .stands .ensures) ∙ c .before .if2 .taken)) at (test .before .before .before .pre)
 
 returns-2 : tie.Need-returns-2
 returns-2 c =
     let put = c .before .before in
     let test = put .before .before .before in
-    rw (listed-plain (test .before .if1 .left) (sym (test .stands .ensures) ∙ put .before .before .if2 .taken)) (put .put-byte3 .ensures)
+    rw (listed-printable (test .before .if1 .left) (sym (test .stands .ensures) ∙ put .before .before .if2 .taken)) (put .put-byte3 .ensures)
 
 put-byte-requires-4 : tie.Need-put-byte-requires-4
 put-byte-requires-4 c κs =
