@@ -1,11 +1,14 @@
 -- The first n numbers of a list zero, the others as they were.
 use Prim.Native.Nat.{ℕ, _+_, _<_, _≤_}
+use mathlib.Core.Bool.{true}
 use mathlib.Core.List.{List, _++_}
 use mathlib.Core.Path.{_≡_, refl, sym, ap, _∙_}
 use lib.ListN.{length, getD, set, drop, replicate, length-set}
 use lib.Seq.{set-getD}
 use lib.Bits.{bitOr, or-add-and, and-le-l, and-le-r}
+use lib.Dec.{eqb}
 use borrow.Author.Fill.{fill-more}
+use borrow.Author.Tests.{eqb-true}
 use native.Mathlib.Omega.{arith}
 
 unfoldable pub cleared : ℕ → List ℕ → List ℕ
@@ -17,23 +20,24 @@ pub record Clearing (l : List ℕ) (n i : ℕ) (m : List ℕ) : Type 0 where
   pub is : m ≡ cleared i l
   pub same : length m ≡ length l
 
-module _ (l : List ℕ) (n : ℕ) where
+module _ {l : List ℕ} {n : ℕ} where
   pub clearing-none : Clearing l n 0 l
   unfolding cleared
   clearing-none = record { low = omega arith; is = refl; same = refl }
 
-  pub clearing-more : (i : ℕ) (m : List ℕ) → Clearing l n i m → i < n → n ≤ length l → Clearing l n (i + 1) (set m i 0)
+  pub clearing-more : {i : ℕ} {m : List ℕ} → Clearing l n i m → i < n → n ≤ length l → Clearing l n (i + 1) (set m i 0)
   unfolding cleared
-  clearing-more i m c h k = record { low = omega arith; is = ap (λ (x : List ℕ). set x i 0) (c .is) ∙ fill-more i 0 l (omega arith); same = length-set m i 0 ∙ c .same }
+  clearing-more {i = i} {m = m} c h k = record { low = omega arith; is = ap (λ (x : List ℕ). set x i 0) (c .is) ∙ fill-more i 0 l (omega arith); same = length-set m i 0 ∙ c .same }
 
-  pub clearing-end : (i : ℕ) (m : List ℕ) → Clearing l n i m → n ≤ i → m ≡ cleared n l
-  clearing-end i m c h = let x = c .low in let e : i ≡ n = omega arith in rw (← e) (c .is)
+  pub clearing-end : {i : ℕ} {m : List ℕ} → Clearing l n i m → n ≤ i → m ≡ cleared n l
+  clearing-end {i = i} c h = let e : i ≡ n = omega arith in rw (← e) (c .is)
 
 -- ---- a list that is zero already
 
 -- a loop that has come to i, with every number so far in `any`
-abbrev pub Looked : List ℕ → ℕ → ℕ → Type 0
-Looked l i any = any ≡ 0 → cleared i l ≡ l
+pub record Looked (l : List ℕ) (n i any : ℕ) : Type 0 where
+  pub low : i ≤ n
+  pub zero : any ≡ 0 → cleared i l ≡ l
 
 or-left : (a b : ℕ) → bitOr a b ≡ 0 → a ≡ 0
 or-left a b e = omega (arith, or-add-and a b, and-le-r a b)
@@ -41,16 +45,18 @@ or-left a b e = omega (arith, or-add-and a b, and-le-r a b)
 or-right : (a b : ℕ) → bitOr a b ≡ 0 → b ≡ 0
 or-right a b e = omega (arith, or-add-and a b, and-le-l a b)
 
-pub looked-none : (l : List ℕ) → Looked l 0 0
-unfolding cleared
-looked-none l e = refl
+module _ {l : List ℕ} {n : ℕ} where
+  pub looked-none : Looked l n 0 0
+  unfolding cleared
+  looked-none = record { low = omega arith; zero = λ e. refl }
 
-pub looked-more : (l : List ℕ) (i any : ℕ) → i < length l → Looked l i any → Looked l (i + 1) (bitOr any (getD l i 0))
-unfolding cleared
-looked-more l i any h k e =
-    let a : cleared i l ≡ l = k (or-left any (getD l i 0) e) in
-    let b : getD l i 0 ≡ 0 = or-right any (getD l i 0) e in
-    sym (fill-more i 0 l h) ∙ ap (λ (x : List ℕ). set x i 0) a ∙ ap (set l i) (sym b) ∙ set-getD l i 0
+  module _ {i any : ℕ} (k : Looked l n i any) where
+    pub looked-more : i < n → n ≤ length l → Looked l n (i + 1) (bitOr any (getD l i 0))
+    unfolding cleared
+    looked-more h g = record {
+      low = omega arith;
+      zero = λ e. sym (fill-more i 0 l (omega arith)) ∙ ap (λ (x : List ℕ). set x i 0) (k .zero (or-left any (getD l i 0) e)) ∙ ap (set l i) (sym (or-right any (getD l i 0) e)) ∙ set-getD l i 0;
+    }
 
-pub looked-all : (l : List ℕ) (n i any : ℕ) → i ≤ n → n ≤ i → Looked l i any → any ≡ 0 → cleared n l ≡ l
-looked-all l n i any a b k e = let q : i ≡ n = omega arith in rw (← q) (k e)
+    pub looked-all : n ≤ i → eqb any 0 ≡ true → cleared n l ≡ l
+    looked-all h e = let q : i ≡ n = omega arith in rw (← q) (k .zero (eqb-true any 0 e))

@@ -4,8 +4,5 @@ use mathlib.Core.Path.{sym}
 use Rattle.rooms.proofs.zero_bytes.Statement.{statement}
 use Rattle.rooms.proofs.zero_bytes.Tie as tie
 
-returns : tie.Need-returns
-returns c = sym ((c .before .bytes-are-zero .ensures) (c .if1 .taken))
-
 pub zero-bytes-spec : {M : Type 1} → statement M
-zero-bytes-spec = tie.close (tie.spec (λ c κs. search needs) (λ c. search needs) returns (λ c κs. search needs) (λ c. search needs) (λ c. search needs))
+zero-bytes-spec = tie.close (tie.spec (λ c κs. search needs) (λ c. search needs) (λ c. sym (c .before .bytes-are-zero .ensures (c .if1 .taken))) (λ c κs. search needs) (λ c. search needs) (λ c. search needs))
