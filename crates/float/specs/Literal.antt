@@ -158,16 +158,3 @@ literal-value s bits a = go (word (behindSign s)) a
 pub literal-nearest : (s : List ℕ) (w up down bits : ℕ) → written (behindSign s) ≡ number w up down → 0 < w
     → floatLiteral s ≡ got bits → Double (minus s) w up down bits
 literal-nearest s w up down bits n p a = value-nearest (minus s) w up down bits p (rw n at (literal-value s bits a))
-
--- what is read fits a table's word
-pub literal-bits : (s : List ℕ) (bits : ℕ) → floatLiteral s ≡ got bits → bits < 2 ^ 64
-literal-bits s bits a = value-bits (minus s) (written (behindSign s)) bits (literal-value s bits a)
-
--- what a line says, its text says
-pub line-literal : (line : List ℕ) (bits : ℕ) → parseF64 line ≡ got bits → floatLiteral (trimmed line) ≡ got bits
-unfolding parseF64
-line-literal line bits a = go (valid line) a
-  where
-    go : (x : Bool) → cond x (floatLiteral (trimmed line)) (refused InvalidLiteral 0) ≡ got bits → floatLiteral (trimmed line) ≡ got bits
-    go true q = q
-    go false q = never q

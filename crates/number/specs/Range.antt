@@ -1,7 +1,6 @@
 -- The range of what is read, and of its bits. Assumes nothing.
-use Prim.Native.Nat.{ℕ, _^_, _<_, _-_}
+use Prim.Native.Nat.{_^_, _<_, _-_}
 use mathlib.Core.Bool.{Bool, true, false, cond, and-true}
-use mathlib.Core.List.{List}
 use mathlib.Core.Path.{_≡_, refl, ap, _∙_}
 use native.Mathlib.Omega.{arith}
 use borrow.Author.Tests.{ltb-true, leb-true}
@@ -10,9 +9,7 @@ use mir.Syntax.{w64}
 use mir.Val.{ofZ, toZ, SFits}
 use mir.ValLaws.{toZ-ofZ}
 use Rattle.refusal.specs.Read.{Read, got, refused}
-use Rattle.utf8.specs.Utf8.{valid}
-use Rattle.number.specs.Space.{trimmed}
-use Rattle.number.specs.Number.{invalid, only, plus, integer, inU32, parseI64, parseU32}
+use Rattle.number.specs.Number.{invalid, only}
 use Rattle.input.specs.Long.{inI64, bits64}
 
 -- what is read under a test passes it
@@ -29,16 +26,6 @@ when-got : {A : Type 0} (v : Bool) (x : Read A) (a : A) → got a ≡ cond v x i
 unfolding invalid
 when-got true x a e = e
 when-got false x a e = cc
-
--- an integer that is read is an i64
-pub i64-in : (s : List ℕ) (z : ℤ) → got z ≡ parseI64 s → inI64 z ≡ true
-unfolding parseI64
-i64-in s z e = only-got inI64 (integer (trimmed s)) z (when-got (valid s) _ z e)
-
--- a memo number that is read is a u32
-pub u32-in : (s : List ℕ) (n : ℕ) → got n ≡ parseU32 s → n < 2 ^ 32
-unfolding parseU32 inU32
-u32-in s n e = ltb-true n (2 ^ 32) (only-got inU32 (plus (trimmed s)) n (when-got (valid s) _ n e))
 
 fits : (z : ℤ) → inI64 z ≡ true → SFits w64 z
 unfolding inI64

@@ -8,7 +8,7 @@ use native.Mathlib.Nat.{not-suc-le-zero}
 use native.Mathlib.Omega.{arith}
 use borrow.Author.Tests.{eqb-true}
 use lib.Dec.{T, eqb, leb, leb→le}
-use lib.ListN.{length, take, drop, length-append, length-reverse, take-append-drop}
+use lib.ListN.{length, take, drop, length-reverse, take-append-drop}
 use lib.Seq.{drop-nil}
 use Rattle.utf8.specs.Utf8.{encode, trail}
 use Rattle.number.specs.Space.{whiteSpace, spaces, same, oneOf, space, width, strip, trimStart, trimEnd, trimmed}
@@ -233,9 +233,3 @@ trimmed-is s =
   where
     start : (s : List ℕ) (a : Cut (λ p. p) s (strip (λ p. p) 0 s)) → s ≡ a .run ++ trimStart s
     start s a = a .is
-
--- a text only gets shorter
-pub trimmed-length : (s : List ℕ) → length (trimmed s) ≤ length s
-trimmed-length s =
-    let t = trimmed-is s in
-    omega (arith, ap length (t .cut), length-append (t .left) (trimmed s ++ t .right), length-append (trimmed s) (t .right))

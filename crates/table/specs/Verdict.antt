@@ -19,9 +19,6 @@ use Rattle.table.specs.Decides.{Decides, decides-no}
 use Rattle.table.specs.declared.Checked.the-variants.{Bad, Good}
 
 module _ (w : List ℕ) (n : ℕ) (t : List ℕ) where
-  pub well-lent : WellFormed w n t → Lent w n t
-  well-lent a = record { room = a .lent; few = a .few; short = a .short }
-
   -- a well-formed table is found to be one
   pub formed-found : WellFormed w n t → answer (row (find w n t 64) 1 0 0) ≡ Good n (length t)
   unfolding count answer

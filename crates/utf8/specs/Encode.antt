@@ -30,10 +30,6 @@ module _ (c : ℕ) where
   unfolding encode
   encode-four l = rw (le-ltb c 0x80 (omega arith), le-ltb c 0x800 (omega arith), le-ltb c 0x10000 l)
 
-  -- how long it is
-  pub encode-length-one : c < 0x80 → length (encode c) ≡ 1
-  encode-length-one h = rw (encode-one h)
-
   pub encode-length-two : 0x80 ≤ c → c < 0x800 → length (encode c) ≡ 2
   encode-length-two l h = rw (encode-two l h)
 

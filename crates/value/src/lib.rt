@@ -1,9 +1,9 @@
 // Values (value.rs): the words of a table's record, and the order of values that stand in tables. `Display`, the `From`
 // conversions, `Value::dict` and `Value::object` are left out.
 ghost use mathlib.Core.Path.{_≡_};
-ghost use mathlib.Core.Bool.{Bool, true};
+ghost use mathlib.Core.Bool.{true};
 ghost use Prim.Native.Nat.{_+_, _*_, _^_, _≤_, _<_, min, compare};
-ghost use lib.ListN.{length, getD, take, drop};
+ghost use lib.ListN.{length, take, drop};
 ghost use Rattle.value.specs.Value.{Value, one};
 ghost use Rattle.value.specs.Order.{_then_, lex, byValue, totalOrder, labels, order};
 ghost use Rattle.value.specs.Shape.{headOf, wordOf, holding, namesEnd, moduleOf, nameOf};

@@ -48,9 +48,11 @@ use borrow.Author.Tests.{not-true, not-false}
 use native.Mathlib.Omega.{arith}
 use lib.ListN.{length}
 use Rattle.output.specs.Put.{put-then, room-first, room-then}
-use Rattle.value.specs.Stands.{labelAt}
-use Rattle.ser.specs.Image.{joined, batches, appends, contents}
-use Rattle.ser.specs.Parts.{Same, ahead, Going, ready-cut, ready-rest, wrote-cut, ready-as, wrote-as, ready-front, ready-after, wrote-after, ready-before, ready-end, wrote-before, wrote-later, wrote-none, going-all, going-again, going-none, value-reads, value-room, value-inside, value-wrote, value-arity, joined-none, joined-cuts, batches-cuts, batches-none, size-some}
+use Rattle.value.specs.Value.{bit}
+use Rattle.value.specs.Stands.{Reads, arityAt, labelAt}
+use Rattle.ser.specs.Image.{joined, batches, appends, built, contents}
+use Rattle.ser.specs.Walk.{Ready}
+use Rattle.ser.specs.Parts.{Same, Cuts, ahead, Going, ready-cut, ready-rest, wrote-cut, ready-as, wrote-as, ready-front, ready-after, wrote-after, ready-before, ready-end, wrote-before, wrote-later, wrote-none, going-all, going-again, going-none, value-reads, value-room, value-inside, value-wrote, value-arity, joined-none, joined-cuts, batches-cuts, batches-none, size-some}
 use Rattle.ser.proofs.Laws.{batch-entry, batch-entries, batch-items, appends-one, appends-many, tuple-parts, object-cuts, built-one, built-none, bit-one, bit-none}
 use Rattle.ser.proofs.Record.{leaf-wrote, object-arity, makes-object, makes-list, makes-tuple, makes-dict, makes-set}
 
@@ -149,160 +151,196 @@ module _ (t : ℕ) where
   abbrev opened : Known → encode-lts.After-encode-opening encode-claims encode-at encode.Post
   opened v = v .before .before .before
 
-  -- and where the value is a set
-  set-made : (e : encode-lts.Else5 encode-claims encode-at encode.Post) {n : ℕ} →
-      Same n (contents (labelAt (start (e .before .before .before .before .before .before) .args .words .now) (start (e .before .before .before .before .before .before) .args .text .now) (start (e .before .before .before .before .before .before) .args .i))) (ahead appends ((0x85 ∷ []) ++ (0x52 ∷ [])))
+  reads : (v : Known) → let a = start v .args in Reads (a .words .now) (a .text .now) (a .i)
+  reads v = value-reads (start v .pre .1)
+
+  -- what is in it is to be written
+  inside : (v : Known) → let a = start v .args in Ready (contents (labelAt (a .words .now) (a .text .now) (a .i))) (a .words .now) (a .text .now) (a .i + 1) (arityAt (a .words .now) (a .i)) (opened v .encode-opening .last .1 .1 .1 .0) (opened v .encode-opening .result)
+  inside v = value-inside (start v .pre .1) (opened v .encode-opening .ensures)
+
+  -- and how many values
+  abbrev known : encode-lts.After-arity encode-claims encode-at encode.Post → Known
+  known a = a .before .before .before
+
+  -- and that the value is a set
+  set-made : (e : encode-lts.Else5 encode-claims encode-at encode.Post) {n : ℕ} → let a = start (known (e .before .before .before)) .args in Same n (contents (labelAt (a .words .now) (a .text .now) (a .i))) (ahead appends ((0x85 ∷ []) ++ (0x52 ∷ [])))
   set-made e =
       let x = e .before .before .before .before in
       let v = x .before .before in
-      makes-set (value-reads (start v .pre .1)) (headed v .head-of .ensures) (sym (v .holds .ensures) ∙ not-false _ (x .before .if1 .left)) (x .if2 .left) (e .before .before .if3 .left) (e .before .if4 .left) (e .if5 .left)
+      makes-set (reads v) (headed v .head-of .ensures) (sym (v .holds .ensures) ∙ not-false _ (x .before .if1 .left)) (x .if2 .left) (e .before .before .if3 .left) (e .before .if4 .left) (e .if5 .left)
+
+  -- in the needs o is where the branch is taken, s the start, and b, w, p, q where the calls have written, from the first to the last
 
   encode-returns : encode-lts.Need-returns encode-claims encode-at encode.Post
-  encode-returns c = let v = c .before in leaf-wrote (value-reads (start v .pre .1)) (headed v .head-of .ensures) (sym (v .holds .ensures) ∙ not-true _ (c .if1 .taken)) (opened v .encode-opening .ensures)
+  encode-returns c = let v = c .before in leaf-wrote (reads v) (headed v .head-of .ensures) (sym (v .holds .ensures) ∙ not-true _ (c .if1 .taken)) (opened v .encode-opening .ensures)
 
   encode-encode-object-requires : encode-lts.Need-encode-object-requires encode-claims encode-at encode.Post
-  encode-encode-object-requires c κs = let v = c .before .before .before in (omega (arith, start v .pre .0, (value-reads (start v .pre .1)) .inside), ready-as (makes-object (value-reads (start v .pre .1)) (headed v .head-of .ensures) (c .before .if2 .taken)) (rw (object-arity (value-reads (start v .pre .1)) (headed v .head-of .ensures) (c .before .if2 .taken)) at (value-inside (start v .pre .1) (opened v .encode-opening .ensures))))
+  encode-encode-object-requires c κs = let o = c .before in let v = o .before .before in (omega (arith, start v .pre .0, reads v .inside), ready-as (makes-object (reads v) (headed v .head-of .ensures) (o .if2 .taken)) (rw (object-arity (reads v) (headed v .head-of .ensures) (o .if2 .taken)) at (inside v)))
 
   encode-returns-2 : encode-lts.Need-returns-2 encode-claims encode-at encode.Post
-  encode-returns-2 c = let v = c .before .before .before .before .before .before in value-wrote (opened v .encode-opening .ensures) (rw (object-arity (value-reads (start v .pre .1)) (headed v .head-of .ensures) (c .before .before .before .before .if2 .taken)) (wrote-as (makes-object (value-reads (start v .pre .1)) (headed v .head-of .ensures) (c .before .before .before .before .if2 .taken)) (c .before .before .encode-object .ensures)))
+  encode-returns-2 c = let w = c .before .before in let o = w .before .before in let v = o .before .before in value-wrote (opened v .encode-opening .ensures) (rw (object-arity (reads v) (headed v .head-of .ensures) (o .if2 .taken)) (wrote-as (makes-object (reads v) (headed v .head-of .ensures) (o .if2 .taken)) (w .encode-object .ensures)))
 
   encode-encode-appends-requires : encode-lts.Need-encode-appends-requires encode-claims encode-at encode.Post
-  encode-encode-appends-requires c κs = let v = c .before .before .before .before .before in (omega (arith, start v .pre .0, (value-reads (start v .pre .1)) .inside), rw (c .before .before .arity .ensures) (ready-as (makes-list (value-reads (start v .pre .1)) (headed v .head-of .ensures) (c .before .if3 .taken)) (value-inside (start v .pre .1) (opened v .encode-opening .ensures))))
+  encode-encode-appends-requires c κs = let o = c .before in let a = o .before in let v = known a in (omega (arith, start v .pre .0, reads v .inside), rw (a .arity .ensures) (ready-as (makes-list (reads v) (headed v .head-of .ensures) (o .if3 .taken)) (inside v)))
 
   encode-returns-3 : encode-lts.Need-returns-3 encode-claims encode-at encode.Post
-  encode-returns-3 c = let v = c .before .before .before .before .before .before .before .before in value-wrote (opened v .encode-opening .ensures) (wrote-as (makes-list (value-reads (start v .pre .1)) (headed v .head-of .ensures) (c .before .before .before .before .if3 .taken)) (rw (c .before .before .before .before .before .arity .ensures) at (c .before .before .encode-appends .ensures)))
+  encode-returns-3 c = let w = c .before .before in let o = w .before .before in let a = o .before in let v = known a in value-wrote (opened v .encode-opening .ensures) (wrote-as (makes-list (reads v) (headed v .head-of .ensures) (o .if3 .taken)) (rw (a .arity .ensures) at (w .encode-appends .ensures)))
 
   encode-encode-tuple-requires : encode-lts.Need-encode-tuple-requires encode-claims encode-at encode.Post
-  encode-encode-tuple-requires c κs = let v = c .before .before .before .before .before .before in (omega (arith, start v .pre .0, (value-reads (start v .pre .1)) .inside), rw (c .before .before .before .arity .ensures) (ready-as (makes-tuple (value-reads (start v .pre .1)) (headed v .head-of .ensures) (c .before .if4 .taken)) (value-inside (start v .pre .1) (opened v .encode-opening .ensures))))
+  encode-encode-tuple-requires c κs = let o = c .before in let a = o .before .before in let v = known a in (omega (arith, start v .pre .0, reads v .inside), rw (a .arity .ensures) (ready-as (makes-tuple (reads v) (headed v .head-of .ensures) (o .if4 .taken)) (inside v)))
 
   encode-returns-4 : encode-lts.Need-returns-4 encode-claims encode-at encode.Post
-  encode-returns-4 c = let v = c .before .before .before .before .before .before .before .before .before in value-wrote (opened v .encode-opening .ensures) (wrote-as (makes-tuple (value-reads (start v .pre .1)) (headed v .head-of .ensures) (c .before .before .before .before .if4 .taken)) (rw (c .before .before .before .before .before .before .arity .ensures) at (c .before .before .encode-tuple .ensures)))
+  encode-returns-4 c = let w = c .before .before in let o = w .before .before in let a = o .before .before in let v = known a in value-wrote (opened v .encode-opening .ensures) (wrote-as (makes-tuple (reads v) (headed v .head-of .ensures) (o .if4 .taken)) (rw (a .arity .ensures) at (w .encode-tuple .ensures)))
 
   encode-encode-batches-requires : encode-lts.Need-encode-batches-requires encode-claims encode-at encode.Post
-  encode-encode-batches-requires c κs = let v = c .before .before .before .before .before .before .before in (omega (arith, start v .pre .0, (value-reads (start v .pre .1)) .inside), rw (c .before .before .before .before .arity .ensures) (ready-as (makes-dict (value-reads (start v .pre .1)) (headed v .head-of .ensures) (c .before .if5 .taken)) (value-inside (start v .pre .1) (opened v .encode-opening .ensures))))
+  encode-encode-batches-requires c κs = let o = c .before in let a = o .before .before .before in let v = known a in (omega (arith, start v .pre .0, reads v .inside), rw (a .arity .ensures) (ready-as (makes-dict (reads v) (headed v .head-of .ensures) (o .if5 .taken)) (inside v)))
 
   encode-returns-5 : encode-lts.Need-returns-5 encode-claims encode-at encode.Post
-  encode-returns-5 c = let v = c .before .before .before .before .before .before .before .before .before .before in value-wrote (opened v .encode-opening .ensures) (wrote-as (makes-dict (value-reads (start v .pre .1)) (headed v .head-of .ensures) (c .before .before .before .before .if5 .taken)) (rw (c .before .before .before .before .before .before .before .arity .ensures) at (c .before .before .encode-batches .ensures)))
+  encode-returns-5 c = let w = c .before .before in let o = w .before .before in let a = o .before .before .before in let v = known a in value-wrote (opened v .encode-opening .ensures) (wrote-as (makes-dict (reads v) (headed v .head-of .ensures) (o .if5 .taken)) (rw (a .arity .ensures) at (w .encode-batches .ensures)))
 
   encode-encode-appends-requires-2 : encode-lts.Need-encode-appends-requires-2 encode-claims encode-at encode.Post
-  encode-encode-appends-requires-2 c κs = let v = c .before .before .before .before .before .before .before in (omega (arith, start v .pre .0, (value-reads (start v .pre .1)) .inside), rw (c .before .before .before .before .arity .ensures) (ready-before _ _ (ready-as (set-made (c .before)) (value-inside (start v .pre .1) (opened v .encode-opening .ensures)))))
+  encode-encode-appends-requires-2 c κs = let o = c .before in let a = o .before .before .before in let v = known a in (omega (arith, start v .pre .0, reads v .inside), rw (a .arity .ensures) (ready-before _ _ (ready-as (set-made o) (inside v))))
 
   encode-put-byte-requires : encode-lts.Need-put-byte-requires encode-claims encode-at encode.Post
-  encode-put-byte-requires c κs = let a = c .before .before .before .before in let v = a .before .before .before .before .before .before .before in room-first _ (ready-end _ _ (ready-as (set-made (a .before)) (value-inside (start v .pre .1) (opened v .encode-opening .ensures))) (rw (a .before .before .before .before .arity .ensures) at (c .before .before .before .encode-appends2 .ensures)))
+  encode-put-byte-requires c κs = let w = c .before .before .before in let o = w .before .before in let a = o .before .before .before in room-first _ (ready-end _ _ (ready-as (set-made o) (inside (known a))) (rw (a .arity .ensures) at (w .encode-appends2 .ensures)))
 
   encode-put-byte-requires-2 : encode-lts.Need-put-byte-requires-2 encode-claims encode-at encode.Post
-  encode-put-byte-requires-2 c κs = let a = c .before .before .before .before .before .before .before .before in let v = a .before .before .before .before .before .before .before in room-then _ (c .before .before .before .put-byte .ensures) (ready-end _ _ (ready-as (set-made (a .before)) (value-inside (start v .pre .1) (opened v .encode-opening .ensures))) (rw (a .before .before .before .before .arity .ensures) at (c .before .before .before .before .before .before .before .encode-appends2 .ensures)))
+  encode-put-byte-requires-2 c κs = let p = c .before .before .before in let w = p .before .before .before .before in let o = w .before .before in let a = o .before .before .before in room-then _ (p .put-byte .ensures) (ready-end _ _ (ready-as (set-made o) (inside (known a))) (rw (a .arity .ensures) at (w .encode-appends2 .ensures)))
 
   encode-returns-6 : encode-lts.Need-returns-6 encode-claims encode-at encode.Post
-  encode-returns-6 c = let a = c .before .before .before .before .before .before .before .before .before .before .before in let v = a .before .before .before .before .before .before .before in value-wrote (opened v .encode-opening .ensures) (wrote-as (set-made (a .before)) (wrote-before _ _ (rw (a .before .before .before .before .arity .ensures) at (c .before .before .before .before .before .before .before .before .before .before .encode-appends2 .ensures)) (put-then (c .before .before .before .before .before .before .put-byte .ensures) (c .before .before .put-byte2 .ensures))))
+  encode-returns-6 c = let q = c .before .before in let p = q .before .before .before .before in let w = p .before .before .before .before in let o = w .before .before in let a = o .before .before .before in value-wrote (opened (known a) .encode-opening .ensures) (wrote-as (set-made o) (wrote-before _ _ (rw (a .arity .ensures) at (w .encode-appends2 .ensures)) (put-then (p .put-byte .ensures) (q .put-byte2 .ensures))))
 
   encode-appends-encode-items-requires : encode-appends-lts.Need-encode-items-requires encode-appends-claims encode-appends-at encode-appends.Post
-  encode-appends-encode-items-requires c κs = let s = c .before .before .before .before .before in (omega (arith, s .pre .0), ready-before _ _ (ready-as (appends-one (c .before .if1 .taken)) (s .pre .1)))
+  encode-appends-encode-items-requires c κs = let o = c .before in let s = o .before .before .before .before in (omega (arith, s .pre .0), ready-before _ _ (ready-as (appends-one (o .if1 .taken)) (s .pre .1)))
 
   encode-appends-put-byte-requires : encode-appends-lts.Need-put-byte-requires encode-appends-claims encode-appends-at encode-appends.Post
-  encode-appends-put-byte-requires c κs = ready-end _ _ (ready-as (appends-one (c .before .before .before .before .before .if1 .taken)) (c .before .before .before .before .before .before .before .before .before .pre .1)) (c .before .before .before .encode-items .ensures)
+  encode-appends-put-byte-requires c κs = let w = c .before .before .before in let o = w .before .before in ready-end _ _ (ready-as (appends-one (o .if1 .taken)) (o .before .before .before .before .pre .1)) (w .encode-items .ensures)
 
   encode-appends-returns : encode-appends-lts.Need-returns encode-appends-claims encode-appends-at encode-appends.Post
-  encode-appends-returns c = wrote-as (appends-one (c .before .before .before .before .before .before .before .before .if1 .taken)) (wrote-before _ _ (c .before .before .before .before .before .before .encode-items .ensures) (c .before .before .put-byte .ensures))
+  encode-appends-returns c = let p = c .before .before in let w = p .before .before .before .before in wrote-as (appends-one (w .before .before .if1 .taken)) (wrote-before _ _ (w .encode-items .ensures) (p .put-byte .ensures))
 
   encode-appends-encode-batches-requires : encode-appends-lts.Need-encode-batches-requires encode-appends-claims encode-appends-at encode-appends.Post
-  encode-appends-encode-batches-requires c κs = let s = c .before .before .before .before .before in (omega (arith, s .pre .0), ready-as (appends-many (c .before .if1 .left)) (s .pre .1))
+  encode-appends-encode-batches-requires c κs = let o = c .before in let s = o .before .before .before .before in (omega (arith, s .pre .0), ready-as (appends-many (o .if1 .left)) (s .pre .1))
 
   encode-appends-returns-2 : encode-appends-lts.Need-returns-2 encode-appends-claims encode-appends-at encode-appends.Post
-  encode-appends-returns-2 c = wrote-as (appends-many (c .before .before .before .before .if1 .left)) (c .before .before .encode-batches .ensures)
+  encode-appends-returns-2 c = let w = c .before .before in wrote-as (appends-many (w .before .before .if1 .left)) (w .encode-batches .ensures)
 
   encode-batch-encode-items-requires : encode-batch-lts.Need-encode-items-requires encode-batch-claims encode-batch-at encode-batch.Post
-  encode-batch-encode-items-requires c κs = let s = c .before .before .before .before .before .before in (omega (arith, s .pre .0), ready-before _ _ (ready-as (batch-entry _ (c .before .before .if1 .taken) (c .before .if2 .taken)) (s .pre .1)))
+  encode-batch-encode-items-requires c κs = let o = c .before in let s = o .before .before .before .before .before in (omega (arith, s .pre .0), ready-before _ _ (ready-as (batch-entry _ (o .before .if1 .taken) (o .if2 .taken)) (s .pre .1)))
 
   encode-batch-put-byte-requires : encode-batch-lts.Need-put-byte-requires encode-batch-claims encode-batch-at encode-batch.Post
-  encode-batch-put-byte-requires c κs = ready-end _ _ (ready-as (batch-entry _ (c .before .before .before .before .before .before .if1 .taken) (c .before .before .before .before .before .if2 .taken)) (c .before .before .before .before .before .before .before .before .before .before .pre .1)) (c .before .before .before .encode-items .ensures)
+  encode-batch-put-byte-requires c κs = let w = c .before .before .before in let o = w .before .before in ready-end _ _ (ready-as (batch-entry _ (o .before .if1 .taken) (o .if2 .taken)) (o .before .before .before .before .before .pre .1)) (w .encode-items .ensures)
 
   encode-batch-returns : encode-batch-lts.Need-returns encode-batch-claims encode-batch-at encode-batch.Post
-  encode-batch-returns c = wrote-as (batch-entry _ (c .before .before .before .before .before .before .before .before .before .if1 .taken) (c .before .before .before .before .before .before .before .before .if2 .taken)) (wrote-before _ _ (c .before .before .before .before .before .before .encode-items .ensures) (c .before .before .put-byte .ensures))
+  encode-batch-returns c = let p = c .before .before in let w = p .before .before .before .before in let o = w .before .before in wrote-as (batch-entry _ (o .before .if1 .taken) (o .if2 .taken)) (wrote-before _ _ (w .encode-items .ensures) (p .put-byte .ensures))
 
   encode-batch-put-byte-requires-2 : encode-batch-lts.Need-put-byte-requires-2 encode-batch-claims encode-batch-at encode-batch.Post
-  encode-batch-put-byte-requires-2 c κs = ready-front _ _ (ready-as (batch-entries _ (c .before .before .if1 .taken) (c .before .if2 .left)) (c .before .before .before .before .before .before .pre .1))
+  encode-batch-put-byte-requires-2 c κs = let o = c .before in ready-front _ _ (ready-as (batch-entries _ (o .before .if1 .taken) (o .if2 .left)) (o .before .before .before .before .before .pre .1))
 
   encode-batch-encode-items-requires-2 : encode-batch-lts.Need-encode-items-requires-2 encode-batch-claims encode-batch-at encode-batch.Post
-  encode-batch-encode-items-requires-2 c κs = let s = c .before .before .before .before .before .before .before .before .before .before in (omega (arith, s .pre .0), ready-before _ _ (ready-after _ _ (ready-as (batch-entries _ (c .before .before .before .before .before .before .if1 .taken) (c .before .before .before .before .before .if2 .left)) (s .pre .1)) (c .before .before .before .put-byte2 .ensures)))
+  encode-batch-encode-items-requires-2 c κs = let b = c .before .before .before in let o = b .before .before in let s = o .before .before .before .before .before in (omega (arith, s .pre .0), ready-before _ _ (ready-after _ _ (ready-as (batch-entries _ (o .before .if1 .taken) (o .if2 .left)) (s .pre .1)) (b .put-byte2 .ensures)))
 
   encode-batch-put-byte-requires-3 : encode-batch-lts.Need-put-byte-requires-3 encode-batch-claims encode-batch-at encode-batch.Post
-  encode-batch-put-byte-requires-3 c κs = ready-end _ _ (ready-after _ _ (ready-as (batch-entries _ (c .before .before .before .before .before .before .before .before .before .before .if1 .taken) (c .before .before .before .before .before .before .before .before .before .if2 .left)) (c .before .before .before .before .before .before .before .before .before .before .before .before .before .before .pre .1)) (c .before .before .before .before .before .before .before .put-byte2 .ensures)) (c .before .before .before .encode-items2 .ensures)
+  encode-batch-put-byte-requires-3 c κs = let w = c .before .before .before in let b = w .before .before .before .before in let o = b .before .before in ready-end _ _ (ready-after _ _ (ready-as (batch-entries _ (o .before .if1 .taken) (o .if2 .left)) (o .before .before .before .before .before .pre .1)) (b .put-byte2 .ensures)) (w .encode-items2 .ensures)
 
   encode-batch-returns-2 : encode-batch-lts.Need-returns-2 encode-batch-claims encode-batch-at encode-batch.Post
-  encode-batch-returns-2 c = wrote-as (batch-entries _ (c .before .before .before .before .before .before .before .before .before .before .before .before .before .if1 .taken) (c .before .before .before .before .before .before .before .before .before .before .before .before .if2 .left)) (wrote-after _ _ (c .before .before .before .before .before .before .before .before .before .before .put-byte2 .ensures) (wrote-before _ _ (c .before .before .before .before .before .before .encode-items2 .ensures) (c .before .before .put-byte3 .ensures)))
+  encode-batch-returns-2 c = let p = c .before .before in let w = p .before .before .before .before in let b = w .before .before .before .before in let o = b .before .before in wrote-as (batch-entries _ (o .before .if1 .taken) (o .if2 .left)) (wrote-after _ _ (b .put-byte2 .ensures) (wrote-before _ _ (w .encode-items2 .ensures) (p .put-byte3 .ensures)))
 
   encode-batch-put-byte-requires-4 : encode-batch-lts.Need-put-byte-requires-4 encode-batch-claims encode-batch-at encode-batch.Post
-  encode-batch-put-byte-requires-4 c κs = ready-front _ _ (ready-as (batch-items _ (c .before .if1 .left)) (c .before .before .before .before .before .pre .1))
+  encode-batch-put-byte-requires-4 c κs = let o = c .before in ready-front _ _ (ready-as (batch-items _ (o .if1 .left)) (o .before .before .before .before .pre .1))
 
   encode-batch-encode-items-requires-3 : encode-batch-lts.Need-encode-items-requires-3 encode-batch-claims encode-batch-at encode-batch.Post
-  encode-batch-encode-items-requires-3 c κs = let s = c .before .before .before .before .before .before .before .before .before in (omega (arith, s .pre .0), ready-before _ _ (ready-after _ _ (ready-as (batch-items _ (c .before .before .before .before .before .if1 .left)) (s .pre .1)) (c .before .before .before .put-byte4 .ensures)))
+  encode-batch-encode-items-requires-3 c κs = let b = c .before .before .before in let o = b .before .before in let s = o .before .before .before .before in (omega (arith, s .pre .0), ready-before _ _ (ready-after _ _ (ready-as (batch-items _ (o .if1 .left)) (s .pre .1)) (b .put-byte4 .ensures)))
 
   encode-batch-put-byte-requires-5 : encode-batch-lts.Need-put-byte-requires-5 encode-batch-claims encode-batch-at encode-batch.Post
-  encode-batch-put-byte-requires-5 c κs = ready-end _ _ (ready-after _ _ (ready-as (batch-items _ (c .before .before .before .before .before .before .before .before .before .if1 .left)) (c .before .before .before .before .before .before .before .before .before .before .before .before .before .pre .1)) (c .before .before .before .before .before .before .before .put-byte4 .ensures)) (c .before .before .before .encode-items3 .ensures)
+  encode-batch-put-byte-requires-5 c κs = let w = c .before .before .before in let b = w .before .before .before .before in let o = b .before .before in ready-end _ _ (ready-after _ _ (ready-as (batch-items _ (o .if1 .left)) (o .before .before .before .before .pre .1)) (b .put-byte4 .ensures)) (w .encode-items3 .ensures)
 
   encode-batch-returns-3 : encode-batch-lts.Need-returns-3 encode-batch-claims encode-batch-at encode-batch.Post
-  encode-batch-returns-3 c = wrote-as (batch-items _ (c .before .before .before .before .before .before .before .before .before .before .before .before .if1 .left)) (wrote-after _ _ (c .before .before .before .before .before .before .before .before .before .before .put-byte4 .ensures) (wrote-before _ _ (c .before .before .before .before .before .before .encode-items3 .ensures) (c .before .before .put-byte5 .ensures)))
+  encode-batch-returns-3 c = let p = c .before .before in let w = p .before .before .before .before in let b = w .before .before .before .before in let o = b .before .before in wrote-as (batch-items _ (o .if1 .left)) (wrote-after _ _ (b .put-byte4 .ensures) (wrote-before _ _ (w .encode-items3 .ensures) (p .put-byte5 .ensures)))
 
   encode-batches-encode-batch-requires : encode-batches-lts.Need-encode-batch-requires encode-batches-claims encode-batches-at encode-batches.Post encode-batches-Inv-loop encode-batches-μ-loop
-  encode-batches-encode-batch-requires c κs = let s = c .before .before .before .before .before .before .before in (omega (arith, s .pre .0, c .before .before .before .loop .inv .later), rw (c .before .batch-of .ensures) (ready-cut (batches-cuts (s .args .entries) (c .before .before .before .loop .left) (c .before .before .loop-test .taken)) (c .before .before .before .loop .inv .ready)))
+  encode-batches-encode-batch-requires c κs = let b = c .before in let h = b .before .before in let s = h .before .before .before .before in (omega (arith, s .pre .0, h .loop .inv .later), rw (b .batch-of .ensures) (ready-cut (batches-cuts (s .args .entries) (h .loop .left) (b .before .loop-test .taken)) (h .loop .inv .ready)))
 
   encode-batches-loop-less : encode-batches-lts.Need-loop-less encode-batches-claims encode-batches-at encode-batches.Post encode-batches-Inv-loop encode-batches-μ-loop
-  encode-batches-loop-less c = omega (arith, c .before .before .before .before .batch-of .ensures, size-some (c .before .before .before .before .before .before .before .before .before .before .args .entries), c .before .before .before .before .before .loop-test .taken)
+  encode-batches-loop-less c = let b = c .before .before .before .before in omega (arith, b .batch-of .ensures, size-some (b .before .before .before .before .before .before .args .entries), b .before .loop-test .taken)
 
   encode-batches-loop-again : encode-batches-lts.Need-loop-again encode-batches-claims encode-batches-at encode-batches.Post encode-batches-Inv-loop encode-batches-μ-loop
-  encode-batches-loop-again c = rw (c .before .before .before .before .batch-of .ensures) (going-again (batches-cuts (c .before .before .before .before .before .before .before .before .before .before .args .entries) (c .before .before .before .before .before .before .loop .left) (c .before .before .before .before .before .loop-test .taken)) (c .before .before .before .before .before .before .loop .inv) (rw (c .before .before .before .before .batch-of .ensures) at (c .before .before .encode-batch .ensures)))
+  encode-batches-loop-again c = let w = c .before .before in let b = w .before .before in let h = b .before .before in rw (b .batch-of .ensures) (going-again (batches-cuts (h .before .before .before .before .args .entries) (h .loop .left) (b .before .loop-test .taken)) (h .loop .inv) (rw (b .batch-of .ensures) at (w .encode-batch .ensures)))
+
+  -- `encode_items` has a value left
+  module _ (l : encode-items-lts.In-loop encode-items-claims encode-items-at encode-items.Post encode-items-Inv-loop encode-items-μ-loop) where
+    abbrev turn : encode-items-lts.At-loop encode-items-claims encode-items-at encode-items.Post encode-items-Inv-loop encode-items-μ-loop
+    turn = l .before
+
+    abbrev lent : encode-items-lts.Start encode-items-claims encode-items-at encode-items.Post encode-items-Inv-loop encode-items-μ-loop
+    lent = l .before .before .before .before .before
+
+    cuts : Cuts 1 (turn .loop .left) (turn .loop .left - 1) joined joined joined
+    cuts = joined-cuts (turn .loop .left) (l .loop-test .taken)
+
+    due : Ready joined (lent .args .words .now) (lent .args .text .now) (turn .loop .i) 1 (turn .loop .output) (turn .loop .next)
+    due = ready-cut cuts (turn .loop .inv .ready)
 
   encode-items-encode-requires : encode-items-lts.Need-encode-requires encode-items-claims encode-items-at encode-items.Post encode-items-Inv-loop encode-items-μ-loop
-  encode-items-encode-requires c κs = let l = c .before .before .before .before .before in (omega (arith, l .before .before .before .before .before .pre .0, l .before .loop .inv .later), ready-cut (joined-cuts (l .before .loop .left) (l .loop-test .taken)) (l .before .loop .inv .ready))
+  encode-items-encode-requires c κs = let l = c .before .before .before .before .before in (omega (arith, lent l .pre .0, turn l .loop .inv .later), due l)
 
   encode-items-loop-again : encode-items-lts.Need-loop-again encode-items-claims encode-items-at encode-items.Post encode-items-Inv-loop encode-items-μ-loop
   encode-items-loop-again c =
       let h = c .before .before in
       let l = h .before .before in
-      let cuts = joined-cuts (l .before .loop .left) (l .loop-test .taken) in
       ⊎-elim
-      (λ y. rw (y .5, y .6, y .7) (going-again cuts (l .before .loop .inv) (y .2 .ensures)))
-      (λ y. rw (y .5, y .6, y .7) (going-again cuts (l .before .loop .inv) (leaf-wrote (value-reads (ready-cut (joined-cuts (l .before .loop .left) (l .loop-test .taken)) (l .before .loop .inv .ready))) (h .head-of .ensures) (sym (c .before .holds .ensures) ∙ y .0 .left) (y .2 .ensures))))
+      (λ y. rw (y .5, y .6, y .7) (going-again (cuts l) (turn l .loop .inv) (y .2 .ensures)))
+      (λ y. rw (y .5, y .6, y .7) (going-again (cuts l) (turn l .loop .inv) (leaf-wrote (value-reads (due l)) (h .head-of .ensures) (sym (c .before .holds .ensures) ∙ y .0 .left) (y .2 .ensures))))
       (c .if1 .came)
+
+  -- `encode_object` has written its opcode: what it was lent, the arguments before
+  module _ (p : encode-object-lts.After-put-byte encode-object-claims encode-object-at encode-object.Post) where
+    abbrev object : encode-object-lts.Start encode-object-claims encode-object-at encode-object.Post
+    object = p .before .before .before .before .before .before .before .before .before .before
+
+    abbrev arguments : encode-object-lts.After-encode encode-object-claims encode-object-at encode-object.Post
+    arguments = p .before .before .before .before .before
+
+    built-due : Ready built (object .args .words .now) (object .args .text .now) (arguments .encode .result .record) (bit (object .args .state)) (p .put-byte .last .1 .0) (p .put-byte .result)
+    built-due = ready-after _ _ (ready-rest (object-cuts (object .args .new) _ _ (p .before .before .object-opcode .ensures)) (arguments .encode .ensures) (object .pre .1)) (p .put-byte .ensures)
 
   encode-object-encode-requires : encode-object-lts.Need-encode-requires encode-object-claims encode-object-at encode-object.Post
   encode-object-encode-requires c κs = let s = c .before .before .before .before in (omega (arith, s .pre .0), ready-cut (object-cuts (s .args .new) _ _ refl) (s .pre .1))
 
   encode-object-put-byte-requires : encode-object-lts.Need-put-byte-requires encode-object-claims encode-object-at encode-object.Post
-  encode-object-put-byte-requires c κs = let s = c .before .before .before .before .before .before .before .before .before in ready-front _ _ (ready-rest (object-cuts (s .args .new) _ _ (c .before .object-opcode .ensures)) (c .before .before .before .before .encode .ensures) (s .pre .1))
+  encode-object-put-byte-requires c κs = let e = c .before .before .before .before in let s = e .before .before .before .before .before in ready-front _ _ (ready-rest (object-cuts (s .args .new) _ _ (c .before .object-opcode .ensures)) (e .encode .ensures) (s .pre .1))
 
   encode-object-encode-requires-2 : encode-object-lts.Need-encode-requires-2 encode-object-claims encode-object-at encode-object.Post
-  encode-object-encode-requires-2 c κs = let s = c .before .before .before .before .before .before .before .before .before .before .before .before .before .before in (omega (arith, s .pre .0, wrote-later (ready-cut (object-cuts (s .args .new) _ _ refl) (s .pre .1)) (c .before .before .before .before .before .before .before .before .before .encode .ensures)), ready-before _ _ (ready-as built-one (rw (bit-one (s .args .state) (c .before .if1 .taken)) at (ready-after _ _ (ready-rest (object-cuts (s .args .new) _ _ (c .before .before .before .before .before .before .object-opcode .ensures)) (c .before .before .before .before .before .before .before .before .before .encode .ensures) (s .pre .1)) (c .before .before .before .before .put-byte .ensures)))))
+  encode-object-encode-requires-2 c κs = let o = c .before in let p = o .before .before .before in let s = object p in (omega (arith, s .pre .0, wrote-later (ready-cut (object-cuts (s .args .new) _ _ refl) (s .pre .1)) (arguments p .encode .ensures)), ready-before _ _ (ready-as built-one (rw (bit-one (s .args .state) (o .if1 .taken)) at (built-due p))))
 
   encode-object-put-byte-requires-2 : encode-object-lts.Need-put-byte-requires-2 encode-object-claims encode-object-at encode-object.Post
-  encode-object-put-byte-requires-2 c κs = let s = c .before .before .before .before .before .before .before .before .before .before .before .before .before .before .before .before .before .before in ready-end _ _ (ready-as built-one (rw (bit-one (s .args .state) (c .before .before .before .before .before .if1 .taken)) at (ready-after _ _ (ready-rest (object-cuts (s .args .new) _ _ (c .before .before .before .before .before .before .before .before .before .before .object-opcode .ensures)) (c .before .before .before .before .before .before .before .before .before .before .before .before .before .encode .ensures) (s .pre .1)) (c .before .before .before .before .before .before .before .before .put-byte .ensures)))) (c .before .before .before .encode2 .ensures)
+  encode-object-put-byte-requires-2 c κs = let e = c .before .before .before in let o = e .before .before in let p = o .before .before .before in ready-end _ _ (ready-as built-one (rw (bit-one (object p .args .state) (o .if1 .taken)) at (built-due p))) (e .encode2 .ensures)
 
   encode-object-returns : encode-object-lts.Need-returns encode-object-claims encode-object-at encode-object.Post
-  encode-object-returns c = let s = c .before .before .before .before .before .before .before .before .before .before .before .before .before .before .before .before .before .before .before .before .before in wrote-cut (object-cuts (s .args .new) _ _ (c .before .before .before .before .before .before .before .before .before .before .before .before .before .object-opcode .ensures)) (c .before .before .before .before .before .before .before .before .before .before .before .before .before .before .before .before .encode .ensures) (wrote-after _ _ (c .before .before .before .before .before .before .before .before .before .before .before .put-byte .ensures) (rw (bit-one (s .args .state) (c .before .before .before .before .before .before .before .before .if1 .taken)) (wrote-as built-one (wrote-before _ _ (c .before .before .before .before .before .before .encode2 .ensures) (c .before .before .put-byte2 .ensures)))))
+  encode-object-returns c = let q = c .before .before in let e = q .before .before .before .before in let o = e .before .before in let p = o .before .before .before in let s = object p in wrote-cut (object-cuts (s .args .new) _ _ (p .before .before .object-opcode .ensures)) (arguments p .encode .ensures) (wrote-after _ _ (p .put-byte .ensures) (rw (bit-one (s .args .state) (o .if1 .taken)) (wrote-as built-one (wrote-before _ _ (e .encode2 .ensures) (q .put-byte2 .ensures)))))
 
   encode-object-returns-2 : encode-object-lts.Need-returns-2 encode-object-claims encode-object-at encode-object.Post
-  encode-object-returns-2 c = let s = c .before .before .before .before .before .before .before .before .before .before .before .before .before in wrote-cut (object-cuts (s .args .new) _ _ (c .before .before .before .before .before .object-opcode .ensures)) (c .before .before .before .before .before .before .before .before .encode .ensures) (wrote-after _ _ (c .before .before .before .put-byte .ensures) (wrote-none (bit-none (s .args .state) (c .if1 .left)) built-none))
+  encode-object-returns-2 c = let p = c .before .before .before in let s = object p in wrote-cut (object-cuts (s .args .new) _ _ (p .before .before .object-opcode .ensures)) (arguments p .encode .ensures) (wrote-after _ _ (p .put-byte .ensures) (wrote-none (bit-none (s .args .state) (c .if1 .left)) built-none))
 
   encode-tuple-tuple-mark-requires : encode-tuple-lts.Need-tuple-mark-requires encode-tuple-claims encode-tuple-at encode-tuple.Post
   encode-tuple-tuple-mark-requires c κs = let s = c .before .before .before .before in ready-front _ _ (ready-as (tuple-parts (s .args .count) _ refl) (s .pre .1))
 
   encode-tuple-encode-items-requires : encode-tuple-lts.Need-encode-items-requires encode-tuple-claims encode-tuple-at encode-tuple.Post
-  encode-tuple-encode-items-requires c κs = let s = c .before .before .before .before .before .before .before .before in (omega (arith, s .pre .0), ready-before _ _ (ready-after _ _ (ready-as (tuple-parts (s .args .count) _ refl) (s .pre .1)) (c .before .before .before .tuple-mark .ensures)))
+  encode-tuple-encode-items-requires c κs = let b = c .before .before .before in let s = b .before .before .before .before .before in (omega (arith, s .pre .0), ready-before _ _ (ready-after _ _ (ready-as (tuple-parts (s .args .count) _ refl) (s .pre .1)) (b .tuple-mark .ensures)))
 
   encode-tuple-put-byte-requires : encode-tuple-lts.Need-put-byte-requires encode-tuple-claims encode-tuple-at encode-tuple.Post
-  encode-tuple-put-byte-requires c κs = let s = c .before .before .before .before .before .before .before .before .before .before .before .before .before in ready-end _ _ (ready-after _ _ (ready-as (tuple-parts (s .args .count) _ (c .before .tuple-opcode .ensures)) (s .pre .1)) (c .before .before .before .before .before .before .before .before .tuple-mark .ensures)) (c .before .before .before .before .encode-items .ensures)
+  encode-tuple-put-byte-requires c κs = let w = c .before .before .before .before in let b = w .before .before .before .before in let s = b .before .before .before .before .before in ready-end _ _ (ready-after _ _ (ready-as (tuple-parts (s .args .count) _ (c .before .tuple-opcode .ensures)) (s .pre .1)) (b .tuple-mark .ensures)) (w .encode-items .ensures)
 
   encode-tuple-returns : encode-tuple-lts.Need-returns encode-tuple-claims encode-tuple-at encode-tuple.Post
-  encode-tuple-returns c = wrote-as (tuple-parts (c .before .before .before .before .before .before .before .before .before .before .before .before .before .before .before .before .args .count) _ (c .before .before .before .before .tuple-opcode .ensures)) (wrote-after _ _ (c .before .before .before .before .before .before .before .before .before .before .before .tuple-mark .ensures) (wrote-before _ _ (c .before .before .before .before .before .before .before .encode-items .ensures) (c .before .before .put-byte .ensures)))
+  encode-tuple-returns c = let w = c .before .before .before .before .before .before .before in let b = w .before .before .before .before in wrote-as (tuple-parts (b .before .before .before .before .before .args .count) _ (c .before .before .before .before .tuple-opcode .ensures)) (wrote-after _ _ (b .tuple-mark .ensures) (wrote-before _ _ (w .encode-items .ensures) (c .before .before .put-byte .ensures)))
 
 pub +encode+encode-appends+encode-batch+encode-batches+encode-items+encode-object+encode-tuple-spec : {M : Type 1} → statement M
 +encode+encode-appends+encode-batch+encode-batches+encode-items+encode-object+encode-tuple-spec =
     close μ-encode μ-encode-appends μ-encode-batch μ-encode-batches μ-encode-items μ-encode-object μ-encode-tuple
-    (λ t. encode-lts.spec (encode-claims t) (encode-at t) encode.Post (λ c. let r = value-reads (c .before .before .before .pre .1) in search needs) (λ c. let r = value-reads (c .before .before .before .pre .1) in search needs) (λ c. let r = value-reads (c .before .before .before .before .pre .1) in search needs) (λ c κs. search needs) (λ c κs. let y = c .before .before .before .before .before .before .pre .1 in (value-reads y, value-room y)) (λ c κs. search needs) (λ c. let v = c .before in omega (arith, (value-reads (start t v .pre .1)) .inside)) (λ c. search needs) (encode-returns t) (λ c. let v = c .before .before in omega (arith, (value-reads (start t v .pre .1)) .inside)) (encode-encode-object-requires t) (λ c. search needs) (encode-returns-2 t) (λ c κs. let v = c .before .before in ((value-reads (start t v .pre .1)) .inside, value-arity (start t v .pre .1))) (λ c. let v = c .before .before .before .before in omega (arith, (value-reads (start t v .pre .1)) .inside)) (encode-encode-appends-requires t) (λ c. search needs) (encode-returns-3 t) (λ c. let v = c .before .before .before .before .before in omega (arith, (value-reads (start t v .pre .1)) .inside)) (encode-encode-tuple-requires t) (λ c. search needs) (encode-returns-4 t) (λ c. let v = c .before .before .before .before .before .before in omega (arith, (value-reads (start t v .pre .1)) .inside)) (encode-encode-batches-requires t) (λ c. search needs) (encode-returns-5 t) (λ c. let v = c .before .before .before .before .before .before in omega (arith, (value-reads (start t v .pre .1)) .inside)) (encode-encode-appends-requires-2 t) (encode-put-byte-requires t) (encode-put-byte-requires-2 t) (λ c. search needs) (encode-returns-6 t))
+    (λ t. encode-lts.spec (encode-claims t) (encode-at t) encode.Post (λ c. let r = value-reads (c .before .before .before .pre .1) in search needs) (λ c. let r = value-reads (c .before .before .before .pre .1) in search needs) (λ c. let r = value-reads (c .before .before .before .before .pre .1) in search needs) (λ c κs. search needs) (λ c κs. let y = c .before .before .before .before .before .before .pre .1 in (value-reads y, value-room y)) (λ c κs. search needs) (λ c. let v = c .before in omega (arith, reads t v .inside)) (λ c. search needs) (encode-returns t) (λ c. let v = c .before .before in omega (arith, reads t v .inside)) (encode-encode-object-requires t) (λ c. search needs) (encode-returns-2 t) (λ c κs. let v = c .before .before in (reads t v .inside, value-arity (start t v .pre .1))) (λ c. let v = c .before .before .before .before in omega (arith, reads t v .inside)) (encode-encode-appends-requires t) (λ c. search needs) (encode-returns-3 t) (λ c. let v = c .before .before .before .before .before in omega (arith, reads t v .inside)) (encode-encode-tuple-requires t) (λ c. search needs) (encode-returns-4 t) (λ c. let v = c .before .before .before .before .before .before in omega (arith, reads t v .inside)) (encode-encode-batches-requires t) (λ c. search needs) (encode-returns-5 t) (λ c. let v = c .before .before .before .before .before .before in omega (arith, reads t v .inside)) (encode-encode-appends-requires-2 t) (encode-put-byte-requires t) (encode-put-byte-requires-2 t) (λ c. search needs) (encode-returns-6 t))
     (λ t. encode-appends-lts.spec (encode-appends-claims t) (encode-appends-at t) encode-appends.Post (encode-appends-encode-items-requires t) (encode-appends-put-byte-requires t) (λ c. search needs) (encode-appends-returns t) (encode-appends-encode-batches-requires t) (λ c. search needs) (encode-appends-returns-2 t))
     (λ t. encode-batch-lts.spec (encode-batch-claims t) (encode-batch-at t) encode-batch.Post (encode-batch-encode-items-requires t) (encode-batch-put-byte-requires t) (λ c. search needs) (encode-batch-returns t) (encode-batch-put-byte-requires-2 t) (encode-batch-encode-items-requires-2 t) (encode-batch-put-byte-requires-3 t) (λ c. search needs) (encode-batch-returns-2 t) (encode-batch-put-byte-requires-4 t) (encode-batch-encode-items-requires-3 t) (encode-batch-put-byte-requires-5 t) (λ c. search needs) (encode-batch-returns-3 t))
     (λ t. encode-batches-lts.spec (encode-batches-claims t) (encode-batches-at t) encode-batches.Post encode-batches-Inv-loop encode-batches-μ-loop (λ c. going-all (c .before .before .before .pre .1)) (λ c κs. search needs) (encode-batches-encode-batch-requires t) (λ c. omega (arith, c .before .before .before .before .batch-of .ensures)) (encode-batches-loop-less t) (encode-batches-loop-again t) (λ c. c .before .loop .inv .kept) (λ c. going-none (batches-none (c .before .before .before .before .before .args .entries)) (c .loop-test .left) (c .before .loop .inv)))
-    (λ t. encode-items-lts.spec (encode-items-claims t) (encode-items-at t) encode-items.Post encode-items-Inv-loop encode-items-μ-loop (λ c. going-all (c .before .before .before .pre .1)) (λ c. let r = value-reads (ready-cut (joined-cuts (c .before .loop .left) (c .loop-test .taken)) (c .before .loop .inv .ready)) in search needs) (λ c. let r = value-reads (ready-cut (joined-cuts (c .before .loop .left) (c .loop-test .taken)) (c .before .loop .inv .ready)) in search needs) (λ c. let r = value-reads (ready-cut (joined-cuts (c .before .before .loop .left) (c .before .loop-test .taken)) (c .before .before .loop .inv .ready)) in search needs) (λ c κs. search needs) (λ c κs. search needs) (encode-items-encode-requires t) (λ c κs. let l = c .before .before .before .before .before in let y = ready-cut (joined-cuts (l .before .loop .left) (l .loop-test .taken)) (l .before .loop .inv .ready) in (value-reads y, value-room y)) (λ c. let l = c .before .before .before .before .before .before .before .before in omega (arith, (value-reads (ready-cut (joined-cuts (l .before .loop .left) (l .loop-test .taken)) (l .before .loop .inv .ready))) .inside)) (λ c. omega (arith, c .before .before .before .before .loop-test .taken)) (λ c. omega (arith, c .before .before .before .before .loop-test .taken)) (encode-items-loop-again t) (λ c. c .before .loop .inv .kept) (λ c. going-none joined-none (c .loop-test .left) (c .before .loop .inv)))
+    (λ t. encode-items-lts.spec (encode-items-claims t) (encode-items-at t) encode-items.Post encode-items-Inv-loop encode-items-μ-loop (λ c. going-all (c .before .before .before .pre .1)) (λ c. let r = value-reads (due t c) in search needs) (λ c. let r = value-reads (due t c) in search needs) (λ c. let r = value-reads (due t (c .before)) in search needs) (λ c κs. search needs) (λ c κs. search needs) (encode-items-encode-requires t) (λ c κs. let l = c .before .before .before .before .before in let y = due t l in (value-reads y, value-room y)) (λ c. let l = c .before .before .before .before .before .before .before .before in omega (arith, value-reads (due t l) .inside)) (λ c. omega (arith, c .before .before .before .before .loop-test .taken)) (λ c. omega (arith, c .before .before .before .before .loop-test .taken)) (encode-items-loop-again t) (λ c. c .before .loop .inv .kept) (λ c. going-none joined-none (c .loop-test .left) (c .before .loop .inv)))
     (λ t. encode-object-lts.spec (encode-object-claims t) (encode-object-at t) encode-object.Post (encode-object-encode-requires t) (λ c κs. search needs) (encode-object-put-byte-requires t) (encode-object-encode-requires-2 t) (encode-object-put-byte-requires-2 t) (λ c. search needs) (encode-object-returns t) (λ c. search needs) (encode-object-returns-2 t))
     λ t. encode-tuple-lts.spec (encode-tuple-claims t) (encode-tuple-at t) encode-tuple.Post (encode-tuple-tuple-mark-requires t) (encode-tuple-encode-items-requires t) (λ c κs. search needs) (encode-tuple-put-byte-requires t) (λ c. search needs) (encode-tuple-returns t)

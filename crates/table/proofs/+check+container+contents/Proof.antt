@@ -28,7 +28,7 @@ use borrow.Author.Tests.{not-true, not-false}
 use lib.ListN.{length}
 use Rattle.table.specs.Find.{row, find}
 use Rattle.table.specs.Sound.{first-word}
-use Rattle.table.specs.Check.{answer, is-bad, find-out, find-past, find-within, row-done, row-bad, row-next, answer-wrong, answer-bad, answer-closed, right, held, object-some}
+use Rattle.table.specs.Check.{Header, answer, is-bad, find-out, find-past, find-within, row-done, row-bad, row-next, answer-wrong, answer-bad, answer-closed, right, held, object-some}
 
 abbrev μ-check : Measures 2 check-kinds.ps ℕ
 μ-check κs a = 3 * a .1 .1 .1 .1 .1 .0 + 1
@@ -69,9 +69,9 @@ contents-calls t = (check-below t, check.Post)
 
 check-container-requires : (t : ℕ) → check-lts.Need-container-requires (check-calls t) (check-at t) check.Post
 check-container-requires t c κs =
-    let s = c .before .before .before .before .before .before .before .before in
-    let lent = s .pre .1 .0 in
-    (omega arith, (lent, ((let l = s .pre .1 .1 .0 in omega arith), (s .pre .1 .1 .1, c .before .before .before .before .before .if1 .left))))
+    let e = c .before .before .before .before .before in
+    let p = e .before .before .before .pre .1 in
+    (omega arith, (p .0, ((let l = p .1 .0 in omega arith), (p .1 .1, e .if1 .left))))
 
 check-leaf-requires : (t : ℕ) → check-lts.Need-leaf-requires (check-calls t) (check-at t) check.Post
 check-leaf-requires t c κs =
@@ -85,80 +85,67 @@ check-leaf-requires t c κs =
 
 check-returns-4 : (t : ℕ) → check-lts.Need-returns-4 (check-calls t) (check-at t) check.Post
 check-returns-4 t c =
-    let s = c .before .before .before .before .before .before .before .before .before in
-    let a = s .args in
-    let lent = s .pre .1 .0 in
+    let e = c .before .before .before .before .before .before in
+    let s = e .before .before .before in
     let l = s .pre .1 .1 .0 in
-    c .leaf .ensures (a .count) (a .levels) lent (omega arith) (c .before .before .before .before .before .before .if1 .left)
+    c .leaf .ensures (s .args .count) (s .args .levels) (s .pre .1 .0) (omega arith) (e .if1 .left)
 
-container-add-contents : (t : ℕ) → container-lts.Need-add-contents (container-calls t) (container-at t) container.Post
-container-add-contents t c =
-    let s = c .before .before .before .before .before .before in
-    let lent = s .pre .1 .0 in
-    let some = s .pre .1 .1 .1 .1 in
-    let h = right _ _ _ _ _ _ lent some (c .before .before .before .head .ensures) (c .before .long .given .1) in
-    let few = h .few in let room = lent .room in let small = lent .few in omega arith
+module _ (t : ℕ) where
+  -- `container` was told that its head is right
+  abbrev Told : Type 0
+  Told = container-lts.After-known-told (container-calls t) (container-at t) container.Post
 
-container-add-contents-2 : (t : ℕ) → container-lts.Need-add-contents-2 (container-calls t) (container-at t) container.Post
-container-add-contents-2 t c =
-    let s = c .before .before .before .before .before .before in
-    let lent = s .pre .1 .0 in
-    let some = s .pre .1 .1 .1 .1 in
-    let h = right _ _ _ _ _ _ lent some (c .before .before .before .head .ensures) (c .before .long .given .1) in
-    let inn = h .inside in let short = lent .short in omega arith
+  abbrev headed : Told → container-lts.After-head (container-calls t) (container-at t) container.Post
+  headed c = c .before .before .before
 
-container-contents-requires : (t : ℕ) → container-lts.Need-contents-requires (container-calls t) (container-at t) container.Post
-container-contents-requires t c κs =
-    let s = c .before .before .before .before .before .before in
-    let lent = s .pre .1 .0 in
-    let some = s .pre .1 .1 .1 .1 in
-    let h = right _ _ _ _ _ _ lent some (c .before .before .before .head .ensures) (c .before .long .given .1) in
-    (omega arith, (lent, ((let few = h .few in omega arith), h .inside)))
+  abbrev start : Told → container-lts.Start (container-calls t) (container-at t) container.Post
+  start c = headed c .before .before .before
 
-container-closes-requires : (t : ℕ) → container-lts.Need-closes-requires (container-calls t) (container-at t) container.Post
-container-closes-requires t c κs =
-    let m = c .before .before .before in
-    let s = m .before .before .before .before .before .before .before in
-    let a = s .args in
-    let w = a .words .now in
-    let n = a .count in
-    let x = a .text .now in
-    let lent = s .pre .1 .0 in
-    let some = s .pre .1 .1 .1 .1 in
-    let h = right _ _ _ _ _ _ lent some (m .before .before .before .before .head .ensures) (m .before .before .long .given .1) in
-    let y = held _ _ _ _ _ _ lent some (m .before .before .before .before .head .ensures) (m .before .before .long .given .1) (sym (m .contents .ensures) ∙ c .before .j .given .1) in
-    ((let few = h .few in let room = lent .room in omega arith), (y .after, (y .held, ((λ q. object-some w n x (a .i) (a .at) _ _ h q), h .known))))
+  header : (c : Told) → let a = start c .args in let g = c .before .long .given .0 in Header (a .words .now) (a .count) (a .text .now) (a .i) (a .at) (g .0) (g .1 .0)
+  header c = let p = start c .pre .1 in right _ _ _ _ _ _ (p .0) (p .1 .1 .1) (headed c .head .ensures) (c .before .long .given .1)
 
-container-returns : (t : ℕ) → container-lts.Need-returns (container-calls t) (container-at t) container.Post
-container-returns t c =
-    let m = c .before .before .before .before .before in
-    let s = m .before .before .before .before .before .before .before in
-    let lent = s .pre .1 .0 in
-    let some = s .pre .1 .1 .1 .1 in
-    answer-closed _ _ _ _ _ _ lent some (m .before .before .before .before .head .ensures) (m .before .before .long .given .1) (sym (m .contents .ensures) ∙ c .before .before .before .j .given .1) false (λ f p q. sym (not-true _ (c .if1 .taken)) ∙ c .before .closes .ensures f p q)
+  container-add-contents : container-lts.Need-add-contents (container-calls t) (container-at t) container.Post
+  container-add-contents c = let few = header c .few in let lent = start c .pre .1 .0 in let room = lent .room in let small = lent .few in omega arith
 
-container-returns-2 : (t : ℕ) → container-lts.Need-returns-2 (container-calls t) (container-at t) container.Post
-container-returns-2 t c =
-    let s = c .before .before .before .before .before in
-    let lent = s .pre .1 .0 in
-    let some = s .pre .1 .1 .1 .1 in
-    answer-wrong _ _ _ _ _ _ lent some (c .before .before .head .ensures) (c .enum-told .given .1)
+  container-add-contents-2 : container-lts.Need-add-contents-2 (container-calls t) (container-at t) container.Post
+  container-add-contents-2 c = let inn = header c .inside in let short = start c .pre .1 .0 .short in omega arith
 
-container-returns-3 : (t : ℕ) → container-lts.Need-returns-3 (container-calls t) (container-at t) container.Post
-container-returns-3 t c =
-    let m = c .before .before in
-    let s = m .before .before .before .before .before .before .before in
-    let lent = s .pre .1 .0 in
-    let some = s .pre .1 .1 .1 .1 in
-    answer-bad _ _ _ _ _ _ lent some (m .before .before .before .before .head .ensures) (m .before .before .long .given .1) (sym (m .contents .ensures) ∙ c .enum-told2 .given .1)
+  container-contents-requires : container-lts.Need-contents-requires (container-calls t) (container-at t) container.Post
+  container-contents-requires c κs = (omega arith, (start c .pre .1 .0, ((let few = header c .few in omega arith), header c .inside)))
 
-container-returns-4 : (t : ℕ) → container-lts.Need-returns-4 (container-calls t) (container-at t) container.Post
-container-returns-4 t c =
-    let m = c .before .before .before .before .before in
-    let s = m .before .before .before .before .before .before .before in
-    let lent = s .pre .1 .0 in
-    let some = s .pre .1 .1 .1 .1 in
-    answer-closed _ _ _ _ _ _ lent some (m .before .before .before .before .head .ensures) (m .before .before .long .given .1) (sym (m .contents .ensures) ∙ c .before .before .before .j .given .1) true (λ f p q. sym (not-false _ (c .if1 .left)) ∙ c .before .closes .ensures f p q)
+  container-closes-requires : container-lts.Need-closes-requires (container-calls t) (container-at t) container.Post
+  container-closes-requires c κs =
+      let m = c .before .before .before in
+      let k = m .before in
+      let a = start k .args in
+      let lent = start k .pre .1 .0 in
+      let h = header k in
+      let y = held _ _ _ _ _ _ lent (start k .pre .1 .1 .1 .1) (headed k .head .ensures) (k .before .long .given .1) (sym (m .contents .ensures) ∙ c .before .j .given .1) in
+      ((let few = h .few in let room = lent .room in omega arith), (y .after, (y .held, ((λ q. object-some (a .words .now) (a .count) (a .text .now) (a .i) (a .at) _ _ h q), h .known))))
+
+  container-returns : container-lts.Need-returns (container-calls t) (container-at t) container.Post
+  container-returns c =
+      let m = c .before .before .before .before .before in
+      let k = m .before in
+      let p = start k .pre .1 in
+      answer-closed _ _ _ _ _ _ (p .0) (p .1 .1 .1) (headed k .head .ensures) (k .before .long .given .1) (sym (m .contents .ensures) ∙ c .before .before .before .j .given .1) false (λ f p q. sym (not-true _ (c .if1 .taken)) ∙ c .before .closes .ensures f p q)
+
+  container-returns-2 : container-lts.Need-returns-2 (container-calls t) (container-at t) container.Post
+  container-returns-2 c = let h = c .before .before in let p = h .before .before .before .pre .1 in answer-wrong _ _ _ _ _ _ (p .0) (p .1 .1 .1) (h .head .ensures) (c .enum-told .given .1)
+
+  container-returns-3 : container-lts.Need-returns-3 (container-calls t) (container-at t) container.Post
+  container-returns-3 c =
+      let m = c .before .before in
+      let k = m .before in
+      let p = start k .pre .1 in
+      answer-bad _ _ _ _ _ _ (p .0) (p .1 .1 .1) (headed k .head .ensures) (k .before .long .given .1) (sym (m .contents .ensures) ∙ c .enum-told2 .given .1)
+
+  container-returns-4 : container-lts.Need-returns-4 (container-calls t) (container-at t) container.Post
+  container-returns-4 c =
+      let m = c .before .before .before .before .before in
+      let k = m .before in
+      let p = start k .pre .1 in
+      answer-closed _ _ _ _ _ _ (p .0) (p .1 .1 .1) (headed k .head .ensures) (k .before .long .given .1) (sym (m .contents .ensures) ∙ c .before .before .before .j .given .1) true (λ f p q. sym (not-false _ (c .if1 .left)) ∙ c .before .closes .ensures f p q)
 
 abbrev contents-Inv-loop : contents-lts.InvT-loop
 contents-Inv-loop words count text i at m levels j₀ end₀ left₀ j end left = (j ≤ count) × (end ≤ length text) × (answer (row (find words count text levels) left j end) ≡ answer (row (find words count text levels) m i at))
@@ -168,20 +155,21 @@ contents-μ-loop words count text i at m levels j₀ end₀ left₀ j end left =
 
 contents-returns : (t : ℕ) → contents-lts.Need-returns (contents-calls t) (contents-at t) contents.Post contents-Inv-loop contents-μ-loop
 contents-returns t c =
-    let s = c .before .before .before .before .before .before .before in
-    let a = s .args in
-    let l = c .before .before .before .before .loop in
+    let h = c .before .before .before .before in
+    let a = h .before .before .before .args in
+    let l = h .loop in
     row-bad (find (a .words .now) (a .count) (a .text .now) (a .levels)) (l .left) (l .j) (l .end) (c .before .before .before .loop-test .taken) (sym (c .before .before .check .ensures) ∙ c .enum-told .given .1) ∙ l .inv .2
 
 contents-loop-again : (t : ℕ) → contents-lts.Need-loop-again (contents-calls t) (contents-at t) contents.Post contents-Inv-loop contents-μ-loop
 contents-loop-again t c =
-    let s = c .before .before .before .before .before .before .before .before in
+    let h = c .before .before .before .before .before in
+    let s = h .before .before .before in
     let a = s .args in
     let w = a .words .now in
     let n = a .count in
     let x = a .text .now in
     let lent = s .pre .1 .0 in
-    let l = c .before .before .before .before .before .loop in
+    let l = h .loop in
     let q = sym (c .before .before .before .check .ensures) ∙ c .before .behind .given .1 in
     let y = find-within w n x (a .levels) (l .j) (l .end) lent (l .inv .0) (l .inv .1) q in
     (y .0, y .1, row-next (find w n x (a .levels)) (l .left) (l .j) (l .end) (c .before .before .before .before .loop-test .taken) q ∙ l .inv .2)

@@ -1,12 +1,13 @@
 -- `text::unescape_unicode` meets its contract: the bytes written so far, and those of the line that is left, are those of the whole. Assumes nothing.
 use native.Mathlib.Omega.{arith}
 use borrow.Author.Needs.{needs}
-use mathlib.Core.Path.{refl, sym, _∙_}
-use Prim.Native.Nat.{_-_, _≤_}
+use mathlib.Core.Path.{_≡_, refl, sym, _∙_}
+use Prim.Native.Nat.{ℕ, _+_, _-_, _≤_}
 use lib.ListN.{length, getD, drop}
 use borrow.Author.Tests.{eqb-false, not-true}
 use Rattle.utf8.specs.Utf8.{encode}
 use Rattle.utf8.specs.Encode.{encode-one}
+use Rattle.text.specs.declared.Piece.the-variants.{One}
 use Rattle.text.specs.Escapes.{unicodeHead}
 use Rattle.text.specs.Pieces.{texts}
 use Rattle.text.specs.Text.{unescapeUnicode}
@@ -24,37 +25,42 @@ Inv-loop line out₀ n₀ i₀ out n i =
 abbrev μ-loop : tie.MeasureT-loop
 μ-loop line out₀ n₀ i₀ out n i = length line - i
 
-plain : (c : tie.Then2 Inv-loop μ-loop)
-    → In-unicode (c .before .before .before .before .before .before .before .args .line .now) (c .before .before .before .before .loop .i)
-    (getD (c .before .before .before .before .before .before .before .args .line .now) (c .before .before .before .before .loop .i) 0) 0
-plain c =
-    let k = c .before .before .before .before .before .before .shared-slice-known .given in
-    let h = c .before .before .before .loop-test .taken in
-    in-unicode _ _ _ _ (λ j. omega (arith, k j)) h (sym (unicode-plain _ _ h (eqb-false _ _ (not-true _ (c .if2 .taken)))))
+-- a turn of the loop, and what a piece read there is
+module _ (c : tie.In-loop Inv-loop μ-loop) where
+  abbrev start : tie.Start Inv-loop μ-loop
+  start = c .before .before .before .before
 
-escape : (c : tie.After-known-told Inv-loop μ-loop)
-    → In-unicode (c .before .before .before .before .before .before .before .before .before .before .args .line .now) (c .before .before .before .before .before .before .before .loop .i)
-    (c .before .value .given .0 .0) (c .before .value .given .0 .1 .0)
-escape c =
-    let k = c .before .before .before .before .before .before .before .before .before .shared-slice-known .given in
-    let h = c .before .before .before .before .before .before .loop-test .taken in
-    in-unicode _ _ _ _ (λ j. omega (arith, k j)) h (sym (c .before .before .before .unicode-piece .ensures) ∙ c .before .value .given .1)
+  piece : {v w : ℕ} → unicodeHead (drop (c .before .loop .i) (start .args .line .now)) ≡ One v w → In-unicode (start .args .line .now) (c .before .loop .i) v w
+  piece e = let k = c .before .before .before .shared-slice-known .given in in-unicode _ _ _ _ (λ j. omega (arith, k j)) (c .loop-test .taken) e
+
+-- a byte that stands for itself, and its room
+plain : (c : tie.Then2 Inv-loop μ-loop) → let l = c .before .before .before in In-unicode (start l .args .line .now) (l .before .loop .i) (getD (start l .args .line .now) (l .before .loop .i) 0) 0
+plain c = let l = c .before .before .before in piece l (sym (unicode-plain _ _ (l .loop-test .taken) (eqb-false _ _ (not-true _ (c .if2 .taken)))))
+
+room : (c : tie.Then2 Inv-loop μ-loop) → let h = c .before .before .before .before .loop in h .n + 1 ≤ length (h .out)
+room c = let l = c .before .before .before in let h = l .before .loop in rw (encode-one _ (c .before .if1 .taken)) at (roomy encode (plain c) (h .i) _ refl (h .inv .0) (start l .pre .fits))
+
+-- an escape's value is known
+module _ (c : tie.After-known-told Inv-loop μ-loop) where
+  abbrev turn : tie.In-loop Inv-loop μ-loop
+  turn = c .before .before .before .before .before .before
+
+  escape : let v = c .before .value .given .0 in In-unicode (start turn .args .line .now) (turn .before .loop .i) (v .0) (v .1 .0)
+  escape = piece turn (sym (c .before .before .before .unicode-piece .ensures) ∙ c .before .value .given .1)
+
+-- its bytes are written
+abbrev told : tie.After-slice-known2 Inv-loop μ-loop → tie.After-known-told Inv-loop μ-loop
+told c = c .before .before .before .before
 
 loop-holds : tie.Need-loop-holds Inv-loop μ-loop
 unfolding unescapeUnicode
 loop-holds c = (write-none _ _ (c .before .before .pre .is), omega arith)
 
 slice-write-out : tie.Need-slice-write-out Inv-loop μ-loop
-slice-write-out c =
-    let s = c .before .before .before .before .before .before .before in
-    let l = c .before .before .before .before .loop in
-    omega (arith, rw (encode-one _ (c .before .if1 .taken)) at (roomy encode (plain c) (l .i) _ refl (l .inv .0) (s .pre .fits)), l .inv .0 .long)
+slice-write-out c = omega (arith, room c, c .before .before .before .before .loop .inv .0 .long)
 
 add-n : tie.Need-add-n Inv-loop μ-loop
-add-n c =
-    let s = c .before .before .before .before .before .before .before in
-    let l = c .before .before .before .before .loop in
-    omega (arith, rw (encode-one _ (c .before .if1 .taken)) at (roomy encode (plain c) (l .i) _ refl (l .inv .0) (s .pre .fits)), l .inv .0 .long)
+add-n c = omega (arith, room c, c .before .before .before .before .loop .inv .0 .long)
 
 loop-again : tie.Need-loop-again Inv-loop μ-loop
 loop-again c =
@@ -66,23 +72,24 @@ unicode-piece-requires c κs = c .before .before .loop-test .taken
 
 put-requires : tie.Need-put-requires Inv-loop μ-loop
 put-requires c κs =
-    let s = c .before .before .before .before .before .before .before .before .before .before .before in
-    let l = c .before .before .before .before .before .before .before .before .loop in
-    (escape (c .before) .good .0, roomy encode (escape (c .before)) (l .i) _ refl (l .inv .0) (s .pre .fits))
+    let e = escape (c .before) in
+    let l = turn (c .before) in
+    let h = l .before .loop in
+    (e .good .0, roomy encode e (h .i) _ refl (h .inv .0) (start l .pre .fits))
 
 add-i-2 : tie.Need-add-i-2 Inv-loop μ-loop
-add-i-2 c = omega (arith, escape (c .before .before .before .before) .inside)
+add-i-2 c = omega (arith, escape (told c) .inside)
 
 add-i-3 : tie.Need-add-i-3 Inv-loop μ-loop
-add-i-3 c = omega (arith, escape (c .before .before .before .before) .inside)
+add-i-3 c = omega (arith, escape (told c) .inside)
 
 loop-less-2 : tie.Need-loop-less-2 Inv-loop μ-loop
-loop-less-2 c = omega (arith, escape (c .before .before .before .before) .inside)
+loop-less-2 c = omega (arith, escape (told c) .inside)
 
 loop-again-2 : tie.Need-loop-again-2 Inv-loop μ-loop
 loop-again-2 c =
-    let l = c .before .before .before .before .before .before .before .before .before .before .before .loop in
-    let e = escape (c .before .before .before .before) in
+    let l = turn (told c) .before .loop in
+    let e = escape (told c) in
     let p = c .before .before .put .ensures in
     (rw (p .0, p .1) (written encode e (l .i) _ refl (l .inv .0)), e .inside)
 
@@ -92,8 +99,8 @@ same-length c = c .before .before .before .before .before .before .loop .inv .0 
 returns : tie.Need-returns Inv-loop μ-loop
 returns c =
     let e = sym (c .before .before .unicode-piece .ensures) ∙ c .enum-told .given .1 in
-    let bad = texts-bad unicodeHead encode _ _ _ (c .before .before .before .before .before .loop-test .taken) e in
-    absurd (write-bad _ _ _ _ _ bad (c .before .before .before .before .before .before .loop .inv .0))
+    let l = c .before .before .before .before .before in
+    absurd (write-bad _ _ _ _ _ (texts-bad unicodeHead encode _ _ _ (l .loop-test .taken) e) (l .before .loop .inv .0))
 
 same-length-2 : tie.Need-same-length-2 Inv-loop μ-loop
 same-length-2 c = c .before .loop .inv .0 .long

@@ -24,21 +24,25 @@ Inv-loop line n₀ i₀ n i =
 abbrev μ-loop : tie.MeasureT-loop
 μ-loop line n₀ i₀ n i = length line - i
 
-plain : (c : tie.Then2 Inv-loop μ-loop)
-    → In-unicode (c .before .before .before .before .before .before .args .line .now) (c .before .before .before .before .loop .i)
-    (getD (c .before .before .before .before .before .before .args .line .now) (c .before .before .before .before .loop .i) 0) 0
+-- a turn of the loop
+abbrev start : tie.In-loop Inv-loop μ-loop → tie.Start Inv-loop μ-loop
+start c = c .before .before .before
+
+-- a byte that stands for itself
+plain : (c : tie.Then2 Inv-loop μ-loop) → let l = c .before .before .before in In-unicode (start l .args .line .now) (l .before .loop .i) (getD (start l .args .line .now) (l .before .loop .i) 0) 0
 plain c =
-    let k = c .before .before .before .before .before .shared-slice-known .given in
-    let h = c .before .before .before .loop-test .taken in
+    let l = c .before .before .before in
+    let k = l .before .before .shared-slice-known .given in
+    let h = l .loop-test .taken in
     in-unicode _ _ _ _ (λ j. omega (arith, k j)) h (sym (unicode-plain _ _ h (eqb-false _ _ (not-true _ (c .if2 .taken)))))
 
-escape : (c : tie.After-encoded-len Inv-loop μ-loop)
-    → In-unicode (c .before .before .before .before .before .before .before .before .before .before .args .line .now) (c .before .before .before .before .before .before .before .before .loop .i)
-    (c .before .before .value .given .0 .0) (c .before .before .value .given .0 .1 .0)
+-- an escape, and how long its bytes are
+escape : (c : tie.After-encoded-len Inv-loop μ-loop) → let l = c .before .before .before .before .before .before .before in let v = c .before .before .value .given .0 in In-unicode (start l .args .line .now) (l .before .loop .i) (v .0) (v .1 .0)
 escape c =
-    let k = c .before .before .before .before .before .before .before .before .before .shared-slice-known .given in
-    let h = c .before .before .before .before .before .before .before .loop-test .taken in
-    in-unicode _ _ _ _ (λ j. omega (arith, k j)) h (sym (c .before .before .before .before .unicode-piece .ensures) ∙ c .before .before .value .given .1)
+    let u = c .before .before .before .before in
+    let l = u .before .before .before in
+    let k = l .before .before .shared-slice-known .given in
+    in-unicode _ _ _ _ (λ j. omega (arith, k j)) (l .loop-test .taken) (sym (u .unicode-piece .ensures) ∙ c .before .before .value .given .1)
 
 loop-holds : tie.Need-loop-holds Inv-loop μ-loop
 unfolding unescapeUnicode
@@ -74,8 +78,8 @@ returns : tie.Need-returns Inv-loop μ-loop
 unfolding decodedSays
 returns c =
     let e = sym (c .before .before .unicode-piece .ensures) ∙ c .enum-told .given .1 in
-    let bad = texts-bad unicodeHead encode _ _ _ (c .before .before .before .before .before .loop-test .taken) e in
-    more-bad _ _ bad ∙ c .before .before .before .before .before .before .loop .inv .0
+    let l = c .before .before .before .before .before in
+    more-bad _ _ (texts-bad unicodeHead encode _ _ _ (l .loop-test .taken) e) ∙ l .before .loop .inv .0
 
 returns-2 : tie.Need-returns-2 Inv-loop μ-loop
 unfolding decodedSays

@@ -1,9 +1,10 @@
 -- `text::write_inner` meets its contract: the bytes written so far, and those of the text that is left, are those of the whole. Assumes nothing.
 use native.Mathlib.Omega.{arith}
 use borrow.Author.Needs.{needs}
-use mathlib.Core.Path.{refl, sym, _∙_}
-use Prim.Native.Nat.{_+_, _-_, _≤_}
+use mathlib.Core.Path.{_≡_, refl, sym, _∙_}
+use Prim.Native.Nat.{ℕ, _+_, _-_, _≤_}
 use lib.ListN.{length, getD, drop}
+use Rattle.text.specs.declared.Piece.the-variants.{One}
 use Rattle.text.specs.Escapes.{stringHead}
 use Rattle.text.specs.Pieces.{texts}
 use Rattle.text.specs.Text.{byte}
@@ -21,38 +22,39 @@ Inv-loop text out₀ n₀ i₀ out n i =
 abbrev μ-loop : tie.MeasureT-loop
 μ-loop text out₀ n₀ i₀ out n i = length text - i
 
-plain : (c : tie.Then1 Inv-loop μ-loop)
-    → In-string (c .before .before .before .before .before .before .args .text .now) (c .before .before .before .loop .i)
-    (getD (c .before .before .before .before .before .before .args .text .now) (c .before .before .before .loop .i) 0) 0
-plain c =
-    let k = c .before .before .before .before .before .shared-slice-known .given in
-    let h = c .before .before .loop-test .taken in
-    in-string _ _ _ _ (λ j. omega (arith, k j)) h (sym (string-plain _ _ h (c .if1 .taken)))
+-- a turn of the loop, and what a piece read there is
+module _ (c : tie.In-loop Inv-loop μ-loop) where
+  abbrev start : tie.Start Inv-loop μ-loop
+  start = c .before .before .before .before
 
-escape : (c : tie.After-known-told Inv-loop μ-loop)
-    → In-string (c .before .before .before .before .before .before .before .before .before .before .args .text .now) (c .before .before .before .before .before .before .before .loop .i)
-    (c .before .value .given .0 .0) (c .before .value .given .0 .1 .0)
-escape c =
-    let k = c .before .before .before .before .before .before .before .before .before .shared-slice-known .given in
-    let h = c .before .before .before .before .before .before .loop-test .taken in
-    in-string _ _ _ _ (λ j. omega (arith, k j)) h (sym (c .before .before .before .string-piece .ensures) ∙ c .before .value .given .1)
+  piece : {v w : ℕ} → stringHead (drop (c .before .loop .i) (start .args .text .now)) ≡ One v w → In-string (start .args .text .now) (c .before .loop .i) v w
+  piece e = let k = c .before .before .before .shared-slice-known .given in in-string _ _ _ _ (λ j. omega (arith, k j)) (c .loop-test .taken) e
+
+  -- there is room for its byte
+  room : {v w : ℕ} → In-string (start .args .text .now) (c .before .loop .i) v w → c .before .loop .n + 1 ≤ length (c .before .loop .out)
+  unfolding byte
+  room p = let h = c .before .loop in roomy byte p (h .i + 1) _ refl (h .inv .0) (start .pre .fits)
+
+-- a byte that stands for itself
+plain : (c : tie.Then1 Inv-loop μ-loop) → let l = c .before .before in In-string (start l .args .text .now) (l .before .loop .i) (getD (start l .args .text .now) (l .before .loop .i) 0) 0
+plain c = let l = c .before .before in piece l (sym (string-plain _ _ (l .loop-test .taken) (c .if1 .taken)))
+
+-- an escape's value is known
+module _ (c : tie.After-known-told Inv-loop μ-loop) where
+  abbrev turn : tie.In-loop Inv-loop μ-loop
+  turn = c .before .before .before .before .before .before
+
+  escape : let v = c .before .value .given .0 in In-string (start turn .args .text .now) (turn .before .loop .i) (v .0) (v .1 .0)
+  escape = piece turn (sym (c .before .before .before .string-piece .ensures) ∙ c .before .value .given .1)
 
 loop-holds : tie.Need-loop-holds Inv-loop μ-loop
 loop-holds c = (write-none _ _ (c .before .before .pre .is), omega arith)
 
 slice-write-out : tie.Need-slice-write-out Inv-loop μ-loop
-unfolding byte
-slice-write-out c =
-    let s = c .before .before .before .before .before .before in
-    let l = c .before .before .before .loop in
-    omega (arith, roomy byte (plain c) (l .i + 1) _ refl (l .inv .0) (s .pre .fits), l .inv .0 .long)
+slice-write-out c = omega (arith, room (c .before .before) (plain c), c .before .before .before .loop .inv .0 .long)
 
 add-n : tie.Need-add-n Inv-loop μ-loop
-unfolding byte
-add-n c =
-    let s = c .before .before .before .before .before .before in
-    let l = c .before .before .before .loop in
-    omega (arith, roomy byte (plain c) (l .i + 1) _ refl (l .inv .0) (s .pre .fits), l .inv .0 .long)
+add-n c = omega (arith, room (c .before .before) (plain c), c .before .before .before .loop .inv .0 .long)
 
 loop-again : tie.Need-loop-again Inv-loop μ-loop
 unfolding byte
@@ -67,18 +69,10 @@ cast-out : tie.Need-cast-out Inv-loop μ-loop
 cast-out c = omega (arith, escape c .good)
 
 slice-write-out-2 : tie.Need-slice-write-out-2 Inv-loop μ-loop
-unfolding byte
-slice-write-out-2 c =
-    let s = c .before .before .before .before .before .before .before .before .before .before in
-    let l = c .before .before .before .before .before .before .before .loop in
-    omega (arith, roomy byte (escape c) (l .i + 1) _ refl (l .inv .0) (s .pre .fits), l .inv .0 .long)
+slice-write-out-2 c = omega (arith, room (turn c) (escape c), turn c .before .loop .inv .0 .long)
 
 add-n-2 : tie.Need-add-n-2 Inv-loop μ-loop
-unfolding byte
-add-n-2 c =
-    let s = c .before .before .before .before .before .before .before .before .before .before in
-    let l = c .before .before .before .before .before .before .before .loop in
-    omega (arith, roomy byte (escape c) (l .i + 1) _ refl (l .inv .0) (s .pre .fits), l .inv .0 .long)
+add-n-2 c = omega (arith, room (turn c) (escape c), turn c .before .loop .inv .0 .long)
 
 add-i-2 : tie.Need-add-i-2 Inv-loop μ-loop
 add-i-2 c = omega (arith, escape c .inside)
@@ -92,7 +86,7 @@ loop-less-2 c = omega (arith, escape c .inside)
 loop-again-2 : tie.Need-loop-again-2 Inv-loop μ-loop
 unfolding byte
 loop-again-2 c =
-    let l = c .before .before .before .before .before .before .before .loop in
+    let l = turn c .before .loop in
     (written byte (escape c) (l .i + 1) _ (omega arith) (l .inv .0), escape c .inside)
 
 same-length : tie.Need-same-length Inv-loop μ-loop
@@ -101,8 +95,8 @@ same-length c = c .before .before .before .before .before .before .loop .inv .0 
 returns : tie.Need-returns Inv-loop μ-loop
 returns c =
     let e = sym (c .before .before .string-piece .ensures) ∙ c .enum-told .given .1 in
-    let bad = texts-bad stringHead byte _ _ _ (c .before .before .before .before .before .loop-test .taken) e in
-    absurd (write-bad _ _ _ _ _ bad (c .before .before .before .before .before .before .loop .inv .0))
+    let l = c .before .before .before .before .before in
+    absurd (write-bad _ _ _ _ _ (texts-bad stringHead byte _ _ _ (l .loop-test .taken) e) (l .before .loop .inv .0))
 
 same-length-2 : tie.Need-same-length-2 Inv-loop μ-loop
 same-length-2 c = c .before .loop .inv .0 .long

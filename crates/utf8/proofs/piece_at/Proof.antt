@@ -1,11 +1,36 @@
 -- `utf8::piece_at` meets its contract: each answer is the piece that its tests leave. Assumes nothing.
-use mathlib.Core.Path.{sym, _∙_}
+use mathlib.Core.Bool.{true}
+use mathlib.Core.Path.{_≡_, sym, _∙_}
+use Prim.Native.Nat.{_+_}
+use lib.ListN.{getD, drop}
 use native.Mathlib.Omega.{arith}
 use borrow.Author.Needs.{needs}
 use borrow.Author.Tests.{not-true, not-false}
+use Rattle.utf8.specs.Place.{secondOf, next}
+use Rattle.utf8.proofs.Table.{more}
 use Rattle.utf8.proofs.Pieces.{one-whole, never-first, above-first, one-part, two-whole, two-part, three-whole, three-part, four-whole}
 use Rattle.utf8.proofs.piece_at.Statement.{statement}
 use Rattle.utf8.proofs.piece_at.Tie as tie
+
+-- a byte that can be the first of several
+abbrev start : tie.Else3 → tie.Start
+start c = c .before .before .before .before .before
+
+-- has a second
+module _ (c : tie.Else4) where
+  abbrev lead : tie.Else3
+  lead = c .before .before .before
+
+  second : let a = start lead .args in next (secondOf (getD (a .s .now) (a .at) 0)) (drop (a .at + 1) (a .s .now)) ≡ true
+  second = sym (rw (c .before .before .second .ensures) at (c .before .has .ensures)) ∙ not-false _ (c .if4 .left)
+
+-- and a third
+module _ (c : tie.Else6) where
+  abbrev two : tie.Else4
+  two = c .before .before .before
+
+  third : let a = start (lead two) .args in next more (drop (a .at + 2) (a .s .now)) ≡ true
+  third = sym (c .before .has2 .ensures) ∙ not-false _ (c .if6 .left)
 
 returns : tie.Need-returns
 returns c = one-whole _ _ (c .before .before .before .pre) (c .if1 .taken)
@@ -15,43 +40,28 @@ returns-2 c = never-first _ _ (c .before .before .before .before .pre) (c .befor
 
 returns-3 : tie.Need-returns-3
 returns-3 c =
-    let b = c .before .before .before .shared-slice-known2 .given (c .before .before .before .before .before .args .at) in
-    above-first _ _ (c .before .before .before .before .before .pre) (omega arith) (c .if3 .taken)
+    let k = c .before .before .before in
+    let s = k .before .before in
+    let b = k .shared-slice-known2 .given (s .args .at) in
+    above-first _ _ (s .pre) (omega arith) (c .if3 .taken)
 
 returns-4 : tie.Need-returns-4
-returns-4 c = one-part _ _ (c .before .before .before .before .before .before .before .before .pre) (c .before .before .before .before .if2 .left) (c .before .before .before .if3 .left) (sym (rw (c .before .before .second .ensures) at (c .before .has .ensures)) ∙ not-true _ (c .if4 .taken))
+returns-4 c = let l = c .before .before .before in one-part _ _ (start l .pre) (l .before .if2 .left) (l .if3 .left) (sym (rw (c .before .before .second .ensures) at (c .before .has .ensures)) ∙ not-true _ (c .if4 .taken))
 
 returns-5 : tie.Need-returns-5
-returns-5 c =
-    let n₁ = sym (rw (c .before .before .before .second .ensures) at (c .before .before .has .ensures)) ∙ not-false _ (c .before .if4 .left) in
-    two-whole _ _ (c .before .before .before .before .before .before .before .before .before .pre) (c .before .before .before .before .before .if2 .left) (c .before .before .before .before .if3 .left) n₁ (c .if5 .taken)
+returns-5 c = let d = c .before in let l = lead d in two-whole _ _ (start l .pre) (l .before .if2 .left) (l .if3 .left) (second d) (c .if5 .taken)
 
 returns-6 : tie.Need-returns-6
-returns-6 c =
-    let a = c .before .before .before .before in
-    let n₁ = sym (rw (a .before .second .ensures) at (a .has .ensures)) ∙ not-false _ (c .before .before .before .if4 .left) in
-    two-part _ _ (a .before .before .before .before .before .before .before .pre) (a .before .before .before .if2 .left) (a .before .before .if3 .left) n₁ (c .before .before .if5 .left) (sym (c .before .has2 .ensures) ∙ not-true _ (c .if6 .taken))
+returns-6 c = let d = c .before .before .before in let l = lead d in two-part _ _ (start l .pre) (l .before .if2 .left) (l .if3 .left) (second d) (c .before .before .if5 .left) (sym (c .before .has2 .ensures) ∙ not-true _ (c .if6 .taken))
 
 returns-7 : tie.Need-returns-7
-returns-7 c =
-    let a = c .before .before .before .before .before in
-    let n₁ = sym (rw (a .before .second .ensures) at (a .has .ensures)) ∙ not-false _ (c .before .before .before .before .if4 .left) in
-    let n₂ = sym (c .before .before .has2 .ensures) ∙ not-false _ (c .before .if6 .left) in
-    three-whole _ _ (a .before .before .before .before .before .before .before .pre) (a .before .before .before .if2 .left) (a .before .before .if3 .left) n₁ (c .before .before .before .if5 .left) n₂ (c .if7 .taken)
+returns-7 c = let e = c .before in let d = two e in let l = lead d in three-whole _ _ (start l .pre) (l .before .if2 .left) (l .if3 .left) (second d) (e .before .before .if5 .left) (third e) (c .if7 .taken)
 
 returns-8 : tie.Need-returns-8
-returns-8 c =
-    let a = c .before .before .before .before .before .before .before in
-    let n₁ = sym (rw (a .before .second .ensures) at (a .has .ensures)) ∙ not-false _ (c .before .before .before .before .before .before .if4 .left) in
-    let n₂ = sym (c .before .before .before .before .has2 .ensures) ∙ not-false _ (c .before .before .before .if6 .left) in
-    three-part _ _ (a .before .before .before .before .before .before .before .pre) (a .before .before .before .if2 .left) (a .before .before .if3 .left) n₁ (c .before .before .before .before .before .if5 .left) n₂ (c .before .before .if7 .left) (sym (c .before .has3 .ensures) ∙ not-true _ (c .if8 .taken))
+returns-8 c = let e = c .before .before .before in let d = two e in let l = lead d in three-part _ _ (start l .pre) (l .before .if2 .left) (l .if3 .left) (second d) (e .before .before .if5 .left) (third e) (c .before .before .if7 .left) (sym (c .before .has3 .ensures) ∙ not-true _ (c .if8 .taken))
 
 returns-9 : tie.Need-returns-9
-returns-9 c =
-    let a = c .before .before .before .before .before .before .before in
-    let n₁ = sym (rw (a .before .second .ensures) at (a .has .ensures)) ∙ not-false _ (c .before .before .before .before .before .before .if4 .left) in
-    let n₂ = sym (c .before .before .before .before .has2 .ensures) ∙ not-false _ (c .before .before .before .if6 .left) in
-    four-whole _ _ (a .before .before .before .before .before .before .before .pre) (a .before .before .before .if2 .left) (a .before .before .if3 .left) n₁ (c .before .before .before .before .before .if5 .left) n₂ (c .before .before .if7 .left) (sym (c .before .has3 .ensures) ∙ not-false _ (c .if8 .left))
+returns-9 c = let e = c .before .before .before in let d = two e in let l = lead d in four-whole _ _ (start l .pre) (l .before .if2 .left) (l .if3 .left) (second d) (e .before .before .if5 .left) (third e) (c .before .before .if7 .left) (sym (c .before .has3 .ensures) ∙ not-false _ (c .if8 .left))
 
 pub piece-at-spec : {M : Type 1} → statement M
 piece-at-spec =
