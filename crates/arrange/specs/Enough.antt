@@ -8,7 +8,7 @@ use native.Mathlib.Omega.{arith}
 use Rattle.value.specs.Value.{Label, Forest, Value, one, nil, node, count, size, depth, NoneL, BoolL, I64L, F64L, BytesL, StringL, ListL, TupleL, SetL, FrozenSetL, DictL, GlobalL, ObjectL}
 use Rattle.steps.specs.State.{Node}
 use Rattle.steps.specs.Opcodes.{isList, isTuple, isDict}
-use Rattle.reading.specs.Build.{Marks, at, tree}
+use Rattle.reading.specs.Build.{Stages, at, tree}
 use Rattle.reading.specs.Settle.{items}
 use Rattle.reading.specs.Unfold.{In, here, there}
 use Rattle.resolved.specs.Resolved.{stand-label, stand-in}
@@ -58,7 +58,7 @@ items-fewer (node l c r) =
     omega arith
 
 -- a finished node weighs no more than all together
-one-spent : (weight : Label → Forest → ℕ) (d : Marks) (l : List ℕ) (i : ℕ) → In i l → weightOf weight (d i) ≤ spent weight d l
+one-spent : (weight : Label → Forest → ℕ) (d : Stages) (l : List ℕ) (i : ℕ) → In i l → weightOf weight (d i) ≤ spent weight d l
 unfolding spent
 one-spent weight d (j ∷ l) i here = omega arith
 one-spent weight d (j ∷ l) i (there m) = let a = one-spent weight d l i m in omega arith
@@ -66,7 +66,7 @@ one-spent weight d (j ∷ l) i (there m) = let a = one-spent weight d l i m in o
 -- ---- the Sets' items
 
 module _ (t : List Node) (s : State) (r : Resolves t 4096 s) where
-  its-items : (i : ℕ) → In i (s .done) → cond (isDue (at t i .label)) (cond (isDict (at t i .label)) 0 (length (itemsN t (s .kids) (s .kids i)))) 0 ≤ weightOf ownItems (s .marks i)
+  its-items : (i : ℕ) → In i (s .done) → cond (isDue (at t i .label)) (cond (isDict (at t i .label)) 0 (length (itemsN t (s .kids) (s .kids i)))) 0 ≤ weightOf ownItems (s .stages i)
   its-items i m =
       let o = r .done-stands i m in
       let e : o .value .label ≡ at t i .label = stand-label (o .stands) in
@@ -88,13 +88,13 @@ module _ (t : List Node) (s : State) (r : Resolves t 4096 s) where
       go (GlobalL m n) f = omega arith
       go (ObjectL m n b) f = omega arith
 
-  all-items : (l : List ℕ) → ((i : ℕ) → In i l → In i (s .done)) → setItems t (s .kids) (dues t l) ≤ spent ownItems (s .marks) l
+  all-items : (l : List ℕ) → ((i : ℕ) → In i l → In i (s .done)) → setItems t (s .kids) (dues t l) ≤ spent ownItems (s .stages) l
   unfolding dues setItems spent
   all-items [] h = omega arith
   all-items (i ∷ l) h = go (isDue (at t i .label)) (its-items i (h i here)) (all-items l (λ j m. h j (there m)))
     where
-      go : (b : Bool) → cond b (cond (isDict (at t i .label)) 0 (length (itemsN t (s .kids) (s .kids i)))) 0 ≤ weightOf ownItems (s .marks i) → setItems t (s .kids) (dues t l) ≤ spent ownItems (s .marks) l
-          → setItems t (s .kids) (cond b (i ∷ dues t l) (dues t l)) ≤ weightOf ownItems (s .marks i) + spent ownItems (s .marks) l
+      go : (b : Bool) → cond b (cond (isDict (at t i .label)) 0 (length (itemsN t (s .kids) (s .kids i)))) 0 ≤ weightOf ownItems (s .stages i) → setItems t (s .kids) (dues t l) ≤ spent ownItems (s .stages) l
+          → setItems t (s .kids) (cond b (i ∷ dues t l) (dues t l)) ≤ weightOf ownItems (s .stages i) + spent ownItems (s .stages) l
       go true a b = omega arith
       go false a b = omega arith
 
@@ -135,20 +135,20 @@ module _ (t : List Node) (inside : (i j : ℕ) → In j (at t i .kids) → j < l
       its-contents : (i : ℕ) → In i (after .done) → length (after .kids i) ≤ size (one v)
       its-contents i m =
           let o = resolves .done-stands i m in
-          let a = one-spent contents (after .marks) (after .done) i m in
+          let a = one-spent contents (after .stages) (after .done) i m in
           let b = walk-spent contents t 4096 beyond 64 root (start t) (start-resolves t 4096 beyond) in
           let c = contents-size (one v) in
           let d : count (o .value .contents) ≡ length (after .kids i) = stand-count (stand-in (o .stands)) in
-          let e : weightOf contents (after .marks i) ≡ count (o .value .contents) = ap (weightOf contents) (o .keeps) in
+          let e : weightOf contents (after .stages i) ≡ count (o .value .contents) = ap (weightOf contents) (o .keeps) in
           omega arith
 
       its-content-items : (i : ℕ) → In i (after .done) → length (itemsN t (after .kids) (after .kids i)) ≤ size (one v)
       its-content-items i m =
           let o = resolves .done-stands i m in
-          let a = one-spent contentItems (after .marks) (after .done) i m in
+          let a = one-spent contentItems (after .stages) (after .done) i m in
           let b = walk-spent contentItems t 4096 beyond 64 root (start t) (start-resolves t 4096 beyond) in
           let c = contents-size (one v) in
           let g = items-fewer (one v) in
           let d : count (items (o .value .contents)) ≡ length (itemsN t (after .kids) (after .kids i)) = items-count (stand-in (o .stands)) in
-          let e : weightOf contentItems (after .marks i) ≡ count (items (o .value .contents)) = ap (weightOf contentItems) (o .keeps) in
+          let e : weightOf contentItems (after .stages i) ≡ count (items (o .value .contents)) = ap (weightOf contentItems) (o .keeps) in
           omega arith

@@ -10,11 +10,11 @@ use Rattle.refusal.specs.declared.Refusal.the-variants.{TrailingData}
 use Rattle.value.specs.Value.{Forest, one, size, text, table}
 use Rattle.rooms.specs.Cleared.{cleared}
 use Rattle.steps.specs.State.{Res, ok, no, _>>=_, need}
-use Rattle.decoder.specs.declared.Counts.{Counts}
-use Rattle.decoder.specs.Rooms.{Rooms, stateOf}
-use Rattle.decoder.specs.RoomReads.{nodes-length}
+use Rattle.store.specs.declared.Counts.{Counts}
+use Rattle.store.specs.Rooms.{Rooms, stateOf}
+use Rattle.store.specs.RoomReads.{nodes-length}
 use Rattle.reading.specs.Build.{tree}
-use Rattle.resolve.specs.Standing.{Stands}
+use Rattle.resolve.specs.Standing.{SaysNodes}
 use Rattle.reading.specs.Measure.{measured}
 use Rattle.reading.specs.Settle.{settle}
 use Rattle.children.specs.Children.{Ended, Stopped, SideBySide}
@@ -63,7 +63,7 @@ Builds p ws owners log count links root left b o q o′ q′ = (r : Rooms) (c : 
 
 -- of whatever nodes the rooms say, once the children of each stand side by side
 unfoldable pub BuildsLaid : List ℕ → List ℕ → List ℕ → List ℕ → List ℕ → List ℕ → ℕ → Bool → Built → List ℕ → List ℕ → List ℕ → List ℕ → Type 0
-BuildsLaid p ws starts children marks dues root left b o q o′ q′ = (k : Begins p ws starts children marks dues root) → Comes left (one (tree (k .nodes) root)) b o q o′ q′
+BuildsLaid p ws starts children measures dues root left b o q o′ q′ = (k : Begins p ws starts children measures dues root) → Comes left (one (tree (k .nodes) root)) b o q o′ q′
 
 -- ---- at STOP
 
@@ -74,7 +74,7 @@ module _ {p ws owners log : List ℕ} {count links : ℕ} {r : Rooms} {c : Count
   nodes-many : length (stateOf r c .nodes) ≡ count
   nodes-many = nodes-length r c ∙ a .ended .count-is
 
-  stands : Stands p ws (stateOf r c .nodes)
+  stands : SaysNodes p ws (stateOf r c .nodes)
   stands = record { rooms = r; counts = c; sound = a .ended .sound; pickle = a .pickle; words = a .ended .words; nodes = refl }
 
   log-long : (8192 ≤ length owners) × (8192 ≤ length log)

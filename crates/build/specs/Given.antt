@@ -15,13 +15,13 @@ use Rattle.refusal.specs.Numbers.{numberOf, refusedAnswer}
 use Rattle.op.specs.declared.Edition.{Edition}
 use Rattle.value.specs.Value.{Forest, one, size, text, table, table-length}
 use Rattle.steps.specs.State.{Res, ok, no, _>>=_, need, last}
-use Rattle.decoder.specs.declared.Counts.{Counts}
+use Rattle.store.specs.declared.Counts.{Counts}
 use Rattle.steps.specs.Run.{run}
-use Rattle.decoder.specs.Rooms.{Rooms, stateOf}
-use Rattle.decoder.specs.Effects.{Firm}
+use Rattle.store.specs.Rooms.{Rooms, stateOf}
+use Rattle.store.specs.Effects.{Firm}
 use Rattle.steps.specs.Out.{every-at}
-use Rattle.decoder.specs.RoomReads.{input-of, stack-of, stack-length, nodes-length}
-use Rattle.machine.specs.Lent.{roomsOf}
+use Rattle.store.specs.RoomReads.{input-of, stack-of, stack-length, nodes-length}
+use Rattle.machine.specs.RoomsOf.{roomsOf}
 use Rattle.machine.specs.Clear.{UsedTo, owners-used, children-used}
 use Rattle.machine.specs.Ran.{Ran, ended, countsOf}
 use Rattle.machine.specs.declared.Outcome.{Outcome}

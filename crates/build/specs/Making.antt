@@ -12,7 +12,7 @@ use Rattle.value.specs.Value.{Label, NoneL, BoolL, I64L, F64L, BytesL, StringL,
 use Rattle.value.specs.Shape.{kindIn, stateIn}
 use Rattle.steps.specs.State.{Res, ok, no, _>>=_, need}
 use Rattle.steps.specs.Opcodes.{isObject}
-use Rattle.decoder.specs.Rooms.{kidsOf}
+use Rattle.store.specs.Rooms.{kidsOf}
 use Rattle.steps.specs.NodeWords.{first, second, partsOf, nodeIs, classIn, node-kind}
 use Rattle.reading.specs.Build.{at, tree}
 use Rattle.reading.specs.Measure.{measured, measured-within}
@@ -53,7 +53,7 @@ is-object DictL e = absurd (omega arith)
 is-object (GlobalL m n) e = absurd (omega arith)
 is-object (ObjectL m n b) e = refl
 
-module _ {p ws starts children marks dues : List ℕ} {root : ℕ} (k : Begins p ws starts children marks dues root) where
+module _ {p ws starts children measures dues : List ℕ} {root : ℕ} (k : Begins p ws starts children measures dues root) where
   facts-are : Facts p ws starts (k .nodes)
   facts-are = facts p ws (k .nodes) starts children (k .stands) (k .graph) (k .beyond)
 
@@ -91,40 +91,40 @@ due-within left f e = go (measured f) refl e
     go (ok u) q e = q
     go (no why) q e = absurd (let z : _≡_ {A = ℕ} 0 1 = cc in omega arith)
 
-module _ (p ws starts children marks dues children′ marks′ dues′ : List ℕ) (root : ℕ) (a : Answer) (R : Roots p ws starts children marks dues children′ marks′ dues′ root a) (left : Bool) (d : Due) (T : Tells a left d) where
-  told : (k : Begins p ws starts children marks dues root) → dueOf left (one (tree (k .nodes) root)) ≡ said d
+module _ (p ws starts children measures dues children′ measures′ dues′ : List ℕ) (root : ℕ) (a : Answer) (R : Roots p ws starts children measures dues children′ measures′ dues′ root a) (left : Bool) (d : Due) (T : Tells a left d) where
+  told : (k : Begins p ws starts children measures dues root) → dueOf left (one (tree (k .nodes) root)) ≡ said d
   unfolding Roots Tells
-  told k = T (k .nodes) (k .beyond) starts dues marks′ children′ dues′ root (R k)
+  told k = T (k .nodes) (k .beyond) starts dues measures′ children′ dues′ root (R k)
 
   -- a refusal
-  pub make-refused : (why : Refusal) → d ≡ due.Refused why → (o q : List ℕ) → BuildsLaid p ws starts children marks dues root left (built.Refused why) o q o q
+  pub make-refused : (why : Refusal) → d ≡ due.Refused why → (o q : List ℕ) → BuildsLaid p ws starts children measures dues root left (built.Refused why) o q o q
   unfolding BuildsLaid Comes said
   make-refused why e o q k = (told k ∙ ap said e, refl, refl)
 
   -- nothing
   module _ (e : d ≡ due.Nothing) where
-    free : (k : Begins p ws starts children marks dues root) → dueOf left (one (tree (k .nodes) root)) ≡ ok tt
+    free : (k : Begins p ws starts children measures dues root) → dueOf left (one (tree (k .nodes) root)) ≡ ok tt
     unfolding said
     free k = told k ∙ ap said e
 
-    measured-as : (k : Begins p ws starts children marks dues root) → MeasuredAs p ws starts children′ dues′ marks′ (k .nodes) root
+    measured-as : (k : Begins p ws starts children measures dues root) → MeasuredAs p ws starts children′ dues′ measures′ (k .nodes) root
     unfolding Roots
     measured-as k = go a (R k)
       where
         within : (depth (one (tree (k .nodes) root)) ≤ 64) × (size (one (tree (k .nodes) root)) ≤ 2048) × (length (text (one (tree (k .nodes) root))) ≤ 65536)
         within = measured-within (one (tree (k .nodes) root)) (due-within left (one (tree (k .nodes) root)) (free k))
 
-        go : (a : Answer) → Rooted (k .nodes) (k .beyond) starts dues marks′ children′ dues′ root a → MeasuredAs p ws starts children′ dues′ marks′ (k .nodes) root
-        go _ (r-deep h x) = absurd (omega (arith, within .0))
+        go : (a : Answer) → Rooted (k .nodes) (k .beyond) starts dues measures′ children′ dues′ root a → MeasuredAs p ws starts children′ dues′ measures′ (k .nodes) root
+        go _ (r-deep h) = absurd (omega (arith, within .0))
         go _ (r-word w m x h) = record {
           limited = record { worded = worded k; before = children; graph = k .graph; below = k .below; deep = within .0; records = within .1; texts = within .2 };
           lent = dues;
           holds = h;
         }
 
-    pub make-measured : Begins p ws starts children marks dues root → Measured p ws starts children′ dues′ marks′ root
+    pub make-measured : Begins p ws starts children measures dues root → Measured p ws starts children′ dues′ measures′ root
     make-measured k = record { nodes = k .nodes; are = measured-as k }
 
-    pub make-made : (o q o′ q′ : List ℕ) (n : ℕ) → Produces p ws starts children′ dues′ marks′ root o q o′ q′ n → BuildsLaid p ws starts children marks dues root left (built.Made n) o q o′ q′
+    pub make-made : (o q o′ q′ : List ℕ) (n : ℕ) → Produces p ws starts children′ dues′ measures′ root o q o′ q′ n → BuildsLaid p ws starts children measures dues root left (built.Made n) o q o′ q′
     unfolding BuildsLaid Comes
     make-made o q o′ q′ n P k = let x = P (k .nodes) (measured-as k) in (free k, x .counted, x .table-is, x .text-is)

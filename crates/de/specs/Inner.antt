@@ -12,8 +12,8 @@ use Rattle.refusal.specs.Numbers.{refusedAnswer}
 use Rattle.op.specs.declared.Edition.{Edition}
 use Rattle.rooms.specs.Cleared.{cleared}
 use Rattle.rooms.specs.Stated.{Slices, machineLengths, stated, AllZero, Ready, filled, filled-none, long, rooms-zero}
-use Rattle.decoder.specs.Effects.{Sound, Firm}
-use Rattle.machine.specs.Lent.{roomsOf}
+use Rattle.store.specs.Effects.{Sound, Firm}
+use Rattle.machine.specs.RoomsOf.{roomsOf}
 use Rattle.machine.specs.Ran.{Ran, start, countsOf}
 use Rattle.machine.specs.Fresh.{fresh}
 use Rattle.machine.specs.Clear.{UsedTo, zeroed, used-cleared, nodes-used, stack-used, marks-used, keys-used, held-used}

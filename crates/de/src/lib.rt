@@ -2,7 +2,6 @@
 // to STOP, its answer, and what was used cleared. `reading` is `from_bytes_prefix` or `from_bytes`, of whatever slices are lent: 1 where one is
 // shorter than stated, the rooms made zero, then the inner one. A call that reads many pickles makes its rooms zero once.
 use build::answer;
-use decoder::Counts;
 use machine::Outcome;
 use machine::run;
 use op::Edition;
@@ -16,6 +15,7 @@ use rooms::zero_bytes;
 use rooms::zero_ints;
 use rooms::zero_shorts;
 use rooms::zero_words;
+use store::Counts;
 ghost use Prim.Native.Nat.{_≤_};
 ghost use mathlib.Core.List.{[], _∷_};
 ghost use mathlib.Core.Path.{_≡_};

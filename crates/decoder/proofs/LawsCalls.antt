@@ -17,16 +17,17 @@ use Rattle.refusal.specs.declared.Wanted.the-variants.{Class as AClass, Argumen
 use Rattle.number.specs.Space.{same}
 use Rattle.value.specs.Value.{Label, SetL, FrozenSetL}
 use Rattle.value.specs.Shape.{kindIn}
-use Rattle.decoder.specs.declared.NodeId.{NodeId}
+use Rattle.store.specs.declared.NodeId.{NodeId}
 use Rattle.decoder.specs.declared.CallRead.{CallRead}
-use Rattle.decoder.specs.declared.Effect.the-variants.{Push, Build}
+use Rattle.store.specs.declared.Effect.the-variants.{Push, Build}
 use Rattle.decoder.specs.declared.CallRead.the-variants.{None, Of}
 use Rattle.steps.specs.Opcodes.{builtin, setName, frozensetName, object, setOf, reduced, called, buildState}
 use Rattle.steps.specs.Run.{going}
-use Rattle.decoder.specs.Rooms.{Rooms, Counts, kidsOf, stateOf, Counted, Together, Placed}
+use Rattle.store.specs.declared.Counts.{Counts}
+use Rattle.store.specs.Rooms.{Rooms, kidsOf, stateOf, Counted, Together, Placed}
 use Rattle.steps.specs.NodeWords.{first, second, within, moduleOf, nameOf, nodeIs, HoldsLinks, aList, aTuple, aDict, holds-below, objectWord, object-made, object-node}
-use Rattle.decoder.specs.RoomKeeps.{class-none, class-made}
-use Rattle.decoder.specs.Effects.{Firm, Sound, Lent, Says, Fits, enacted, refusing, says-refused}
+use Rattle.store.specs.RoomKeeps.{class-none, class-made}
+use Rattle.store.specs.Effects.{Firm, Sound, SomeRooms, Says, Fits, enacted, refusing, says-refused}
 use Rattle.decoder.specs.Reads.{cutTo, firm-cut}
 use Rattle.decoder.specs.StackSteps.{on-stack, stack-room}
 use Rattle.decoder.specs.ReadsCalls.{MadeByCall, Calls, Call, ReadsCall, lower-node, upper-node, build-short, build-no-object, build-object, Made, aSet, aFrozenSet, anObject, made-of, call-short, call-no-class, call-no-arguments, call-both, madeKind, same-builtin, same-set, same-frozenset}
@@ -37,12 +38,25 @@ pub node-room : (r : Rooms) (c : Counts) (i : ℕ) → Sound r c → i < c .node
 node-room r c i s h = let a = s .firm .lengths .nodes in let b = s .firm .nodes in omega arith
 
 -- a value on the stack is in it, and its node's words are among the nodes'
-pub lent-node : (c : Counts) (ws st : List ℕ) (i : ℕ) → Lent c (λ r. (r .nodes ≡ ws) × (r .stack ≡ st)) → i < c .stack → (i < length st) × (suc (2 * getD st i 0) < length ws)
+pub lent-node : (c : Counts) (ws st : List ℕ) (i : ℕ) → SomeRooms c (λ r. (r .nodes ≡ ws) × (r .stack ≡ st)) → i < c .stack → (i < length st) × (suc (2 * getD st i 0) < length ws)
 lent-node c ws st i l h =
     let r = l .rooms in
     let k : i < length (r .stack) = omega (arith, stack-room c r (l .sound) (r .stack) refl) in
     let n = node-room r c (getD (r .stack) i 0) (l .sound) (on-stack r c (l .sound) i h) in
     (rw (l .agrees .1) at k, rw (l .agrees .0, l .agrees .1) at n)
+
+-- the two topmost
+pub record Two (c : Counts) (ws st : List ℕ) : Type 0 where
+  pub lower : c .stack - 2 < length st
+  pub upper : c .stack - 1 < length st
+  pub lower-node : suc (2 * getD st (c .stack - 2) 0) < length ws
+  pub upper-node : suc (2 * getD st (c .stack - 1) 0) < length ws
+
+pub lent-two : (c : Counts) (ws st : List ℕ) → SomeRooms c (λ r. (r .nodes ≡ ws) × (r .stack ≡ st)) → 2 ≤ c .stack → Two c ws st
+lent-two c ws st l h =
+    let a = lent-node c ws st (c .stack - 2) l (omega arith) in
+    let b = lent-node c ws st (c .stack - 1) l (omega arith) in
+    record { lower = a .0; upper = b .0; lower-node = a .1; upper-node = b .1 }
 
 module _ (c : Counts) (ws st : List ℕ) where
   pub reads-short : c .stack < 2 → ReadsCall c ws st (None StackUnderflow)
@@ -109,10 +123,10 @@ module _ (p : List ℕ) (at len : ℕ) where
 -- ---- what REDUCE makes
 
 -- the module's text, and the name's, as they stand in the pickle
-abbrev moduleAt : List ℕ → ℕ → List ℕ
+abbrev pub moduleAt : List ℕ → ℕ → List ℕ
 moduleAt p a = take (a / 16 / 0x100_0000) (drop (a / 16 % 0x100_0000) p)
 
-abbrev nameAt : List ℕ → ℕ → List ℕ
+abbrev pub nameAt : List ℕ → ℕ → List ℕ
 nameAt p b = take (b / 0x1_0000_0000) (drop (b % 0x1_0000_0000) p)
 
 module _ (p : List ℕ) (a b n : ℕ) where

@@ -1,12 +1,8 @@
 -- What each return of the memo's opcodes says of their definitions. Assumes nothing.
 use Prim.Native.Nat.{ℕ, _+_, _-_, _<_, _≤_}
-use mathlib.Core.Bool.{Bool, true, false}
 use mathlib.Core.List.{List}
-use mathlib.Core.Logic.{_≢_}
-use mathlib.Core.Path.{_≡_, refl, _∙_, ap}
-use lib.Dec.{ltb}
+use mathlib.Core.Path.{_≡_, _∙_, ap}
 use lib.ListN.{length, getD, take, drop}
-use borrow.Author.Tests.{ltb-true, ltb-false}
 use native.Mathlib.Omega.{arith}
 use Rattle.refusal.specs.Read.{got, refused}
 use Rattle.refusal.specs.declared.Refusal.{Refusal}
@@ -14,21 +10,22 @@ use Rattle.refusal.specs.declared.Refusal.the-variants.{EndOfInput, StackUnderf
 use Rattle.input.specs.Bytes.{lowFirst}
 use Rattle.input.specs.Line.{newlineOf, lineOf, newline-first}
 use Rattle.number.specs.Number.{parseU32}
-use Rattle.decoder.specs.declared.MemoKey.{MemoKey}
-use Rattle.decoder.specs.declared.NodeId.{NodeId}
+use Rattle.store.specs.declared.MemoKey.{MemoKey}
+use Rattle.store.specs.declared.NodeId.{NodeId}
 use Rattle.decoder.specs.declared.KeyRead.{KeyRead}
 use Rattle.decoder.specs.declared.KeyRead.the-variants.{None, At}
-use Rattle.decoder.specs.declared.Effect.{Effect}
-use Rattle.decoder.specs.declared.Effect.the-variants.{Share, Remember}
+use Rattle.store.specs.declared.Effect.{Effect}
+use Rattle.store.specs.declared.Effect.the-variants.{Share, Remember}
 use Rattle.steps.specs.State.{State, Res, ok, _>>=_, leaf, find, get, put}
 use Rattle.steps.specs.Opcodes.{lowBytes}
 use Rattle.steps.specs.Run.{going}
-use Rattle.decoder.specs.Rooms.{Rooms, Counts, stateOf, Absent, Passed, Numbered}
-use Rattle.decoder.specs.RoomMemo.{find-absent, find-present}
-use Rattle.decoder.specs.RoomReads.{memo-of, nodes-length}
+use Rattle.store.specs.declared.Counts.{Counts}
+use Rattle.store.specs.Rooms.{Rooms, stateOf, Absent, Numbered}
+use Rattle.store.specs.RoomMemo.{find-absent, find-present}
+use Rattle.store.specs.RoomReads.{memo-of, nodes-length}
 use Rattle.steps.specs.Effect.{kept}
 use Rattle.steps.specs.Range.{known-below}
-use Rattle.decoder.specs.Effects.{Sound, Says, Fits, Lent, Decides, enacted, put-is, refusing, says-refused}
+use Rattle.store.specs.Effects.{Sound, Says, Fits, SomeRooms, Decides, enacted, put-is, refusing, says-refused}
 use Rattle.decoder.specs.Reads.{cutTo, bytes-short, bytes-got, line-none, line-got, top-none, top-got}
 use Rattle.decoder.specs.ReadsMemo.{keyLine, keyed, Key, ReadsKey, sound-read}
 use Rattle.decoder.specs.StackSteps.{on-stack}
@@ -80,7 +77,7 @@ module _ (f : State → Res (ℕ × State)) (does : ℕ → State → Res State)
   op-refused P first k reads why e r s q = key-refused f does op is r c why (rw e at (reads r s (first r q)))
 
   module _ (P Q : Rooms → Type 0) (first : (r : Rooms) → P r → r .pickle ≡ p) (rest : (r : Rooms) → P r → Q r) (k : KeyRead) (reads : ReadsKey f c p k) (a : ℕ) (m : MemoKey) (c₁ : Counts) where
-    pub op-lent : k ≡ At a m → c₁ ≡ cutTo c a (c .stack) (c .marks) → Lent c P → Lent c₁ Q
+    pub op-lent : k ≡ At a m → c₁ ≡ cutTo c a (c .stack) (c .marks) → SomeRooms c P → SomeRooms c₁ Q
     unfolding ReadsKey Key
     op-lent e d l =
         let h = rw e at (reads (l .rooms) (l .sound) (first (l .rooms) (l .agrees))) in
@@ -93,14 +90,6 @@ module _ (f : State → Res (ℕ × State)) (does : ℕ → State → Res State)
         key-went f does op is r c a m e h ((rw d at n) r (sound-read r c a s (h .1) (h .2)) (rest r q))
 
 -- ---- the memo
-
--- none up to m, and none from there on or from before
-pub passed-join : (keys : List ℕ) (i m l n k : ℕ) → Passed keys i m k → Passed keys l n k → l ≤ m → Passed keys i n k
-passed-join keys i m l n k p q h j a b = go (ltb j m) refl
-  where
-    go : (x : Bool) → ltb j m ≡ x → getD keys j 0 ≢ k
-    go true e = p j a (ltb-true j m e)
-    go false e = let z = ltb-false j m e in q j (omega arith) b
 
 module _ (r : Rooms) (c : Counts) (s : Sound r c) (key : MemoKey) where
   pub memo-rooms : (c .memo ≤ length (r .keys)) × (c .memo ≤ length (r .held))

@@ -25,7 +25,9 @@ use Rattle.number.specs.declared.I64Literal.the-variants as longs
 use Rattle.float.specs.Literal.{f64Read, parseF64}
 use Rattle.float.specs.declared.F64Literal.{F64Literal}
 use Rattle.float.specs.declared.F64Literal.the-variants as floats
-use Rattle.input.specs.Line.{newlineOf, lineOf, line-length}
+use Rattle.input.specs.Line.{lineEnd, newlineOf, lineOf, line-length}
+use Rattle.input.specs.declared.LineEnd.{LineEnd}
+use Rattle.input.specs.declared.LineEnd.the-variants as ends
 use Rattle.text.specs.Pieces.{bytesOf, lengthOf}
 use Rattle.text.specs.Text.{inner, unescapeString, unescapeUnicode, measured, quotedSays, decodedSays}
 use Rattle.text.specs.Answers.{got-bytes, decoded-len, decoded-bad, quoted-plain, quoted-escaped, quoted-bad}
@@ -34,17 +36,18 @@ use Rattle.text.specs.declared.Decoded.the-variants as decoded
 use Rattle.text.specs.declared.Quoted.{Quoted}
 use Rattle.text.specs.declared.Quoted.the-variants as quoted
 use Rattle.value.specs.Value.{Label, BoolL, I64L, F64L, BytesL, StringL, GlobalL}
-use Rattle.decoder.specs.declared.Effect.the-variants.{Push, Go}
+use Rattle.store.specs.declared.Effect.the-variants.{Push, Go}
 use Rattle.decoder.specs.declared.Part.{Part}
 use Rattle.decoder.specs.declared.Part.the-variants.{At}
 use Rattle.decoder.specs.declared.LongRead.the-variants as long
 use Rattle.steps.specs.State.{ok, no, _>>=_, need, byte, bytes, push}
 use Rattle.steps.specs.Opcodes.{intLabel, signedLength, proto, binstring, global}
 use Rattle.steps.specs.Run.{going}
-use Rattle.decoder.specs.Rooms.{Rooms, Counts, stateOf, atTo}
-use Rattle.decoder.specs.Effects.{Sound, Decides, refusing}
+use Rattle.store.specs.declared.Counts.{Counts}
+use Rattle.store.specs.Rooms.{Rooms, stateOf, atTo}
+use Rattle.store.specs.Effects.{Sound, Decides, refusing}
 use Rattle.decoder.specs.Reads.{cutTo, bytes-short, bytes-got, line-none, line-got}
-use Rattle.decoder.specs.ReadsPickle.{ReadsPart, counted, ReadsLong, long-got, long-large, Makes, refused-going, says-go, pushed-step, short, enough, ended, lined, first-byte, line-part, line-inside, makes-as, makes-bytes, makes-escaped, makes-unicode, makes-global}
+use Rattle.decoder.specs.ReadsPickle.{ReadsPart, prefixed, ReadsLong, long-got, long-large, Makes, refused-going, says-go, pushed-step, short, enough, ended, lined, first-byte, line-part, Ends, no-newline, makes-as, makes-bytes, makes-escaped, makes-unicode, makes-global}
 
 -- ---- PROTO, with v as the highest protocol
 
@@ -132,7 +135,7 @@ cut-part : (p : List ℕ) (a m : ℕ) → take (a + m - a) (drop a p) ≡ take m
 cut-part p a m = let e : a + m - a ≡ m = omega arith in rw e
 
 -- x is the integer of the part behind a length of n bytes
-module _ (p : List ℕ) (n at : ℕ) (t : Part) (h : ReadsPart at p (counted n) t) (a m : ℕ) (e : t ≡ At a m) (x : Integer) (d : integer x ≡ longOf (take (a + m - a) (drop a p))) where
+module _ (p : List ℕ) (n at : ℕ) (t : Part) (h : ReadsPart at p (prefixed n) t) (a m : ℕ) (e : t ≡ At a m) (x : Integer) (d : integer x ≡ longOf (take (a + m - a) (drop a p))) where
   part-says : longOf (take m (drop a p)) ≡ integer x
   part-says = sym (d ∙ ap longOf (cut-part p a m))
 
@@ -150,8 +153,8 @@ module _ (p : List ℕ) (n at : ℕ) (t : Part) (h : ReadsPart at p (counted n) 
 pub line-own : (p : List ℕ) (at i : ℕ) (l : List ℕ) → l ≡ lineOf p at i → take (length l) (drop at p) ≡ l
 line-own p at i l d = rw d (sym (line-part p at i))
 
-pub line-ends-by : (p : List ℕ) (at i : ℕ) (l : List ℕ) → l ≡ lineOf p at i → length l ≤ i - at
-line-ends-by p at i l d = rw d (line-length p at i)
+pub line-size : {p : List ℕ} {at i : ℕ} {l : List ℕ} → Ends p at i → l ≡ lineOf p at i → length l < 65536
+line-size {p = p} {at = at} {i = i} e d = rw d (let h = line-length p at i in omega arith)
 
 -- ---- UNICODE
 
@@ -165,14 +168,14 @@ module _ (l : List ℕ) (x : Decoded) (e : decodedSays x ≡ lengthOf (unescapeU
   unicode-bad j d = ap (turned StringL) (decoded-bad (unescapeUnicode l) j (rw d at e))
 
 -- a node that keeps its line
-module _ (p : List ℕ) (at i : ℕ) (l : List ℕ) (w : ℕ) (d : l ≡ lineOf p at i) (e : w ≡ length l * 2 ^ 32 + at) (h : at < 2 ^ 32) where
+module _ {p : List ℕ} {at i w : ℕ} {l : List ℕ} (n : Ends p at i) (d : l ≡ lineOf p at i) (e : w ≡ length l * 2 ^ 32 + at) where
   pub makes-line : Makes p 14 w (StringL (bytesOf (unescapeUnicode l)))
   makes-line =
-      makes-as p 14 w (length l * 2 ^ 32 + at) _ e (subst (λ (t : List ℕ). Makes p 14 (length l * 2 ^ 32 + at) (StringL (bytesOf (unescapeUnicode t)))) (line-own p at i l d) (makes-unicode p at (length l) h))
+      makes-as p 14 w (length l * 2 ^ 32 + at) _ e (subst (λ (t : List ℕ). Makes p 14 (length l * 2 ^ 32 + at) (StringL (bytesOf (unescapeUnicode t)))) (line-own p at i l d) (makes-unicode p at (length l) (omega arith)))
 
   pub makes-string-line : Makes p 13 w (BytesL (bytesOf (unescapeString l)))
   makes-string-line =
-      makes-as p 13 w (length l * 2 ^ 32 + at) _ e (subst (λ (t : List ℕ). Makes p 13 (length l * 2 ^ 32 + at) (BytesL (bytesOf (unescapeString t)))) (line-own p at i l d) (makes-escaped p at (length l) h))
+      makes-as p 13 w (length l * 2 ^ 32 + at) _ e (subst (λ (t : List ℕ). Makes p 13 (length l * 2 ^ 32 + at) (BytesL (bytesOf (unescapeString t)))) (line-own p at i l d) (makes-escaped p at (length l) (omega arith)))
 
 -- ---- STRING
 
@@ -201,12 +204,12 @@ pub plain-label : (l : List ℕ) → unescapeString l ≡ got (inner l) → turn
 unfolding turned
 plain-label l e = ap (turned BytesL) e
 
-pub makes-inner : (p : List ℕ) (at i : ℕ) (l : List ℕ) (w : ℕ) → l ≡ lineOf p at i → 2 ≤ length l → w ≡ (length l - 2) * 2 ^ 32 + (at + 1) → at + 1 < 2 ^ 32 → Makes p 4 w (BytesL (inner l))
-makes-inner p at i l w d k e h =
+pub makes-inner : {p : List ℕ} {at i w : ℕ} {l : List ℕ} → Ends p at i → l ≡ lineOf p at i → 2 ≤ length l → w ≡ (length l - 2) * 2 ^ 32 + (at + 1) → Makes p 4 w (BytesL (inner l))
+makes-inner {p = p} {at = at} {i = i} {w = w} {l = l} n d k e =
     let y : suc (length l - 1) ≡ length l = omega arith in
     let x : suc (length l - 1) - 2 ≡ length l - 2 = omega arith in
     let q : inner l ≡ take (length l - 2) (drop (at + 1) p) = inner-own l (drop at p) (length l - 1) (sym (line-own p at i l d) ∙ ap (λ (n : ℕ). take n (drop at p)) (sym y)) (sym y) ∙ ap₂ take x (drop-drop 1 at p) in
-    makes-as p 4 w ((length l - 2) * 2 ^ 32 + (at + 1)) _ e (subst (λ (t : List ℕ). Makes p 4 ((length l - 2) * 2 ^ 32 + (at + 1)) (BytesL t)) (sym q) (makes-bytes p (at + 1) (length l - 2) h))
+    makes-as p 4 w ((length l - 2) * 2 ^ 32 + (at + 1)) _ e (subst (λ (t : List ℕ). Makes p 4 ((length l - 2) * 2 ^ 32 + (at + 1)) (BytesL t)) (sym q) (makes-bytes p (at + 1) (length l - 2) (omega arith)))
 
 -- ---- BINSTRING
 
@@ -257,29 +260,24 @@ module _ (c : Counts) (p : List ℕ) where
 -- ---- GLOBAL
 
 module _ (c : Counts) (p : List ℕ) where
-  pub global-ends : newlineOf p (c .at) ≡ refused EndOfInput 0 → Decides c (λ r. r .pickle ≡ p) (λ s. going (global s)) (refusing c EndOfInput)
+  pub global-ends : {x : LineEnd} → lineEnd x ≡ newlineOf p (c .at) → x ≡ ends.End → Decides c (λ r. r .pickle ≡ p) (λ s. going (global s)) (refusing c EndOfInput)
   unfolding Decides global _>>=_
-  global-ends e r s q = refused-going r c s EndOfInput (global (stateOf r c)) (rw (ended c p e r s q))
+  global-ends e d r s q = refused-going r c s EndOfInput (global (stateOf r c)) (rw (ended c p (no-newline p (c .at) e d) r s q))
 
-  module _ (i : ℕ) (e : newlineOf p (c .at) ≡ got i) where
-    pub global-cut : newlineOf p (i + 1) ≡ refused EndOfInput 0 → Decides c (λ r. r .pickle ≡ p) (λ s. going (global s)) (refusing c EndOfInput)
+  module _ {i : ℕ} (e : Ends p (c .at) i) where
+    pub global-cut : {x : LineEnd} → lineEnd x ≡ newlineOf p (i + 1) → x ≡ ends.End → Decides c (λ r. r .pickle ≡ p) (λ s. going (global s)) (refusing c EndOfInput)
     unfolding Decides global _>>=_
-    global-cut f r s q = refused-going r c s EndOfInput (global (stateOf r c)) (rw (lined c p i e r s q, line-none r (atTo c (i + 1)) (rw q f)))
+    global-cut f d r s q = refused-going r c s EndOfInput (global (stateOf r c)) (rw (lined c p i (e .found) r s q, line-none r (atTo c (i + 1)) (rw q (no-newline p (i + 1) f d))))
 
-    module _ (j : ℕ) (f : newlineOf p (i + 1) ≡ got j) (l m : List ℕ) (d : l ≡ lineOf p (c .at) i) (g : m ≡ lineOf p (i + 1) j) where
+    module _ {j : ℕ} (f : Ends p (i + 1) j) {l m : List ℕ} (d : l ≡ lineOf p (c .at) i) (g : m ≡ lineOf p (i + 1) j) where
       both : (r : Rooms) → Sound r c → r .pickle ≡ p → global (stateOf r c) ≡ push (GlobalL (repair l) (repair m)) (stateOf r (atTo c (j + 1)))
       unfolding global _>>=_
-      both r s q = rw (lined c p i e r s q, line-got r (atTo c (i + 1)) j (rw q f), q, d, g)
+      both r s q = rw (lined c p i (e .found) r s q, line-got r (atTo c (i + 1)) j (rw q (f .found)), q, d, g)
 
-      pub global-push : (k w : ℕ) (c₁ : Counts) → k ≡ 11 + 16 * (length l * 2 ^ 24 + c .at) → w ≡ length m * 2 ^ 32 + (i + 1) → c .at < 2 ^ 24 → i + 1 < 2 ^ 32 → c₁ ≡ cutTo c (j + 1) (c .stack) (c .marks)
+      pub global-push : {k w : ℕ} {c₁ : Counts} → k ≡ 11 + 16 * (length l * 2 ^ 24 + c .at) → w ≡ length m * 2 ^ 32 + (i + 1) → c₁ ≡ cutTo c (j + 1) (c .stack) (c .marks)
           → Decides c (λ r. r .pickle ≡ p) (λ s. going (global s)) (Push c₁ k w)
-      global-push k w c₁ x y a b =
-          let h = line-inside p (c .at) i e in
-          let n = line-inside p (i + 1) j f in
-          let h₀ = h .0 in
-          let n₀ = n .0 in
-          let n₁ = n .1 in
+      global-push {k = k} {w = w} {c₁ = c₁} x y =
           pushed-step c p global (j + 1) k w (GlobalL (repair l) (repair m)) c₁ both
-          (rw (x, y) (rw (line-own p (c .at) i l d, line-own p (i + 1) j m g) at (makes-global p (c .at) (length l) (i + 1) (length m) a b)))
+          (rw (x, y) (rw (line-own p (c .at) i l d, line-own p (i + 1) j m g) at (makes-global p (c .at) (length l) (i + 1) (length m) (omega arith) (omega arith))))
           (omega arith)
           (omega arith)

@@ -9,13 +9,14 @@ use Rattle.refusal.specs.declared.Wanted.{Wanted}
 use Rattle.value.specs.Value.{Label}
 use Rattle.decoder.specs.declared.Taken.{Taken}
 use Rattle.decoder.specs.declared.Taken.the-variants.{Short, From}
-use Rattle.decoder.specs.declared.Effect.{Effect}
+use Rattle.store.specs.declared.Effect.{Effect}
 use Rattle.steps.specs.State.{State, Res, ok, no, _>>=_, popMark}
 use Rattle.steps.specs.NodeWords.{labelIn}
 use Rattle.steps.specs.Opcodes.{isList, isDict, made, added}
 use Rattle.steps.specs.Run.{going}
-use Rattle.decoder.specs.Rooms.{Rooms, Counts, stateOf}
-use Rattle.decoder.specs.Effects.{Sound, Says, above}
+use Rattle.store.specs.declared.Counts.{Counts}
+use Rattle.store.specs.Rooms.{Rooms, stateOf}
+use Rattle.store.specs.Effects.{Sound, Says, above}
 use Rattle.decoder.specs.Reads.{cutTo}
 
 -- what was found above the last mark

@@ -12,10 +12,11 @@ use Rattle.refusal.specs.Read.{got, refused}
 use Rattle.refusal.specs.declared.Refusal.the-variants.{EndOfInput, StackUnderflow}
 use Rattle.input.specs.Line.{firstFrom, newlineOf, lessCr, lineOf}
 use Rattle.steps.specs.State.{ok, no, _>>=_, need, leaf, withInput, withStack, withMarks, last, bytes, line, pop, top, popMark, popMany}
-use Rattle.decoder.specs.Rooms.{Rooms, Counts, stateOf, atTo, stackTo}
-use Rattle.decoder.specs.RoomLaws.{read-more, stack-cut, marks-cut}
-use Rattle.decoder.specs.RoomReads.{stack-length, marks-length, input-of, stack-of, marks-of}
-use Rattle.decoder.specs.Effects.{Firm, above}
+use Rattle.store.specs.declared.Counts.{Counts}
+use Rattle.store.specs.Rooms.{Rooms, stateOf, atTo, stackTo}
+use Rattle.store.specs.RoomLaws.{read-more, stack-cut, marks-cut}
+use Rattle.store.specs.RoomReads.{stack-length, marks-length, input-of, stack-of, marks-of}
+use Rattle.store.specs.Effects.{Firm, above}
 
 -- place, stack and marks moved
 abbrev pub cutTo : Counts → ℕ → ℕ → ℕ → Counts

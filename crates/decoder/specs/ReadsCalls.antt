@@ -20,10 +20,11 @@ use Rattle.decoder.specs.declared.CallRead.{CallRead}
 use Rattle.decoder.specs.declared.CallRead.the-variants.{None, Of}
 use Rattle.steps.specs.State.{Node, ok, no, _>>=_, need, pop, top, pushNode}
 use Rattle.steps.specs.Opcodes.{isTuple, isObject, classOf, builtin, setName, frozensetName, object, setOf, reduced, called, buildState}
-use Rattle.decoder.specs.Rooms.{Rooms, Counts, kidsOf, nodeOf, stateOf}
+use Rattle.store.specs.declared.Counts.{Counts}
+use Rattle.store.specs.Rooms.{Rooms, kidsOf, nodeOf, stateOf}
 use Rattle.steps.specs.NodeWords.{first, second, moduleOf, nameOf, nodeIs, tuple-kind, object-kind, class-kind}
-use Rattle.decoder.specs.RoomReads.{node-at}
-use Rattle.decoder.specs.Effects.{Firm, Sound, state}
+use Rattle.store.specs.RoomReads.{node-at}
+use Rattle.store.specs.Effects.{Firm, Sound, state}
 use Rattle.decoder.specs.Reads.{cutTo, firm-cut, pop-none, pop-got, top-none, top-got}
 use Rattle.decoder.specs.StackSteps.{on-stack}
 

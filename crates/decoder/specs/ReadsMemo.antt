@@ -11,9 +11,10 @@ use Rattle.decoder.specs.declared.KeyRead.{KeyRead}
 use Rattle.decoder.specs.declared.KeyRead.the-variants.{None, At}
 use Rattle.steps.specs.State.{State, Res, ok, no, _>>=_, leaf, line, get, put}
 use Rattle.steps.specs.Opcodes.{lowBytes, getLine, getBytes, putLine, putBytes}
-use Rattle.decoder.specs.Rooms.{Rooms, Counts, stateOf}
+use Rattle.store.specs.declared.Counts.{Counts}
+use Rattle.store.specs.Rooms.{Rooms, stateOf}
 use Rattle.steps.specs.Range.{range-reads}
-use Rattle.decoder.specs.Effects.{Sound}
+use Rattle.store.specs.Effects.{Sound}
 use Rattle.decoder.specs.Reads.{cutTo, firm-cut}
 
 -- ---- the number

@@ -22,26 +22,27 @@ use Rattle.value.specs.Value.{Label, BoolL, I64L, F64L, BytesL, StringL, Global
 use Rattle.value.specs.Shape.{kindIn}
 use Rattle.input.specs.declared.LineEnd.{LineEnd}
 use Rattle.input.specs.declared.LineEnd.the-variants as ends
-use Rattle.decoder.specs.declared.Effect.{Effect}
+use Rattle.store.specs.declared.Effect.{Effect}
 use Rattle.decoder.specs.declared.Part.{Part}
 use Rattle.decoder.specs.declared.Part.the-variants.{Short, At}
-use Rattle.decoder.specs.declared.Effect.the-variants.{Push, Go}
+use Rattle.store.specs.declared.Effect.the-variants.{Push, Go}
 use Rattle.decoder.specs.declared.LongRead.{LongRead}
 use Rattle.decoder.specs.declared.LongRead.the-variants as longs
-use Rattle.steps.specs.State.{State, Res, ok, no, _>>=_, leaf, plain, bytes, line, push}
+use Rattle.steps.specs.State.{State, Res, ok, no, _>>=_, leaf, kidless, bytes, line, push}
 use Rattle.steps.specs.Opcodes.{lowBytes, longN}
 use Rattle.steps.specs.Run.{going}
-use Rattle.decoder.specs.Rooms.{Rooms, Counts, stateOf, atTo}
+use Rattle.store.specs.declared.Counts.{Counts}
+use Rattle.store.specs.Rooms.{Rooms, stateOf, atTo}
 use Rattle.steps.specs.NodeWords.{moduleOf, nameOf, nodeIs, HoldsLinks, aList, aTuple, aDict, within-at, node-kind, kind-made, rest-made}
-use Rattle.decoder.specs.RoomKeeps.{class-none}
-use Rattle.decoder.specs.Effects.{Firm, Sound, Says, Fits, Lent, Decides, enacted, refusing, says-refused}
+use Rattle.store.specs.RoomKeeps.{class-none}
+use Rattle.store.specs.Effects.{Firm, Sound, Says, Fits, SomeRooms, Decides, enacted, refusing, says-refused}
 use Rattle.decoder.specs.Reads.{cutTo, firm-cut, bytes-short, bytes-got, line-none, line-got}
 
 -- ---- what the parts of the code answer
 
 -- a length of n bytes, and so many bytes
-unfoldable pub counted : ℕ → State → Res (List ℕ × State)
-counted n s = do
+unfoldable pub prefixed : ℕ → State → Res (List ℕ × State)
+prefixed n s = do
   (z, s₁) ← lowBytes n s
   bytes z s₁
 
@@ -63,7 +64,7 @@ pub record ReadsPart (at : ℕ) (p : List ℕ) (reads : State → Res (List ℕ 
 -- the integer of a part whose length is told in n bytes
 unfoldable pub longRead : ℕ → State → Res (ℕ × State)
 longRead n s = do
-  (b, s₁) ← counted n s
+  (b, s₁) ← prefixed n s
   v ← leaf (longOf b)
   ok (v, s₁)
 
@@ -92,6 +93,10 @@ literal read label s = line s >>= λ q. leaf (read (q .0)) >>= λ v. push (label
 abbrev pub fixed : ℕ → (List ℕ → Label) → State → Res State
 fixed n label s = bytes n s >>= λ q. push (label (q .0)) (q .1)
 
+-- a length of n bytes, and so many bytes
+abbrev pub texted : ℕ → (List ℕ → Label) → State → Res State
+texted n label s = lowBytes n s >>= λ q. bytes (q .0) (q .1) >>= λ b. push (label (b .0)) (b .1)
+
 -- the same as an integer, low byte first
 abbrev pub unsigned : ℕ → State → Res State
 unsigned n s = lowBytes n s >>= λ q. push (I64L (q .0)) (q .1)
@@ -103,7 +108,7 @@ leafy j = leb j 5 || (eqb j 11 || (eqb j 13 || eqb j 14))
 -- the words k and b are those of a value or a Global
 pub record Makes (p : List ℕ) (k b : ℕ) (l : Label) : Type 0 where
   pub kind : leafy (kindIn k) ≡ true
-  pub node : (ws : List ℕ) → nodeIs p ws [] k b ≡ plain l
+  pub node : (ws : List ℕ) → nodeIs p ws [] k b ≡ kidless l
 
 wrong : (j m : ℕ) → leafy j ≡ true → leafy m ≡ false → j ≡ m → ⊥
 wrong j m t f e = let z : _≡_ {A = ℕ} 0 1 = cc in omega arith
@@ -135,16 +140,30 @@ module _ (r : Rooms) (c : Counts) (s : Sound r c) where
 
 -- ---- what the code knows of the pickle
 
-pub no-newline : (p : List ℕ) (at : ℕ) (x : LineEnd) → lineEnd x ≡ newlineOf p at → x ≡ ends.End → newlineOf p at ≡ refused EndOfInput 0
-unfolding lineEnd
-no-newline p at x e d = sym e ∙ ap lineEnd d
+-- the line at `at` ends at i
+pub record Ends (p : List ℕ) (at i : ℕ) : Type 0 where
+  pub found : newlineOf p at ≡ got i
+  pub low : at ≤ i
+  pub inside : i < length p
+  pub size : length p ≤ 65536
 
-pub at-newline : (p : List ℕ) (at i : ℕ) (x : LineEnd) → lineEnd x ≡ newlineOf p at → x ≡ ends.At i → newlineOf p at ≡ got i
-unfolding lineEnd
-at-newline p at i x e d = sym e ∙ ap lineEnd d
+-- m bytes at a, behind a length of n bytes at `at`
+pub record Text (p : List ℕ) (n at a m : ℕ) : Type 0 where
+  pub reads : ReadsPart at p (prefixed n) (At a m)
+  pub inside : a + m ≤ length p
+  pub size : length p ≤ 65536
 
-pub line-inside : (p : List ℕ) (at i : ℕ) → newlineOf p at ≡ got i → (at ≤ i) × (i < length p)
-line-inside p at i e = let f = newline-first p at i e in (f .low, f .inside)
+module _ (p : List ℕ) (at : ℕ) {x : LineEnd} (e : lineEnd x ≡ newlineOf p at) where
+  pub no-newline : x ≡ ends.End → newlineOf p at ≡ refused EndOfInput 0
+  unfolding lineEnd
+  no-newline d = sym e ∙ ap lineEnd d
+
+  pub line-found : {i : ℕ} {c : Counts} → SomeRooms c (λ r. r .pickle ≡ p) → x ≡ ends.At i → Ends p at i
+  unfolding lineEnd
+  line-found {i = i} l d =
+      let g = sym e ∙ ap lineEnd d in
+      let f = newline-first p at i g in
+      record { found = g; low = f .low; inside = f .inside; size = rw (l .agrees) at (l .sound .firm .lengths .pickle) }
 
 -- ---- a step in all rooms that have the pickle
 
@@ -164,10 +183,10 @@ leaf-got label (got a) l s e = let z : label a ≡ l = cc in rw z
 leaf-got label (refused w k) l s e = let z : _≡_ {A = ℕ} 0 1 = cc in absurd (omega arith)
 
 module _ (c : Counts) (p : List ℕ) where
-  pub lent-at : Lent c (λ r. r .pickle ≡ p) → c .at ≤ length p
+  pub lent-at : SomeRooms c (λ r. r .pickle ≡ p) → c .at ≤ length p
   lent-at l = rw (l .agrees) at (l .sound .firm .at)
 
-  pub lent-size : Lent c (λ r. r .pickle ≡ p) → length p ≤ 65536
+  pub lent-size : SomeRooms c (λ r. r .pickle ≡ p) → length p ≤ 65536
   lent-size l = rw (l .agrees) at (l .sound .firm .lengths .pickle)
 
   -- a step whose first part is refused
@@ -175,7 +194,7 @@ module _ (c : Counts) (p : List ℕ) where
   unfolding Decides _>>=_
   refused-step m f why h r s q = refused-going r c s why (m (stateOf r c) >>= f) (rw (h r s q))
 
-  -- a step that reads to a, and has a plain node
+  -- a step that reads to a, and has a kidless node
   pub pushed-step : (m : State → Res State) (a k b : ℕ) (l : Label) (c₁ : Counts) → ((r : Rooms) → Sound r c → r .pickle ≡ p → m (stateOf r c) ≡ push l (stateOf r (atTo c a)))
       → Makes p k b l → c .at ≤ a → a ≤ length p → c₁ ≡ cutTo c a (c .stack) (c .marks) → Decides c (λ r. r .pickle ≡ p) (λ s. going (m s)) (Push c₁ k b)
   unfolding Decides
@@ -190,24 +209,21 @@ module _ (c : Counts) (p : List ℕ) where
   lined i e r s q = rw (line-got r c i (rw q e), q)
 
   module _ {A : Type 0} (read : List ℕ → Read A) (label : A → Label) where
-    pub line-ends : newlineOf p (c .at) ≡ refused EndOfInput 0 → Decides c (λ r. r .pickle ≡ p) (λ s. going (literal read label s)) (refusing c EndOfInput)
-    line-ends e = refused-step line (λ q. leaf (read (q .0)) >>= λ v. push (label v) (q .1)) EndOfInput (ended e)
+    pub line-ends : {x : LineEnd} → lineEnd x ≡ newlineOf p (c .at) → x ≡ ends.End → Decides c (λ r. r .pickle ≡ p) (λ s. going (literal read label s)) (refusing c EndOfInput)
+    line-ends e d = refused-step line (λ q. leaf (read (q .0)) >>= λ v. push (label v) (q .1)) EndOfInput (ended (no-newline p (c .at) e d))
 
     -- l is the line to the newline at i
-    module _ (i : ℕ) (e : newlineOf p (c .at) ≡ got i) (l : List ℕ) (d : l ≡ lineOf p (c .at) i) where
-      pub line-bad : (why : Refusal) (j : ℕ) → turned label (read l) ≡ refused why j → Decides c (λ r. r .pickle ≡ p) (λ s. going (literal read label s)) (refusing c why)
+    module _ {i : ℕ} (e : Ends p (c .at) i) {l : List ℕ} (d : l ≡ lineOf p (c .at) i) where
+      pub line-bad : {why : Refusal} {j : ℕ} → turned label (read l) ≡ refused why j → Decides c (λ r. r .pickle ≡ p) (λ s. going (literal read label s)) (refusing c why)
       unfolding Decides _>>=_
-      line-bad why j f r s q =
-          refused-going r c s why (literal read label (stateOf r c)) (rw (lined i e r s q, ← d) (leaf-bad label (read l) why j (stateOf r (atTo c (i + 1))) f))
+      line-bad {why = why} {j = j} f r s q =
+          refused-going r c s why (literal read label (stateOf r c)) (rw (lined i (e .found) r s q, ← d) (leaf-bad label (read l) why j (stateOf r (atTo c (i + 1))) f))
 
-      pub line-push : (k b : ℕ) (n : Label) (c₁ : Counts) → turned label (read l) ≡ got n → Makes p k b n → c₁ ≡ cutTo c (i + 1) (c .stack) (c .marks)
+      pub line-push : {k b : ℕ} {n : Label} {c₁ : Counts} → turned label (read l) ≡ got n → Makes p k b n → c₁ ≡ cutTo c (i + 1) (c .stack) (c .marks)
           → Decides c (λ r. r .pickle ≡ p) (λ s. going (literal read label s)) (Push c₁ k b)
       unfolding _>>=_
-      line-push k b n c₁ f m =
-          let h = line-inside p (c .at) i e in
-          let h₀ = h .0 in
-          let h₁ = h .1 in
-          pushed-step (literal read label) (i + 1) k b n c₁ (λ r s q. rw (lined i e r s q, ← d) (leaf-got label (read l) n (stateOf r (atTo c (i + 1))) f)) m (omega arith) (omega arith)
+      line-push {k = k} {b = b} {n = n} {c₁ = c₁} f m =
+          pushed-step (literal read label) (i + 1) k b n c₁ (λ r s q. rw (lined i (e .found) r s q, ← d) (leaf-got label (read l) n (stateOf r (atTo c (i + 1))) f)) m (omega arith) (omega arith)
 
   -- ---- so many bytes
 
@@ -238,49 +254,49 @@ pub low-is : {A : Type 0} (n : ℕ) (s : State) (f : ℕ × State → Res A) →
 unfolding lowBytes _>>=_
 low-is n s f = bind-assoc (bytes n s) (λ q. ok (lowFirst (q .0), q .1)) f
 
-pub counted-is : {A : Type 0} (n : ℕ) (s : State) (f : List ℕ × State → Res A) → (lowBytes n s >>= λ q. bytes (q .0) (q .1) >>= f) ≡ (counted n s >>= f)
-unfolding counted
+pub counted-is : {A : Type 0} (n : ℕ) (s : State) (f : List ℕ × State → Res A) → (lowBytes n s >>= λ q. bytes (q .0) (q .1) >>= f) ≡ (prefixed n s >>= f)
+unfolding prefixed
 counted-is n s f = sym (bind-assoc (lowBytes n s) (λ q. bytes (q .0) (q .1)) f)
 
 module _ (p : List ℕ) (n : ℕ) where
   -- z is the number of the n bytes at the counts' place
   module _ (c : Counts) (z : ℕ) (h : n ≤ length p - c .at) (e : z ≡ lowFirst (take n (drop (c .at) p))) where
-    behind-length : (r : Rooms) → Sound r c → r .pickle ≡ p → counted n (stateOf r c) ≡ bytes z (stateOf r (atTo c (c .at + n)))
-    unfolding counted _>>=_
+    behind-length : (r : Rooms) → Sound r c → r .pickle ≡ p → prefixed n (stateOf r c) ≡ bytes z (stateOf r (atTo c (c .at + n)))
+    unfolding prefixed _>>=_
     behind-length r s q = low-is n (stateOf r c) (λ x. bytes (x .0) (x .1)) ∙ rw (enough c p n h r s q, e)
 
   -- likewise at any place
   module _ (at z : ℕ) (l : at ≤ length p) (h : n ≤ length p - at) (e : z ≡ lowFirst (take n (drop at p))) where
-    pub count-short : length p - at - n < z → ReadsPart at p (counted n) Short
+    pub count-short : length p - at - n < z → ReadsPart at p (prefixed n) Short
     unfolding Behind Is
     count-short k = record {
       behind = tt;
       is = λ c d r s q. behind-length c z (rw d h) (rw d e) r s q ∙ bytes-short r (atTo c (c .at + n)) z (rw (q, d) (omega arith)) (rw (q, d) (omega arith));
     }
 
-    pub count-got : z ≤ length p - at - n → ReadsPart at p (counted n) (At (at + n) z)
+    pub count-got : z ≤ length p - at - n → ReadsPart at p (prefixed n) (At (at + n) z)
     unfolding Behind Is
     count-got k = record {
       behind = (omega arith, omega arith);
       is = λ c d r s q. rw (← d) (behind-length c z (rw d h) (rw d e) r s q ∙ bytes-got r (atTo c (c .at + n)) z (rw (q, d) (omega arith)) (rw (q, d) (omega arith)));
     }
 
-  pub none-counted : (at : ℕ) → length p - at < n → ReadsPart at p (counted n) Short
-  unfolding Behind Is counted _>>=_
+  pub none-counted : (at : ℕ) → length p - at < n → ReadsPart at p (prefixed n) Short
+  unfolding Behind Is prefixed _>>=_
   none-counted at h = record {
     behind = tt;
     is = λ c d r s q. low-is n (stateOf r c) (λ x. bytes (x .0) (x .1)) ∙ rw (short c p n (rw d h) r s q);
   }
 
 -- t is the part behind a length of n bytes
-module _ (p : List ℕ) (n at : ℕ) (t : Part) (h : ReadsPart at p (counted n) t) where
+module _ (p : List ℕ) (n at : ℕ) (t : Part) (h : ReadsPart at p (prefixed n) t) where
   module _ (e : t ≡ Short) where
-    none-found : (c : Counts) → c .at ≡ at → (r : Rooms) → Sound r c → r .pickle ≡ p → counted n (stateOf r c) ≡ no EndOfInput
+    none-found : (c : Counts) → c .at ≡ at → (r : Rooms) → Sound r c → r .pickle ≡ p → prefixed n (stateOf r c) ≡ no EndOfInput
     unfolding Is
     none-found c d r s q = (rw e at h) .is c d r s q
 
   module _ (a m : ℕ) (e : t ≡ At a m) where
-    found : (c : Counts) → c .at ≡ at → (r : Rooms) → Sound r c → r .pickle ≡ p → counted n (stateOf r c) ≡ ok (take m (drop a p), stateOf r (atTo c (a + m)))
+    found : (c : Counts) → c .at ≡ at → (r : Rooms) → Sound r c → r .pickle ≡ p → prefixed n (stateOf r c) ≡ ok (take m (drop a p), stateOf r (atTo c (a + m)))
     unfolding Is
     found c d r s q = (rw e at h) .is c d r s q ∙ ap (λ (l : List ℕ). ok (take m (drop a l), stateOf r (atTo c (a + m)))) q
 
@@ -288,17 +304,25 @@ module _ (p : List ℕ) (n at : ℕ) (t : Part) (h : ReadsPart at p (counted n) 
     unfolding Behind
     part-inside = (rw e at h) .behind
 
--- a step f that makes a value of the part: `label` of it
-module _ (c : Counts) (p : List ℕ) (n : ℕ) (t : Part) (h : ReadsPart (c .at) p (counted n) t) (label : List ℕ → Label) (f : State → Res State) (by : (s : State) → f s ≡ (counted n s >>= λ q. push (label (q .0)) (q .1))) where
-  pub part-ends : t ≡ Short → Decides c (λ r. r .pickle ≡ p) (λ s. going (f s)) (refusing c EndOfInput)
-  part-ends e = same-step c (λ r. r .pickle ≡ p) f (λ s. counted n s >>= λ q. push (label (q .0)) (q .1)) (refusing c EndOfInput) by (refused-step c p (counted n) (λ q. push (label (q .0)) (q .1)) EndOfInput (none-found p n (c .at) t h e c refl))
+-- a step that makes a value of the part: `label` of it
+module _ (c : Counts) (p : List ℕ) (n : ℕ) where
+  text-is : (label : List ℕ → Label) (s : State) → texted n label s ≡ (prefixed n s >>= λ q. push (label (q .0)) (q .1))
+  text-is label s = counted-is n s (λ q. push (label (q .0)) (q .1))
 
-  pub part-push : (a m : ℕ) → t ≡ At a m → (k b : ℕ) (c₁ : Counts) → Makes p k b (label (take m (drop a p))) → c₁ ≡ cutTo c (a + m) (c .stack) (c .marks) → Decides c (λ r. r .pickle ≡ p) (λ s. going (f s)) (Push c₁ k b)
+  module _ {t : Part} (h : ReadsPart (c .at) p (prefixed n) t) where
+    pub text-ends : (label : List ℕ → Label) → t ≡ Short → Decides c (λ r. r .pickle ≡ p) (λ s. going (texted n label s)) (refusing c EndOfInput)
+    text-ends label e = same-step c (λ r. r .pickle ≡ p) (texted n label) (λ s. prefixed n s >>= λ q. push (label (q .0)) (q .1)) (refusing c EndOfInput) (text-is label) (refused-step c p (prefixed n) (λ q. push (label (q .0)) (q .1)) EndOfInput (none-found p n (c .at) t h e c refl))
+
+    pub text-found : {a m : ℕ} → SomeRooms c (λ r. r .pickle ≡ p) → t ≡ At a m → Text p n (c .at) a m
+    text-found {a = a} {m = m} l e = record { reads = rw e at h; inside = part-inside p n (c .at) t h a m e .1; size = lent-size c p l }
+
+  -- its words: the kind k, and its length and place
+  pub text-push : {a m w k : ℕ} {c₁ : Counts} (label : List ℕ → Label) → ((a m : ℕ) → a < 2 ^ 32 → Makes p k (m * 2 ^ 32 + a) (label (take m (drop a p)))) → Text p n (c .at) a m → w ≡ m * 2 ^ 32 + a → c₁ ≡ cutTo c (a + m) (c .stack) (c .marks)
+      → Decides c (λ r. r .pickle ≡ p) (λ s. going (texted n label s)) (Push c₁ k w)
   unfolding _>>=_
-  part-push a m e k b c₁ w =
-      let i = part-inside p n (c .at) t h a m e in
-      let x = i .0 in
-      pushed-step c p f (a + m) k b (label (take m (drop a p))) c₁ (λ r s q. by (stateOf r c) ∙ rw (found p n (c .at) t h a m e c refl r s q)) w (omega arith) (i .1)
+  text-push {a = a} {m = m} {w = w} {k = k} {c₁ = c₁} label makes t e =
+      let i = part-inside p n (c .at) (At a m) (t .reads) a m refl .0 in
+      pushed-step c p (texted n label) (a + m) k w (label (take m (drop a p))) c₁ (λ r s q. text-is label (stateOf r c) ∙ rw (found p n (c .at) (At a m) (t .reads) a m refl c refl r s q)) (rw e (makes a m (omega arith))) (omega arith) (t .inside)
 
 -- ---- the words of values and Globals
 
@@ -323,19 +347,19 @@ module _ (p : List ℕ) where
   module _ (at n : ℕ) (h : at < 2 ^ 32) where
     pub makes-bytes : Makes p 4 (n * 2 ^ 32 + at) (BytesL (take n (drop at p)))
     unfolding leafy kindIn nodeIs
-    makes-bytes = record { kind = refl; node = λ ws. ap (λ (t : List ℕ). plain (BytesL t)) (within-at 32 at n p h) }
+    makes-bytes = record { kind = refl; node = λ ws. ap (λ (t : List ℕ). kidless (BytesL t)) (within-at 32 at n p h) }
 
     pub makes-string : Makes p 5 (n * 2 ^ 32 + at) (StringL (repair (take n (drop at p))))
     unfolding leafy kindIn nodeIs
-    makes-string = record { kind = refl; node = λ ws. ap (λ (t : List ℕ). plain (StringL (repair t))) (within-at 32 at n p h) }
+    makes-string = record { kind = refl; node = λ ws. ap (λ (t : List ℕ). kidless (StringL (repair t))) (within-at 32 at n p h) }
 
     pub makes-escaped : Makes p 13 (n * 2 ^ 32 + at) (BytesL (bytesOf (unescapeString (take n (drop at p)))))
     unfolding leafy kindIn nodeIs
-    makes-escaped = record { kind = refl; node = λ ws. ap (λ (t : List ℕ). plain (BytesL (bytesOf (unescapeString t)))) (within-at 32 at n p h) }
+    makes-escaped = record { kind = refl; node = λ ws. ap (λ (t : List ℕ). kidless (BytesL (bytesOf (unescapeString t)))) (within-at 32 at n p h) }
 
     pub makes-unicode : Makes p 14 (n * 2 ^ 32 + at) (StringL (bytesOf (unescapeUnicode (take n (drop at p)))))
     unfolding leafy kindIn nodeIs
-    makes-unicode = record { kind = refl; node = λ ws. ap (λ (t : List ℕ). plain (StringL (bytesOf (unescapeUnicode t)))) (within-at 32 at n p h) }
+    makes-unicode = record { kind = refl; node = λ ws. ap (λ (t : List ℕ). kidless (StringL (bytesOf (unescapeUnicode t)))) (within-at 32 at n p h) }
 
   -- the lines of a Global: a module of m bytes at `at`, and a name of n at `from`
   pub makes-global : (at m from n : ℕ) → at < 2 ^ 24 → from < 2 ^ 32 → Makes p (11 + 16 * (m * 2 ^ 24 + at)) (n * 2 ^ 32 + from) (GlobalL (repair (take m (drop at p))) (repair (take n (drop from p))))
@@ -351,7 +375,7 @@ module _ (p : List ℕ) where
 -- ---- LONG1, LONG4
 
 -- t is the part behind a length of n bytes
-module _ (p : List ℕ) (n at : ℕ) (t : Part) (h : ReadsPart at p (counted n) t) where
+module _ (p : List ℕ) (n at : ℕ) (t : Part) (h : ReadsPart at p (prefixed n) t) where
   pub long-short : t ≡ Short → ReadsLong n at p (longs.None EndOfInput)
   unfolding EndsBehind IsLong longRead _>>=_
   long-short e = record { behind = tt; is = λ c d r s q. rw (none-found p n at t h e c d r s q) }
@@ -371,7 +395,7 @@ module _ (p : List ℕ) (n at : ℕ) (t : Part) (h : ReadsPart at p (counted n) 
 -- and what its opcode does with it
 long-is : (n : ℕ) (s : State) → longN n s ≡ (longRead n s >>= λ (x : ℕ × State). push (I64L (x .0)) (x .1))
 unfolding longN longRead _>>=_
-long-is n s = counted-is n s (λ q. leaf (longOf (q .0)) >>= λ v. push (I64L v) (q .1)) ∙ go (counted n s)
+long-is n s = counted-is n s (λ q. leaf (longOf (q .0)) >>= λ v. push (I64L v) (q .1)) ∙ go (prefixed n s)
   where
     integer : (q : List ℕ × State) → Res (ℕ × State)
     integer q = leaf (longOf (q .0)) >>= λ (v : ℕ). ok (v, q .1)

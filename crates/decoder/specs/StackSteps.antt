@@ -14,15 +14,16 @@ use Rattle.refusal.specs.declared.Wanted.{Wanted}
 use Rattle.refusal.specs.declared.Wanted.the-variants.{DictItems, List as AList, Dict as ADict}
 use Rattle.value.specs.Shape.{kindIn}
 use Rattle.decoder.specs.declared.Taken.the-variants.{Short, From}
-use Rattle.decoder.specs.declared.Effect.the-variants.{Share, Go, Make, Extend}
+use Rattle.store.specs.declared.Effect.the-variants.{Share, Go, Make, Extend}
 use Rattle.steps.specs.State.{State, no, _>>=_, need, nodeAt}
 use Rattle.steps.specs.Opcodes.{popOne, popToMark, dup, tupleN, pairs, dict, isList, isDict, added, append, appends, setitem, setitems}
 use Rattle.steps.specs.Run.{going}
 use Rattle.steps.specs.Out.{every-at}
-use Rattle.decoder.specs.Rooms.{Rooms, Counts, kidsOf, stateOf, stackTo}
+use Rattle.store.specs.declared.Counts.{Counts}
+use Rattle.store.specs.Rooms.{Rooms, kidsOf, stateOf, stackTo}
 use Rattle.steps.specs.NodeWords.{first, second, nodeIs, HoldsLinks, aList, aTuple, aDict, list-kind, dict-kind, node-label}
-use Rattle.decoder.specs.RoomReads.{stack-of, stack-length, nodes-length, node-at}
-use Rattle.decoder.specs.Effects.{Firm, Sound, Lent, Fits, Says, refusing, says-refused, enacted, container, grow, above}
+use Rattle.store.specs.RoomReads.{stack-of, stack-length, nodes-length, node-at}
+use Rattle.store.specs.Effects.{Firm, Sound, SomeRooms, Fits, Says, refusing, says-refused, enacted, container, grow, above}
 use Rattle.decoder.specs.Reads.{cutTo, firm-cut, mark-none, mark-above, mark-got, top-none, top-got, pop-none, pop-got, many-none, many-got}
 use Rattle.decoder.specs.Items.{Took, TakesMark, GrowingKind, lists, dicts, isGrown, gathered}
 
@@ -242,8 +243,12 @@ module _ (c : Counts) (r : Rooms) (s : Sound r c) where
 
 -- ---- the same of the lists that were lent
 
+-- less said of the rooms
+pub some-less : {c : Counts} {P Q : Rooms → Type 0} → ((r : Rooms) → P r → Q r) → SomeRooms c P → SomeRooms c Q
+some-less f l = record { rooms = l .rooms; sound = l .sound; agrees = f (l .rooms) (l .agrees) }
+
 module _ (c : Counts) (l : List ℕ) where
-  pub took-below : (m : ℕ) → TakesMark c l (From m) → Lent c (λ r. r .marks ≡ l) → (m ≤ c .stack) × (0 < c .marks)
+  pub took-below : (m : ℕ) → TakesMark c l (From m) → SomeRooms c (λ r. r .marks ≡ l) → (m ≤ c .stack) × (0 < c .marks)
   unfolding TakesMark Took
   took-below m t h = (t (h .rooms) (h .sound) (h .agrees) .1, t (h .rooms) (h .sound) (h .agrees) .2)
 

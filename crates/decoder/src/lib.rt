@@ -15,6 +15,12 @@ use number::U32Literal;
 use number::parse_u32;
 use refusal::Refusal;
 use refusal::Wanted;
+use store::Counts;
+use store::Effect;
+use store::MemoKey;
+use store::NodeId;
+use store::kind;
+use store::slot;
 use text::Decoded;
 use text::Quoted;
 use text::string_len;
@@ -27,82 +33,14 @@ ghost use lib.ListN.{length, getD, take, drop};
 ghost use Rattle.steps.specs.State.{get, put};
 ghost use Rattle.steps.specs.Opcodes.{proto, popOne, popToMark, dup, int, binint, long, longN, float, binfloat, string, binstring, shortBinstring, unicode, binunicode, global, list, tuple, tupleN, dict, append, appends, setitem, setitems, lowBytes, reduce, newobj, buildState};
 ghost use Rattle.steps.specs.Run.{going};
-ghost use Rattle.decoder.specs.Effects.{Lent, Decides};
+ghost use Rattle.store.specs.Effects.{SomeRooms, Decides};
 ghost use Rattle.decoder.specs.Reads.{cutTo};
-ghost use Rattle.decoder.specs.ReadsPickle.{ReadsPart, counted, unsigned, ReadsLong};
+ghost use Rattle.decoder.specs.ReadsPickle.{ReadsPart, prefixed, unsigned, ReadsLong};
 ghost use Rattle.decoder.specs.Items.{TakesMark, GrowingKind, Adds, gathered};
-ghost use Rattle.value.specs.Shape.{kindIn};
-ghost use Rattle.decoder.specs.Rooms.{Absent, Passed, Numbered};
 ghost use Rattle.steps.specs.NodeWords.{first, second, moduleOf, nameOf, HoldsLinks};
 ghost use Rattle.decoder.specs.ReadsMemo.{keyLine, keyBy, getBy, putBy, ReadsKey};
 ghost use Rattle.decoder.specs.ReadsCalls.{Calls, ReadsCall, madeKind};
 ghost use Rattle.number.specs.Space.{same};
-
-// A node's place in the node table.
-pub struct NodeId(pub usize);
-
-// A number that a pickle gives an entry of the memo.
-pub struct MemoKey(pub u32);
-
-// The place in the pickle, and how much of each room is used; of stack and marks also how much ever was. `greatest` is above every
-// number in the memo.
-pub struct Counts {
-    pub at: usize,
-    pub nodes: usize,
-    pub links: usize,
-    pub stack: usize,
-    pub deepest: usize,
-    pub marks: usize,
-    pub most: usize,
-    pub memo: usize,
-    pub greatest: usize,
-}
-
-// What an opcode comes to, with the counts after what it read and took.
-pub enum Effect {
-    Push(Counts, u64, u64),
-    Share(Counts, NodeId),
-    Mark(Counts),
-    Go(Counts),
-    Make(Counts, u64),
-    Extend(Counts, NodeId),
-    Remember(Counts, NodeId, u64, MemoKey),
-    Build(Counts, NodeId, NodeId),
-    Stop(Counts),
-    Refused(Counts, u64, u64, Refusal),
-}
-
-// The kinds of a node's first word: those of a table's record, and behind them two of which only the line is known before STOP, quotes and
-// all: Bytes of a STRING with an escape, a String of UNICODE.
-pub const KIND_NONE: u64 = value::NONE;
-
-pub const KIND_BOOL: u64 = value::BOOL;
-
-const KIND_I64: u64 = value::I64;
-
-const KIND_F64: u64 = value::F64;
-
-const KIND_BYTES: u64 = value::BYTES;
-
-const KIND_STRING: u64 = value::STRING;
-
-pub const KIND_LIST: u64 = value::LIST;
-
-pub const KIND_TUPLE: u64 = value::TUPLE;
-
-const KIND_SET: u64 = value::SET;
-
-const KIND_FROZEN_SET: u64 = value::FROZEN_SET;
-
-pub const KIND_DICT: u64 = value::DICT;
-
-const KIND_GLOBAL: u64 = value::GLOBAL;
-
-const KIND_OBJECT: u64 = value::OBJECT;
-
-pub const KIND_ESCAPED: u64 = 13;
-
-pub const KIND_UNICODE: u64 = 14;
 
 // The counts with place, stack and marks moved.
 fn cut(c: Counts, at: usize, stack: usize, marks: usize) -> Counts
@@ -145,9 +83,9 @@ fn text_word(at: usize, len: usize) -> u64
 }
 
 // A length of `width` bytes, and so many bytes.
-fn counted(pickle: &[u8], at: usize, width: usize) -> Part
+fn prefixed(pickle: &[u8], at: usize, width: usize) -> Part
     requires { ⌜ (at ≤ length (now pickle)) × (width ≤ 8) ⌝ }
-    ensures { λ t. ⌜ ReadsPart at (now (pickle .entry)) (counted width) t ⌝ }
+    ensures { λ t. ⌜ ReadsPart at (now (pickle .entry)) (prefixed width) t ⌝ }
 {
     if pickle.len() - at < width {
         return Part::Short;
@@ -162,7 +100,7 @@ fn counted(pickle: &[u8], at: usize, width: usize) -> Part
 
 // PROTO: a protocol up to the highest that is accepted.
 pub fn proto(pickle: &[u8], c: Counts, highest: u8) -> Effect
-    requires { ⌜ Lent c (λ r. r .pickle ≡ now pickle) ⌝ }
+    requires { ⌜ SomeRooms c (λ r. r .pickle ≡ now pickle) ⌝ }
     ensures { λ e. ⌜ Decides c (λ r. r .pickle ≡ now (pickle .entry)) (λ s. going (proto highest s)) e ⌝ }
 {
     let at = c.at;
@@ -178,14 +116,14 @@ pub fn proto(pickle: &[u8], c: Counts, highest: u8) -> Effect
 
 // INT: `00` and `01` are Bools.
 pub fn int(pickle: &[u8], c: Counts) -> Effect
-    requires { ⌜ Lent c (λ r. r .pickle ≡ now pickle) ⌝ }
+    requires { ⌜ SomeRooms c (λ r. r .pickle ≡ now pickle) ⌝ }
     ensures { λ e. ⌜ Decides c (λ r. r .pickle ≡ now (pickle .entry)) (λ s. going (int s)) e ⌝ }
 {
     match newline(pickle, c.at) {
         LineEnd::End => Effect::Refused(c, 0, 0, Refusal::EndOfInput),
         LineEnd::At(end) => match number::int(line(pickle, c.at, end)) {
-            IntLiteral::Bool(b) => Effect::Push(read_to(c, end + 1), KIND_BOOL, b as u64),
-            IntLiteral::I64(v) => Effect::Push(read_to(c, end + 1), KIND_I64, v),
+            IntLiteral::Bool(b) => Effect::Push(read_to(c, end + 1), value::BOOL, b as u64),
+            IntLiteral::I64(v) => Effect::Push(read_to(c, end + 1), value::I64, v),
             IntLiteral::Invalid => Effect::Refused(c, 0, 0, Refusal::InvalidLiteral),
         },
     }
@@ -193,37 +131,41 @@ pub fn int(pickle: &[u8], c: Counts) -> Effect
 
 // BININT: four bytes with a sign.
 pub fn binint(pickle: &[u8], c: Counts) -> Effect
-    requires { ⌜ Lent c (λ r. r .pickle ≡ now pickle) ⌝ }
+    requires { ⌜ SomeRooms c (λ r. r .pickle ≡ now pickle) ⌝ }
     ensures { λ e. ⌜ Decides c (λ r. r .pickle ≡ now (pickle .entry)) (λ s. going (binint s)) e ⌝ }
 {
     let at = c.at;
     if pickle.len() - at < 4 {
         return Effect::Refused(c, 0, 0, Refusal::EndOfInput);
     }
-    Effect::Push(read_to(c, at + 4), KIND_I64, i32_at(pickle, at))
+    Effect::Push(read_to(c, at + 4), value::I64, i32_at(pickle, at))
 }
 
 // BININT1, BININT2: `width` bytes without a sign.
 pub fn unsigned(pickle: &[u8], c: Counts, width: usize) -> Effect
-    requires { ⌜ Lent c (λ r. r .pickle ≡ now pickle) × (width ≤ 8) ⌝ }
+    requires { ⌜ SomeRooms c (λ r. r .pickle ≡ now pickle) × (width ≤ 8) ⌝ }
     ensures { λ e. ⌜ Decides c (λ r. r .pickle ≡ now (pickle .entry)) (λ s. going (unsigned width s)) e ⌝ }
 {
     let at = c.at;
     if pickle.len() - at < width {
         return Effect::Refused(c, 0, 0, Refusal::EndOfInput);
     }
-    Effect::Push(read_to(c, at + width), KIND_I64, low_at(pickle, at, width))
+    Effect::Push(
+        read_to(c, at + width),
+        value::I64,
+        low_at(pickle, at, width),
+    )
 }
 
 // LONG: a line with or without an `L`.
 pub fn long(pickle: &[u8], c: Counts) -> Effect
-    requires { ⌜ Lent c (λ r. r .pickle ≡ now pickle) ⌝ }
+    requires { ⌜ SomeRooms c (λ r. r .pickle ≡ now pickle) ⌝ }
     ensures { λ e. ⌜ Decides c (λ r. r .pickle ≡ now (pickle .entry)) (λ s. going (long s)) e ⌝ }
 {
     match newline(pickle, c.at) {
         LineEnd::End => Effect::Refused(c, 0, 0, Refusal::EndOfInput),
         LineEnd::At(end) => match number::long_text(line(pickle, c.at, end)) {
-            I64Literal::Value(v) => Effect::Push(read_to(c, end + 1), KIND_I64, v),
+            I64Literal::Value(v) => Effect::Push(read_to(c, end + 1), value::I64, v),
             I64Literal::Invalid => Effect::Refused(c, 0, 0, Refusal::InvalidLiteral),
         },
     }
@@ -241,7 +183,7 @@ pub fn long_at(pickle: &[u8], at: usize, width: usize) -> LongRead
     requires { ⌜ (at ≤ length (now pickle)) × (width ≤ 8) ⌝ }
     ensures { λ r. ⌜ ReadsLong width at (now (pickle .entry)) r ⌝ }
 {
-    match counted(pickle, at, width) {
+    match prefixed(pickle, at, width) {
         Part::Short => LongRead::None(Refusal::EndOfInput),
         Part::At(from, len) => {
             let end = from + len;
@@ -261,19 +203,19 @@ pub fn long_n(c: Counts, read: LongRead) -> Effect
 {
     match read {
         LongRead::None(why) => Effect::Refused(c, 0, 0, why),
-        LongRead::At(end, v) => Effect::Push(read_to(c, end), KIND_I64, v),
+        LongRead::At(end, v) => Effect::Push(read_to(c, end), value::I64, v),
     }
 }
 
 // FLOAT: a line; what is outside the numbers that are read has a refusal of its own.
 pub fn float(pickle: &[u8], c: Counts) -> Effect
-    requires { ⌜ Lent c (λ r. r .pickle ≡ now pickle) ⌝ }
+    requires { ⌜ SomeRooms c (λ r. r .pickle ≡ now pickle) ⌝ }
     ensures { λ e. ⌜ Decides c (λ r. r .pickle ≡ now (pickle .entry)) (λ s. going (float s)) e ⌝ }
 {
     match newline(pickle, c.at) {
         LineEnd::End => Effect::Refused(c, 0, 0, Refusal::EndOfInput),
         LineEnd::At(end) => match parse_f64(line(pickle, c.at, end)) {
-            F64Literal::Bits(v) => Effect::Push(read_to(c, end + 1), KIND_F64, v),
+            F64Literal::Bits(v) => Effect::Push(read_to(c, end + 1), value::F64, v),
             F64Literal::Invalid => Effect::Refused(c, 0, 0, Refusal::InvalidLiteral),
             F64Literal::Outside => Effect::Refused(c, 0, 0, Refusal::FloatOutside),
         },
@@ -282,19 +224,19 @@ pub fn float(pickle: &[u8], c: Counts) -> Effect
 
 // BINFLOAT: eight bytes, high byte first.
 pub fn binfloat(pickle: &[u8], c: Counts) -> Effect
-    requires { ⌜ Lent c (λ r. r .pickle ≡ now pickle) ⌝ }
+    requires { ⌜ SomeRooms c (λ r. r .pickle ≡ now pickle) ⌝ }
     ensures { λ e. ⌜ Decides c (λ r. r .pickle ≡ now (pickle .entry)) (λ s. going (binfloat s)) e ⌝ }
 {
     let at = c.at;
     if pickle.len() - at < 8 {
         return Effect::Refused(c, 0, 0, Refusal::EndOfInput);
     }
-    Effect::Push(read_to(c, at + 8), KIND_F64, f64_at(pickle, at))
+    Effect::Push(read_to(c, at + 8), value::F64, f64_at(pickle, at))
 }
 
 // STRING: a value without an escape is a part of the pickle; any other keeps its line, and is unescaped when it is built.
 pub fn string(pickle: &[u8], c: Counts) -> Effect
-    requires { ⌜ Lent c (λ r. r .pickle ≡ now pickle) ⌝ }
+    requires { ⌜ SomeRooms c (λ r. r .pickle ≡ now pickle) ⌝ }
     ensures { λ e. ⌜ Decides c (λ r. r .pickle ≡ now (pickle .entry)) (λ s. going (string s)) e ⌝ }
 {
     match newline(pickle, c.at) {
@@ -306,12 +248,16 @@ pub fn string(pickle: &[u8], c: Counts) -> Effect
                 Quoted::Plain => {
                     Effect::Push(
                         read_to(c, end + 1),
-                        KIND_BYTES,
+                        value::BYTES,
                         text_word(c.at + 1, len - 2),
                     )
                 }
                 Quoted::Escaped(_) => {
-                    Effect::Push(read_to(c, end + 1), KIND_ESCAPED, text_word(c.at, len))
+                    Effect::Push(
+                        read_to(c, end + 1),
+                        store::KIND_ESCAPED,
+                        text_word(c.at, len),
+                    )
                 }
                 Quoted::Refused(_) => Effect::Refused(c, 0, 0, Refusal::InvalidLiteral),
             }
@@ -321,7 +267,7 @@ pub fn string(pickle: &[u8], c: Counts) -> Effect
 
 // BINSTRING: the sign of the length before its bytes.
 pub fn binstring(pickle: &[u8], c: Counts) -> Effect
-    requires { ⌜ Lent c (λ r. r .pickle ≡ now pickle) ⌝ }
+    requires { ⌜ SomeRooms c (λ r. r .pickle ≡ now pickle) ⌝ }
     ensures { λ e. ⌜ Decides c (λ r. r .pickle ≡ now (pickle .entry)) (λ s. going (binstring s)) e ⌝ }
 {
     let at = c.at;
@@ -338,25 +284,25 @@ pub fn binstring(pickle: &[u8], c: Counts) -> Effect
     }
     Effect::Push(
         read_to(c, at + 4 + size),
-        KIND_BYTES,
+        value::BYTES,
         text_word(at + 4, size),
     )
 }
 
 // SHORT_BINSTRING: a length of one byte, and the text.
 pub fn short_binstring(pickle: &[u8], c: Counts) -> Effect
-    requires { ⌜ Lent c (λ r. r .pickle ≡ now pickle) ⌝ }
+    requires { ⌜ SomeRooms c (λ r. r .pickle ≡ now pickle) ⌝ }
     ensures { λ e. ⌜ Decides c (λ r. r .pickle ≡ now (pickle .entry)) (λ s. going (shortBinstring s)) e ⌝ }
 {
-    match counted(pickle, c.at, 1) {
+    match prefixed(pickle, c.at, 1) {
         Part::Short => Effect::Refused(c, 0, 0, Refusal::EndOfInput),
-        Part::At(at, len) => Effect::Push(read_to(c, at + len), KIND_BYTES, text_word(at, len)),
+        Part::At(at, len) => Effect::Push(read_to(c, at + len), value::BYTES, text_word(at, len)),
     }
 }
 
 // UNICODE: the node keeps the line, and is decoded when it is built.
 pub fn unicode(pickle: &[u8], c: Counts) -> Effect
-    requires { ⌜ Lent c (λ r. r .pickle ≡ now pickle) ⌝ }
+    requires { ⌜ SomeRooms c (λ r. r .pickle ≡ now pickle) ⌝ }
     ensures { λ e. ⌜ Decides c (λ r. r .pickle ≡ now (pickle .entry)) (λ s. going (unicode s)) e ⌝ }
 {
     match newline(pickle, c.at) {
@@ -366,7 +312,11 @@ pub fn unicode(pickle: &[u8], c: Counts) -> Effect
             let len = l.len();
             match unicode_len(l) {
                 Decoded::Len(_) => {
-                    Effect::Push(read_to(c, end + 1), KIND_UNICODE, text_word(c.at, len))
+                    Effect::Push(
+                        read_to(c, end + 1),
+                        store::KIND_UNICODE,
+                        text_word(c.at, len),
+                    )
                 }
                 Decoded::Refused(_) => Effect::Refused(c, 0, 0, Refusal::InvalidLiteral),
             }
@@ -376,18 +326,18 @@ pub fn unicode(pickle: &[u8], c: Counts) -> Effect
 
 // BINUNICODE: a length of four bytes, and the text, which is repaired when it is built.
 pub fn binunicode(pickle: &[u8], c: Counts) -> Effect
-    requires { ⌜ Lent c (λ r. r .pickle ≡ now pickle) ⌝ }
+    requires { ⌜ SomeRooms c (λ r. r .pickle ≡ now pickle) ⌝ }
     ensures { λ e. ⌜ Decides c (λ r. r .pickle ≡ now (pickle .entry)) (λ s. going (binunicode s)) e ⌝ }
 {
-    match counted(pickle, c.at, 4) {
+    match prefixed(pickle, c.at, 4) {
         Part::Short => Effect::Refused(c, 0, 0, Refusal::EndOfInput),
-        Part::At(at, len) => Effect::Push(read_to(c, at + len), KIND_STRING, text_word(at, len)),
+        Part::At(at, len) => Effect::Push(read_to(c, at + len), value::STRING, text_word(at, len)),
     }
 }
 
 // GLOBAL: the lines of the module and of the name.
 pub fn global(pickle: &[u8], c: Counts) -> Effect
-    requires { ⌜ Lent c (λ r. r .pickle ≡ now pickle) ⌝ }
+    requires { ⌜ SomeRooms c (λ r. r .pickle ≡ now pickle) ⌝ }
     ensures { λ e. ⌜ Decides c (λ r. r .pickle ≡ now (pickle .entry)) (λ s. going (global s)) e ⌝ }
 {
     match newline(pickle, c.at) {
@@ -401,7 +351,7 @@ pub fn global(pickle: &[u8], c: Counts) -> Effect
                     let name = line(pickle, from, to).len();
                     Effect::Push(
                         read_to(c, to + 1),
-                        KIND_GLOBAL + 16 * (module as u64 * 0x100_0000 + c.at as u64),
+                        value::GLOBAL + 16 * (module as u64 * 0x100_0000 + c.at as u64),
                         text_word(from, name),
                     )
                 }
@@ -419,7 +369,7 @@ enum Taken {
 }
 
 fn above_mark(marks: &[u16], c: Counts) -> Taken
-    requires { ⌜ Lent c (λ r. r .marks ≡ now marks) ⌝ }
+    requires { ⌜ SomeRooms c (λ r. r .marks ≡ now marks) ⌝ }
     ensures { λ t. ⌜ TakesMark c (now (marks .entry)) t ⌝ }
 {
     if c.marks == 0 {
@@ -445,7 +395,7 @@ pub fn pop(c: Counts) -> Effect
 }
 
 pub fn pop_mark(marks: &[u16], c: Counts) -> Effect
-    requires { ⌜ Lent c (λ r. r .marks ≡ now marks) ⌝ }
+    requires { ⌜ SomeRooms c (λ r. r .marks ≡ now marks) ⌝ }
     ensures { λ e. ⌜ Decides c (λ r. r .marks ≡ now (marks .entry)) (λ s. going (popToMark s)) e ⌝ }
 {
     match above_mark(marks, c) {
@@ -456,7 +406,7 @@ pub fn pop_mark(marks: &[u16], c: Counts) -> Effect
 
 // The same node again.
 pub fn dup(stack: &[u16], c: Counts) -> Effect
-    requires { ⌜ Lent c (λ r. r .stack ≡ now stack) ⌝ }
+    requires { ⌜ SomeRooms c (λ r. r .stack ≡ now stack) ⌝ }
     ensures { λ e. ⌜ Decides c (λ r. r .stack ≡ now (stack .entry)) (λ s. going (dup s)) e ⌝ }
 {
     if c.stack == 0 {
@@ -470,7 +420,7 @@ pub fn dup(stack: &[u16], c: Counts) -> Effect
 
 // What stands above the last mark, as a new container.
 fn gather(marks: &[u16], c: Counts, kind: u64) -> Effect
-    requires { ⌜ Lent c (λ r. r .marks ≡ now marks) × HoldsLinks kind ⌝ }
+    requires { ⌜ SomeRooms c (λ r. r .marks ≡ now marks) × HoldsLinks kind ⌝ }
     ensures { λ e. ⌜ Decides c (λ r. r .marks ≡ now (marks .entry)) (λ s. going (gathered kind s)) e ⌝ }
 {
     match above_mark(marks, c) {
@@ -480,17 +430,17 @@ fn gather(marks: &[u16], c: Counts, kind: u64) -> Effect
 }
 
 pub fn list(marks: &[u16], c: Counts) -> Effect
-    requires { ⌜ Lent c (λ r. r .marks ≡ now marks) ⌝ }
+    requires { ⌜ SomeRooms c (λ r. r .marks ≡ now marks) ⌝ }
     ensures { λ e. ⌜ Decides c (λ r. r .marks ≡ now (marks .entry)) (λ s. going (list s)) e ⌝ }
 {
-    gather(marks, c, KIND_LIST)
+    gather(marks, c, value::LIST)
 }
 
 pub fn tuple(marks: &[u16], c: Counts) -> Effect
-    requires { ⌜ Lent c (λ r. r .marks ≡ now marks) ⌝ }
+    requires { ⌜ SomeRooms c (λ r. r .marks ≡ now marks) ⌝ }
     ensures { λ e. ⌜ Decides c (λ r. r .marks ≡ now (marks .entry)) (λ s. going (tuple s)) e ⌝ }
 {
-    gather(marks, c, KIND_TUPLE)
+    gather(marks, c, value::TUPLE)
 }
 
 // TUPLE1 to TUPLE3 pay no heed to marks.
@@ -502,32 +452,23 @@ pub fn small_tuple(c: Counts, code: u8) -> Effect
     if c.stack < n {
         return Effect::Refused(c, 0, 0, Refusal::StackUnderflow);
     }
-    Effect::Make(cut(c, c.at, c.stack - n, c.marks), KIND_TUPLE)
+    Effect::Make(cut(c, c.at, c.stack - n, c.marks), value::TUPLE)
 }
 
 pub fn dict(marks: &[u16], c: Counts) -> Effect
-    requires { ⌜ Lent c (λ r. r .marks ≡ now marks) ⌝ }
+    requires { ⌜ SomeRooms c (λ r. r .marks ≡ now marks) ⌝ }
     ensures { λ e. ⌜ Decides c (λ r. r .marks ≡ now (marks .entry)) (λ s. going (dict s)) e ⌝ }
 {
     match above_mark(marks, c) {
         Taken::Short => Effect::Refused(c, 0, 0, Refusal::StackUnderflow),
         Taken::From(m) => {
             if (c.stack - m) % 2 == 0 {
-                Effect::Make(cut(c, c.at, m, c.marks - 1), KIND_DICT)
+                Effect::Make(cut(c, c.at, m, c.marks - 1), value::DICT)
             } else {
                 Effect::Refused(c, 0, 0, Refusal::Invalid(Wanted::DictItems))
             }
         }
     }
-}
-
-// The kind of a node.
-pub fn kind(nodes: &[u64], id: NodeId) -> u64
-    requires { ⌜ 2 * id .0 < length (now nodes) ⌝ }
-    ensures { λ r. ⌜ r ≡ kindIn (first (now (nodes .entry)) (id .0)) ⌝ }
-{
-    let i = 2 * id.0;
-    nodes[i] % 16
 }
 
 // What stands above `keep`, to the container below it, which must be of its kind.
@@ -540,7 +481,7 @@ fn grown(
     container: u64,
     why: Wanted,
 ) -> Effect
-    requires { ⌜ Lent c (λ r. (r .nodes ≡ now nodes) × (r .stack ≡ now stack)) ⌝ }
+    requires { ⌜ SomeRooms c (λ r. (r .nodes ≡ now nodes) × (r .stack ≡ now stack)) ⌝ }
     requires { ⌜ (keep ≤ c .stack) × (marks ≤ c .marks) × GrowingKind container ⌝ }
     ensures { λ e. ⌜ Adds c (now (nodes .entry)) (now (stack .entry)) keep marks container why e ⌝ }
 {
@@ -556,7 +497,7 @@ fn grown(
 }
 
 pub fn append(nodes: &[u64], stack: &[u16], c: Counts) -> Effect
-    requires { ⌜ Lent c (λ r. (r .nodes ≡ now nodes) × (r .stack ≡ now stack)) ⌝ }
+    requires { ⌜ SomeRooms c (λ r. (r .nodes ≡ now nodes) × (r .stack ≡ now stack)) ⌝ }
     ensures { λ e. ⌜ Decides c (λ r. (r .nodes ≡ now (nodes .entry)) × (r .stack ≡ now (stack .entry))) (λ s. going (append s)) e ⌝ }
 {
     if c.stack == 0 {
@@ -568,23 +509,23 @@ pub fn append(nodes: &[u64], stack: &[u16], c: Counts) -> Effect
         c,
         c.stack - 1,
         c.marks,
-        KIND_LIST,
+        value::LIST,
         Wanted::List,
     )
 }
 
 pub fn appends(nodes: &[u64], stack: &[u16], marks: &[u16], c: Counts) -> Effect
-    requires { ⌜ Lent c (λ r. (r .nodes ≡ now nodes) × (r .stack ≡ now stack) × (r .marks ≡ now marks)) ⌝ }
+    requires { ⌜ SomeRooms c (λ r. (r .nodes ≡ now nodes) × (r .stack ≡ now stack) × (r .marks ≡ now marks)) ⌝ }
     ensures { λ e. ⌜ Decides c (λ r. (r .nodes ≡ now (nodes .entry)) × (r .stack ≡ now (stack .entry)) × (r .marks ≡ now (marks .entry))) (λ s. going (appends s)) e ⌝ }
 {
     match above_mark(marks, c) {
         Taken::Short => Effect::Refused(c, 0, 0, Refusal::StackUnderflow),
-        Taken::From(m) => grown(nodes, stack, c, m, c.marks - 1, KIND_LIST, Wanted::List),
+        Taken::From(m) => grown(nodes, stack, c, m, c.marks - 1, value::LIST, Wanted::List),
     }
 }
 
 pub fn setitem(nodes: &[u64], stack: &[u16], c: Counts) -> Effect
-    requires { ⌜ Lent c (λ r. (r .nodes ≡ now nodes) × (r .stack ≡ now stack)) ⌝ }
+    requires { ⌜ SomeRooms c (λ r. (r .nodes ≡ now nodes) × (r .stack ≡ now stack)) ⌝ }
     ensures { λ e. ⌜ Decides c (λ r. (r .nodes ≡ now (nodes .entry)) × (r .stack ≡ now (stack .entry))) (λ s. going (setitem s)) e ⌝ }
 {
     if c.stack < 2 {
@@ -596,20 +537,20 @@ pub fn setitem(nodes: &[u64], stack: &[u16], c: Counts) -> Effect
         c,
         c.stack - 2,
         c.marks,
-        KIND_DICT,
+        value::DICT,
         Wanted::Dict,
     )
 }
 
 pub fn setitems(nodes: &[u64], stack: &[u16], marks: &[u16], c: Counts) -> Effect
-    requires { ⌜ Lent c (λ r. (r .nodes ≡ now nodes) × (r .stack ≡ now stack) × (r .marks ≡ now marks)) ⌝ }
+    requires { ⌜ SomeRooms c (λ r. (r .nodes ≡ now nodes) × (r .stack ≡ now stack) × (r .marks ≡ now marks)) ⌝ }
     ensures { λ e. ⌜ Decides c (λ r. (r .nodes ≡ now (nodes .entry)) × (r .stack ≡ now (stack .entry)) × (r .marks ≡ now (marks .entry))) (λ s. going (setitems s)) e ⌝ }
 {
     match above_mark(marks, c) {
         Taken::Short => Effect::Refused(c, 0, 0, Refusal::StackUnderflow),
         Taken::From(m) => {
             if (c.stack - m) % 2 < 1 {
-                grown(nodes, stack, c, m, c.marks - 1, KIND_DICT, Wanted::Dict)
+                grown(nodes, stack, c, m, c.marks - 1, value::DICT, Wanted::Dict)
             } else {
                 Effect::Refused(c, 0, 0, Refusal::Invalid(Wanted::DictItems))
             }
@@ -630,78 +571,6 @@ pub enum KeyForm {
 enum KeyRead {
     None(Refusal),
     At(usize, MemoKey),
-}
-
-// None of eight memo numbers is `k`: tested together, which is quicker than one by one.
-fn differ(keys: &[u32], from: usize, k: u32) -> bool
-    requires { ⌜ from + 8 ≤ length (now keys) ⌝ }
-    ensures { λ r. ⌜ (r ≡ true → Passed (now (keys .entry)) from (from + 8) k) ⌝ }
-{
-    (keys[from] != k)
-        & (keys[from + 1] != k)
-        & (keys[from + 2] != k)
-        & (keys[from + 3] != k)
-        & (keys[from + 4] != k)
-        & (keys[from + 5] != k)
-        & (keys[from + 6] != k)
-        & (keys[from + 7] != k)
-}
-
-// How far down from `memo` surely none is `k`, by 32 numbers at a time.
-fn passed(keys: &[u32], memo: usize, k: u32) -> usize
-    requires { ⌜ memo ≤ length (now keys) ⌝ }
-    ensures { λ r. ⌜ (r ≤ memo) × Passed (now (keys .entry)) r memo k ⌝ }
-{
-    let mut i = memo;
-    while 32 <= i {
-        let from = i - 32;
-        if !(differ(keys, from, k)
-            & differ(keys, from + 8, k)
-            & differ(keys, from + 16, k)
-            & differ(keys, from + 24, k)) {
-            return i;
-        }
-        i = from;
-    }
-    i
-}
-
-// The place of a memo number among the first `memo`, which are different ones, or `memo`: by a search, newest first.
-fn search(keys: &[u32], memo: usize, key: MemoKey) -> usize
-    requires { ⌜ memo ≤ length (now keys) ⌝ }
-    requires { ⌜ ((i : ℕ) → i < memo → Absent (now keys) i (getD (now keys) i 0)) ⌝ }
-    ensures { λ r. ⌜ (r ≤ memo) × Absent (now (keys .entry)) r (key .0) × (r < memo → getD (now (keys .entry)) r 0 ≡ key .0) ⌝ }
-{
-    let k = key.0;
-    let mut i = passed(keys, memo, k);
-    while 0 < i {
-        i -= 1;
-        if keys[i] == k {
-            return i;
-        }
-    }
-    memo
-}
-
-// The same: at once where no number is so great, or where the numbers were put in order.
-pub fn slot(keys: &[u32], memo: usize, greatest: usize, key: MemoKey) -> usize
-    requires { ⌜ (memo ≤ length (now keys)) × (0 < length (now keys)) × Numbered (now keys) memo greatest ⌝ }
-    ensures { λ r. ⌜ (r ≤ memo) × Absent (now (keys .entry)) r (key .0) × (r < memo → getD (now (keys .entry)) r 0 ≡ key .0) ⌝ }
-{
-    let k = key.0;
-    if greatest <= k as usize {
-        return memo;
-    }
-    let first = keys[0];
-    if first <= k {
-        let guess = (k - first) as usize;
-        if guess < memo {
-            if keys[guess] == k {
-                return guess;
-            }
-        }
-    }
-    search(keys, memo, key)
 }
 
 // GET's and PUT's.
@@ -743,7 +612,7 @@ fn key_by(pickle: &[u8], c: Counts, form: KeyForm) -> KeyRead
 
 // The node of a memo number.
 fn get(keys: &[u32], held: &[u16], c: Counts, key: MemoKey) -> Effect
-    requires { ⌜ Lent c (λ r. (r .keys ≡ now keys) × (r .held ≡ now held)) ⌝ }
+    requires { ⌜ SomeRooms c (λ r. (r .keys ≡ now keys) × (r .held ≡ now held)) ⌝ }
     ensures { λ e. ⌜ Decides c (λ r. (r .keys ≡ now (keys .entry)) × (r .held ≡ now (held .entry))) (λ s. going (get (key .0) s)) e ⌝ }
 {
     let i = slot(keys, c.memo, c.greatest, key);
@@ -754,7 +623,7 @@ fn get(keys: &[u32], held: &[u16], c: Counts, key: MemoKey) -> Effect
 }
 
 pub fn get_by(pickle: &[u8], keys: &[u32], held: &[u16], c: Counts, form: KeyForm) -> Effect
-    requires { ⌜ Lent c (λ r. (r .pickle ≡ now pickle) × (r .keys ≡ now keys) × (r .held ≡ now held)) ⌝ }
+    requires { ⌜ SomeRooms c (λ r. (r .pickle ≡ now pickle) × (r .keys ≡ now keys) × (r .held ≡ now held)) ⌝ }
     ensures { λ e.
         ⌜ Decides c
         (λ r. (r .pickle ≡ now (pickle .entry)) × (r .keys ≡ now (keys .entry)) × (r .held ≡ now (held .entry)))
@@ -768,7 +637,7 @@ pub fn get_by(pickle: &[u8], keys: &[u32], held: &[u16], c: Counts, form: KeyFor
 
 // The top, kept under a memo number.
 fn put(stack: &[u16], c: Counts, key: MemoKey) -> Effect
-    requires { ⌜ Lent c (λ r. r .stack ≡ now stack) ⌝ }
+    requires { ⌜ SomeRooms c (λ r. r .stack ≡ now stack) ⌝ }
     ensures { λ e. ⌜ Decides c (λ r. r .stack ≡ now (stack .entry)) (λ s. going (put (key .0) s)) e ⌝ }
 {
     if c.stack == 0 {
@@ -779,7 +648,7 @@ fn put(stack: &[u16], c: Counts, key: MemoKey) -> Effect
 }
 
 pub fn put_by(pickle: &[u8], stack: &[u16], c: Counts, form: KeyForm) -> Effect
-    requires { ⌜ Lent c (λ r. (r .pickle ≡ now pickle) × (r .stack ≡ now stack)) ⌝ }
+    requires { ⌜ SomeRooms c (λ r. (r .pickle ≡ now pickle) × (r .stack ≡ now stack)) ⌝ }
     ensures { λ e.
         ⌜ Decides c (λ r. (r .pickle ≡ now (pickle .entry)) × (r .stack ≡ now (stack .entry)))
         (λ s. going (putBy form s)) e ⌝ }
@@ -816,7 +685,7 @@ fn second_word(nodes: &[u64], id: NodeId) -> u64
 
 // The two topmost values, if they are a class and its arguments.
 fn class_and_arguments(nodes: &[u64], stack: &[u16], c: Counts) -> CallRead
-    requires { ⌜ Lent c (λ r. (r .nodes ≡ now nodes) × (r .stack ≡ now stack)) ⌝ }
+    requires { ⌜ SomeRooms c (λ r. (r .nodes ≡ now nodes) × (r .stack ≡ now stack)) ⌝ }
     ensures { λ k. ⌜ ReadsCall c (now (nodes .entry)) (now (stack .entry)) k ⌝ }
 {
     if c.stack < 2 {
@@ -826,10 +695,10 @@ fn class_and_arguments(nodes: &[u64], stack: &[u16], c: Counts) -> CallRead
     let j = c.stack - 1;
     let class = NodeId(stack[i] as usize);
     let arguments = NodeId(stack[j] as usize);
-    if kind(nodes, class) != KIND_GLOBAL {
+    if kind(nodes, class) != value::GLOBAL {
         return CallRead::None(Refusal::Invalid(Wanted::Class));
     }
-    if kind(nodes, arguments) != KIND_TUPLE {
+    if kind(nodes, arguments) != value::TUPLE {
         return CallRead::None(Refusal::Invalid(Wanted::Arguments));
     }
     CallRead::Of(class, arguments)
@@ -870,7 +739,7 @@ fn made_kind(pickle: &[u8], a: u64, b: u64, n: u64) -> u64
     ensures { λ r. ⌜ r ≡ madeKind (moduleOf (now (pickle .entry)) a) (nameOf (now (pickle .entry)) b) n ⌝ }
 {
     if 1 < n {
-        return KIND_OBJECT;
+        return value::OBJECT;
     }
     let m = a / 16;
     if same_text(
@@ -883,13 +752,13 @@ fn made_kind(pickle: &[u8], a: u64, b: u64, n: u64) -> u64
             (b / 0x1_0000_0000) as usize,
         );
         if same_text(name, b"set") {
-            return KIND_SET;
+            return value::SET;
         }
         if same_text(name, b"frozenset") {
-            return KIND_FROZEN_SET;
+            return value::FROZEN_SET;
         }
     }
-    KIND_OBJECT
+    value::OBJECT
 }
 
 // The one item of a tuple with the second word `word`: its links stand together, from the place in the high half on.
@@ -910,7 +779,7 @@ fn reduced(
     class: NodeId,
     arguments: NodeId,
 ) -> Effect
-    requires { ⌜ Lent c (λ r. (r .pickle ≡ now pickle) × (r .nodes ≡ now nodes) × (r .children ≡ now children) × Calls c r (class .0) (arguments .0)) ⌝ }
+    requires { ⌜ SomeRooms c (λ r. (r .pickle ≡ now pickle) × (r .nodes ≡ now nodes) × (r .children ≡ now children) × Calls c r (class .0) (arguments .0)) ⌝ }
     ensures { λ e. ⌜ Decides c (λ r. (r .pickle ≡ now (pickle .entry)) × (r .nodes ≡ now (nodes .entry)) × (r .children ≡ now (children .entry)) × Calls c r (class .0) (arguments .0)) (λ s. going (reduce s)) e ⌝ }
 {
     let word = second_word(nodes, arguments);
@@ -922,8 +791,12 @@ fn reduced(
         n,
     );
     let rest = cut(c, c.at, c.stack - 2, c.marks);
-    if made == KIND_OBJECT {
-        return Effect::Push(rest, KIND_OBJECT + 64 * class.0 as u64, arguments.0 as u64);
+    if made == value::OBJECT {
+        return Effect::Push(
+            rest,
+            value::OBJECT + 64 * class.0 as u64,
+            arguments.0 as u64,
+        );
     }
     // A set of no argument has the empty tuple of arguments.
     if n == 0 {
@@ -934,7 +807,7 @@ fn reduced(
 }
 
 pub fn reduce(pickle: &[u8], nodes: &[u64], children: &[u16], stack: &[u16], c: Counts) -> Effect
-    requires { ⌜ Lent c (λ r. (r .pickle ≡ now pickle) × (r .nodes ≡ now nodes) × (r .children ≡ now children) × (r .stack ≡ now stack)) ⌝ }
+    requires { ⌜ SomeRooms c (λ r. (r .pickle ≡ now pickle) × (r .nodes ≡ now nodes) × (r .children ≡ now children) × (r .stack ≡ now stack)) ⌝ }
     ensures { λ e. ⌜ Decides c (λ r. (r .pickle ≡ now (pickle .entry)) × (r .nodes ≡ now (nodes .entry)) × (r .children ≡ now (children .entry)) × (r .stack ≡ now (stack .entry))) (λ s. going (reduce s)) e ⌝ }
 {
     match class_and_arguments(nodes, stack, c) {
@@ -945,14 +818,14 @@ pub fn reduce(pickle: &[u8], nodes: &[u64], children: &[u16], stack: &[u16], c: 
 
 // Never a set.
 pub fn newobj(nodes: &[u64], stack: &[u16], c: Counts) -> Effect
-    requires { ⌜ Lent c (λ r. (r .nodes ≡ now nodes) × (r .stack ≡ now stack)) ⌝ }
+    requires { ⌜ SomeRooms c (λ r. (r .nodes ≡ now nodes) × (r .stack ≡ now stack)) ⌝ }
     ensures { λ e. ⌜ Decides c (λ r. (r .nodes ≡ now (nodes .entry)) × (r .stack ≡ now (stack .entry))) (λ s. going (newobj s)) e ⌝ }
 {
     match class_and_arguments(nodes, stack, c) {
         CallRead::None(why) => Effect::Refused(c, 0, 0, why),
         CallRead::Of(class, arguments) => Effect::Push(
             cut(c, c.at, c.stack - 2, c.marks),
-            KIND_OBJECT + 16 + 64 * class.0 as u64,
+            value::OBJECT + 16 + 64 * class.0 as u64,
             arguments.0 as u64,
         ),
     }
@@ -960,7 +833,7 @@ pub fn newobj(nodes: &[u64], stack: &[u16], c: Counts) -> Effect
 
 // The top is the state of the Object below it.
 pub fn build_state(nodes: &[u64], stack: &[u16], c: Counts) -> Effect
-    requires { ⌜ Lent c (λ r. (r .nodes ≡ now nodes) × (r .stack ≡ now stack)) ⌝ }
+    requires { ⌜ SomeRooms c (λ r. (r .nodes ≡ now nodes) × (r .stack ≡ now stack)) ⌝ }
     ensures { λ e. ⌜ Decides c (λ r. (r .nodes ≡ now (nodes .entry)) × (r .stack ≡ now (stack .entry))) (λ s. going (buildState s)) e ⌝ }
 {
     if c.stack < 2 {
@@ -970,7 +843,7 @@ pub fn build_state(nodes: &[u64], stack: &[u16], c: Counts) -> Effect
     let j = c.stack - 1;
     let object = NodeId(stack[i] as usize);
     let state = NodeId(stack[j] as usize);
-    if kind(nodes, object) != KIND_OBJECT {
+    if kind(nodes, object) != value::OBJECT {
         return Effect::Refused(c, 0, 0, Refusal::Invalid(Wanted::Object));
     }
     Effect::Build(cut(c, c.at, j, c.marks), object, state)

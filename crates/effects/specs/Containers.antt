@@ -8,17 +8,17 @@ use borrow.Author.Tests.{le-leb, lt-leb, lt-ltb, le-ltb}
 use native.Mathlib.Omega.{arith}
 use Rattle.refusal.specs.declared.Refusal.the-variants.{LinksFull, NodesFull, StackFull}
 use Rattle.value.specs.Value.{Label}
-use Rattle.decoder.specs.declared.Counts.{Counts}
-use Rattle.decoder.specs.declared.Effect.the-variants.{Make, Extend}
-use Rattle.steps.specs.State.{State, Node, plain, ok, no, _>>=_, need, nodesLimit, stackLimit, linksLimit, withNodes, withLinks, pushId, pushNode, link, extend}
+use Rattle.store.specs.declared.Counts.{Counts}
+use Rattle.store.specs.declared.Effect.the-variants.{Make, Extend}
+use Rattle.steps.specs.State.{State, Node, kidless, ok, no, _>>=_, need, nodesLimit, stackLimit, linksLimit, withNodes, withLinks, pushId, pushNode, link, extend}
 use Rattle.steps.specs.Opcodes.{made}
 use Rattle.steps.specs.Run.{going}
-use Rattle.decoder.specs.Rooms.{Rooms, stateOf, stackIn, linksTo, Class}
+use Rattle.store.specs.Rooms.{Rooms, stateOf, stackIn, linksTo, Class}
 use Rattle.steps.specs.NodeWords.{nodeIs, wordsSet, HoldsLinks, aList, aTuple, aDict, first-set, second-set, holds-below, node-count}
-use Rattle.decoder.specs.RoomReads.{nodes-length, stack-length, links-of}
-use Rattle.decoder.specs.RoomKeeps.{Empty, class-none}
-use Rattle.decoder.specs.RoomLinks.{extend-new}
-use Rattle.decoder.specs.Effects.{Firm, Fits, enacted, container, grow, above}
+use Rattle.store.specs.RoomReads.{nodes-length, stack-length, links-of}
+use Rattle.store.specs.RoomKeeps.{Empty, class-none}
+use Rattle.store.specs.RoomLinks.{extend-new}
+use Rattle.store.specs.Effects.{Firm, Fits, enacted, container, grow, above}
 use Rattle.effects.specs.declared.Step.{Step}
 use Rattle.effects.specs.declared.Step.the-variants as step
 use Rattle.effects.specs.Done.{meant, Stays, Done, done-refused, pushedTo, words-plus}
@@ -100,11 +100,11 @@ module _ (r : Rooms) (c : Counts) where
 -- ---- a container made
 
 -- without links it is its label alone
-plain-made : (p ws : List ℕ) (k b : ℕ) → HoldsLinks k → nodeIs p ws [] k b ≡ plain (nodeIs p ws [] k b .label)
+kidless-made : (p ws : List ℕ) (k b : ℕ) → HoldsLinks k → nodeIs p ws [] k b ≡ kidless (nodeIs p ws [] k b .label)
 unfolding nodeIs
-plain-made p ws k b (aList e) = rw e
-plain-made p ws k b (aTuple e) = rw e
-plain-made p ws k b (aDict e) = rw e
+kidless-made p ws k b (aList e) = rw e
+kidless-made p ws k b (aTuple e) = rw e
+kidless-made p ws k b (aDict e) = rw e
 
 module _ (r : Rooms) (c : Counts) (k had : ℕ) (f : Fits (Make c k) r had) where
   pub firm : Firm r c
@@ -172,18 +172,18 @@ module _ (r : Rooms) (c : Counts) (k had : ℕ) (f : Fits (Make c k) r had) wher
       none : Class (r .nodes) (c .nodes) k
       none = class-none (r .nodes) (c .nodes) k (λ e. let v = holds-below k kin in omega arith)
 
-      pub bare-firm : Firm r₁ c₁
+      pub made-firm : Firm r₁ c₁
       unfolding Empty
-      bare-firm = node-firm r c firm l k word none (λ t. let x = word-parts .1 in (word-parts .0, omega arith))
+      made-firm = node-firm r c firm l k word none (λ t. let x = word-parts .1 in (word-parts .0, omega arith))
 
-      bare : stateOf r₁ c₁ ≡ withNodes (stateOf r c) (stateOf r c .nodes ++ (plain label ∷ []))
-      bare = node-pushed r c firm l k word none ∙ ap (λ (x : Node). withNodes (stateOf r c) (stateOf r c .nodes ++ (x ∷ []))) (node-count (r .pickle) k 0 [] (r .nodes) word kin ∙ plain-made (r .pickle) (r .nodes) k 0 kin)
+      made-node : stateOf r₁ c₁ ≡ withNodes (stateOf r c) (stateOf r c .nodes ++ (kidless label ∷ []))
+      made-node = node-pushed r c firm l k word none ∙ ap (λ (x : Node). withNodes (stateOf r c) (stateOf r c .nodes ++ (x ∷ []))) (node-count (r .pickle) k 0 [] (r .nodes) word kin ∙ kidless-made (r .pickle) (r .nodes) k 0 kin)
 
       module _ (ns ws cs : List ℕ) (d : Linked r₁ c₁ (c .nodes) is n ns ws cs) where
         filled : stateOf (linkedIn r₁ ns ws cs) (linksTo c₁ n) ≡ withNodes (withLinks (stateOf r c) n) (stateOf r c .nodes ++ (record { label = label; kids = is } ∷ []))
         filled =
-            d .state ∙ ap (λ (x : State). extend (c .nodes) is (withLinks x n)) bare
-            ∙ ap (λ (i : ℕ). extend i is (withNodes (withLinks (stateOf r c) n) (stateOf r c .nodes ++ (plain label ∷ [])))) (sym (nodes-length r c))
+            d .state ∙ ap (λ (x : State). extend (c .nodes) is (withLinks x n)) made-node
+            ∙ ap (λ (i : ℕ). extend i is (withNodes (withLinks (stateOf r c) n) (stateOf r c .nodes ++ (kidless label ∷ [])))) (sym (nodes-length r c))
             ∙ extend-new is label (withLinks (stateOf r c) n)
 
         pub make-done : c .stack < stackLimit → Done (step.Next (pushedTo c (c .nodes + 1) n)) r (stackIn (linkedIn r ns ws cs) (set (r .stack) (c .stack) (c .nodes))) (enacted (Make c k) r had)
@@ -195,7 +195,7 @@ module _ (r : Rooms) (c : Counts) (k had : ℕ) (f : Fits (Make c k) r had) wher
 
 -- ---- of the lists that were lent
 
-module _ (nodes owners children stack : List ℕ) (c : Counts) (k had : ℕ) (a : Makeable nodes owners children stack c k had) where
+module _ {nodes owners children stack : List ℕ} {c : Counts} {k had : ℕ} (a : Makeable nodes owners children stack c k had) where
   pub make-rooms : (8192 ≤ length nodes) × (2048 ≤ length stack) × (c .links ≤ 8192) × (c .stack ≤ had) × (had ≤ 2048)
   unfolding Fits
   make-rooms =
@@ -220,7 +220,7 @@ module _ (nodes owners children stack : List ℕ) (c : Counts) (k had : ℕ) (a 
         children-are = a .children-are;
         stack-is = refl;
         links-are = refl;
-        firm = bare-firm (a .rooms) c k had (a .fits) h l;
+        firm = made-firm (a .rooms) c k had (a .fits) h l;
         inside = omega arith;
         holds = rw (first-set nodes (c .nodes) k (c .links * 2 ^ 32) (omega arith)) (kin (a .rooms) c k had (a .fits));
         end = rw (second-set nodes (c .nodes) k (c .links * 2 ^ 32) (omega arith)) (λ t. omega arith);
@@ -237,7 +237,7 @@ module _ (nodes owners children stack : List ℕ) (c : Counts) (k had : ℕ) (a 
       let v = make-rooms in
       let x = v .0 in
       rw (e, ← t) (make-done r c k had f h l ns ws cs
-      (rw (e, ← t) at (d (r₁ r c k had f h l) (c₁ r c k had f h l) (ap (λ (y : List ℕ). wordsSet y (c .nodes) k (c .links * 2 ^ 32)) p ∙ sym (words-plus nodes (c .nodes) k (c .links * 2 ^ 32))) q s refl refl (bare-firm r c k had f h l) (omega arith)
+      (rw (e, ← t) at (d (r₁ r c k had f h l) (c₁ r c k had f h l) (ap (λ (y : List ℕ). wordsSet y (c .nodes) k (c .links * 2 ^ 32)) p ∙ sym (words-plus nodes (c .nodes) k (c .links * 2 ^ 32))) q s refl refl (made-firm r c k had f h l) (omega arith)
       (rw (words-plus nodes (c .nodes) k (c .links * 2 ^ 32), first-set nodes (c .nodes) k (c .links * 2 ^ 32) (omega arith)) (kin r c k had f))
       (rw (words-plus nodes (c .nodes) k (c .links * 2 ^ 32), second-set nodes (c .nodes) k (c .links * 2 ^ 32) (omega arith)) (λ z. omega arith)))) m)
 
@@ -253,7 +253,7 @@ module _ (nodes owners children stack : List ℕ) (c : Counts) (k had : ℕ) (a 
   unfolding MakesNode
   make-high-lent h l m r p q s t f = rw (← p, ← q, ← s, ← t) (make-high r c k had f h l m)
 
-module _ (nodes owners children stack : List ℕ) (c : Counts) (o had : ℕ) (a : Extendable nodes owners children stack c o had) where
+module _ {nodes owners children stack : List ℕ} {c : Counts} {o had : ℕ} (a : Extendable nodes owners children stack c o had) where
   pub extend-rooms : (c .links ≤ 8192) × (c .stack ≤ had)
   unfolding Fits
   extend-rooms = (a .fits .0 .links, a .fits .1)

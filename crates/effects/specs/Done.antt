@@ -7,12 +7,12 @@ use lib.Seq.{getD-set-other}
 use native.Mathlib.Numerals.{add-one}
 use native.Mathlib.Omega.{arith}
 use Rattle.refusal.specs.declared.Refusal.{Refusal}
-use Rattle.decoder.specs.declared.Counts.{Counts}
+use Rattle.store.specs.declared.Counts.{Counts}
 use Rattle.steps.specs.State.{Res, ok, no}
 use Rattle.steps.specs.Run.{Next, goes, stops}
-use Rattle.decoder.specs.Rooms.{Rooms, stateOf}
+use Rattle.store.specs.Rooms.{Rooms, stateOf}
 use Rattle.steps.specs.NodeWords.{wordsSet}
-use Rattle.decoder.specs.Effects.{Firm, Blank}
+use Rattle.store.specs.Effects.{Firm, ZeroFrom}
 use Rattle.effects.specs.declared.Step.{Step}
 use Rattle.effects.specs.declared.Step.the-variants as step
 
@@ -43,13 +43,13 @@ pushedTo c n l = record { at = c .at; nodes = n; links = l; stack = c .stack + 1
 
 -- ---- zero from a number on
 
-module _ (n m : ℕ) (l : List ℕ) (h : Blank n l) (k : n ≤ m) where
-  pub blank-more : Blank m l
-  unfolding Blank
+module _ (n m : ℕ) (l : List ℕ) (h : ZeroFrom n l) (k : n ≤ m) where
+  pub blank-more : ZeroFrom m l
+  unfolding ZeroFrom
   blank-more i j = h i (omega arith)
 
-  pub blank-set : (p x : ℕ) → p < m → Blank m (set l p x)
-  unfolding Blank
+  pub blank-set : (p x : ℕ) → p < m → ZeroFrom m (set l p x)
+  unfolding ZeroFrom
   blank-set p x q i j = getD-set-other l p i x 0 (λ e. omega arith) ∙ h i (omega arith)
 
 -- a node's two words, one after the other

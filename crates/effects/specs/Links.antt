@@ -9,14 +9,14 @@ use lib.Dec.{eqb}
 use native.Mathlib.Numerals.{add-one}
 use native.Mathlib.Omega.{arith}
 use Rattle.value.specs.Shape.{kindIn}
-use Rattle.decoder.specs.declared.Counts.{Counts}
-use Rattle.steps.specs.State.{_>>=_, linksLimit, withLinks, extend}
-use Rattle.decoder.specs.Rooms.{Rooms, items, stateOf, wordsIn, logIn, linksTo, Counted}
+use Rattle.store.specs.declared.Counts.{Counts}
+use Rattle.steps.specs.State.{linksLimit, withLinks, extend}
+use Rattle.store.specs.Rooms.{Rooms, items, stateOf, wordsIn, logIn, linksTo, Counted}
 use Rattle.steps.specs.NodeWords.{first, second, HoldsLinks}
-use Rattle.decoder.specs.RoomReads.{nodes-length}
-use Rattle.decoder.specs.RoomKeeps.{kept-link, suc-low, suc-high}
-use Rattle.decoder.specs.RoomLinks.{extend-none, link-next, link-counted}
-use Rattle.decoder.specs.Effects.{Firm, above}
+use Rattle.store.specs.RoomReads.{nodes-length}
+use Rattle.store.specs.RoomKeeps.{kept-link, suc-low, suc-high}
+use Rattle.store.specs.RoomLinks.{extend-none, link-next, link-counted}
+use Rattle.store.specs.Effects.{Firm, above}
 use Rattle.effects.specs.Done.{blank-set}
 
 -- ---- one link after the other

@@ -7,17 +7,17 @@ use borrow.Author.Tests.{lt-ltb, le-ltb}
 use native.Mathlib.Numerals.{add-one}
 use native.Mathlib.Omega.{arith}
 use Rattle.refusal.specs.declared.Refusal.the-variants.{NodesFull, StackFull, MarksFull}
-use Rattle.decoder.specs.declared.Counts.{Counts}
-use Rattle.decoder.specs.declared.Effect.the-variants.{Push, Share, Mark}
+use Rattle.store.specs.declared.Counts.{Counts}
+use Rattle.store.specs.declared.Effect.the-variants.{Push, Share, Mark}
 use Rattle.steps.specs.State.{Node, ok, no, _>>=_, need, nodesLimit, stackLimit, marksLimit, withNodes, withStack, withMarks, pushId, pushNode}
 use Rattle.steps.specs.Opcodes.{mark}
 use Rattle.steps.specs.Run.{going}
-use Rattle.decoder.specs.Rooms.{Rooms, stateOf, wordsIn, stackIn, marksIn, nodesTo, stackTo, marksTo, Class}
+use Rattle.store.specs.Rooms.{Rooms, stateOf, wordsIn, stackIn, marksIn, nodesTo, stackTo, marksTo, Class}
 use Rattle.steps.specs.NodeWords.{nodeIs, wordsSet}
-use Rattle.decoder.specs.RoomLaws.{node-more, stack-more, marks-more}
-use Rattle.decoder.specs.RoomReads.{nodes-length, stack-length, marks-length}
-use Rattle.decoder.specs.RoomKeeps.{Empty, empty-zero, kept-node}
-use Rattle.decoder.specs.Effects.{Firm, Fits, enacted}
+use Rattle.store.specs.RoomLaws.{node-more, stack-more, marks-more}
+use Rattle.store.specs.RoomReads.{nodes-length, stack-length, marks-length}
+use Rattle.store.specs.RoomKeeps.{Empty, empty-zero, kept-node}
+use Rattle.store.specs.Effects.{Firm, Fits, enacted}
 use Rattle.effects.specs.declared.Step.{Step}
 use Rattle.effects.specs.declared.Step.the-variants as step
 use Rattle.effects.specs.Done.{meant, Stays, Done, done-refused, pushedTo, blank-set}

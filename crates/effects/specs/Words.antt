@@ -7,15 +7,15 @@ use lib.ListN.{length, length-set, getD, set}
 use native.Mathlib.Numerals.{add-one}
 use native.Mathlib.Omega.{arith}
 use Rattle.value.specs.Shape.{stateIn}
-use Rattle.decoder.specs.declared.Counts.{Counts}
-use Rattle.decoder.specs.declared.Effect.the-variants.{Build}
+use Rattle.store.specs.declared.Counts.{Counts}
+use Rattle.store.specs.declared.Effect.the-variants.{Build}
 use Rattle.steps.specs.State.{State, ok}
 use Rattle.steps.specs.Run.{goes}
-use Rattle.decoder.specs.Rooms.{Rooms, wordsIn, Class, Classed}
+use Rattle.store.specs.Rooms.{Rooms, wordsIn, Class, Classed}
 use Rattle.steps.specs.NodeWords.{first, second, wordsSet, classIn, state-set}
-use Rattle.decoder.specs.RoomLaws.{build-set}
-use Rattle.decoder.specs.RoomKeeps.{kept-build}
-use Rattle.decoder.specs.Effects.{Fits, enacted, state}
+use Rattle.store.specs.RoomLaws.{build-set}
+use Rattle.store.specs.RoomKeeps.{kept-build}
+use Rattle.store.specs.Effects.{Fits, enacted, state}
 use Rattle.effects.specs.declared.Step.{Step}
 use Rattle.effects.specs.declared.Step.the-variants as step
 use Rattle.effects.specs.Done.{meant, Stays, Done, words-plus, blank-set}

@@ -1,10 +1,10 @@
 // The effects of the opcodes on the rooms (the second half of `Decoder`'s methods: push, push_id, put, extend): each tests the limits that
 // document 01 adds, in its order, and then writes only the rooms that it changes. On a refusal no room is changed.
-use decoder::Counts;
-use decoder::MemoKey;
-use decoder::NodeId;
-use decoder::slot;
 use refusal::Refusal;
+use store::Counts;
+use store::MemoKey;
+use store::NodeId;
+use store::slot;
 ghost use mathlib.Core.Bool.{cond};
 ghost use mathlib.Core.Path.{_≡_};
 ghost use Prim.Native.Nat.{_+_, _-_, _*_, _^_, _%_, _<_, _≤_, max};

@@ -20,7 +20,7 @@ use Rattle.resolved.specs.Noted.{isContainer, leafOf}
 use Rattle.resolved.specs.Moved.{moves, moved}
 use Rattle.resolved.specs.Written.{Part, Written, written-none, written-node, written-again}
 use Rattle.resolved.specs.Shown.{Shown, labelOf}
-use Rattle.texts.specs.Readable.{Readable, shown-readable, spelled-mark}
+use Rattle.texts.specs.Readable.{Readable, shown-readable, spelled-measure}
 use Rattle.emit.specs.Stores.{sets-before, sets-behind, sets-there}
 use Rattle.emit.specs.Words.{place, recordIn, textIn, writtenW, written-record, written-size, written-text, written-long, kindOf, kind-same, boxed, recordFrom, container-is}
 use Rattle.emit.specs.Places.{written-copyable}
@@ -29,7 +29,7 @@ use Rattle.emit.specs.Since.{Stored, Since, since-leaf, since-stored}
 
 -- ---- given
 
--- the nodes t and the graph h as the rooms show them, with the marks m from before anything was written
+-- the nodes t and the graph h as the rooms show them, with the measures m from before anything was written
 pub record Begun (t : List Node) (h : Kids) (done m p d ws starts children log : List ℕ) : Type 0 where
   pub shown : Shown t h (Final 4096 done) p d ws starts children log m
   -- an Object has its arguments and any state
@@ -44,7 +44,7 @@ pub record HasRoom (v : Value) (to : ℕ) (table bytes : List ℕ) : Type 0 wher
   pub text-long : 65536 ≤ length bytes
 
 -- node i stands for the value v
-pub record ReadyNode (p d ws starts children log : List ℕ) (i to : ℕ) (marks table bytes : List ℕ) : Type 0 where
+pub record ReadyNode (p d ws starts children log : List ℕ) (i to : ℕ) (measures table bytes : List ℕ) : Type 0 where
   pub t : List Node
   pub h : Kids
   pub done : List ℕ
@@ -54,21 +54,21 @@ pub record ReadyNode (p d ws starts children log : List ℕ) (i to : ℕ) (marks
   pub known : Final 4096 done i
   pub stands : StandsFor t h i v
   pub fits : HasRoom v to table bytes
-  pub marks-long : length marks ≡ length m
-  pub since : Since t h table bytes 0 (recordIn to) (textIn to) m marks
+  pub measures-long : length measures ≡ length m
+  pub since : Since t h table bytes 0 (recordIn to) (textIn to) m measures
 
 -- it needs no walk
-pub record Flat (p d ws : List ℕ) (i to : ℕ) (marks table bytes : List ℕ) : Type 0 where
+pub record Flat (p d ws : List ℕ) (i to : ℕ) (measures table bytes : List ℕ) : Type 0 where
   pub starts : List ℕ
   pub children : List ℕ
   pub log : List ℕ
-  pub ready : ReadyNode p d ws starts children log i to marks table bytes
-  pub closed : opened ws marks i ≡ false
+  pub ready : ReadyNode p d ws starts children log i to measures table bytes
+  pub closed : opened ws measures i ≡ false
 
 -- it is to be walked, with so many levels left
-pub record Open (p d ws starts children log : List ℕ) (levels i to : ℕ) (marks table bytes : List ℕ) : Type 0 where
-  pub ready : ReadyNode p d ws starts children log i to marks table bytes
-  pub unclosed : opened ws marks i ≡ true
+pub record Open (p d ws starts children log : List ℕ) (levels i to : ℕ) (measures table bytes : List ℕ) : Type 0 where
+  pub ready : ReadyNode p d ws starts children log i to measures table bytes
+  pub unclosed : opened ws measures i ≡ true
   pub deep : depth (one (ready .v)) ≤ levels
 
 -- ---- made
@@ -81,9 +81,9 @@ pub record Made (t : List Node) (h : Kids) (v : Value) (i to : ℕ) (table bytes
   pub text-before : take (textIn to) bytes′ ≡ take (textIn to) bytes
   pub text-behind : drop (textIn to + length (text (one v))) bytes′ ≡ drop (textIn to + length (text (one v))) bytes
 
-pub record Wrote (t : List Node) (h : Kids) (v : Value) (i to : ℕ) (marks table bytes marks′ table′ bytes′ : List ℕ) (r : ℕ) : Type 0 where
+pub record Wrote (t : List Node) (h : Kids) (v : Value) (i to : ℕ) (measures table bytes measures′ table′ bytes′ : List ℕ) (r : ℕ) : Type 0 where
   pub made : Made t h v i to table bytes table′ bytes′ r
-  pub since : Since t h table′ bytes′ (recordIn to) (recordIn to + size (one v)) (textIn to + length (text (one v))) marks marks′
+  pub since : Since t h table′ bytes′ (recordIn to) (recordIn to + size (one v)) (textIn to + length (text (one v))) measures measures′
 
 -- ---- sizes
 
@@ -103,7 +103,7 @@ no-node (x ∷ t) (suc i) h = no-node t i (omega arith)
 
 -- ---- what is there
 
-module _ {p d ws starts children log : List ℕ} {i to : ℕ} {marks table bytes : List ℕ} (R : ReadyNode p d ws starts children log i to marks table bytes) where
+module _ {p d ws starts children log : List ℕ} {i to : ℕ} {measures table bytes : List ℕ} (R : ReadyNode p d ws starts children log i to measures table bytes) where
   ready-nodes : (i ≡ 4096) ⊎ (i < length (R .t))
   ready-nodes = R .begun .shown .nodes i (R .known)
 
@@ -121,13 +121,13 @@ module _ {p d ws starts children log : List ℕ} {i to : ℕ} {marks table bytes
       go (inl e) = absurd (omega arith)
       go (inr l) = l
 
-  pub ready-inside : i < 4096 → (2 * i < length ws) × (i < length marks)
-  ready-inside h = let b = ready-below h in (omega (arith, R .begun .shown .words-long), omega (arith, R .begun .shown .marks-long, R .marks-long))
+  pub ready-inside : i < 4096 → (2 * i < length ws) × (i < length measures)
+  ready-inside h = let b = ready-below h in (omega (arith, R .begun .shown .words-long), omega (arith, R .begun .shown .measures-long, R .measures-long))
 
-  pub ready-readable : i < 4096 → Readable ws marks i
+  pub ready-readable : i < 4096 → Readable ws measures i
   ready-readable h =
       let r = shown-readable (R .t) (R .h) (Final 4096 (R .done)) p d ws starts children log (R .m) i (R .begun .shown) (ready-below h) in
-      record { words = r .words; marked = rw (R .marks-long) (r .marked); class = r .class }
+      record { words = r .words; measured = rw (R .measures-long) (r .measured); class = r .class }
 
   pub ready-label : i < 4096 → at (R .t) i .label ≡ labelOf p ws i
   ready-label h = R .begun .shown .labels-are i (ready-below h)
@@ -135,13 +135,13 @@ module _ {p d ws starts children log : List ℕ} {i to : ℕ} {marks table bytes
   pub ready-boxed : i < 4096 → isContainer (at (R .t) i .label) ≡ boxed (kindOf (first ws i))
   ready-boxed h = ap isContainer (ready-label h) ∙ container-is p ws i
 
-  -- its text, where its mark is as it was
-  pub ready-text : i < 4096 → getD marks i 0 ≡ getD (R .m) i 0 → textIn to + length (textOf (labelOf p ws i)) ≤ 65536 → TextReady p d ws marks i bytes (textIn to)
+  -- its text, where its measure is as it was
+  pub ready-text : i < 4096 → getD measures i 0 ≡ getD (R .m) i 0 → textIn to + length (textOf (labelOf p ws i)) ≤ 65536 → TextReady p d ws measures i bytes (textIn to)
   ready-text h e l =
       let q = ready-label h in
       record {
         readable = ready-readable h;
-        spelled = λ x. rw (← q) (spelled-mark p d ws (R .m) marks i (at (R .t) i .label) e (R .begun .shown .spelled i (R .known) (ready-below h) (rw q x)));
+        spelled = λ x. rw (← q) (spelled-measure p d ws (R .m) measures i (at (R .t) i .label) e (R .begun .shown .spelled i (R .known) (ready-below h) (rw q x)));
         room = omega (arith, R .fits .text-long);
         short = omega arith;
       }
@@ -196,30 +196,30 @@ module _ (t : List Node) (h : Kids) (v : Value) (i to : ℕ) (table bytes : List
   text-there : x .p + length (text (one v)) ≤ textIn to
   text-there = rw (← same-value) (x .text-end)
 
-  mark-there : w ≡ writtenW (x .a) (size (one v)) (x .p) (length (text (one v)))
-  mark-there = rw (← same-value) (x .mark)
+  measure-there : w ≡ writtenW (x .a) (size (one v)) (x .p) (length (text (one v)))
+  measure-there = rw (← same-value) (x .measure)
 
   written-there : Written t h table bytes (i ∷ []) (one v) (x .a) (x .p)
   written-there = rw (← same-value) (x .written)
 
-  mark-record : w % 2 ^ 12 ≡ x .a
-  mark-record = rw mark-there (written-record (x .a) (size (one v)) (x .p) (length (text (one v))) (omega (arith, records-there, f .records)) (omega (arith, f .records)) (omega (arith, text-there, f .texts)) (omega (arith, f .texts)))
+  measure-record : w % 2 ^ 12 ≡ x .a
+  measure-record = rw measure-there (written-record (x .a) (size (one v)) (x .p) (length (text (one v))) (omega (arith, records-there, f .records)) (omega (arith, f .records)) (omega (arith, text-there, f .texts)) (omega (arith, f .texts)))
 
-  mark-size : w / 2 ^ 12 % 2 ^ 12 ≡ size (one v)
-  mark-size = rw mark-there (written-size (x .a) (size (one v)) (x .p) (length (text (one v))) (omega (arith, records-there, f .records)) (omega (arith, f .records)) (omega (arith, text-there, f .texts)) (omega (arith, f .texts)))
+  measure-size : w / 2 ^ 12 % 2 ^ 12 ≡ size (one v)
+  measure-size = rw measure-there (written-size (x .a) (size (one v)) (x .p) (length (text (one v))) (omega (arith, records-there, f .records)) (omega (arith, f .records)) (omega (arith, text-there, f .texts)) (omega (arith, f .texts)))
 
-  mark-text : w / 2 ^ 24 % 2 ^ 17 ≡ x .p
-  mark-text = rw mark-there (written-text (x .a) (size (one v)) (x .p) (length (text (one v))) (omega (arith, records-there, f .records)) (omega (arith, f .records)) (omega (arith, text-there, f .texts)) (omega (arith, f .texts)))
+  measure-text : w / 2 ^ 24 % 2 ^ 17 ≡ x .p
+  measure-text = rw measure-there (written-text (x .a) (size (one v)) (x .p) (length (text (one v))) (omega (arith, records-there, f .records)) (omega (arith, f .records)) (omega (arith, text-there, f .texts)) (omega (arith, f .texts)))
 
-  mark-long : w / 2 ^ 41 % 2 ^ 17 ≡ length (text (one v))
-  mark-long = rw mark-there (written-long (x .a) (size (one v)) (x .p) (length (text (one v))) (omega (arith, records-there, f .records)) (omega (arith, f .records)) (omega (arith, text-there, f .texts)) (omega (arith, f .texts)))
+  measure-long : w / 2 ^ 41 % 2 ^ 17 ≡ length (text (one v))
+  measure-long = rw measure-there (written-long (x .a) (size (one v)) (x .p) (length (text (one v))) (omega (arith, records-there, f .records)) (omega (arith, f .records)) (omega (arith, text-there, f .texts)) (omega (arith, f .texts)))
 
   stored-copy : CopyReady w to table bytes
   stored-copy = record {
-    copyable = rw (mark-record, mark-size, mark-text) (written-copyable (x .a) (x .p) (recordIn to) (textIn to) written-there records-there (omega (arith, f .records, f .table-long)) (omega (arith, text-there, f .texts)) (omega (arith, f .texts)));
-    apart = rw (mark-text, mark-long) text-there;
-    room = rw mark-long (omega (arith, f .texts, f .text-long));
-    texts = rw mark-long (f .texts);
+    copyable = rw (measure-record, measure-size, measure-text) (written-copyable (x .a) (x .p) (recordIn to) (textIn to) written-there records-there (omega (arith, f .records, f .table-long)) (omega (arith, text-there, f .texts)) (omega (arith, f .texts)));
+    apart = rw (measure-text, measure-long) text-there;
+    room = rw measure-long (omega (arith, f .texts, f .text-long));
+    texts = rw measure-long (f .texts);
   }
 
   stored-made : (table′ bytes′ : List ℕ) (r : ℕ) → CopyPut w to table bytes table′ bytes′ r → Made t h v i to table bytes table′ bytes′ r
@@ -228,9 +228,9 @@ module _ (t : List Node) (h : Kids) (v : Value) (i to : ℕ) (table bytes : List
       let q = textIn to in
       let rs = moves (x .p) q (take (4 * size (one v)) (drop (4 * x .a) table)) in
       let bs = take (length (text (one v))) (drop (x .p) bytes) in
-      let e₁ : table′ ≡ sets table (4 * a) rs = rw (mark-record, mark-size, mark-text) at (y .table-is) in
-      let e₂ : bytes′ ≡ sets bytes q bs = rw (mark-text, mark-long) at (y .text-is) in
-      let e₃ = rw (mark-size, mark-long) at (y .next) in
+      let e₁ : table′ ≡ sets table (4 * a) rs = rw (measure-record, measure-size, measure-text) at (y .table-is) in
+      let e₂ : bytes′ ≡ sets bytes q bs = rw (measure-text, measure-long) at (y .text-is) in
+      let e₃ = rw (measure-size, measure-long) at (y .next) in
       let n₁ : length rs ≡ 4 * size (one v) = moves-length in
       let n₂ : length bs ≡ length (text (one v)) = ap length (written-there .text-is) in
       let g₁ : Part table′ (4 * a) rs = rw e₁ (sets-there table (4 * a) rs (omega (arith, f .records, f .table-long))) in
@@ -251,10 +251,10 @@ module _ (t : List Node) (h : Kids) (v : Value) (i to : ℕ) (table bytes : List
 
 -- ---- a node that needs no walk
 
-abbrev pub FlatWrites : (p d ws : List ℕ) (i to : ℕ) (marks table bytes table′ bytes′ : List ℕ) (r : ℕ) → Type 0
-FlatWrites p d ws i to marks table bytes table′ bytes′ r = (F : Flat p d ws i to marks table bytes) → Made (F .ready .t) (F .ready .h) (F .ready .v) i to table bytes table′ bytes′ r
+abbrev pub FlatWrites : (p d ws : List ℕ) (i to : ℕ) (measures table bytes table′ bytes′ : List ℕ) (r : ℕ) → Type 0
+FlatWrites p d ws i to measures table bytes table′ bytes′ r = (F : Flat p d ws i to measures table bytes) → Made (F .ready .t) (F .ready .h) (F .ready .v) i to table bytes table′ bytes′ r
 
-module _ {p d ws : List ℕ} {i to : ℕ} {marks table bytes : List ℕ} (F : Flat p d ws i to marks table bytes) where
+module _ {p d ws : List ℕ} {i to : ℕ} {measures table bytes : List ℕ} (F : Flat p d ws i to measures table bytes) where
   -- no node
   pub flat-none : (table′ words : List ℕ) (r : ℕ) → i ≡ 4096 → words ≡ recordFrom (kindOf 0) (newIn 0) 0 0 0 0 1 → table′ ≡ sets table (4 * recordIn to) words → r ≡ to + 1
       → Made (F .ready .t) (F .ready .h) (F .ready .v) i to table bytes table′ bytes r
@@ -269,25 +269,25 @@ module _ {p d ws : List ℕ} {i to : ℕ} {marks table bytes : List ℕ} (F : Fl
   module _ (u : i < 4096) where
     -- a container that is written
     module _ (b : boxed (kindOf (first ws i)) ≡ true) where
-      not-fresh : 2 ^ 63 ≤ getD marks i 0
+      not-fresh : 2 ^ 63 ≤ getD measures i 0
       unfolding opened
-      not-fresh = go (decLt (getD marks i 0) (2 ^ 63))
+      not-fresh = go (decLt (getD measures i 0) (2 ^ 63))
         where
-          go : Dec (getD marks i 0 < 2 ^ 63) → 2 ^ 63 ≤ getD marks i 0
+          go : Dec (getD measures i 0 < 2 ^ 63) → 2 ^ 63 ≤ getD measures i 0
           go (yes l) =
               let c : i ≢ 4096 = λ e. omega arith in
-              let x : true ≡ false = rw (ne-eqb i 4096 c, b, lt-ltb (getD marks i 0) (2 ^ 63) l) at (F .closed) in
+              let x : true ≡ false = rw (ne-eqb i 4096 c, b, lt-ltb (getD measures i 0) (2 ^ 63) l) at (F .closed) in
               absurd (let z : _≡_ {A = ℕ} 0 1 = cc in omega arith)
           go (no l) = omega arith
 
-      pub flat-stored : Stored (F .ready .t) (F .ready .h) table bytes 0 (recordIn to) (textIn to) i (getD marks i 0)
-      flat-stored = let R = F .ready in since-stored (R .t) (R .h) table bytes 0 (recordIn to) (textIn to) (R .m) marks (R .since) i (R .begun .unwritten i) not-fresh
+      pub flat-stored : Stored (F .ready .t) (F .ready .h) table bytes 0 (recordIn to) (textIn to) i (getD measures i 0)
+      flat-stored = let R = F .ready in since-stored (R .t) (R .h) table bytes 0 (recordIn to) (textIn to) (R .m) measures (R .since) i (R .begun .unwritten i) not-fresh
 
-      pub flat-copy : CopyReady (getD marks i 0) to table bytes
-      flat-copy = let R = F .ready in stored-copy (R .t) (R .h) (R .v) i to table bytes (getD marks i 0) (R .stands) (R .fits) flat-stored
+      pub flat-copy : CopyReady (getD measures i 0) to table bytes
+      flat-copy = let R = F .ready in stored-copy (R .t) (R .h) (R .v) i to table bytes (getD measures i 0) (R .stands) (R .fits) flat-stored
 
-      pub flat-copied : (table′ bytes′ : List ℕ) (r : ℕ) → CopyPut (getD marks i 0) to table bytes table′ bytes′ r → Made (F .ready .t) (F .ready .h) (F .ready .v) i to table bytes table′ bytes′ r
-      flat-copied = let R = F .ready in stored-made (R .t) (R .h) (R .v) i to table bytes (getD marks i 0) (R .stands) (R .fits) flat-stored
+      pub flat-copied : (table′ bytes′ : List ℕ) (r : ℕ) → CopyPut (getD measures i 0) to table bytes table′ bytes′ r → Made (F .ready .t) (F .ready .h) (F .ready .v) i to table bytes table′ bytes′ r
+      flat-copied = let R = F .ready in stored-made (R .t) (R .h) (R .v) i to table bytes (getD measures i 0) (R .stands) (R .fits) flat-stored
 
     -- a leaf
     module _ (b : boxed (kindOf (first ws i)) ≡ false) where
@@ -297,11 +297,11 @@ module _ {p d ws : List ℕ} {i to : ℕ} {marks table bytes : List ℕ} (F : Fl
       flat-texts : textIn to + length (textOf (labelOf p ws i)) ≤ 65536
       flat-texts = let R = F .ready in let l : R .v .label ≡ labelOf p ws i = stand-label (R .stands) ∙ ready-label R u in rw (← l) (omega (arith, text-one (R .v), R .fits .texts))
 
-      pub flat-leaf-ready : LeafReady p d ws marks i to table bytes
+      pub flat-leaf-ready : LeafReady p d ws measures i to table bytes
       flat-leaf-ready =
           let R = F .ready in
           record {
-            text-ready = ready-text R u (since-leaf (R .t) (R .h) table bytes 0 (recordIn to) (textIn to) (R .m) marks (R .since) i flat-leaf) flat-texts;
+            text-ready = ready-text R u (since-leaf (R .t) (R .h) table bytes 0 (recordIn to) (textIn to) (R .m) measures (R .since) i flat-leaf) flat-texts;
             texts = flat-texts;
             records = omega (arith, size-one (R .v), R .fits .records, R .fits .table-long);
           }
@@ -314,7 +314,7 @@ module _ {p d ws : List ℕ} {i to : ℕ} {marks table bytes : List ℕ} (F : Fl
 
 -- ---- a node of a kind before the containers', with its text if it has any
 
-module _ {p d ws starts children log : List ℕ} {i to : ℕ} {marks table bytes : List ℕ} (R : ReadyNode p d ws starts children log i to marks table bytes) (n : ℕ) (few : n ≤ 6) (e : kindBelow n ws i ≡ true) where
+module _ {p d ws starts children log : List ℕ} {i to : ℕ} {measures table bytes : List ℕ} (R : ReadyNode p d ws starts children log i to measures table bytes) (n : ℕ) (few : n ≤ 6) (e : kindBelow n ws i ≡ true) where
   below-small : i < 4096
   unfolding kindBelow
   below-small = go (ℕ-discrete i 4096)
@@ -341,14 +341,14 @@ module _ {p d ws starts children log : List ℕ} {i to : ℕ} {marks table bytes
   unfolding boxed
   below-unboxed = rw (lt-ltb (kindOf (first ws i)) 6 (omega (arith, below-kind)))
 
-  below-closed : opened ws marks i ≡ false
+  below-closed : opened ws measures i ≡ false
   unfolding opened
   below-closed = rw (ne-eqb i 4096 (λ q. omega (arith, below-small)), below-unboxed)
 
-  below-flat : Flat p d ws i to marks table bytes
+  below-flat : Flat p d ws i to measures table bytes
   below-flat = record { starts = starts; children = children; log = log; ready = R; closed = below-closed }
 
-  pub below-ready : LeafReady p d ws marks i to table bytes
+  pub below-ready : LeafReady p d ws measures i to table bytes
   below-ready = flat-leaf-ready below-flat below-small below-unboxed
 
   pub below-made : (table′ bytes′ : List ℕ) (r : ℕ) → LeafPut (labelOf p ws i) to table bytes table′ bytes′ r → Made (R .t) (R .h) (R .v) i to table bytes table′ bytes′ r

@@ -39,8 +39,8 @@ starts = 0 ∷ 2 ∷ 2 ∷ []
 children : List ℕ
 children = 1 ∷ 1 ∷ []
 
-marks : List ℕ
-marks = 386 ∷ 129 ∷ []
+measures : List ℕ
+measures = 386 ∷ 129 ∷ []
 
 value : Value
 value = record { label = ListL; contents = node ListL nil (node ListL nil nil) }
@@ -69,14 +69,14 @@ is-node i (inr (there (there m))) = elim m [ ]
 never : {A : Type 0} → true ≡ false → A
 never e = absurd (let z : _≡_ {A = ℕ} 0 1 = cc in omega arith)
 
-shown : Shown nodes graph (Final 4096 done) [] [] words starts children [] marks
-unfolding nodes graph words starts children marks labelOf first second kindIn Inside fromIn manyIn roomOf listOf isSorted
+shown : Shown nodes graph (Final 4096 done) [] [] words starts children [] measures
+unfolding nodes graph words starts children measures labelOf first second kindIn Inside fromIn manyIn roomOf listOf isSorted
 shown = record {
   beyond = omega arith;
   short = omega arith;
   words-long = omega arith;
   starts-long = omega arith;
-  marks-long = omega arith;
+  measures-long = omega arith;
   rising = two (λ i. getD starts i 0 ≤ getD starts (suc i) 0) (omega arith) (omega arith);
   labels-are = two (λ i. at nodes i .label ≡ labelOf [] words i) refl refl;
   classes = two (λ i. kindIn (first words i) ≡ 12 → _) (λ e. absurd (omega arith)) (λ e. absurd (omega arith));
@@ -84,9 +84,9 @@ shown = record {
   closed = λ i k j m. in-graph j i m;
   none = refl;
   leaves = λ i k. two (λ i. isContainer (at nodes i .label) ≡ false → graph i ≡ []) never never i;
-  inside = λ i k. two (λ i. isContainer (at nodes i .label) ≡ true → Inside words starts children [] marks i) (λ e. omega arith) (λ e. omega arith) i;
-  lists = λ i k. two (λ i. isContainer (at nodes i .label) ≡ true → listOf words starts children [] marks i ≡ graph i) (λ e. refl) (λ e. refl) i;
-  spelled = λ i k. two (λ i. hasText (at nodes i .label) ≡ true → Spelled [] [] words marks i (at nodes i .label)) (λ e. never (sym e)) (λ e. never (sym e)) i;
+  inside = λ i k. two (λ i. isContainer (at nodes i .label) ≡ true → Inside words starts children [] measures i) (λ e. omega arith) (λ e. omega arith) i;
+  lists = λ i k. two (λ i. isContainer (at nodes i .label) ≡ true → listOf words starts children [] measures i ≡ graph i) (λ e. refl) (λ e. refl) i;
+  spelled = λ i k. two (λ i. hasText (at nodes i .label) ≡ true → Spelled [] [] words measures i (at nodes i .label)) (λ e. never (sym e)) (λ e. never (sym e)) i;
 }
 
 few : (i : ℕ) → Final 4096 done i → kind (at nodes i .label) ≡ 12 → length (graph i) ≤ 2
@@ -94,13 +94,13 @@ unfolding graph
 few zero k e = omega arith
 few (suc i) k e = omega arith
 
-low : (j : ℕ) → getD marks j 0 < 2 ^ 63
-unfolding marks
+low : (j : ℕ) → getD measures j 0 < 2 ^ 63
+unfolding measures
 low zero = omega arith
 low (suc zero) = omega arith
 low (suc (suc j)) = omega arith
 
-rooted : Rooted [] [] words starts children [] 0 marks (replicate 8192 0) (replicate 65536 0)
+rooted : Rooted [] [] words starts children [] 0 measures (replicate 8192 0) (replicate 65536 0)
 unfolding nodes graph done value size text depth
 rooted = record {
   t = nodes;

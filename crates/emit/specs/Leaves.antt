@@ -24,9 +24,9 @@ use Rattle.emit.specs.Words.{place, recordIn, textIn, writtenW, kindOf, 
 -- ---- a node's text
 
 -- it can be put at a place of the text
-pub record TextReady (p d ws marks : List ℕ) (i : ℕ) (bytes : List ℕ) (at : ℕ) : Type 0 where
-  pub readable : Readable ws marks i
-  pub spelled : hasText (labelOf p ws i) ≡ true → Spelled p d ws marks i (labelOf p ws i)
+pub record TextReady (p d ws measures : List ℕ) (i : ℕ) (bytes : List ℕ) (at : ℕ) : Type 0 where
+  pub readable : Readable ws measures i
+  pub spelled : hasText (labelOf p ws i) ≡ true → Spelled p d ws measures i (labelOf p ws i)
   pub room : at + length (textOf (labelOf p ws i)) ≤ length bytes
   pub short : length (textOf (labelOf p ws i)) ≤ 65536
 
@@ -35,14 +35,14 @@ pub record TextPut (p ws : List ℕ) (i : ℕ) (bytes : List ℕ) (at : ℕ) (by
   pub text-is : bytes′ ≡ sets bytes at (textOf (labelOf p ws i))
   pub lengths : w ≡ lengthsOf (labelOf p ws i)
 
-module _ (p d ws marks : List ℕ) (i : ℕ) (bytes : List ℕ) (at : ℕ) (g : TextReady p d ws marks i bytes at) (k : ℕ) (e : k ≡ kindOf (first ws i)) where
+module _ (p d ws measures : List ℕ) (i : ℕ) (bytes : List ℕ) (at : ℕ) (g : TextReady p d ws measures i bytes at) (k : ℕ) (e : k ≡ kindOf (first ws i)) where
   kind-same : kind (labelOf p ws i) ≡ k
   kind-same = kind-is p ws i ∙ sym e
 
-  lead-is : spoken k ≡ true → leadText p d ws marks i ≡ leading (labelOf p ws i)
+  lead-is : spoken k ≡ true → leadText p d ws measures i ≡ leading (labelOf p ws i)
   lead-is s = g .spelled (has-text (labelOf p ws i) ∙ (ap spoken kind-same ∙ s)) .lead
 
-  trail-is : spoken k ≡ true → trailText p d ws marks i ≡ trailing (labelOf p ws i)
+  trail-is : spoken k ≡ true → trailText p d ws measures i ≡ trailing (labelOf p ws i)
   trail-is s = g .spelled (has-text (labelOf p ws i) ∙ (ap spoken kind-same ∙ s)) .trail
 
   text-is-by : textOf (labelOf p ws i) ≡ textBy k (leading (labelOf p ws i)) (trailing (labelOf p ws i))
@@ -74,7 +74,7 @@ module _ (p d ws marks : List ℕ) (i : ℕ) (bytes : List ℕ) (at : ℕ) (g : 
       go (no l) (no m) = absurd (let x : false ≡ true = rw (le-ltb k 6 (omega arith), le-ltb k 11 (omega arith), ne-eqb k 12 n) at b in let z : _≡_ {A = ℕ} 0 1 = cc in omega arith)
 
   -- Bytes or a String
-  module _ (h₄ : 4 ≤ k) (h₆ : k < 6) (lead : List ℕ) (q : lead ≡ leadText p d ws marks i) where
+  module _ (h₄ : 4 ≤ k) (h₆ : k < 6) (lead : List ℕ) (q : lead ≡ leadText p d ws measures i) where
     leads : lead ≡ leading (labelOf p ws i)
     unfolding spoken
     leads = q ∙ lead-is (rw (le-ltb k 4 h₄, lt-ltb k 6 h₆))
@@ -91,7 +91,7 @@ module _ (p d ws marks : List ℕ) (i : ℕ) (bytes : List ℕ) (at : ℕ) (g : 
     texts-lead bytes′ s = record { text-is = rw one-text s; lengths = ap length leads ∙ sym (lengths-is-by ∙ rw (le-ltb k 4 h₄, lt-ltb k 6 h₆)) }
 
   -- a module and a name
-  module _ (h₄ : 4 ≤ k) (h₆ : 6 ≤ k) (h₁₁ : 11 ≤ k) (lead trail : List ℕ) (q : lead ≡ leadText p d ws marks i) (r : trail ≡ trailText p d ws marks i) where
+  module _ (h₄ : 4 ≤ k) (h₆ : 6 ≤ k) (h₁₁ : 11 ≤ k) (lead trail : List ℕ) (q : lead ≡ leadText p d ws measures i) (r : trail ≡ trailText p d ws measures i) where
     spoken-names : spoken k ≡ true
     unfolding spoken
     spoken-names = rw (le-ltb k 4 h₄, le-ltb k 6 h₆, le-ltb k 11 h₁₁)
@@ -118,8 +118,8 @@ module _ (p d ws marks : List ℕ) (i : ℕ) (bytes : List ℕ) (at : ℕ) (g : 
 
 -- ---- a leaf
 
-pub record LeafReady (p d ws marks : List ℕ) (i to : ℕ) (table bytes : List ℕ) : Type 0 where
-  pub text-ready : TextReady p d ws marks i bytes (textIn to)
+pub record LeafReady (p d ws measures : List ℕ) (i to : ℕ) (table bytes : List ℕ) : Type 0 where
+  pub text-ready : TextReady p d ws measures i bytes (textIn to)
   pub texts : textIn to + length (textOf (labelOf p ws i)) ≤ 65536
   pub records : 4 * recordIn to + 4 ≤ length table
 
@@ -158,7 +158,7 @@ pub record AtomPut (ws : List ℕ) (i to : ℕ) (table table′ : List ℕ) (r :
 
 -- ---- each kind of leaf
 
-module _ {p d ws marks : List ℕ} {i to : ℕ} {table bytes : List ℕ} (g : LeafReady p d ws marks i to table bytes) where
+module _ {p d ws measures : List ℕ} {i to : ℕ} {table bytes : List ℕ} (g : LeafReady p d ws measures i to table bytes) where
   leaf-words : 2 * i + 1 < length ws
   leaf-words = g .text-ready .readable .words
 
@@ -168,18 +168,18 @@ module _ {p d ws marks : List ℕ} {i to : ℕ} {table bytes : List ℕ} (g : Le
   -- the text stays
   pub atom-leaf : kindOf (first ws i) < 4 → (table′ : List ℕ) (r : ℕ) → AtomPut ws i to table table′ r → LeafPut (labelOf p ws i) to table bytes table′ bytes r
   atom-leaf h table′ r b =
-      leaf-done p ws i to 0 table bytes table′ bytes _ r (g .texts) (texts-small p d ws marks i bytes (textIn to) (g .text-ready) (kindOf (first ws i)) refl h) refl (b .table-is) (b .next ∙ omega arith)
+      leaf-done p ws i to 0 table bytes table′ bytes _ r (g .texts) (texts-small p d ws measures i bytes (textIn to) (g .text-ready) (kindOf (first ws i)) refl h) refl (b .table-is) (b .next ∙ omega arith)
 
   -- Bytes or a String: its text is what leads
-  module _ (h : (4 ≤ kindOf (first ws i)) × (kindOf (first ws i) < 6)) (lead : List ℕ) (q : lead ≡ leadText p d ws marks i) where
+  module _ (h : (4 ≤ kindOf (first ws i)) × (kindOf (first ws i) < 6)) (lead : List ℕ) (q : lead ≡ leadText p d ws measures i) where
     pub text-room : textIn to + length lead ≤ length bytes
-    text-room = lead-room p d ws marks i bytes (textIn to) (g .text-ready) (kindOf (first ws i)) refl (h .0) (h .1) lead q
+    text-room = lead-room p d ws measures i bytes (textIn to) (g .text-ready) (kindOf (first ws i)) refl (h .0) (h .1) lead q
 
     text-put : (bytes′ : List ℕ) → bytes′ ≡ sets bytes (textIn to) lead → TextPut p ws i bytes (textIn to) bytes′ (length lead)
-    text-put = texts-lead p d ws marks i bytes (textIn to) (g .text-ready) (kindOf (first ws i)) refl (h .0) (h .1) lead q
+    text-put = texts-lead p d ws measures i bytes (textIn to) (g .text-ready) (kindOf (first ws i)) refl (h .0) (h .1) lead q
 
     spoken-text : textOf (labelOf p ws i) ≡ lead
-    spoken-text = one-text p d ws marks i bytes (textIn to) (g .text-ready) (kindOf (first ws i)) refl (h .0) (h .1) lead q
+    spoken-text = one-text p d ws measures i bytes (textIn to) (g .text-ready) (kindOf (first ws i)) refl (h .0) (h .1) lead q
 
     pub text-fits : textIn to + length lead ≤ 65536
     text-fits = rw (← spoken-text) (g .texts)
@@ -211,7 +211,7 @@ module _ {p d ws marks : List ℕ} {i to : ℕ} {table bytes : List ℕ} (g : Le
       names-leaf table′ r s n =
           leaf-done p ws i to w table bytes table′ bytes′ _ r (g .texts) t (from-names (kindOf (first ws i)) _ _ _ _ _ _ _ (omega arith) (omega (arith, named-kind)) (λ z. omega (arith, named-kind)) (omega (arith, named-kind)) (λ z. omega (arith, named-kind))) s n
 
--- ---- once more: m is the mark of what is written
+-- ---- once more: m is the measure of what is written
 
 pub record CopyReady (m to : ℕ) (table bytes : List ℕ) : Type 0 where
   pub copyable : Copyable table (m % 2 ^ 12) (m / 2 ^ 12 % 2 ^ 12) (recordIn to) (m / 2 ^ 24 % 2 ^ 17) (textIn to)
@@ -234,12 +234,12 @@ pub record FinishReady (ws : List ℕ) (i to next values : ℕ) (table : List �
   pub texts : textIn to ≤ textIn next
   pub most : textIn next ≤ 65536
 
--- its record, w the lengths of its text, and its mark r
+-- its record, w the lengths of its text, and its measure r
 pub record FinishPut (ws : List ℕ) (i to next w values : ℕ) (table table′ : List ℕ) (r : ℕ) : Type 0 where
   pub table-is : table′ ≡ sets table (4 * recordIn to) (recordFrom (kindOf (getD ws (2 * i) 0)) (newIn (getD ws (2 * i) 0)) (getD ws (2 * i + 1) 0) w (textIn to) values (recordIn next - recordIn to))
-  pub mark : r ≡ writtenW (recordIn to) (recordIn next - recordIn to) (textIn to) (textIn next - textIn to)
+  pub measure : r ≡ writtenW (recordIn to) (recordIn next - recordIn to) (textIn to) (textIn next - textIn to)
 
 -- ---- whether a node is to be walked: a container that is not written yet
 
 unfoldable pub opened : List ℕ → List ℕ → ℕ → Bool
-opened ws marks i = cond (eqb i 4096) false (cond (boxed (kindOf (first ws i))) (ltb (getD marks i 0) (2 ^ 63)) false)
+opened ws measures i = cond (eqb i 4096) false (cond (boxed (kindOf (first ws i))) (ltb (getD measures i 0) (2 ^ 63)) false)

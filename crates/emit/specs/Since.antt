@@ -1,4 +1,4 @@
--- Marks while a value is written: each is as it was, or of a container that is written, where its records and its text stand.
+-- Measures while a value is written: each is as it was, or of a container that is written, where its records and its text stand.
 use Prim.Native.Nat.{ℕ, suc, _+_, _*_, _^_, _<_, _≤_}
 use mathlib.Core.Bool.{true, false}
 use mathlib.Core.List.{List, [], _∷_}
@@ -17,19 +17,19 @@ use Rattle.resolved.specs.Written.{Written, written-stays}
 use Rattle.emit.specs.Stores.{part-late}
 use Rattle.emit.specs.Words.{writtenW}
 
--- the mark m of node j says where its value is written: from record e on, before record u and text place v
+-- the measure m of node j says where its value is written: from record e on, before record u and text place v
 pub record Stored (t : List Node) (h : Kids) (records bytes : List ℕ) (e u v j m : ℕ) : Type 0 where
   pub container : isContainer (at t j .label) ≡ true
   pub value : Value
   pub a : ℕ
   pub p : ℕ
   pub written : Written t h records bytes (j ∷ []) (one value) a p
-  pub mark : m ≡ writtenW a (size (one value)) p (length (text (one value)))
+  pub measure : m ≡ writtenW a (size (one value)) p (length (text (one value)))
   pub later : e ≤ a
   pub records-end : a + size (one value) ≤ u
   pub text-end : p + length (text (one value)) ≤ v
 
--- the marks m, and now m′
+-- the measures m, and now m′
 abbrev pub Since : List Node → Kids → List ℕ → List ℕ → ℕ → ℕ → ℕ → List ℕ → List ℕ → Type 0
 Since t h records bytes e u v m m′ = (j : ℕ) → (getD m′ j 0 ≡ getD m j 0) ⊎ Stored t h records bytes e u v j (getD m′ j 0)
 
@@ -44,7 +44,7 @@ module _ (t : List Node) (h : Kids) where
         a = s .a;
         p = s .p;
         written = written-stays records′ bytes′ (s .a) (s .p) u v (s .written) r b (s .records-end) (s .text-end);
-        mark = s .mark;
+        measure = s .measure;
         later = omega (arith, s .later);
         records-end = omega (arith, s .records-end);
         text-end = omega (arith, s .text-end);
@@ -72,15 +72,15 @@ module _ (t : List Node) (h : Kids) where
         a = s .a;
         p = s .p;
         written = record { stands = s .written .stands; table-is = part-late r r′ (4 * suc e) (4 * s .a) (table (one (s .value)) (s .p)) x (omega (arith, s .later)) (s .written .table-is); text-is = s .written .text-is };
-        mark = s .mark;
+        measure = s .measure;
         later = omega (arith, s .later);
         records-end = s .records-end;
         text-end = s .text-end;
       })
 
-  -- a container is marked
-  pub since-mark : (r b : List ℕ) (e u v : ℕ) (m m′ : List ℕ) (i w : ℕ) → i < length m′ → Since t h r b e u v m m′ → Stored t h r b e u v i w → Since t h r b e u v m (set m′ i w)
-  since-mark r b e u v m m′ i w l f s j = go (ℕ-discrete j i) (f j)
+  -- a container gets its measure
+  pub since-measure : (r b : List ℕ) (e u v : ℕ) (m m′ : List ℕ) (i w : ℕ) → i < length m′ → Since t h r b e u v m m′ → Stored t h r b e u v i w → Since t h r b e u v m (set m′ i w)
+  since-measure r b e u v m m′ i w l f s j = go (ℕ-discrete j i) (f j)
     where
       go : Dec (j ≡ i) → (getD m′ j 0 ≡ getD m j 0) ⊎ Stored t h r b e u v j (getD m′ j 0) → (getD (set m′ i w) j 0 ≡ getD m j 0) ⊎ Stored t h r b e u v j (getD (set m′ i w) j 0)
       go (yes q) x = inr (rw (q, getD-set-same m′ i w 0 l) s)
@@ -93,7 +93,7 @@ module _ (t : List Node) (h : Kids) where
       where
         go : (getD m′ j 0 ≡ getD m j 0) ⊎ Stored t h r b e u v j (getD m′ j 0) → getD m′ j 0 ≡ getD m j 0
         go (inl x) = x
-        go (inr s) = absurd (omega (arith, s .mark))
+        go (inr s) = absurd (omega (arith, s .measure))
 
     pub since-leaf : isContainer (at t j .label) ≡ false → getD m′ j 0 ≡ getD m j 0
     since-leaf c = go (f j)

@@ -1,4 +1,4 @@
--- A container's list, walked: its text is written, then child after child; at the end its record and its mark.
+-- A container's list, walked: its text is written, then child after child; at the end its record and its measure.
 use Prim.Native.Nat.{ℕ, suc, zero, _+_, _-_, _*_, _^_, _/_, _%_, _<_, _≤_}
 use mathlib.Core.Bool.{Bool, true, false, cond}
 use mathlib.Core.List.{List, [], _∷_}
@@ -28,12 +28,12 @@ use Rattle.emit.specs.Stores.{sets-before, sets-behind, sets-there, earl
 use Rattle.emit.specs.Words.{place, recordIn, textIn, writtenW, kindOf, boxed, lengthsOf, lengths-all, kind-is}
 use Rattle.emit.specs.Forests.{text-append, append-none, append-next, depth-behind, written-join}
 use Rattle.emit.specs.Leaves.{TextReady, TextPut, kindBelow, LeafPut, record-at, FinishReady, FinishPut, opened}
-use Rattle.emit.specs.Since.{Since, since-then, since-late, since-mark, since-fresh}
+use Rattle.emit.specs.Since.{Since, since-then, since-late, since-measure, since-fresh}
 use Rattle.emit.specs.Calls.{ReadyNode, Flat, Open, Made, Wrote, size-one, text-one, ready-most, ready-below, ready-label, ready-boxed, ready-text, below-made}
 
 -- ---- a container that is to be walked
 
-module _ {p d ws starts children log : List ℕ} {levels i to : ℕ} {marks table bytes : List ℕ} (O : Open p d ws starts children log levels i to marks table bytes) where
+module _ {p d ws starts children log : List ℕ} {levels i to : ℕ} {measures table bytes : List ℕ} (O : Open p d ws starts children log levels i to measures table bytes) where
   pub open-small : i < 4096
   unfolding opened
   open-small = go (ℕ-discrete i 4096)
@@ -53,13 +53,13 @@ module _ {p d ws starts children log : List ℕ} {levels i to : ℕ} {marks tabl
       go true e = e
       go false e = absurd (let x : false ≡ true = rw (ne-eqb i 4096 not-nothing, e) at (O .unclosed) in let z : _≡_ {A = ℕ} 0 1 = cc in omega arith)
 
-  open-fresh : getD marks i 0 ≡ getD (O .ready .m) i 0
+  open-fresh : getD measures i 0 ≡ getD (O .ready .m) i 0
   unfolding opened
-  open-fresh = go (decLt (getD marks i 0) (2 ^ 63))
+  open-fresh = go (decLt (getD measures i 0) (2 ^ 63))
     where
-      go : Dec (getD marks i 0 < 2 ^ 63) → getD marks i 0 ≡ getD (O .ready .m) i 0
-      go (yes l) = let R = O .ready in since-fresh (R .t) (R .h) table bytes 0 (recordIn to) (textIn to) (R .m) marks (R .since) i l
-      go (no l) = absurd (let x : false ≡ true = rw (ne-eqb i 4096 not-nothing, open-boxed, le-ltb (getD marks i 0) (2 ^ 63) (omega arith)) at (O .unclosed) in let z : _≡_ {A = ℕ} 0 1 = cc in omega arith)
+      go : Dec (getD measures i 0 < 2 ^ 63) → getD measures i 0 ≡ getD (O .ready .m) i 0
+      go (yes l) = let R = O .ready in since-fresh (R .t) (R .h) table bytes 0 (recordIn to) (textIn to) (R .m) measures (R .since) i l
+      go (no l) = absurd (let x : false ≡ true = rw (ne-eqb i 4096 not-nothing, open-boxed, le-ltb (getD measures i 0) (2 ^ 63) (omega arith)) at (O .unclosed) in let z : _≡_ {A = ℕ} 0 1 = cc in omega arith)
 
   pub open-below : i < length (O .ready .t)
   open-below = ready-below (O .ready) open-small
@@ -73,7 +73,7 @@ module _ {p d ws starts children log : List ℕ} {levels i to : ℕ} {marks tabl
   open-texts : textIn to + length (textOf (labelOf p ws i)) ≤ 65536
   open-texts = rw (← open-label) (omega (arith, text-one (O .ready .v), O .ready .fits .texts))
 
-  pub open-text : TextReady p d ws marks i bytes (textIn to)
+  pub open-text : TextReady p d ws measures i bytes (textIn to)
   open-text = ready-text (O .ready) open-small open-fresh open-texts
 
   pub open-lengths : (w : ℕ) → w ≡ lengthsOf (labelOf p ws i) → w / 2 ^ 32 + w % 2 ^ 32 ≡ length (textOf (O .ready .v .label))
@@ -86,17 +86,17 @@ module _ {p d ws starts children log : List ℕ} {levels i to : ℕ} {marks tabl
   unfolding depth
   open-levels = omega (arith, O .deep)
 
-  pub open-listed : Listed ws starts marks i
+  pub open-listed : Listed ws starts measures i
   open-listed =
       let R = O .ready in
       let x = shown-listed (R .t) (R .h) (Final 4096 (R .done)) p d ws starts children log (R .m) i (R .begun .shown) open-below in
-      record { words = x .words; marked = rw (R .marks-long) (x .marked); ended = x .ended; rising = x .rising }
+      record { words = x .words; measured = rw (R .measures-long) (x .measured); ended = x .ended; rising = x .rising }
 
   pub open-record : 4 * recordIn to + 4 ≤ length table
   open-record = let R = O .ready in omega (arith, size-one (R .v), R .fits .records, R .fits .table-long)
 
   -- its list, as the range says
-  module _ (r : Range) (g : Ranges ws starts marks i r) where
+  module _ (r : Range) (g : Ranges ws starts measures i r) where
     from-same : r .at ≡ fromIn ws starts (O .ready .m) i
     unfolding fromIn
     from-same = let e = open-fresh in rw (← e) (g .from)
@@ -128,13 +128,13 @@ module _ {p d ws starts children log : List ℕ} {levels i to : ℕ} {marks tabl
   open-few e = let R = O .ready in R .begun .few i (R .known) (ap kind (ready-label R open-small) ∙ (kind-is p ws i ∙ e))
 
 -- its text is written
-pub record Entered (p d ws starts children log : List ℕ) (levels i to : ℕ) (marks table bytes : List ℕ) : Type 0 where
-  pub walk : Open p d ws starts children log levels i to marks table bytes
+pub record Entered (p d ws starts children log : List ℕ) (levels i to : ℕ) (measures table bytes : List ℕ) : Type 0 where
+  pub walk : Open p d ws starts children log levels i to measures table bytes
   pub own : Part bytes (textIn to) (textOf (walk .ready .v .label))
 
-pub enter : {p d ws starts children log : List ℕ} {levels i to : ℕ} {marks table bytes : List ℕ} (O : Open p d ws starts children log levels i to marks table bytes) (bytes₁ : List ℕ) (w : ℕ) → TextPut p ws i bytes (textIn to) bytes₁ w
-    → Entered p d ws starts children log levels i to marks table bytes₁
-enter {p} {ws = ws} {i = i} {to = to} {marks = marks} {table = table} {bytes = bytes} O bytes₁ w L =
+pub enter : {p d ws starts children log : List ℕ} {levels i to : ℕ} {measures table bytes : List ℕ} (O : Open p d ws starts children log levels i to measures table bytes) (bytes₁ : List ℕ) (w : ℕ) → TextPut p ws i bytes (textIn to) bytes₁ w
+    → Entered p d ws starts children log levels i to measures table bytes₁
+enter {p} {ws = ws} {i = i} {to = to} {measures = measures} {table = table} {bytes = bytes} O bytes₁ w L =
     let R = O .ready in
     let l = open-label O in
     let e : bytes₁ ≡ sets bytes (textIn to) (textOf (R .v .label)) = rw l (L .text-is) in
@@ -153,8 +153,8 @@ enter {p} {ws = ws} {i = i} {to = to} {marks = marks} {table = table} {bytes = b
           known = R .known;
           stands = R .stands;
           fits = record { records = R .fits .records; texts = R .fits .texts; table-long = R .fits .table-long; text-long = omega (arith, R .fits .text-long) };
-          marks-long = R .marks-long;
-          since = since-then (R .t) (R .h) table bytes table bytes₁ 0 0 (recordIn to) (textIn to) (recordIn to) (textIn to) (R .m) marks marks refl x (omega arith) (omega arith) (omega arith) (R .since) (λ j. inl refl);
+          measures-long = R .measures-long;
+          since = since-then (R .t) (R .h) table bytes table bytes₁ 0 0 (recordIn to) (textIn to) (recordIn to) (textIn to) (R .m) measures measures refl x (omega arith) (omega arith) (omega arith) (R .since) (λ j. inl refl);
         };
         unclosed = O .unclosed;
         deep = O .deep;
@@ -164,8 +164,8 @@ enter {p} {ws = ws} {i = i} {to = to} {marks = marks} {table = table} {bytes = b
 
 -- ---- the loop
 
--- Of node i's list k children are written: f; those after them are g. From marks, table and text as they were when the loop began.
-pub record Turn (t : List Node) (h : Kids) (v : Value) (i to from : ℕ) (marks₀ table₀ bytes₀ : List ℕ) (next j : ℕ) (marks table bytes : List ℕ) : Type 0 where
+-- Of node i's list k children are written: f; those after them are g. From measures, table and text as they were when the loop began.
+pub record Turn (t : List Node) (h : Kids) (v : Value) (i to from : ℕ) (measures₀ table₀ bytes₀ : List ℕ) (next j : ℕ) (measures table bytes : List ℕ) : Type 0 where
   pub k : ℕ
   pub f : Forest
   pub g : Forest
@@ -179,10 +179,10 @@ pub record Turn (t : List Node) (h : Kids) (v : Value) (i to from : ℕ) (marks�
   pub table-behind : drop (4 * (recordIn to + size (one v))) table ≡ drop (4 * (recordIn to + size (one v))) table₀
   pub text-before : take (textIn to + length (textOf (v .label))) bytes ≡ take (textIn to + length (textOf (v .label))) bytes₀
   pub text-behind : drop (textIn to + length (text (one v))) bytes ≡ drop (textIn to + length (text (one v))) bytes₀
-  pub marks-long : length marks ≡ length marks₀
+  pub measures-long : length measures ≡ length measures₀
   pub table-long : length table ≡ length table₀
   pub text-long : length bytes ≡ length bytes₀
-  pub since : Since t h table bytes (recordIn to + 1) (recordIn to + 1 + size f) (textIn to + length (textOf (v .label)) + length (text f)) marks₀ marks
+  pub since : Since t h table bytes (recordIn to + 1) (recordIn to + 1 + size f) (textIn to + length (textOf (v .label)) + length (text f)) measures₀ measures
 
 place-record : (n a p : ℕ) → n ≡ place a p → a < 4096 → recordIn n ≡ a
 place-record n a p e l = omega arith
@@ -218,9 +218,9 @@ pub record Child (t : List Node) (h : Kids) (js : List ℕ) (g : Forest) (c : �
 pub child : {t : List Node} {h : Kids} {c : ℕ} {js : List ℕ} {g : Forest} → Stand t h (c ∷ js) g → Child t h js g c
 child {t = t} {c = c} (sNode {c = f} {r = r} a b) = record { value = record { label = at t c .label; contents = f }; rest = r; split = refl; stands = sNode a sNil; behind = b }
 
-module _ {p d ws starts children log : List ℕ} {levels i to from : ℕ} {marks₀ table₀ bytes₀ : List ℕ} (E : Entered p d ws starts children log levels i to marks₀ table₀ bytes₀) where
+module _ {p d ws starts children log : List ℕ} {levels i to from : ℕ} {measures₀ table₀ bytes₀ : List ℕ} (E : Entered p d ws starts children log levels i to measures₀ table₀ bytes₀) where
   pub turn-start : (w next : ℕ) → w ≡ lengthsOf (labelOf p ws i) → next ≡ place (recordIn to + 1) (textIn to + (w / 2 ^ 32 + w % 2 ^ 32))
-      → Turn (E .walk .ready .t) (E .walk .ready .h) (E .walk .ready .v) i to from marks₀ table₀ bytes₀ next from marks₀ table₀ bytes₀
+      → Turn (E .walk .ready .t) (E .walk .ready .h) (E .walk .ready .v) i to from measures₀ table₀ bytes₀ next from measures₀ table₀ bytes₀
   unfolding size text _⊕_
   turn-start w next e n =
       let R = E .walk .ready in
@@ -239,13 +239,13 @@ module _ {p d ws starts children log : List ℕ} {levels i to from : ℕ} {marks
         table-behind = refl;
         text-before = refl;
         text-behind = refl;
-        marks-long = refl;
+        measures-long = refl;
         table-long = refl;
         text-long = refl;
         since = λ j. inl refl;
       }
 
-  module _ {next j : ℕ} {marks table bytes : List ℕ} (T : Turn (E .walk .ready .t) (E .walk .ready .h) (E .walk .ready .v) i to from marks₀ table₀ bytes₀ next j marks table bytes) where
+  module _ {next j : ℕ} {measures table bytes : List ℕ} (T : Turn (E .walk .ready .t) (E .walk .ready .h) (E .walk .ready .v) i to from measures₀ table₀ bytes₀ next j measures table bytes) where
     size-all : size (one (E .walk .ready .v)) ≡ suc (size (T .f) + size (T .g))
     size-all = size-one (E .walk .ready .v) ∙ ap suc (rw (← (T .joined)) (size-append (T .f) (T .g)))
 
@@ -265,7 +265,7 @@ module _ {p d ws starts children log : List ℕ} {levels i to from : ℕ} {marks
     turn-text = (omega (arith, next-text), omega (arith, next-text, text-all, E .walk .ready .fits .texts))
 
     -- where it stands in its range
-    module _ (r : Range) (g : Ranges ws starts marks₀ i r) (q : from ≡ r .at) where
+    module _ (r : Range) (g : Ranges ws starts measures₀ i r) (q : from ≡ r .at) where
       pub turn-left : j < r .end → T .k < length (E .walk .ready .h i)
       turn-left x = omega (arith, T .index, list-end (E .walk) r g)
 
@@ -300,12 +300,12 @@ module _ {p d ws starts children log : List ℕ} {levels i to from : ℕ} {marks
       split-depth : depth (one (turn-child .value)) ≤ depth (T .g)
       split-depth = before-depth (T .g) (turn-child .value) (turn-child .rest) (turn-child .split)
 
-      pub turn-ready : ReadyNode p d ws starts children log c next marks table bytes
+      pub turn-ready : ReadyNode p d ws starts children log c next measures table bytes
       turn-ready =
           let R = E .walk .ready in
           let C = turn-child in
-          let s : Since (R .t) (R .h) table bytes 0 (recordIn to + 1 + size (T .f)) (textIn to + length (textOf (R .v .label)) + length (text (T .f))) (R .m) marks =
-          since-then (R .t) (R .h) table₀ bytes₀ table bytes 0 (recordIn to + 1) (recordIn to) (textIn to) (recordIn to + 1 + size (T .f)) (textIn to + length (textOf (R .v .label)) + length (text (T .f))) (R .m) marks₀ marks
+          let s : Since (R .t) (R .h) table bytes 0 (recordIn to + 1 + size (T .f)) (textIn to + length (textOf (R .v .label)) + length (text (T .f))) (R .m) measures =
+          since-then (R .t) (R .h) table₀ bytes₀ table bytes 0 (recordIn to + 1) (recordIn to) (textIn to) (recordIn to + 1 + size (T .f)) (textIn to + length (textOf (R .v .label)) + length (text (T .f))) (R .m) measures₀ measures
           (T .table-before) (earlier bytes₀ bytes (textIn to + length (textOf (R .v .label))) (textIn to) (T .text-before) (omega arith)) (omega arith) (omega arith) (omega arith) (R .since) (T .since) in
           record {
             t = R .t;
@@ -322,7 +322,7 @@ module _ {p d ws starts children log : List ℕ} {levels i to from : ℕ} {marks
               table-long = rw (T .table-long) (R .fits .table-long);
               text-long = rw (T .text-long) (R .fits .text-long);
             };
-            marks-long = T .marks-long ∙ R .marks-long;
+            measures-long = T .measures-long ∙ R .measures-long;
             since = rw (next-record, next-text) s;
           }
 
@@ -335,18 +335,18 @@ module _ {p d ws starts children log : List ℕ} {levels i to from : ℕ} {marks
           omega (arith, split-depth)
 
       -- it is to be walked, or not
-      pub child-open : opened ws marks c ≡ true → Open p d ws starts children log (levels - 1) c next marks table bytes
+      pub child-open : opened ws measures c ≡ true → Open p d ws starts children log (levels - 1) c next measures table bytes
       unfolding turn-ready
       child-open o = record { ready = turn-ready; unclosed = o; deep = turn-deep }
 
-      pub child-flat : opened ws marks c ≡ false → Flat p d ws c next marks table bytes
+      pub child-flat : opened ws measures c ≡ false → Flat p d ws c next measures table bytes
       child-flat o = record { starts = starts; children = children; log = log; ready = turn-ready; closed = o }
 
       -- the child is written
-      turn-next : (next′ : ℕ) (marks′ table′ bytes′ : List ℕ) → length marks′ ≡ length marks → length table′ ≡ length table → length bytes′ ≡ length bytes
-          → Wrote (E .walk .ready .t) (E .walk .ready .h) (turn-child .value) c next marks table bytes marks′ table′ bytes′ next′
-          → Turn (E .walk .ready .t) (E .walk .ready .h) (E .walk .ready .v) i to from marks₀ table₀ bytes₀ next′ (j + 1) marks′ table′ bytes′
-      turn-next next′ marks′ table′ bytes′ n₁ n₂ n₃ W =
+      turn-next : (next′ : ℕ) (measures′ table′ bytes′ : List ℕ) → length measures′ ≡ length measures → length table′ ≡ length table → length bytes′ ≡ length bytes
+          → Wrote (E .walk .ready .t) (E .walk .ready .h) (turn-child .value) c next measures table bytes measures′ table′ bytes′ next′
+          → Turn (E .walk .ready .t) (E .walk .ready .h) (E .walk .ready .v) i to from measures₀ table₀ bytes₀ next′ (j + 1) measures′ table′ bytes′
+      turn-next next′ measures′ table′ bytes′ n₁ n₂ n₃ W =
           let R = E .walk .ready in
           let C = turn-child in
           let M = W .made in
@@ -361,7 +361,7 @@ module _ {p d ws starts children log : List ℕ} {levels i to from : ℕ} {marks
           let r₄ : drop (x + length (text (one w))) bytes′ ≡ drop (x + length (text (one w))) bytes = rw next-text at (M .text-behind) in
           let r₅ : Written (R .t) (R .h) table′ bytes′ (c ∷ []) (one w) u x = rw (next-record, next-text) at (M .written) in
           let r₆ : next′ ≡ place (u + size (one w)) (x + length (text (one w))) = rw (next-record, next-text) at (M .next) in
-          let r₇ : Since (R .t) (R .h) table′ bytes′ u (u + size (one w)) (x + length (text (one w))) marks marks′ = rw (next-record, next-text) at (W .since) in
+          let r₇ : Since (R .t) (R .h) table′ bytes′ u (u + size (one w)) (x + length (text (one w))) measures measures′ = rw (next-record, next-text) at (W .since) in
           let e₁ : recordIn to + 1 + size (T .f ⊕ one w) ≡ u + size (one w) = omega arith in
           let e₂ : textIn to + length (textOf (R .v .label)) + length (text (T .f ⊕ one w)) ≡ x + length (text (one w)) = omega arith in
           let a₁ = size-all in
@@ -382,33 +382,33 @@ module _ {p d ws starts children log : List ℕ} {levels i to from : ℕ} {marks
             table-behind = later table table′ (4 * (u + size (one w))) (4 * (recordIn to + size (one (R .v)))) r₃ (omega arith) ∙ T .table-behind;
             text-before = earlier bytes bytes′ x (textIn to + length (textOf (R .v .label))) r₂ (omega arith) ∙ T .text-before;
             text-behind = later bytes bytes′ (x + length (text (one w))) (textIn to + length (text (one (R .v)))) r₄ (omega arith) ∙ T .text-behind;
-            marks-long = n₁ ∙ T .marks-long;
+            measures-long = n₁ ∙ T .measures-long;
             table-long = n₂ ∙ T .table-long;
             text-long = n₃ ∙ T .text-long;
-            since = rw (e₁, e₂) (since-then (R .t) (R .h) table bytes table′ bytes′ (recordIn to + 1) u u x (u + size (one w)) (x + length (text (one w))) marks₀ marks marks′ r₁ r₂ (omega arith) (omega arith) (omega arith) (T .since) r₇);
+            since = rw (e₁, e₂) (since-then (R .t) (R .h) table bytes table′ bytes′ (recordIn to + 1) u u x (u + size (one w)) (x + length (text (one w))) measures₀ measures measures′ r₁ r₂ (omega arith) (omega arith) (omega arith) (T .since) r₇);
           }
 
       -- by a walk
-      pub next-walked : (o : opened ws marks c ≡ true) (next′ : ℕ) (marks′ table′ bytes′ : List ℕ) → length marks′ ≡ length marks → length table′ ≡ length table → length bytes′ ≡ length bytes
-          → Wrote (child-open o .ready .t) (child-open o .ready .h) (child-open o .ready .v) c next marks table bytes marks′ table′ bytes′ next′
-          → Turn (E .walk .ready .t) (E .walk .ready .h) (E .walk .ready .v) i to from marks₀ table₀ bytes₀ next′ (j + 1) marks′ table′ bytes′
+      pub next-walked : (o : opened ws measures c ≡ true) (next′ : ℕ) (measures′ table′ bytes′ : List ℕ) → length measures′ ≡ length measures → length table′ ≡ length table → length bytes′ ≡ length bytes
+          → Wrote (child-open o .ready .t) (child-open o .ready .h) (child-open o .ready .v) c next measures table bytes measures′ table′ bytes′ next′
+          → Turn (E .walk .ready .t) (E .walk .ready .h) (E .walk .ready .v) i to from measures₀ table₀ bytes₀ next′ (j + 1) measures′ table′ bytes′
       unfolding child-open turn-ready
-      next-walked o next′ marks′ table′ bytes′ n₁ n₂ n₃ w = turn-next next′ marks′ table′ bytes′ n₁ n₂ n₃ w
+      next-walked o next′ measures′ table′ bytes′ n₁ n₂ n₃ w = turn-next next′ measures′ table′ bytes′ n₁ n₂ n₃ w
 
       -- without one
-      pub next-flat : (o : opened ws marks c ≡ false) (next′ : ℕ) (table′ bytes′ : List ℕ) → length table′ ≡ length table → length bytes′ ≡ length bytes
+      pub next-flat : (o : opened ws measures c ≡ false) (next′ : ℕ) (table′ bytes′ : List ℕ) → length table′ ≡ length table → length bytes′ ≡ length bytes
           → Made (child-flat o .ready .t) (child-flat o .ready .h) (child-flat o .ready .v) c next table bytes table′ bytes′ next′
-          → Turn (E .walk .ready .t) (E .walk .ready .h) (E .walk .ready .v) i to from marks₀ table₀ bytes₀ next′ (j + 1) marks table′ bytes′
+          → Turn (E .walk .ready .t) (E .walk .ready .h) (E .walk .ready .v) i to from measures₀ table₀ bytes₀ next′ (j + 1) measures table′ bytes′
       unfolding child-flat turn-ready
-      next-flat o next′ table′ bytes′ n₂ n₃ w = turn-next next′ marks table′ bytes′ refl n₂ n₃ (record { made = w; since = λ j. inl refl })
+      next-flat o next′ table′ bytes′ n₂ n₃ w = turn-next next′ measures table′ bytes′ refl n₂ n₃ (record { made = w; since = λ j. inl refl })
 
       -- a node of a kind before the containers'
       pub next-leaf : (n : ℕ) (few : n ≤ 6) (o : kindBelow n ws c ≡ true) (next′ : ℕ) (table′ bytes′ : List ℕ) → length table′ ≡ length table → length bytes′ ≡ length bytes → LeafPut (labelOf p ws c) next table bytes table′ bytes′ next′
-          → Turn (E .walk .ready .t) (E .walk .ready .h) (E .walk .ready .v) i to from marks₀ table₀ bytes₀ next′ (j + 1) marks table′ bytes′
+          → Turn (E .walk .ready .t) (E .walk .ready .h) (E .walk .ready .v) i to from measures₀ table₀ bytes₀ next′ (j + 1) measures table′ bytes′
       unfolding turn-ready
-      next-leaf n few o next′ table′ bytes′ n₂ n₃ l = turn-next next′ marks table′ bytes′ refl n₂ n₃ (record { made = below-made turn-ready n few o table′ bytes′ next′ l; since = λ j. inl refl })
+      next-leaf n few o next′ table′ bytes′ n₂ n₃ l = turn-next next′ measures table′ bytes′ refl n₂ n₃ (record { made = below-made turn-ready n few o table′ bytes′ next′ l; since = λ j. inl refl })
 
-    -- no child is left: the record and the mark
+    -- no child is left: the record and the measure
     module _ (l : length (E .walk .ready .h i) ≤ T .k) where
       none-left : {t : List Node} {h : Kids} {f : Forest} → Stand t h [] f → f ≡ nil
       none-left sNil = refl
@@ -433,7 +433,7 @@ module _ {p d ws starts children log : List ℕ} {levels i to from : ℕ} {marks
 
       turn-done : (table′ words : List ℕ) (n z w : ℕ) → words ≡ recordOf (labelOf p ws i) (textIn to) n z → n ≡ length (E .walk .ready .h i) → z ≡ recordIn next - recordIn to → table′ ≡ sets table (4 * recordIn to) words
           → w ≡ writtenW (recordIn to) (recordIn next - recordIn to) (textIn to) (textIn next - textIn to)
-          → Wrote (E .walk .ready .t) (E .walk .ready .h) (E .walk .ready .v) i to marks₀ table₀ bytes₀ (set marks i w) table′ bytes next
+          → Wrote (E .walk .ready .t) (E .walk .ready .h) (E .walk .ready .v) i to measures₀ table₀ bytes₀ (set measures i w) table′ bytes next
       turn-done table′ words n z w e en ez s em =
           let R = E .walk .ready in
           let a = recordIn to in
@@ -446,7 +446,7 @@ module _ {p d ws starts children log : List ℕ} {levels i to from : ℕ} {marks
           let z₁ : z ≡ suc (size c) = omega arith in
           let e₁ : words ≡ recordOf (at (R .t) i .label) q (length (R .h i)) (suc (size c)) = rw (← en, ← z₁, ready-label R (open-small (E .walk))) e in
           let n₁ : length words ≡ 4 = ap length e ∙ record-length (labelOf p ws i) q n z in
-          let w₁ : w ≡ writtenW a (size (one (R .v))) q (length (text (one (R .v)))) = marked (recordIn next) (textIn next) em d₁ d₂ in
+          let w₁ : w ≡ writtenW a (size (one (R .v))) q (length (text (one (R .v)))) = measured (recordIn next) (textIn next) em d₁ d₂ in
           let r₁ : take (4 * a) table′ ≡ take (4 * a) table = rw s (sets-before table (4 * a) words (4 * a) (omega arith)) in
           let r₂ : drop (4 * suc a) table′ ≡ drop (4 * suc a) table = rw s (sets-behind table (4 * a) words (4 * suc a) (omega arith)) in
           let p₀ : Part table′ (4 * a) words = rw s (sets-there table (4 * a) words (omega (arith, R .fits .records, R .fits .table-long, T .table-long))) in
@@ -461,8 +461,8 @@ module _ {p d ws starts children log : List ℕ} {levels i to from : ℕ} {marks
           let W : Written (R .t) (R .h) table′ bytes (i ∷ []) (one (R .v)) a q = rw k p₅ in
           let u₁ : a + 1 + size (T .f) ≡ a + size (one (R .v)) = sym next-record ∙ d₁ in
           let u₂ : q + length (textOf (R .v .label)) + length (text (T .f)) ≡ q + length (text (one (R .v))) = sym next-text ∙ d₂ in
-          let S₁ : Since (R .t) (R .h) table bytes (suc a) (a + size (one (R .v))) (q + length (text (one (R .v)))) marks₀ marks = rw (u₁, u₂, add-one a) at (T .since) in
-          let S₂ = since-late (R .t) (R .h) table bytes table′ a (a + size (one (R .v))) (q + length (text (one (R .v)))) marks₀ marks r₂ S₁ in
+          let S₁ : Since (R .t) (R .h) table bytes (suc a) (a + size (one (R .v))) (q + length (text (one (R .v)))) measures₀ measures = rw (u₁, u₂, add-one a) at (T .since) in
+          let S₂ = since-late (R .t) (R .h) table bytes table′ a (a + size (one (R .v))) (q + length (text (one (R .v)))) measures₀ measures r₂ S₁ in
           record {
             made = record {
               next = T .next-is ∙ rw (u₁, u₂);
@@ -472,25 +472,25 @@ module _ {p d ws starts children log : List ℕ} {levels i to from : ℕ} {marks
               text-before = earlier bytes₀ bytes (q + length (textOf (R .v .label))) q (T .text-before) (omega arith);
               text-behind = T .text-behind;
             };
-            since = since-mark (R .t) (R .h) table′ bytes a (a + size (one (R .v))) (q + length (text (one (R .v)))) marks₀ marks i w (omega (arith, open-below (E .walk), R .begun .shown .marks-long, R .marks-long, T .marks-long)) S₂
-                (record { container = open-container (E .walk); value = R .v; a = a; p = q; written = W; mark = w₁; later = omega arith; records-end = omega arith; text-end = omega arith });
+            since = since-measure (R .t) (R .h) table′ bytes a (a + size (one (R .v))) (q + length (text (one (R .v)))) measures₀ measures i w (omega (arith, open-below (E .walk), R .begun .shown .measures-long, R .measures-long, T .measures-long)) S₂
+                (record { container = open-container (E .walk); value = R .v; a = a; p = q; written = W; measure = w₁; later = omega arith; records-end = omega arith; text-end = omega arith });
           }
         where
-          marked : (x y : ℕ) → w ≡ writtenW (recordIn to) (x - recordIn to) (textIn to) (y - textIn to) → x ≡ recordIn to + size (one (E .walk .ready .v)) → y ≡ textIn to + length (text (one (E .walk .ready .v)))
+          measured : (x y : ℕ) → w ≡ writtenW (recordIn to) (x - recordIn to) (textIn to) (y - textIn to) → x ≡ recordIn to + size (one (E .walk .ready .v)) → y ≡ textIn to + length (text (one (E .walk .ready .v)))
               → w ≡ writtenW (recordIn to) (size (one (E .walk .ready .v))) (textIn to) (length (text (one (E .walk .ready .v))))
-          marked x y g d₁ d₂ =
+          measured x y g d₁ d₂ =
               let b₁ : x - recordIn to ≡ size (one (E .walk .ready .v)) = omega arith in
               let b₂ : y - textIn to ≡ length (text (one (E .walk .ready .v))) = omega arith in
               rw (← b₁, ← b₂) g
 
-pub turn-same : (t : List Node) (h : Kids) (v : Value) (i to from : ℕ) (marks₀ table₀ bytes₀ : List ℕ) (next next′ j : ℕ) (marks marks′ table table′ bytes bytes′ : List ℕ) → marks′ ≡ marks → table′ ≡ table → bytes′ ≡ bytes → next′ ≡ next
-    → Turn t h v i to from marks₀ table₀ bytes₀ next j marks table bytes → Turn t h v i to from marks₀ table₀ bytes₀ next′ j marks′ table′ bytes′
-turn-same t h v i to from marks₀ table₀ bytes₀ next next′ j marks marks′ table table′ bytes bytes′ a b c d x = rw (a, b, c, d) x
+pub turn-same : (t : List Node) (h : Kids) (v : Value) (i to from : ℕ) (measures₀ table₀ bytes₀ : List ℕ) (next next′ j : ℕ) (measures measures′ table table′ bytes bytes′ : List ℕ) → measures′ ≡ measures → table′ ≡ table → bytes′ ≡ bytes → next′ ≡ next
+    → Turn t h v i to from measures₀ table₀ bytes₀ next j measures table bytes → Turn t h v i to from measures₀ table₀ bytes₀ next′ j measures′ table′ bytes′
+turn-same t h v i to from measures₀ table₀ bytes₀ next next′ j measures measures′ table table′ bytes bytes′ a b c d x = rw (a, b, c, d) x
 
 -- from the text as it was before the node's own
-wrote-all : (t : List Node) (h : Kids) (v : Value) (i to : ℕ) (marks table bytes bytes₁ marks′ table′ bytes′ : List ℕ) (r : ℕ) → bytes₁ ≡ sets bytes (textIn to) (textOf (v .label)) → Wrote t h v i to marks table bytes₁ marks′ table′ bytes′ r
-    → Wrote t h v i to marks table bytes marks′ table′ bytes′ r
-wrote-all t h v i to marks table bytes bytes₁ marks′ table′ bytes′ r e W =
+wrote-all : (t : List Node) (h : Kids) (v : Value) (i to : ℕ) (measures table bytes bytes₁ measures′ table′ bytes′ : List ℕ) (r : ℕ) → bytes₁ ≡ sets bytes (textIn to) (textOf (v .label)) → Wrote t h v i to measures table bytes₁ measures′ table′ bytes′ r
+    → Wrote t h v i to measures table bytes measures′ table′ bytes′ r
+wrote-all t h v i to measures table bytes bytes₁ measures′ table′ bytes′ r e W =
     let M = W .made in
     let n = text-one v in
     let x : take (textIn to) bytes₁ ≡ take (textIn to) bytes = rw e (sets-before bytes (textIn to) (textOf (v .label)) (textIn to) (omega arith)) in
@@ -508,17 +508,17 @@ wrote-all t h v i to marks table bytes bytes₁ marks′ table′ bytes′ r e W
     }
 
 -- the container is written
-pub open-done : {p d ws starts children log : List ℕ} {levels i to : ℕ} {marks table bytes : List ℕ} (O : Open p d ws starts children log levels i to marks table bytes) (bytes₁ : List ℕ) (x : ℕ) (L : TextPut p ws i bytes (textIn to) bytes₁ x)
-    {from next j : ℕ} {marks′ table₁ bytes′ : List ℕ} (T : Turn (enter O bytes₁ x L .walk .ready .t) (enter O bytes₁ x L .walk .ready .h) (enter O bytes₁ x L .walk .ready .v) i to from marks table bytes₁ next j marks′ table₁ bytes′)
+pub open-done : {p d ws starts children log : List ℕ} {levels i to : ℕ} {measures table bytes : List ℕ} (O : Open p d ws starts children log levels i to measures table bytes) (bytes₁ : List ℕ) (x : ℕ) (L : TextPut p ws i bytes (textIn to) bytes₁ x)
+    {from next j : ℕ} {measures′ table₁ bytes′ : List ℕ} (T : Turn (enter O bytes₁ x L .walk .ready .t) (enter O bytes₁ x L .walk .ready .h) (enter O bytes₁ x L .walk .ready .v) i to from measures table bytes₁ next j measures′ table₁ bytes′)
     → length (enter O bytes₁ x L .walk .ready .h i) ≤ T .k → (n : ℕ) (table′ : List ℕ) (w : ℕ) → n ≡ length (O .ready .h i) → FinishPut ws i to next x n table₁ table′ w
-    → Wrote (O .ready .t) (O .ready .h) (O .ready .v) i to marks table bytes (set marks′ i w) table′ bytes′ next
+    → Wrote (O .ready .t) (O .ready .h) (O .ready .v) i to measures table bytes (set measures′ i w) table′ bytes′ next
 unfolding enter
-open-done {p} {ws = ws} {i = i} {to = to} {marks = marks} {table = table} {bytes = bytes} O bytes₁ x L {next = next} {marks′ = marks′} {bytes′ = bytes′} T l n table′ w e F =
+open-done {p} {ws = ws} {i = i} {to = to} {measures = measures} {table = table} {bytes = bytes} O bytes₁ x L {next = next} {measures′ = measures′} {bytes′ = bytes′} T l n table′ w e F =
     let q = open-label O in
-    wrote-all (O .ready .t) (O .ready .h) (O .ready .v) i to marks table bytes bytes₁ (set marks′ i w) table′ bytes′ next (rw q (L .text-is))
-    (turn-done (enter O bytes₁ x L) T l table′ _ n (recordIn next - recordIn to) w (record-at p ws i x (textIn to) n (recordIn next - recordIn to) (L .lengths)) e refl (F .table-is) (F .mark))
+    wrote-all (O .ready .t) (O .ready .h) (O .ready .v) i to measures table bytes bytes₁ (set measures′ i w) table′ bytes′ next (rw q (L .text-is))
+    (turn-done (enter O bytes₁ x L) T l table′ _ n (recordIn next - recordIn to) w (record-at p ws i x (textIn to) n (recordIn next - recordIn to) (L .lengths)) e refl (F .table-is) (F .measure))
 
 -- what `write` promises
-abbrev pub Writes : (p d ws starts children log : List ℕ) (levels i to : ℕ) (marks table bytes marks′ table′ bytes′ : List ℕ) (r : ℕ) → Type 0
-Writes p d ws starts children log levels i to marks table bytes marks′ table′ bytes′ r =
-    (O : Open p d ws starts children log levels i to marks table bytes) → Wrote (O .ready .t) (O .ready .h) (O .ready .v) i to marks table bytes marks′ table′ bytes′ r
+abbrev pub Writes : (p d ws starts children log : List ℕ) (levels i to : ℕ) (measures table bytes measures′ table′ bytes′ : List ℕ) (r : ℕ) → Type 0
+Writes p d ws starts children log levels i to measures table bytes measures′ table′ bytes′ r =
+    (O : Open p d ws starts children log levels i to measures table bytes) → Wrote (O .ready .t) (O .ready .h) (O .ready .v) i to measures table bytes measures′ table′ bytes′ r

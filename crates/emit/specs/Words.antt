@@ -1,4 +1,4 @@
--- The words that the code packs: a place to write at, the mark of what is written, a record by its node's words.
+-- The words that the code packs: a place to write at, the measure of what is written, a record by its node's words.
 use Prim.Native.Nat.{ℕ, suc, zero, _+_, _*_, _^_, _/_, _%_, _<_, _≤_}
 use mathlib.Core.Bool.{Bool, true, false, cond}
 use mathlib.Core.List.{List, [], _∷_, _++_, map}
@@ -11,9 +11,9 @@ use native.Mathlib.Decide.{decLt, ℕ-discrete}
 use native.Mathlib.Omega.{arith}
 use Rattle.value.specs.Value.{Label, bit, half, kind, textOf, recordOf, NoneL, BoolL, I64L, F64L, BytesL, StringL, ListL, TupleL, SetL, FrozenSetL, DictL, GlobalL, ObjectL}
 use Rattle.value.specs.Shape.{kindIn, newIn}
-use Rattle.decoder.specs.Rooms.{tab}
+use Rattle.store.specs.Rooms.{tab}
 use Rattle.steps.specs.NodeWords.{first, second}
-use Rattle.decoder.specs.RoomLists.{getD-tab}
+use Rattle.store.specs.RoomLists.{getD-tab}
 use Rattle.resolved.specs.Noted.{isContainer}
 use Rattle.resolved.specs.Shown.{labels, labelOf, hasText, leading, trailing}
 
@@ -28,7 +28,7 @@ recordIn to = to % 4096
 abbrev pub textIn : ℕ → ℕ
 textIn to = to / 4096
 
--- ---- the mark of a container that is written: its record, how many there are in it, where its text begins, how long that is
+-- ---- the measure of a container that is written: its record, how many there are in it, where its text begins, how long that is
 
 abbrev pub writtenW : ℕ → ℕ → ℕ → ℕ → ℕ
 writtenW a z p n = 2 ^ 63 + a + 2 ^ 12 * z + 2 ^ 24 * p + 2 ^ 41 * n

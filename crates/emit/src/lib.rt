@@ -16,7 +16,7 @@ ghost use Rattle.emit.specs.Leaves.{TextReady, TextPut, kindBelow, AtomR
 ghost use Rattle.emit.specs.Calls.{Flat, FlatWrites, Open};
 ghost use Rattle.emit.specs.Turns.{Writes};
 ghost use Rattle.emit.specs.Roots.{Rooted, Emits};
-use decoder::NodeId;
+use store::NodeId;
 use value::Head;
 
 // A place to write at is one number: the next record, and 4,096 times where the next text begins.
@@ -24,7 +24,7 @@ use value::Head;
 // The number of no node: a None.
 const NOTHING: usize = 4096;
 
-// A container's mark from here on says where it is written: its record, 2^12 times its records, 2^24 times the place of its text, 2^41 times
+// A container's measure from here on says where it is written: its record, 2^12 times its records, 2^24 times the place of its text, 2^41 times
 // the text's length.
 const WRITTEN: u64 = 0x8000_0000_0000_0000;
 
@@ -121,13 +121,13 @@ fn kind_of(first: u64) -> u64
     ensures { λ r. ⌜ r ≡ kindOf first ⌝ }
 {
     let kind = first % 16;
-    if kind < decoder::KIND_ESCAPED {
+    if kind < store::KIND_ESCAPED {
         return kind;
     }
-    if kind == decoder::KIND_ESCAPED {
+    if kind == store::KIND_ESCAPED {
         return value::BYTES;
     }
-    if kind == decoder::KIND_UNICODE {
+    if kind == store::KIND_UNICODE {
         return value::STRING;
     }
     0
@@ -193,16 +193,16 @@ fn put_names<'a>(
     pickle: &'a [u8],
     decoded: &'a [u8],
     nodes: &[u64],
-    marks: &[u64],
+    measures: &[u64],
     text: &mut [u8],
     at: usize,
 ) -> u64
-    requires { ⌜ TextReady (now pickle) (now decoded) (now nodes) (now marks) (node .0) (now text) at ⌝ }
+    requires { ⌜ TextReady (now pickle) (now decoded) (now nodes) (now measures) (node .0) (now text) at ⌝ }
     requires { ⌜ 11 ≤ kindOf (first (now nodes) (node .0)) ⌝ }
     ensures { λ r. ⌜ TextPut (now (pickle .entry)) (now (nodes .entry)) (node .0) (now (text .entry)) at (now (text .exit)) r ⌝ }
 {
-    let module = texts::lead_part(node, pickle, decoded, nodes, marks);
-    let name = texts::trail_part(node, pickle, decoded, nodes, marks);
+    let module = texts::lead_part(node, pickle, decoded, nodes, measures);
+    let name = texts::trail_part(node, pickle, decoded, nodes, measures);
     put_bytes(module, text, at);
     put_bytes(name, text, at + module.len());
     module.len() as u64 * 0x1_0000_0000 + name.len() as u64
@@ -214,17 +214,17 @@ fn put_class<'a>(
     pickle: &'a [u8],
     decoded: &'a [u8],
     nodes: &[u64],
-    marks: &[u64],
+    measures: &[u64],
     text: &mut [u8],
     at: usize,
 ) -> u64
-    requires { ⌜ TextReady (now pickle) (now decoded) (now nodes) (now marks) (node .0) (now text) at ⌝ }
+    requires { ⌜ TextReady (now pickle) (now decoded) (now nodes) (now measures) (node .0) (now text) at ⌝ }
     requires { ⌜ boxed (kindOf (first (now nodes) (node .0))) ≡ true ⌝ }
     ensures { λ r. ⌜ TextPut (now (pickle .entry)) (now (nodes .entry)) (node .0) (now (text .entry)) at (now (text .exit)) r ⌝ }
 {
     let i = node.0;
     if kind_of(nodes[2 * i]) == value::OBJECT {
-        return put_names(node, pickle, decoded, nodes, marks, text, at);
+        return put_names(node, pickle, decoded, nodes, measures, text, at);
     }
     0
 }
@@ -268,11 +268,11 @@ fn write_text<'a>(
     pickle: &'a [u8],
     decoded: &'a [u8],
     nodes: &[u64],
-    marks: &[u64],
+    measures: &[u64],
     table: &mut [u64],
     text: &mut [u8],
 ) -> u64
-    requires { ⌜ LeafReady (now pickle) (now decoded) (now nodes) (now marks) (node .0) to (now table) (now text) ⌝ }
+    requires { ⌜ LeafReady (now pickle) (now decoded) (now nodes) (now measures) (node .0) to (now table) (now text) ⌝ }
     requires { ⌜ (4 ≤ kindOf (first (now nodes) (node .0))) × (kindOf (first (now nodes) (node .0)) < 6) ⌝ }
     ensures { λ r. ⌜ LeafPut
         (labelOf (now (pickle .entry)) (now (nodes .entry)) (node .0)) to (now (table .entry))
@@ -280,7 +280,7 @@ fn write_text<'a>(
 {
     let i = node.0;
     let at = to / 0x1000;
-    let bytes = texts::lead_part(node, pickle, decoded, nodes, marks);
+    let bytes = texts::lead_part(node, pickle, decoded, nodes, measures);
     put_bytes(bytes, text, at as usize);
     let len = bytes.len() as u64;
     let words = Record(kind_of(nodes[2 * i]), at, len, 0);
@@ -295,11 +295,11 @@ fn write_leaf<'a>(
     pickle: &'a [u8],
     decoded: &'a [u8],
     nodes: &[u64],
-    marks: &[u64],
+    measures: &[u64],
     table: &mut [u64],
     text: &mut [u8],
 ) -> u64
-    requires { ⌜ LeafReady (now pickle) (now decoded) (now nodes) (now marks) (node .0) to (now table) (now text) ⌝ }
+    requires { ⌜ LeafReady (now pickle) (now decoded) (now nodes) (now measures) (node .0) to (now table) (now text) ⌝ }
     requires { ⌜ boxed (kindOf (first (now nodes) (node .0))) ≡ false ⌝ }
     ensures { λ r. ⌜ LeafPut
         (labelOf (now (pickle .entry)) (now (nodes .entry)) (node .0)) to (now (table .entry))
@@ -311,26 +311,26 @@ fn write_leaf<'a>(
         return write_atom(node, to, nodes, table);
     }
     if kind < value::LIST {
-        return write_text(node, to, pickle, decoded, nodes, marks, table, text);
+        return write_text(node, to, pickle, decoded, nodes, measures, table, text);
     }
     let at = to / 0x1000;
-    let lengths = put_names(node, pickle, decoded, nodes, marks, text, at as usize);
+    let lengths = put_names(node, pickle, decoded, nodes, measures, text, at as usize);
     put_record(table, (to % 0x1000) as usize, Record(kind, at, lengths, 0));
     behind(to, lengths)
 }
 
-// A container that is written already, by its mark, once more.
-fn write_again(mark: u64, to: u64, table: &mut [u64], text: &mut [u8]) -> u64
-    requires { ⌜ CopyReady mark to (now table) (now text) ⌝ }
-    ensures { λ r. ⌜ CopyPut mark to (now (table .entry)) (now (text .entry)) (now (table .exit)) (now (text .exit)) r ⌝ }
+// A container that is written already, by its measure, once more.
+fn write_again(measure: u64, to: u64, table: &mut [u64], text: &mut [u8]) -> u64
+    requires { ⌜ CopyReady measure to (now table) (now text) ⌝ }
+    ensures { λ r. ⌜ CopyPut measure to (now (table .entry)) (now (text .entry)) (now (table .exit)) (now (text .exit)) r ⌝ }
 {
-    let size = mark / 0x1000 % 0x1000;
-    let origin = (mark / 0x100_0000 % 0x2_0000) as usize;
-    let long = mark / 0x200_0000_0000 % 0x2_0000;
+    let size = measure / 0x1000 % 0x1000;
+    let origin = (measure / 0x100_0000 % 0x2_0000) as usize;
+    let long = measure / 0x200_0000_0000 % 0x2_0000;
     let target = (to / 0x1000) as usize;
     copy_records(
         table,
-        (mark % 0x1000) as usize,
+        (measure % 0x1000) as usize,
         size as usize,
         (to % 0x1000) as usize,
         origin,
@@ -341,17 +341,17 @@ fn write_again(mark: u64, to: u64, table: &mut [u64], text: &mut [u8]) -> u64
 }
 
 // Is a node a container that is not written yet?
-fn is_open(node: NodeId, nodes: &[u64], marks: &[u64]) -> bool
-    requires { ⌜ (node .0 < 4096 → (2 * node .0 < length (now nodes)) × (node .0 < length (now marks))) ⌝ }
+fn is_open(node: NodeId, nodes: &[u64], measures: &[u64]) -> bool
+    requires { ⌜ (node .0 < 4096 → (2 * node .0 < length (now nodes)) × (node .0 < length (now measures))) ⌝ }
     requires { ⌜ node .0 ≤ 4096 ⌝ }
-    ensures { λ r. ⌜ r ≡ opened (now (nodes .entry)) (now (marks .entry)) (node .0) ⌝ }
+    ensures { λ r. ⌜ r ≡ opened (now (nodes .entry)) (now (measures .entry)) (node .0) ⌝ }
 {
     let i = node.0;
     if i == NOTHING {
         return false;
     }
     if is_box(kind_of(nodes[2 * i])) {
-        return marks[i] < WRITTEN;
+        return measures[i] < WRITTEN;
     }
     false
 }
@@ -363,13 +363,13 @@ fn write_flat<'a>(
     pickle: &'a [u8],
     decoded: &'a [u8],
     nodes: &[u64],
-    marks: &[u64],
+    measures: &[u64],
     table: &mut [u64],
     text: &mut [u8],
 ) -> u64
-    requires { ⌜ Flat (now pickle) (now decoded) (now nodes) (node .0) to (now marks) (now table) (now text) ⌝ }
+    requires { ⌜ Flat (now pickle) (now decoded) (now nodes) (node .0) to (now measures) (now table) (now text) ⌝ }
     ensures { λ r. ⌜ FlatWrites
-        (now (pickle .entry)) (now (decoded .entry)) (now (nodes .entry)) (node .0) to (now (marks .entry))
+        (now (pickle .entry)) (now (decoded .entry)) (now (nodes .entry)) (node .0) to (now (measures .entry))
         (now (table .entry)) (now (text .entry)) (now (table .exit)) (now (text .exit)) r ⌝ }
 {
     let i = node.0;
@@ -379,13 +379,13 @@ fn write_flat<'a>(
         return to + 1;
     }
     if is_box(kind_of(nodes[2 * i])) {
-        return write_again(marks[i], to, table, text);
+        return write_again(measures[i], to, table, text);
     }
-    write_leaf(node, to, pickle, decoded, nodes, marks, table, text)
+    write_leaf(node, to, pickle, decoded, nodes, measures, table, text)
 }
 
-// The mark of a container that is written from `to` on and ends at `next`.
-fn written_mark(to: u64, next: u64) -> u64
+// The measure of a container that is written from `to` on and ends at `next`.
+fn written_measure(to: u64, next: u64) -> u64
     requires { ⌜ (recordIn to ≤ recordIn next) × (textIn to ≤ textIn next) × (textIn next ≤ 65536) ⌝ }
     ensures { λ r. ⌜ r ≡ writtenW (recordIn to) (recordIn next - recordIn to) (textIn to) (textIn next - textIn to) ⌝ }
 {
@@ -394,7 +394,7 @@ fn written_mark(to: u64, next: u64) -> u64
     WRITTEN + to % 0x1000 + 0x1000 * size + 0x100_0000 * (to / 0x1000) + 0x200_0000_0000 * long
 }
 
-// The record of a container whose contents end at `next`, with its text's lengths and the values directly in it; its mark.
+// The record of a container whose contents end at `next`, with its text's lengths and the values directly in it; its measure.
 fn finish(
     node: NodeId,
     to: u64,
@@ -419,10 +419,10 @@ fn finish(
         size,
     );
     put_record(table, (to % 0x1000) as usize, words);
-    written_mark(to, next)
+    written_measure(to, next)
 }
 
-// A container that is not written yet, with so many levels left: its text, what is in it, then its record and its mark.
+// A container that is not written yet, with so many levels left: its text, what is in it, then its record and its measure.
 fn write<'a>(
     node: NodeId,
     levels: u64,
@@ -433,24 +433,24 @@ fn write<'a>(
     pickle: &'a [u8],
     decoded: &'a [u8],
     nodes: &[u64],
-    marks: &mut [u64],
+    measures: &mut [u64],
     table: &mut [u64],
     text: &mut [u8],
 ) -> u64
     requires { ⌜ Open
         (now pickle) (now decoded) (now nodes) (now starts) (now children) (now log) levels (node .0) to
-        (now marks) (now table) (now text) ⌝ }
+        (now measures) (now table) (now text) ⌝ }
     ensures { λ r. ⌜ Writes
         (now (pickle .entry)) (now (decoded .entry)) (now (nodes .entry)) (now (starts .entry))
-        (now (children .entry)) (now (log .entry)) levels (node .0) to (now (marks .entry))
-        (now (table .entry)) (now (text .entry)) (now (marks .exit)) (now (table .exit)) (now (text .exit))
+        (now (children .entry)) (now (log .entry)) levels (node .0) to (now (measures .entry))
+        (now (table .entry)) (now (text .entry)) (now (measures .exit)) (now (table .exit)) (now (text .exit))
         r ⌝ }
 {
-    let range = lists::range_of(node, nodes, starts, marks);
+    let range = lists::range_of(node, nodes, starts, measures);
     let from = range.at;
     let end = range.end;
     let at = (to / 0x1000) as usize;
-    let lengths = put_class(node, pickle, decoded, nodes, marks, text, at);
+    let lengths = put_class(node, pickle, decoded, nodes, measures, text, at);
     let mut next = behind(to, lengths);
     let mut j = from;
     while j < end {
@@ -458,8 +458,8 @@ fn write<'a>(
         if is_below(child, value::BYTES, nodes) {
             next = write_atom(child, next, nodes, table); // most are: no call that lends the texts
         } else if is_below(child, value::LIST, nodes) {
-            next = write_text(child, next, pickle, decoded, nodes, marks, table, text);
-        } else if is_open(child, nodes, marks) {
+            next = write_text(child, next, pickle, decoded, nodes, measures, table, text);
+        } else if is_open(child, nodes, measures) {
             next = write(
                 child,
                 levels - 1,
@@ -470,18 +470,18 @@ fn write<'a>(
                 pickle,
                 decoded,
                 nodes,
-                marks,
+                measures,
                 table,
                 text,
             );
         } else {
-            next = write_flat(child, next, pickle, decoded, nodes, marks, table, text);
+            next = write_flat(child, next, pickle, decoded, nodes, measures, table, text);
         }
         j += 1;
     }
-    let mark = finish(node, to, next, lengths, end - from, nodes, table);
+    let measure = finish(node, to, next, lengths, end - from, nodes, table);
     let i = node.0;
-    marks[i] = mark;
+    measures[i] = measure;
     next
 }
 
@@ -494,21 +494,21 @@ pub fn write_root<'a>(
     pickle: &'a [u8],
     decoded: &'a [u8],
     nodes: &[u64],
-    marks: &mut [u64],
+    measures: &mut [u64],
     table: &mut [u64],
     text: &mut [u8],
 ) -> u64
     requires { ⌜ Rooted
-        (now pickle) (now decoded) (now nodes) (now starts) (now children) (now log) (root .0) (now marks)
+        (now pickle) (now decoded) (now nodes) (now starts) (now children) (now log) (root .0) (now measures)
         (now table) (now text) ⌝ }
     ensures { λ r. ⌜ Emits
         (now (pickle .entry)) (now (decoded .entry)) (now (nodes .entry))
         (now (starts .entry)) (now (children .entry)) (now (log .entry))
         (root .0)
-        (now (marks .entry)) (now (table .entry)) (now (text .entry))
-        (now (marks .exit)) (now (table .exit)) (now (text .exit)) r ⌝ }
+        (now (measures .entry)) (now (table .entry)) (now (text .entry))
+        (now (table .exit)) (now (text .exit)) r ⌝ }
 {
-    if is_open(root, nodes, marks) {
+    if is_open(root, nodes, measures) {
         return write(
             root,
             64,
@@ -519,10 +519,10 @@ pub fn write_root<'a>(
             pickle,
             decoded,
             nodes,
-            marks,
+            measures,
             table,
             text,
         );
     }
-    write_flat(root, 0, pickle, decoded, nodes, marks, table, text)
+    write_flat(root, 0, pickle, decoded, nodes, measures, table, text)
 }

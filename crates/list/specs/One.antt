@@ -14,13 +14,13 @@ use Rattle.list.specs.Listing.{line, listing}
 use Rattle.list.specs.Back.{words-left, words-right, bytes-left, bytes-right, Readable, line-one}
 
 -- values whose table, with the texts from p on, is of words, and whose text is of bytes
-record Lent (f : Forest) (p : ℕ) : Type 0 where
+record Tabled (f : Forest) (p : ℕ) : Type 0 where
   pub shape : T (shaped f)
   pub words : Words (table f p)
   pub bytes : Bytes (text f)
   pub few : size f < 10 ^ 20
 
-module _ (l : Label) (c r : Forest) (p : ℕ) (a : Lent (node l c r) p) where
+module _ (l : Label) (c r : Forest) (p : ℕ) (a : Tabled (node l c r) p) where
   abbrev q : ℕ
   q = p + length (textOf l)
 
@@ -61,7 +61,7 @@ module _ (l : Label) (c r : Forest) (p : ℕ) (a : Lent (node l c r) p) where
         few = omega (arith, count-size c, all-few);
       }
 
-  contents-lent : Lent c q
+  contents-lent : Tabled c q
   contents-lent =
       record {
         shape = all-shaped .1;
@@ -70,7 +70,7 @@ module _ (l : Label) (c r : Forest) (p : ℕ) (a : Lent (node l c r) p) where
         few = omega (arith, all-few);
       }
 
-  after-lent : Lent r u
+  after-lent : Tabled r u
   after-lent =
       record {
         shape = all-shaped .2;
@@ -84,7 +84,7 @@ unfolding listing
 listing-apart d l c r x = rw (append-assoc (line d l (count c)), append-assoc (listing (suc d) c))
 
 -- as many values, listed alike, are the same values, and what stands behind the listings is the same
-forest-one : (f g : Forest) (d p q : ℕ) (x y : List ℕ) → Lent f p → Lent g q → count f ≡ count g → listing d f ++ x ≡ listing d g ++ y → (f ≡ g) × (x ≡ y)
+forest-one : (f g : Forest) (d p q : ℕ) (x y : List ℕ) → Tabled f p → Tabled g q → count f ≡ count g → listing d f ++ x ≡ listing d g ++ y → (f ≡ g) × (x ≡ y)
 unfolding count listing
 forest-one nil nil d p q x y a b n e = (refl, e)
 forest-one nil (node m c′ r′) d p q x y a b n e = absurd (omega arith)
@@ -96,7 +96,7 @@ forest-one (node l c r) (node m c′ r′) d p q x y a b n e =
     let j = forest-one r r′ d _ _ x y (after-lent l c r p a) (after-lent m c′ r′ q b) (omega arith) (i .1) in
     (cc (h .0, i .0, j .0), j .1)
 
-well-formed-lent : (w : List ℕ) (n : ℕ) (t : List ℕ) (f : WellFormed w n t) → Words w → Bytes t → Lent (one (f .value)) 0
+well-formed-lent : (w : List ℕ) (n : ℕ) (t : List ℕ) (f : WellFormed w n t) → Words w → Bytes t → Tabled (one (f .value)) 0
 well-formed-lent w n t f W B =
     let v = one (f .value) in
     let rest = drop (4 * n) w in

@@ -5,7 +5,7 @@ ghost use Prim.Native.Nat.{_<_};
 ghost use lib.ListN.{length, getD};
 ghost use Rattle.resolved.specs.Shown.{isSorted};
 ghost use Rattle.lists.specs.Listed.{Listed, Ranges};
-use decoder::NodeId;
+use store::NodeId;
 
 // The numbers from `at` to `end`, in the log or among the children.
 pub struct Range {
@@ -24,20 +24,20 @@ fn is_sorted(kind: u64) -> bool
     kind < value::GLOBAL
 }
 
-// Where a container's list stands: a Set's or Dict's where its mark says, once it is in order.
-pub fn range_of(node: NodeId, nodes: &[u64], starts: &[u16], marks: &[u64]) -> Range
-    requires { ⌜ Listed (now nodes) (now starts) (now marks) (node .0) ⌝ }
-    ensures { λ r. ⌜ Ranges (now (nodes .entry)) (now (starts .entry)) (now (marks .entry)) (node .0) r ⌝ }
+// Where a container's list stands: a Set's or Dict's where its measure says, once it is in order.
+pub fn range_of(node: NodeId, nodes: &[u64], starts: &[u16], measures: &[u64]) -> Range
+    requires { ⌜ Listed (now nodes) (now starts) (now measures) (node .0) ⌝ }
+    ensures { λ r. ⌜ Ranges (now (nodes .entry)) (now (starts .entry)) (now (measures .entry)) (node .0) r ⌝ }
 {
     let i = node.0;
     let kind = nodes[2 * i] % 16;
     if is_sorted(kind) {
-        let mark = marks[i];
-        let at = (mark % 0x1_0000) as usize;
+        let measure = measures[i];
+        let at = (measure % 0x1_0000) as usize;
         return Range {
             log: kind < value::DICT,
             at,
-            end: at + (mark / 0x1_0000 % 0x1_0000) as usize,
+            end: at + (measure / 0x1_0000 % 0x1_0000) as usize,
         };
     }
     Range {

@@ -5,13 +5,13 @@ use mathlib.Core.Path.{refl}
 use lib.ListN.{length}
 use native.Mathlib.Omega.{arith}
 use Rattle.refusal.specs.declared.Refusal.{Refusal}
-use Rattle.decoder.specs.declared.Counts.{Counts}
-use Rattle.decoder.specs.declared.NodeId.{NodeId}
-use Rattle.decoder.specs.declared.MemoKey.{MemoKey}
-use Rattle.decoder.specs.declared.Effect.{Effect}
-use Rattle.decoder.specs.declared.Effect.the-variants.{Push, Share, Mark, Go, Make, Extend, Remember, Build, Stop, Refused}
-use Rattle.decoder.specs.Rooms.{Rooms}
-use Rattle.decoder.specs.Effects.{Fits, enacted}
+use Rattle.store.specs.declared.Counts.{Counts}
+use Rattle.store.specs.declared.NodeId.{NodeId}
+use Rattle.store.specs.declared.MemoKey.{MemoKey}
+use Rattle.store.specs.declared.Effect.{Effect}
+use Rattle.store.specs.declared.Effect.the-variants.{Push, Share, Mark, Go, Make, Extend, Remember, Build, Stop, Refused}
+use Rattle.store.specs.Rooms.{Rooms}
+use Rattle.store.specs.Effects.{Fits, enacted}
 use Rattle.effects.specs.declared.Step.{Step}
 use Rattle.effects.specs.declared.Step.the-variants as step
 use Rattle.effects.specs.Done.{meant, Stays, Done, done-refused}

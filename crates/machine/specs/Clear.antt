@@ -7,14 +7,14 @@ use lib.Seq.{ext-getD, getD-append-add, getD-drop}
 use native.Mathlib.Decide.{decLt}
 use native.Mathlib.Omega.{arith}
 use Rattle.rooms.specs.Cleared.{cleared}
-use Rattle.decoder.specs.declared.Counts.{Counts}
-use Rattle.decoder.specs.Effects.{Firm, Blank}
-use Rattle.decoder.specs.Rooms.{Rooms}
+use Rattle.store.specs.declared.Counts.{Counts}
+use Rattle.store.specs.Effects.{Firm, ZeroFrom}
+use Rattle.store.specs.Rooms.{Rooms}
 
 -- of a room that was all zero, only the first n were used
 pub record UsedTo (n : ℕ) (l : List ℕ) : Type 0 where
   pub room : n ≤ length l
-  pub blank : Blank n l
+  pub blank : ZeroFrom n l
 
 -- a room as long, and all zero
 unfoldable pub zeroed : List ℕ → List ℕ
@@ -26,8 +26,8 @@ zeros (suc m) zero = refl
 zeros (suc m) (suc i) = zeros m i
 
 -- zero up to n and from n on
-pub all-zero : (l : List ℕ) (n m : ℕ) → length l ≡ m → n ≤ m → Blank n l → cleared n l ≡ replicate m 0
-unfolding cleared Blank
+pub all-zero : (l : List ℕ) (n m : ℕ) → length l ≡ m → n ≤ m → ZeroFrom n l → cleared n l ≡ replicate m 0
+unfolding cleared ZeroFrom
 all-zero l n m e h b = ext-getD 0 (replicate n 0 ++ drop n l) (replicate m 0) (rw (length-append, length-replicate, length-replicate, length-drop) (omega arith)) (λ i k. at i (decLt i n))
   where
     at : (i : ℕ) → Dec (i < n) → getD (replicate n 0 ++ drop n l) i 0 ≡ getD (replicate m 0) i 0

@@ -3,13 +3,13 @@ use Prim.Native.Nat.{ℕ, _≤_}
 use mathlib.Core.List.{List}
 use lib.ListN.{length, length-replicate, replicate}
 use native.Mathlib.Omega.{arith}
-use Rattle.decoder.specs.Rooms.{Rooms}
-use Rattle.decoder.specs.RoomReads.{start-of}
-use Rattle.decoder.specs.RoomKeeps.{kept-start}
-use Rattle.decoder.specs.RoomMemo.{numbered-none}
+use Rattle.store.specs.Rooms.{Rooms}
+use Rattle.store.specs.RoomReads.{start-of}
+use Rattle.store.specs.RoomKeeps.{kept-start}
+use Rattle.store.specs.RoomMemo.{numbered-none}
 use Rattle.steps.specs.Range.{start-range}
-use Rattle.decoder.specs.Effects.{Sound, Lengths, Clean, Blank}
-use Rattle.machine.specs.Lent.{roomsOf}
+use Rattle.store.specs.Effects.{Sound, Lengths, Clean, ZeroFrom}
+use Rattle.machine.specs.RoomsOf.{roomsOf}
 use Rattle.machine.specs.Clear.{zeros}
 use Rattle.machine.specs.Ran.{start}
 
@@ -32,8 +32,8 @@ fresh-rooms r l z = record {
   range = rw (start-of r) (start-range (r .pickle));
 }
 
-blank : (m : ℕ) → Blank 0 (replicate m 0)
-unfolding Blank
+blank : (m : ℕ) → ZeroFrom 0 (replicate m 0)
+unfolding ZeroFrom
 blank m i h = zeros m i
 
 long : (m n : ℕ) → m ≤ n → m ≤ length (replicate {A = ℕ} n 0)

@@ -1,5 +1,5 @@
 -- The machine's step and run in the rooms that are lent.
-pub mod Lent
+pub mod RoomsOf
 pub mod Clear
 pub mod Ran
 pub mod Applied

@@ -6,7 +6,7 @@ use lib.ListN.{length, length-drop}
 use native.Mathlib.Omega.{arith}
 use Rattle.refusal.specs.declared.Refusal.{Refusal}
 use Rattle.op.specs.declared.Edition.{Edition}
-use Rattle.decoder.specs.declared.Counts.{Counts}
+use Rattle.store.specs.declared.Counts.{Counts}
 use Rattle.steps.specs.State.{State, Res, ok, no, _>>=_}
 use Rattle.steps.specs.Run.{Next, goes, stops, step, run, start as begin}
 use Rattle.steps.specs.Out.{of-out}
@@ -14,9 +14,9 @@ use Rattle.steps.specs.Keeps.{after}
 use Rattle.steps.specs.Shrinks.{step-less}
 use Rattle.steps.specs.Fuel.{finish, run-finish, finish-refused, finish-stops, finish-goes}
 use Rattle.steps.specs.Range.{InRange, step-range}
-use Rattle.decoder.specs.Rooms.{Rooms, stateOf}
-use Rattle.decoder.specs.RoomReads.{start-of, input-of}
-use Rattle.decoder.specs.Effects.{Sound}
+use Rattle.store.specs.Rooms.{Rooms, stateOf}
+use Rattle.store.specs.RoomReads.{start-of, input-of}
+use Rattle.store.specs.Effects.{Sound}
 use Rattle.effects.specs.declared.Step.{Step}
 use Rattle.effects.specs.declared.Step.the-variants as step-of
 use Rattle.effects.specs.Done.{meant, Stays, Done}

@@ -20,7 +20,7 @@ use Rattle.number.specs.Number.{Int, truth, whole}
 use Rattle.number.specs.Space.{same}
 use Rattle.value.specs.Value.{Label, NoneL, BoolL, I64L, F64L, BytesL, StringL, ListL, TupleL, SetL, FrozenSetL, DictL, GlobalL, ObjectL}
 use Rattle.value.specs.Shape.{and-l, and-r}
-use Rattle.steps.specs.State.{Node, State, Res, ok, no, _>>=_, plain, withInput, withStack, withMarks, last, butLast, pop, top, popMark, popMany, pushId, pushNode, push, link, nodeAt, extend, get, put}
+use Rattle.steps.specs.State.{Node, State, Res, ok, no, _>>=_, kidless, withInput, withStack, withMarks, last, butLast, pop, top, popMark, popMany, pushId, pushNode, push, link, nodeAt, extend, get, put}
 use Rattle.steps.specs.Opcodes.{classOf, proto, mark, popOne, popToMark, dup, intLabel, int, binint, binint1, binint2, long, longN, float, binfloat, string, binstring, shortBinstring, unicode, binunicode, global, made, list, tuple, tupleN, dict, added, append, appends, setitem, setitems, getLine, getBytes, putLine, putBytes, builtin, setName, frozensetName, object, setOf, reduced, called, reduce, newobj, buildState}
 use Rattle.steps.specs.Run.{Next, stops, going, does, decide, step}
 use Rattle.steps.specs.Out.{Out, out, weaken, bind, bind-any, bind-need, join-need}
@@ -120,11 +120,11 @@ pushNode-stands w n s a =
     let z : length (s .stack ++ (length (s .nodes) ∷ [])) ≡ suc (length (s .stack)) = rw length-append (omega arith) in
     let i : length (s .stack ++ (length (s .nodes) ∷ [])) - 1 ≡ length (s .stack) = omega arith in
     bind-need _ _ _ _ λ h. bind-need _ _ _ _ λ u.
-    out _ _ (top-stands w _ (omega arith) (rw (i, getD-append-seam (s .stack) (length (s .nodes)) [] 0, getD-append-seam (s .nodes) n [] (plain NoneL)) a))
+    out _ _ (top-stands w _ (omega arith) (rw (i, getD-append-seam (s .stack) (length (s .nodes)) [] 0, getD-append-seam (s .nodes) n [] (kidless NoneL)) a))
 
 push-stands : (w : Word) (l : Label) (s : State) → T (allows w l) → Out (Stocked (topmost (w ∷ []))) (push l s)
 unfolding push
-push-stands w l s a = pushNode-stands w (plain l) s a
+push-stands w l s a = pushNode-stands w (kidless l) s a
 
 -- any number, once more
 pushId-stands : (i : ℕ) (s : State) → Out (Stocked (topmost (any ∷ []))) (pushId i s)
@@ -136,8 +136,8 @@ unfolding made
 made-stands w l is s a = bind-any _ _ _ λ t e. pushNode-stands w _ t a
 
 -- what has a label that is not None's keeps it, whatever its contents become
-relabelled : (w : Word) (s : State) (i : ℕ) (ks : List ℕ) → (T (allows w NoneL) → ⊥) → T (allows w (nodeAt s i .label)) → T (allows w (getD (set (s .nodes) i (record { label = nodeAt s i .label; kids = ks })) i (plain NoneL) .label))
-relabelled w s i ks z a = rw (getD-set-same (s .nodes) i (record { label = nodeAt s i .label; kids = ks }) (plain NoneL) (labelled (λ (l : Label). T (allows w l)) (s .nodes) i z a)) a
+relabelled : (w : Word) (s : State) (i : ℕ) (ks : List ℕ) → (T (allows w NoneL) → ⊥) → T (allows w (nodeAt s i .label)) → T (allows w (getD (set (s .nodes) i (record { label = nodeAt s i .label; kids = ks })) i (kidless NoneL) .label))
+relabelled w s i ks z a = rw (getD-set-same (s .nodes) i (record { label = nodeAt s i .label; kids = ks }) (kidless NoneL) (labelled (λ (l : Label). T (allows w l)) (s .nodes) i z a)) a
 
 -- a container on top, which gets items
 added-kept : (w : Word) (why : Refusal) (is : List ℕ) (s : State) → (T (allows w NoneL) → ⊥) → Out (TakenAndLeft (topmost (w ∷ [])) (topmost (w ∷ [])) s) (added (allows w) why is s)

@@ -23,7 +23,7 @@ use Rattle.output.specs.Decimal.{signedText, signed-back, either}
 use Rattle.output.specs.Parse.{parse-back}
 use Rattle.output.specs.Put.{newline}
 use Rattle.value.specs.Value.{Label, NoneL, BoolL, I64L, F64L, BytesL, StringL, ListL, TupleL, DictL, GlobalL, nil}
-use Rattle.steps.specs.State.{State, _>>=_, leaf, withInput, push, plain}
+use Rattle.steps.specs.State.{State, _>>=_, leaf, withInput, push, kidless}
 use Rattle.steps.specs.Opcodes.{lowBytes, binint, binint1, binint2, int, intLabel, binfloat, signedLength, binstring, shortBinstring, binunicode, global}
 use Rattle.steps.specs.Run.{going, does}
 use Rattle.ser.specs.Image.{low, high, inI32, int as intImage, float, bytes, string, global as globalImage, bool, opening}
@@ -37,7 +37,7 @@ use Rattle.outback.specs.Steps.{by-op, after-push, bytes-ok}
 -- an opcode that does nothing but push
 pub pushes : (o : Opcode) (s : State) (r rest : List ℕ) (l : Label) → s .input ≡ numberOf o ∷ r → does 2 o (withInput s r) ≡ going (push l (withInput s rest)) → Outcome s (OneMore s rest l nil)
 unfolding push
-pushes o s r rest l e d = by-op o s r e _ d (after-push (OneMore s rest l nil) (plain l) (withInput s rest) (leaf-more s rest l))
+pushes o s r rest l e d = by-op o s r e _ d (after-push (OneMore s rest l nil) (kidless l) (withInput s rest) (leaf-more s rest l))
 
 low-length : (k n : ℕ) → length (low k n) ≡ k
 unfolding low

@@ -12,7 +12,7 @@ use Rattle.refusal.specs.declared.Refusal.{Refusal}
 use Rattle.op.specs.declared.Edition.the-variants.{Full}
 use Rattle.value.specs.Value.{Label, Forest, NoneL, nil, node}
 use Rattle.value.specs.Stands.{_⊕_}
-use Rattle.steps.specs.State.{Node, State, no, plain}
+use Rattle.steps.specs.State.{Node, State, no, kidless}
 use Rattle.steps.specs.Fuel.{finish}
 use Rattle.reading.specs.Build.{at}
 use Rattle.outback.specs.Added.{addedRefusal}
@@ -110,13 +110,13 @@ node-more s t rest l f k ms ks w m o v =
       stack = refl;
       low = m;
       high = omega arith;
-      old = λ i h. List·getD-append (t .nodes) (n ∷ []) (plain NoneL) i (omega arith) ∙ o i h;
+      old = λ i h. List·getD-append (t .nodes) (n ∷ []) (kidless NoneL) i (omega arith) ∙ o i h;
       kids = ks;
-      here = getD-append-seam (t .nodes) n [] (plain NoneL);
-      inside = writes-moved (λ j a. record { low = a .low; high = omega (arith, a .high); other = λ e. omega (arith, a .high) }) (λ j a. List·getD-append (t .nodes) (n ∷ []) (plain NoneL) j (a .high)) v;
+      here = getD-append-seam (t .nodes) n [] (kidless NoneL);
+      inside = writes-moved (λ j a. record { low = a .low; high = omega (arith, a .high); other = λ e. omega (arith, a .high) }) (λ j a. List·getD-append (t .nodes) (n ∷ []) (kidless NoneL) j (a .high)) v;
     }
 
-pub leaf-more : (s : State) (rest : List ℕ) (l : Label) → OneMore s rest l nil (withNode s rest (plain l) s (s .links) (s .marks))
+pub leaf-more : (s : State) (rest : List ℕ) (l : Label) → OneMore s rest l nil (withNode s rest (kidless l) s (s .links) (s .marks))
 leaf-more s rest l = node-more s s rest l nil (s .links) (s .marks) [] refl (omega arith) (λ i h. refl) none
 
 -- ---- values added to the node on top
@@ -132,7 +132,7 @@ module _ {s t u : State} {mid mid′ : List ℕ} {l : Label} {c g : Forest} (res
       let z : length (set (u .nodes) (x .id) n) ≡ length (u .nodes) = length-set (u .nodes) (x .id) n in
       let m : length (t .nodes) ≤ length (u .nodes) = rw same at (y .more) in
       let old : (i : ℕ) → i < length (t .nodes) → at (u .nodes) i ≡ at (t .nodes) i = λ i h. y .old i (rw same h) ∙ ap (λ (v : List Node). at v i) same in
-      let other : (j : ℕ) → j ≢ x .id → at (set (u .nodes) (x .id) n) j ≡ at (u .nodes) j = λ j o. getD-set-other (u .nodes) (x .id) j n (plain NoneL) o in
+      let other : (j : ℕ) → j ≢ x .id → at (set (u .nodes) (x .id) n) j ≡ at (u .nodes) j = λ j o. getD-set-other (u .nodes) (x .id) j n (kidless NoneL) o in
       record {
         input = refl;
         marks = w;
@@ -142,7 +142,7 @@ module _ {s t u : State} {mid mid′ : List ℕ} {l : Label} {c g : Forest} (res
         high = omega (arith, x .high);
         old = λ i h. other i (λ e. omega (arith, x .low)) ∙ old i (omega (arith, x .low, x .high)) ∙ x .old i h;
         kids = x .kids ++ y .ids;
-        here = getD-set-same (u .nodes) (x .id) n (plain NoneL) (omega (arith, x .high));
+        here = getD-set-same (u .nodes) (x .id) n (kidless NoneL) (omega (arith, x .high));
         inside =
             writes-append (writes-moved (λ j a. record { low = a .low; high = omega (arith, a .high); other = a .other }) (λ j a. other j (a .other) ∙ old j (a .high)) (x .inside))
             (writes-moved (λ j a. let q : length (t .nodes) ≤ j = rw same at (a .low) in record { low = omega (arith, x .low, x .high); high = omega (arith, a .high); other = λ e. omega (arith, x .high) })

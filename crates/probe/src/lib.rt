@@ -10,7 +10,6 @@ use refusal::Refusal;
 use refusal::Wanted;
 use text::Decoded;
 use text::Quoted;
-ghost use mathlib.Core.Path.{_≡_};
 ghost use Prim.Native.Nat.{_+_, _≤_};
 ghost use lib.ListN.{length};
 

@@ -42,15 +42,15 @@ pub record Limited (p ws starts : List ℕ) (t : List Node) (root : ℕ) : Type 
   pub texts : length (text (one (tree t root))) ≤ 65536
 
 -- and the rooms hold what the walk from it left; `lent` is the room of dues before
-pub record MeasuredAs (p ws starts sorted dues marks : List ℕ) (t : List Node) (root : ℕ) : Type 0 where
+pub record MeasuredAs (p ws starts sorted dues measures : List ℕ) (t : List Node) (root : ℕ) : Type 0 where
   pub limited : Limited p ws starts t root
   pub lent : List ℕ
-  pub holds : HoldsWalk t (limited .worded .beyond) starts lent marks sorted dues (walked t 4096 64 root .after)
+  pub holds : HoldsWalk t (limited .worded .beyond) starts lent measures sorted dues (walked t 4096 64 root .after)
 
 -- there are such nodes
-pub record Measured (p ws starts sorted dues marks : List ℕ) (root : ℕ) : Type 0 where
+pub record Measured (p ws starts sorted dues measures : List ℕ) (root : ℕ) : Type 0 where
   pub nodes : List Node
-  pub are : MeasuredAs p ws starts sorted dues marks nodes root
+  pub are : MeasuredAs p ws starts sorted dues measures nodes root
 
 -- rooms to work in, and room for the outputs
 pub record WorkRooms (decoded log list table bytes : List ℕ) : Type 0 where
@@ -69,9 +69,9 @@ pub record Produced (f : Forest) (table bytes table′ bytes′ : List ℕ) (rec
   pub text-is : bytes′ ≡ text f ++ drop (length (text f)) bytes
 
 -- of whatever nodes the rooms hold
-abbrev pub Produces : (p ws starts sorted dues marks : List ℕ) (root : ℕ) (table bytes table′ bytes′ : List ℕ) (records : ℕ) → Type 0
-Produces p ws starts sorted dues marks root table bytes table′ bytes′ records =
-    (t : List Node) → MeasuredAs p ws starts sorted dues marks t root → Produced (settle (one (tree t root))) table bytes table′ bytes′ records
+abbrev pub Produces : (p ws starts sorted dues measures : List ℕ) (root : ℕ) (table bytes table′ bytes′ : List ℕ) (records : ℕ) → Type 0
+Produces p ws starts sorted dues measures root table bytes table′ bytes′ records =
+    (t : List Node) → MeasuredAs p ws starts sorted dues measures t root → Produced (settle (one (tree t root))) table bytes table′ bytes′ records
 
 -- the rooms as they were lent
 pub record Restored (decoded log list decoded′ log′ list′ : List ℕ) : Type 0 where

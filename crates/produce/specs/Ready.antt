@@ -21,25 +21,25 @@ use Rattle.resolved.specs.Tree.{walked, levels-enough}
 use Rattle.resolved.specs.Noted.{isContainer, isTextLeaf, ahead}
 use Rattle.resolved.specs.Ranges.{graph-inside}
 use Rattle.resolved.specs.Shown.{Shown, Spelled, hasText}
-use Rattle.resolve.specs.Rooted.{root-words, marks-low}
+use Rattle.resolve.specs.Rooted.{root-words, measures-low}
 use Rattle.texts.specs.Due.{isDue, Decodes}
 use Rattle.arrange.specs.Walked.{Walked}
 use Rattle.arrange.specs.Settling.{ReadyToSettle}
 use Rattle.arrange.specs.Enough.{walk-over, walk-fits}
 use Rattle.produce.specs.Measured.{Worded, Limited, MeasuredAs}
-use Rattle.produce.specs.Texts.{marks-many}
+use Rattle.produce.specs.Texts.{measures-many}
 
 -- nodes and a root within the limits, the walk from it ready to be settled, and nothing written yet
-pub record Spelt (p d ws starts sorted noted marks log list : List ℕ) (t : List Node) (root : ℕ) : Type 0 where
+pub record Spelt (p d ws starts sorted noted measures log list : List ℕ) (t : List Node) (root : ℕ) : Type 0 where
   pub limited : Limited p ws starts t root
   pub lent : List ℕ
-  pub ready : ReadyToSettle t (walked t 4096 64 root .after) lent noted p d ws starts sorted log marks list
-  pub low : (j : ℕ) → getD marks j 0 < 2 ^ 63
+  pub ready : ReadyToSettle t (walked t 4096 64 root .after) lent noted p d ws starts sorted log measures list
+  pub low : (j : ℕ) → getD measures j 0 < 2 ^ 63
 
 -- there are such nodes
-pub record Unwritten (p d ws starts sorted noted marks log list : List ℕ) (root : ℕ) : Type 0 where
+pub record Unwritten (p d ws starts sorted noted measures log list : List ℕ) (root : ℕ) : Type 0 where
   pub nodes : List Node
-  pub are : Spelt p d ws starts sorted noted marks log list nodes root
+  pub are : Spelt p d ws starts sorted noted measures log list nodes root
 
 -- ---- labels with text
 
@@ -90,47 +90,47 @@ module _ {p ws starts : List ℕ} {t : List Node} {root : ℕ} (x : Limited p ws
 
 -- ---- decoded
 
-module _ {p ws starts sorted noted marks₀ : List ℕ} {t : List Node} {root : ℕ} (m : MeasuredAs p ws starts sorted noted marks₀ t root) {d₀ d marks : List ℕ} {used : ℕ} (D : Decodes p ws d₀ marks₀ (length marks₀) d marks used) where
+module _ {p ws starts sorted noted measures₀ : List ℕ} {t : List Node} {root : ℕ} (m : MeasuredAs p ws starts sorted noted measures₀ t root) {d₀ d measures : List ℕ} {used : ℕ} (D : Decodes p ws d₀ measures₀ (length measures₀) d measures used) where
   abbrev after : State
   after = walked t 4096 64 root .after
 
   -- a finished node's text was wanted
-  done-due : (i : ℕ) → i < length t → In i (after .done) → hasText (at t i .label) ≡ true → isDue p ws i (getD marks₀ i 0) ≡ true
+  done-due : (i : ℕ) → i < length t → In i (after .done) → hasText (at t i .label) ≡ true → isDue p ws i (getD measures₀ i 0) ≡ true
   unfolding isDue
   done-due i l n h =
       let e = m .limited .worded .labels-are i l in
       let w = root-words (m .holds) i l n (text-kinds (at t i .label) h) in
-      rw (← e) (word-wanted (at t i .label) (getD marks₀ i 0) h (w .0) (w .1))
+      rw (← e) (word-wanted (at t i .label) (getD measures₀ i 0) h (w .0) (w .1))
 
-  spelled : (i : ℕ) → In i (after .done) → i < length t → hasText (at t i .label) ≡ true → Spelled p d ws marks i (at t i .label)
+  spelled : (i : ℕ) → In i (after .done) → i < length t → hasText (at t i .label) ≡ true → Spelled p d ws measures i (at t i .label)
   spelled i n l h =
       let e = m .limited .worded .labels-are i l in
-      let k : i < length marks₀ = omega (arith, marks-many m) in
+      let k : i < length measures₀ = omega (arith, measures-many m) in
       rw e (D .texts i k (done-due i l n h) .spelled)
 
-  low₀ : (j : ℕ) → getD marks₀ j 0 < 2 ^ 63
+  low₀ : (j : ℕ) → getD measures₀ j 0 < 2 ^ 63
   low₀ j = go (decLt j (length t))
     where
-      go : Dec (j < length t) → getD marks₀ j 0 < 2 ^ 63
-      go (yes l) = omega (arith, marks-low (m .holds) j l)
-      go (no l) = let k : length marks₀ ≤ j = omega (arith, marks-many m) in let e : getD marks₀ j 0 ≡ 0 = List·getD-eq-default marks₀ 0 k in omega arith
+      go : Dec (j < length t) → getD measures₀ j 0 < 2 ^ 63
+      go (yes l) = omega (arith, measures-low (m .holds) j l)
+      go (no l) = let k : length measures₀ ≤ j = omega (arith, measures-many m) in let e : getD measures₀ j 0 ≡ 0 = List·getD-eq-default measures₀ 0 k in omega arith
 
-  low : (j : ℕ) → getD marks j 0 < 2 ^ 63
+  low : (j : ℕ) → getD measures j 0 < 2 ^ 63
   low j = go (D .changed j)
     where
-      go : (getD marks j 0 ≡ getD marks₀ j 0) ⊎ ((2 ^ 62 ≤ getD marks j 0) × (getD marks j 0 < 2 ^ 63)) → getD marks j 0 < 2 ^ 63
+      go : (getD measures j 0 ≡ getD measures₀ j 0) ⊎ ((2 ^ 62 ≤ getD measures j 0) × (getD measures j 0 < 2 ^ 63)) → getD measures j 0 < 2 ^ 63
       go (inl e) = omega (arith, low₀ j)
       go (inr b) = b .1
 
   -- of the nodes themselves; none is final but the number of none
-  bare : (log : List ℕ) → Shown t (after .kids) (Final 4096 []) p d ws starts sorted log marks
+  bare : (log : List ℕ) → Shown t (after .kids) (Final 4096 []) p d ws starts sorted log measures
   bare log =
       record {
         beyond = w .beyond;
         short = w .short;
         words-long = w .words-long;
         starts-long = m .limited .graph .room;
-        marks-long = omega (arith, marks-many m, D .same-marks);
+        measures-long = omega (arith, measures-many m, D .same-measures);
         rising = λ i l. m .limited .graph .bounds i l .0;
         labels-are = w .labels-are;
         classes = w .classes;
@@ -158,7 +158,7 @@ module _ {p ws starts sorted noted marks₀ : List ℕ} {t : List Node} {root : 
       no-node : (i : ℕ) → Final 4096 [] i → i < length t → ⊥
       no-node i (inl e) l = omega (arith, m .limited .worded .beyond)
 
-  pub spelt : (log list : List ℕ) → length log ≡ 8192 → length list ≡ 2048 → Spelt p d ws starts sorted noted marks log list t root
+  pub spelt : (log list : List ℕ) → length log ≡ 8192 → length list ≡ 2048 → Spelt p d ws starts sorted noted measures log list t root
   spelt log list a b =
       record {
         limited = m .limited;

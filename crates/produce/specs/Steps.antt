@@ -10,17 +10,17 @@ use Rattle.arrange.specs.Settling.{Unsettled, Settles, SettlesAll}
 use Rattle.emit.specs.Roots.{Rooted, Emits}
 use Rattle.produce.specs.Rooms.{zeros-long, zeros-whole, front-cleared, end-begins, end-fits, end-cleared}
 use Rattle.produce.specs.Measured.{Measured, WorkRooms, Produces}
-use Rattle.produce.specs.Texts.{marks-many, texts-fit}
+use Rattle.produce.specs.Texts.{measures-many, texts-fit}
 use Rattle.produce.specs.Ready.{Unwritten, spelt}
 use Rattle.produce.specs.Made.{Arranges, settles-arranged, rooted, produced, Outputs, Writes}
 
 -- ---- after the settling
 
-module _ {noted p d ws starts children log marks list children′ log′ marks′ list′ : List ℕ} {used most : ℕ} (u : Unsettled noted p d ws starts children log marks list) (x : SettlesAll noted p d ws starts children log marks list children′ log′ marks′ list′ used most) where
-  settles : Settles (u .t) (u .s) p d ws starts log marks list children′ log′ marks′ list′ used most
+module _ {noted p d ws starts children log measures list children′ log′ measures′ list′ : List ℕ} {used most : ℕ} (u : Unsettled noted p d ws starts children log measures list) (x : SettlesAll noted p d ws starts children log measures list children′ log′ measures′ list′ used most) where
+  settles : Settles (u .t) (u .s) p d ws starts log measures list children′ log′ measures′ list′ used most
   settles = x (u .t) (u .s) (u .lent) (u .ready)
 
-  pub arranges : Arranges noted p d ws starts children log marks list children′ log′ marks′ used
+  pub arranges : Arranges noted p d ws starts children log measures list children′ log′ measures′ used
   arranges t s lent r = settles-arranged (x t s lent r)
 
   module _ (z : list ≡ replicate 2048 0) where
@@ -40,8 +40,8 @@ module _ {noted p d ws starts children log marks list children′ log′ marks�
 
 -- ---- after it and the writing
 
-module _ {p d ws starts sorted noted marks log list : List ℕ} {root : ℕ} {table bytes children′ log′ marks′ : List ℕ} {used : ℕ} (u : Unwritten p d ws starts sorted noted marks log list root) (x : Arranges noted p d ws starts sorted log marks list children′ log′ marks′ used) (o : Outputs log list table bytes) where
-  pub root-ready : Rooted p d ws starts children′ log′ root marks′ table bytes
+module _ {p d ws starts sorted noted measures log list : List ℕ} {root : ℕ} {table bytes children′ log′ measures′ : List ℕ} {used : ℕ} (u : Unwritten p d ws starts sorted noted measures log list root) (x : Arranges noted p d ws starts sorted log measures list children′ log′ measures′ used) (o : Outputs log list table bytes) where
+  pub root-ready : Rooted p d ws starts children′ log′ root measures′ table bytes
   root-ready = rooted (u .are) (x (u .nodes) _ (u .are .lent) (u .are .ready)) (o .table-long) (o .text-long)
 
   used-within : used ≤ length log
@@ -55,26 +55,26 @@ module _ {p d ws starts sorted noted marks log list : List ℕ} {root : ℕ} {ta
       let e : length log ≡ 8192 = ap length (o .log-zero) ∙ length-replicate {A = ℕ} 8192 0 in
       front-cleared 8192 used log log′ (zeros-whole (o .log-zero)) (omega (arith, used-within)) (x (u .nodes) _ (u .are .lent) (u .are .ready) .behind)
 
-  pub writes : {marks″ table′ bytes′ : List ℕ} {r : ℕ} → Emits p d ws starts children′ log′ root marks′ table bytes marks″ table′ bytes′ r → Writes p d ws starts sorted noted marks log list root table bytes table′ bytes′ (r % 4096)
+  pub writes : {table′ bytes′ : List ℕ} {r : ℕ} → Emits p d ws starts children′ log′ root measures′ table bytes table′ bytes′ r → Writes p d ws starts sorted noted measures log list root table bytes table′ bytes′ (r % 4096)
   writes e t y = produced y (x t _ (y .lent) (y .ready)) (o .table-long) (o .text-long) e
 
 -- ---- after the decoding
 
-module _ {p ws starts sorted noted marks₀ : List ℕ} {root : ℕ} {decoded log list table bytes d marks : List ℕ} {used : ℕ} (m : Measured p ws starts sorted noted marks₀ root) (l : WorkRooms decoded log list table bytes) (D : Decodes p ws decoded marks₀ (length marks₀) d marks used) where
+module _ {p ws starts sorted noted measures₀ : List ℕ} {root : ℕ} {decoded log list table bytes d measures : List ℕ} {used : ℕ} (m : Measured p ws starts sorted noted measures₀ root) (l : WorkRooms decoded log list table bytes) (D : Decodes p ws decoded measures₀ (length measures₀) d measures used) where
   log-long : length (take 8192 log) ≡ 8192
   log-long = ap length (l .log-zero .zero) ∙ length-replicate {A = ℕ} 8192 0
 
   list-long : length (take 2048 list) ≡ 2048
   list-long = ap length (l .list-zero .zero) ∙ length-replicate {A = ℕ} 2048 0
 
-  pub spelt-all : Unwritten p d ws starts sorted noted marks (take 8192 log) (take 2048 list) root
+  pub spelt-all : Unwritten p d ws starts sorted noted measures (take 8192 log) (take 2048 list) root
   spelt-all = record { nodes = m .nodes; are = spelt (m .are) D (take 8192 log) (take 2048 list) log-long list-long }
 
   pub outputs : Outputs (take 8192 log) (take 2048 list) table bytes
   outputs = record { log-zero = l .log-zero .zero; list-zero = l .list-zero .zero; table-long = l .table-long; text-long = l .text-long }
 
   used-few : used ≤ 65536
-  used-few = let e : dueText p ws marks₀ (length marks₀) ≡ dueText p ws marks₀ (length (m .nodes)) = ap (dueText p ws marks₀) (marks-many (m .are)) in omega (arith, D .spent, texts-fit (m .are))
+  used-few = let e : dueText p ws measures₀ (length measures₀) ≡ dueText p ws measures₀ (length (m .nodes)) = ap (dueText p ws measures₀) (measures-many (m .are)) in omega (arith, D .spent, texts-fit (m .are))
 
   pub decoded-fits : used ≤ length d
   decoded-fits = omega (arith, used-few, zeros-long (l .decoded-zero), D .same-room)
@@ -82,5 +82,5 @@ module _ {p ws starts sorted noted marks₀ : List ℕ} {root : ℕ} {decoded lo
   pub decoded-again : cleared used d ≡ decoded
   decoded-again = front-cleared 65536 used decoded d (l .decoded-zero) used-few (D .behind)
 
-  pub produces : {table′ bytes′ : List ℕ} {r : ℕ} → Writes p d ws starts sorted noted marks (take 8192 log) (take 2048 list) root table bytes table′ bytes′ r → Produces p ws starts sorted noted marks₀ root table bytes table′ bytes′ r
+  pub produces : {table′ bytes′ : List ℕ} {r : ℕ} → Writes p d ws starts sorted noted measures (take 8192 log) (take 2048 list) root table bytes table′ bytes′ r → Produces p ws starts sorted noted measures₀ root table bytes table′ bytes′ r
   produces w t y = w t (spelt y D (take 8192 log) (take 2048 list) log-long list-long)

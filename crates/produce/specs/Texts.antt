@@ -50,34 +50,34 @@ wanted true true false w n = omega arith
 
 -- ---- all of them
 
-module _ {p ws starts sorted noted marks : List ℕ} {t : List Node} {root : ℕ} (m : MeasuredAs p ws starts sorted noted marks t root) where
-  -- a mark a node
-  pub marks-many : length marks ≡ length t
-  marks-many = m .holds .fits .noted .long
+module _ {p ws starts sorted noted measures : List ℕ} {t : List Node} {root : ℕ} (m : MeasuredAs p ws starts sorted noted measures t root) where
+  -- a measure a node
+  pub measures-many : length measures ≡ length t
+  measures-many = m .holds .fits .noted .long
 
-  node-fits : (i : ℕ) → i < length t → cond (isDue p ws i (getD marks i 0)) (textLength p ws i) 0 ≤ textIf t (worded t marks) i
+  node-fits : (i : ℕ) → i < length t → cond (isDue p ws i (getD measures i 0)) (textLength p ws i) 0 ≤ textIf t (worded t measures) i
   unfolding isDue
   node-fits i l =
       let e = m .limited .worded .labels-are i l in
       let q = text-parts (at t i .label) in
-      rw (← e, q) (wanted (hasText (at t i .label)) (leb 128 (getD marks i 0)) (isContainer (at t i .label)) (getD marks i 0) (length (textOf (at t i .label))))
+      rw (← e, q) (wanted (hasText (at t i .label)) (leb 128 (getD measures i 0)) (isContainer (at t i .label)) (getD measures i 0) (length (textOf (at t i .label))))
 
-  nodes-fit : (n : ℕ) → n ≤ length t → dueText p ws marks n ≤ upTo (textIf t (worded t marks)) n
+  nodes-fit : (n : ℕ) → n ≤ length t → dueText p ws measures n ≤ upTo (textIf t (worded t measures)) n
   unfolding dueText upTo
   nodes-fit zero h = omega arith
   nodes-fit (suc n) h = omega (arith, nodes-fit n (omega arith), node-fits n (omega arith))
 
-  pub texts-fit : dueText p ws marks (length t) ≤ 65536
+  pub texts-fit : dueText p ws measures (length t) ≤ 65536
   texts-fit = omega (arith, nodes-fit (length t) (omega arith), worded-texts root (m .limited .deep) (m .holds), m .limited .texts)
 
-  pub decodable : (decoded : List ℕ) → Zeros 65536 decoded → Decodable p ws (length marks) decoded marks
+  pub decodable : (decoded : List ℕ) → Zeros 65536 decoded → Decodable p ws (length measures) decoded measures
   decodable decoded z =
-      let e = marks-many in
+      let e = measures-many in
       let w = m .limited .worded in
       rw e (record {
         words = w .words-long;
         classes = λ i l k. w .classes i l k .0;
-        marked = omega arith;
+        measured = omega arith;
         fits = texts-fit;
         room = zeros-long z;
       })

@@ -1,11 +1,11 @@
 // Behind the measuring: the texts of the nodes that the walk reached are decoded, Sets and Dicts are put in order, and the root's value is
 // written into the lent table and text. What was used of the rooms is zero again.
 use arrange::settle;
-use decoder::NodeId;
 use emit::write_root;
 use rooms::clear_bytes;
 use rooms::clear_ints;
 use rooms::clear_shorts;
+use store::NodeId;
 use texts::decode_all;
 ghost use mathlib.Core.Path.{_≡_};
 ghost use lib.ListN.{replicate};
@@ -23,15 +23,15 @@ fn settle_all<'a>(
     pickle: &'a [u8],
     decoded: &'a [u8],
     nodes: &[u64],
-    marks: &mut [u64],
+    measures: &mut [u64],
     list: &mut [u32],
 ) -> usize
     requires { ⌜ Unsettled (now dues) (now pickle) (now decoded) (now nodes) (now starts) (now children) (now log)
-        (now marks) (now list) ⌝ }
+        (now measures) (now list) ⌝ }
     requires { ⌜ now list ≡ replicate 2048 0 ⌝ }
     ensures { λ r. ⌜ Arranges (now (dues .entry)) (now (pickle .entry)) (now (decoded .entry)) (now (nodes .entry))
-        (now (starts .entry)) (now (children .entry)) (now (log .entry)) (now (marks .entry)) (now (list .entry))
-        (now (children .exit)) (now (log .exit)) (now (marks .exit)) r ⌝ }
+        (now (starts .entry)) (now (children .entry)) (now (log .entry)) (now (measures .entry)) (now (list .entry))
+        (now (children .exit)) (now (log .exit)) (now (measures .exit)) r ⌝ }
     ensures { λ _. ⌜ now (list .exit) ≡ now (list .entry) ⌝ }
 {
     let settled = settle(
@@ -42,7 +42,7 @@ fn settle_all<'a>(
         pickle,
         decoded,
         nodes,
-        marks,
+        measures,
         list,
     );
     let begin = 2048 - settled.most;
@@ -59,17 +59,17 @@ fn write_all<'a>(
     pickle: &'a [u8],
     decoded: &'a [u8],
     nodes: &[u64],
-    marks: &mut [u64],
+    measures: &mut [u64],
     log: &mut [u16],
     list: &mut [u32],
     table: &mut [u64],
     text: &mut [u8],
 ) -> usize
-    requires { ⌜ Unwritten (now pickle) (now decoded) (now nodes) (now starts) (now children) (now dues) (now marks)
+    requires { ⌜ Unwritten (now pickle) (now decoded) (now nodes) (now starts) (now children) (now dues) (now measures)
         (now log) (now list) (root .0) ⌝ }
     requires { ⌜ Outputs (now log) (now list) (now table) (now text) ⌝ }
     ensures { λ r. ⌜ Writes (now (pickle .entry)) (now (decoded .entry)) (now (nodes .entry)) (now (starts .entry))
-        (now (children .entry)) (now (dues .entry)) (now (marks .entry)) (now (log .entry)) (now (list .entry)) (root .0)
+        (now (children .entry)) (now (dues .entry)) (now (measures .entry)) (now (log .entry)) (now (list .entry)) (root .0)
         (now (table .entry)) (now (text .entry)) (now (table .exit)) (now (text .exit)) r ⌝ }
     ensures { λ _. ⌜ (now (log .exit) ≡ now (log .entry)) × (now (list .exit) ≡ now (list .entry)) ⌝ }
 {
@@ -81,7 +81,7 @@ fn write_all<'a>(
         pickle,
         decoded,
         nodes,
-        marks,
+        measures,
         list,
     );
     let made = write_root(
@@ -92,7 +92,7 @@ fn write_all<'a>(
         pickle,
         decoded,
         nodes,
-        marks,
+        measures,
         table,
         text,
     );

@@ -12,8 +12,8 @@ use Rattle.value.specs.Value.{Label, Forest, Value, one, count, NoneL, BoolL, I
 use Rattle.value.specs.WellFormed.{isTuple, firstIsTuple}
 use Rattle.steps.specs.State.{Node}
 use Rattle.steps.specs.Opcodes.{isObject}
-use Rattle.reading.specs.Build.{Mark, Marks, taken, kept, unbuilt, mark, none, isTaken, at, firstTaken, blocked, finish, each, build, tree}
-use Rattle.reading.specs.Unfold.{Marked, same, other, marked, freshness, left, left-mark, left-less, left-all, outside}
+use Rattle.reading.specs.Build.{Stage, Stages, taken, kept, unbuilt, stage, none, isTaken, at, firstTaken, blocked, finish, each, build, tree}
+use Rattle.reading.specs.Unfold.{Staged, same, other, staged, freshness, left, left-stage, left-less, left-all, outside}
 use Rattle.reading.specs.Fuel.{View, view, copied, inside, stuck, entered}
 
 -- P of every label and its contents
@@ -52,24 +52,24 @@ module _
     (object-args : (i : ℕ) → T (isObject (at t i .label)) → (0 < length (at t i .kids)) × T (isTuple (at t (getD (at t i .kids) 0 0) .label)))
   where
     -- a kept value has the form; a Tuple's is a Tuple
-    Sound : Marks → Type 0
+    Sound : Stages → Type 0
     Sound d = (j : ℕ) (v : Value) → d j ≡ kept v → All P (one v) × (T (isTuple (at t j .label)) → T (isTuple (v .label)))
 
-    record Built (i : ℕ) (d : Marks) (v : Value) (d′ : Marks) : Type 0 where
+    record Built (i : ℕ) (d : Stages) (v : Value) (d′ : Stages) : Type 0 where
       formed : All P (one v)
       tuple : isTaken (d i) ≡ false → T (isTuple (at t i .label)) → T (isTuple (v .label))
       sound : Sound d′
       less : left d′ (length t) ≤ left d (length t)
 
-    record BuiltEach (is : List ℕ) (d : Marks) (f : Forest) (d′ : Marks) : Type 0 where
+    record BuiltEach (is : List ℕ) (d : Stages) (f : Forest) (d′ : Stages) : Type 0 where
       formed : All P f
       counted : count f ≡ length is
       first : 0 < length is → firstTaken d is ≡ false → T (isTuple (at t (getD is 0 0) .label)) → T (firstIsTuple f)
       sound : Sound d′
       less : left d′ (length t) ≤ left d (length t)
 
-    each-built : (k : ℕ) (g : ℕ → Marks → Value × Marks) → ((i : ℕ) (d : Marks) → left d (length t) < k → Sound d → Built i d (g i d .0) (g i d .1))
-        → (is : List ℕ) (d : Marks) → left d (length t) < k → Sound d → BuiltEach is d (each g is d .0) (each g is d .1)
+    each-built : (k : ℕ) (g : ℕ → Stages → Value × Stages) → ((i : ℕ) (d : Stages) → left d (length t) < k → Sound d → Built i d (g i d .0) (g i d .1))
+        → (is : List ℕ) (d : Stages) → left d (length t) < k → Sound d → BuiltEach is d (each g is d .0) (each g is d .1)
     unfolding each All count firstTaken
     each-built k g h [] d l s = record { formed = tt; counted = refl; first = λ z. absurd (omega arith); sound = s; less = omega arith }
     each-built k g h (i ∷ is) d l s =
@@ -79,38 +79,38 @@ module _
         let n = b .less in
         record { formed = (a .formed .0, a .formed .1, b .formed); counted = ap suc (b .counted); first = λ z u v. a .tuple u v; sound = b .sound; less = omega arith }
 
-    marked-sound : (i : ℕ) (m : Mark) (d : Marks) → ((v : Value) → m ≡ kept v → All P (one v) × (T (isTuple (at t i .label)) → T (isTuple (v .label)))) → Sound d → Sound (mark i m d)
+    stageed-sound : (i : ℕ) (m : Stage) (d : Stages) → ((v : Value) → m ≡ kept v → All P (one v) × (T (isTuple (at t i .label)) → T (isTuple (v .label)))) → Sound d → Sound (stage i m d)
     unfolding Sound
-    marked-sound i m d h s j v e = go (marked i m d j)
+    stageed-sound i m d h s j v e = go (staged i m d j)
       where
-        go : Marked i m d j → All P (one v) × (T (isTuple (at t j .label)) → T (isTuple (v .label)))
+        go : Staged i m d j → All P (one v) × (T (isTuple (at t j .label)) → T (isTuple (v .label)))
         go (same p q) = let u = h v (sym q ∙ e) in (u .0, λ x. u .1 (rw p at x))
         go (other p q) = s j v (sym q ∙ e)
 
-    taken-sound : (i : ℕ) (d : Marks) → Sound d → Sound (mark i taken d)
-    taken-sound i d s = marked-sound i taken d (λ v e. absurd (let z : _≡_ {A = ℕ} 0 1 = cc in omega arith)) s
+    taken-sound : (i : ℕ) (d : Stages) → Sound d → Sound (stage i taken d)
+    taken-sound i d s = stageed-sound i taken d (λ v e. absurd (let z : _≡_ {A = ℕ} 0 1 = cc in omega arith)) s
 
     none-formed : All P (one none)
     unfolding All
     none-formed = (of-none, tt, tt)
 
     -- the arguments of an Object that is not blocked are not taken out, nor are they the Object itself
-    args-free : (i : ℕ) (d : Marks) → T (isObject (at t i .label)) → blocked t d i ≡ false → firstTaken (mark i taken d) (at t i .kids) ≡ false
+    args-free : (i : ℕ) (d : Stages) → T (isObject (at t i .label)) → blocked t d i ≡ false → firstTaken (stage i taken d) (at t i .kids) ≡ false
     unfolding blocked firstTaken
     args-free i d o b = go (at t i .kids) refl (and-no (isObject (at t i .label)) _ b o)
       where
-        go : (l : List ℕ) → at t i .kids ≡ l → firstTaken d l ≡ false → firstTaken (mark i taken d) l ≡ false
+        go : (l : List ℕ) → at t i .kids ≡ l → firstTaken d l ≡ false → firstTaken (stage i taken d) l ≡ false
         go [] e f = refl
-        go (a ∷ l) e f = at-a (marked i taken d a)
+        go (a ∷ l) e f = at-a (staged i taken d a)
           where
             is-tuple : T (isTuple (at t a .label))
             is-tuple = let h = object-args i o .1 in rw e at h
 
-            at-a : Marked i taken d a → isTaken (mark i taken d a) ≡ false
+            at-a : Staged i taken d a → isTaken (stage i taken d a) ≡ false
             at-a (same p q) = absurd (tuple-object (at t i .label) (rw p at is-tuple) o)
             at-a (other p q) = rw q f
 
-    finish-built : (i : ℕ) (d : Marks) (p : Forest × Marks) → blocked t d i ≡ false → BuiltEach (at t i .kids) (mark i taken d) (p .0) (p .1) → Built i d (finish t i p .0) (finish t i p .1)
+    finish-built : (i : ℕ) (d : Stages) (p : Forest × Stages) → blocked t d i ≡ false → BuiltEach (at t i .kids) (stage i taken d) (p .0) (p .1) → Built i d (finish t i p .0) (finish t i p .1)
     unfolding finish freshness All
     finish-built i d p b m =
         let v : Value = record { label = at t i .label; contents = p .0 } in
@@ -118,26 +118,26 @@ module _
         record {
           formed = f;
           tuple = λ u h. h;
-          sound = marked-sound i (kept v) (p .1) (λ w e. let q : v ≡ w = cc in rw (← q) (f, λ h. h)) (m .sound);
-          less = omega (arith, m .less, left-mark (p .1) i (kept v) (length t) refl, left-mark d i taken (length t) refl);
+          sound = stageed-sound i (kept v) (p .1) (λ w e. let q : v ≡ w = cc in rw (← q) (f, λ h. h)) (m .sound);
+          less = omega (arith, m .less, left-stage (p .1) i (kept v) (length t) refl, left-stage d i taken (length t) refl);
         }
 
-    build-built : (k i : ℕ) (d : Marks) → left d (length t) < k → Sound d → Built i d (build t k i d .0) (build t k i d .1)
+    build-built : (k i : ℕ) (d : Stages) → left d (length t) < k → Sound d → Built i d (build t k i d .0) (build t k i d .1)
     unfolding each freshness blocked All count Sound
     build-built zero i d l s = absurd (omega arith)
     build-built (suc k) i d l s = go (view t i d) (build-built k)
       where
-        go : View t i d → ((j : ℕ) (c : Marks) → left c (length t) < k → Sound c → Built j c (build t k j c .0) (build t k j c .1)) → Built i d (build t (suc k) i d .0) (build t (suc k) i d .1)
+        go : View t i d → ((j : ℕ) (c : Stages) → left c (length t) < k → Sound c → Built j c (build t k j c .0) (build t k j c .1)) → Built i d (build t (suc k) i d .0) (build t (suc k) i d .1)
         go (copied v e f) ih = rw (f k) (record { formed = s i v e .0; tuple = λ u. s i v e .1; sound = s; less = omega arith })
         go (inside e f) ih = rw (f k) (record { formed = none-formed; tuple = λ u. absurd (let w : isTaken taken ≡ false = rw e at u in let z : _≡_ {A = ℕ} 0 1 = cc in omega arith); sound = s; less = omega arith })
-        go (stuck e b f) ih = rw (f k) (record { formed = none-formed; tuple = λ u. no-tuple; sound = marked-sound i (kept none) d (λ v q. let r : none ≡ v = cc in rw (← r) (none-formed, no-tuple)) s; less = left-mark d i (kept none) (length t) refl })
+        go (stuck e b f) ih = rw (f k) (record { formed = none-formed; tuple = λ u. no-tuple; sound = stageed-sound i (kept none) d (λ v q. let r : none ≡ v = cc in rw (← r) (none-formed, no-tuple)) s; less = left-stage d i (kept none) (length t) refl })
           where
             no-tuple : T (isTuple (at t i .label)) → T (isTuple NoneL)
             no-tuple h = tuple-object (at t i .label) h (and-left (isObject (at t i .label)) (firstTaken d (at t i .kids)) b)
         go (entered e b f) ih = rw (f k) (finish-built i d _ b (contents (decLt i (length t))))
           where
-            contents : Dec (i < length t) → BuiltEach (at t i .kids) (mark i taken d) (each (build t k) (at t i .kids) (mark i taken d) .0) (each (build t k) (at t i .kids) (mark i taken d) .1)
-            contents (yes h) = each-built k (build t k) ih (at t i .kids) (mark i taken d) (let u = left-less d i taken (length t) refl e h in omega arith) (taken-sound i d s)
+            contents : Dec (i < length t) → BuiltEach (at t i .kids) (stage i taken d) (each (build t k) (at t i .kids) (stage i taken d) .0) (each (build t k) (at t i .kids) (stage i taken d) .1)
+            contents (yes h) = each-built k (build t k) ih (at t i .kids) (stage i taken d) (let u = left-less d i taken (length t) refl e h in omega arith) (taken-sound i d s)
             contents (no h) = rw (outside t i h) (record { formed = tt; counted = refl; first = λ z. absurd (omega arith); sound = taken-sound i d s; less = omega arith })
 
     pub tree-all : (root : ℕ) → All P (one (tree t root))

@@ -9,17 +9,17 @@ use native.Mathlib.Decide.{decLt}
 use native.Mathlib.Omega.{arith}
 use Rattle.value.specs.Value.{Forest, Value}
 use Rattle.steps.specs.State.{Node}
-use Rattle.reading.specs.Build.{Mark, Marks, fresh, taken, kept, unbuilt, mark, none, at, blocked, finish, each, build, tree}
-use Rattle.reading.specs.Unfold.{In, here, there, left, freshness, left-mark, left-less, left-all, outside}
+use Rattle.reading.specs.Build.{Stage, Stages, fresh, taken, kept, stage, none, at, blocked, finish, each, build}
+use Rattle.reading.specs.Unfold.{In, here, there, left, freshness, left-stage, left-less, outside}
 
-each-left : (n : ℕ) (g : ℕ → Marks → Value × Marks) → ((j : ℕ) (c : Marks) → left (g j c .1) n ≤ left c n) → (is : List ℕ) (d : Marks) → left (each g is d .1) n ≤ left d n
+each-left : (n : ℕ) (g : ℕ → Stages → Value × Stages) → ((j : ℕ) (c : Stages) → left (g j c .1) n ≤ left c n) → (is : List ℕ) (d : Stages) → left (each g is d .1) n ≤ left d n
 unfolding each
 each-left n g h [] d = omega arith
 each-left n g h (i ∷ is) d = omega (arith, h i d, each-left n g h is (g i d .1))
 
 -- two calls that agree where no more than m nodes are fresh
-each-same : (n m : ℕ) (g h : ℕ → Marks → Value × Marks) → ((j : ℕ) (c : Marks) → left (g j c .1) n ≤ left c n) → (is : List ℕ) (d : Marks) → left d n ≤ m
-    → ((j : ℕ) → In j is → (c : Marks) → left c n ≤ m → g j c ≡ h j c) → each g is d ≡ each h is d
+each-same : (n m : ℕ) (g h : ℕ → Stages → Value × Stages) → ((j : ℕ) (c : Stages) → left (g j c .1) n ≤ left c n) → (is : List ℕ) (d : Stages) → left d n ≤ m
+    → ((j : ℕ) → In j is → (c : Stages) → left c n ≤ m → g j c ≡ h j c) → each g is d ≡ each h is d
 unfolding each
 each-same n m g h down [] d l e = refl
 each-same n m g h down (i ∷ is) d l e =
@@ -27,82 +27,77 @@ each-same n m g h down (i ∷ is) d l e =
     let q : each g is (g i d .1) ≡ each h is (g i d .1) = each-same n m g h down is (g i d .1) (omega (arith, down i d)) (λ j x. e j (there x)) in
     rw (← p, q)
 
-finish-left : (t : List Node) (n i : ℕ) (p : Forest × Marks) → left (finish t i p .1) n ≤ left (p .1) n
+finish-left : (t : List Node) (n i : ℕ) (p : Forest × Stages) → left (finish t i p .1) n ≤ left (p .1) n
 unfolding finish freshness
-finish-left t n i p = left-mark (p .1) i _ n refl
+finish-left t n i p = left-stage (p .1) i _ n refl
 
 -- the four cases of a call, each with what it makes whatever the fuel
-pub data View (t : List Node) (i : ℕ) (d : Marks) : Type 0 where
+pub data View (t : List Node) (i : ℕ) (d : Stages) : Type 0 where
   copied : (v : Value) → d i ≡ kept v → ((k : ℕ) → build t (suc k) i d ≡ (v, d)) → View t i d
   inside : d i ≡ taken → ((k : ℕ) → build t (suc k) i d ≡ (none, d)) → View t i d
-  stuck : d i ≡ fresh → blocked t d i ≡ true → ((k : ℕ) → build t (suc k) i d ≡ (none, mark i (kept none) d)) → View t i d
-  entered : d i ≡ fresh → blocked t d i ≡ false → ((k : ℕ) → build t (suc k) i d ≡ finish t i (each (build t k) (at t i .kids) (mark i taken d))) → View t i d
+  stuck : d i ≡ fresh → blocked t d i ≡ true → ((k : ℕ) → build t (suc k) i d ≡ (none, stage i (kept none) d)) → View t i d
+  entered : d i ≡ fresh → blocked t d i ≡ false → ((k : ℕ) → build t (suc k) i d ≡ finish t i (each (build t k) (at t i .kids) (stage i taken d))) → View t i d
 
-pub view : (t : List Node) (i : ℕ) (d : Marks) → View t i d
+pub view : (t : List Node) (i : ℕ) (d : Stages) → View t i d
 unfolding build
 view t i d = go (d i) refl (blocked t d i) refl
   where
-    go : (m : Mark) → d i ≡ m → (b : Bool) → blocked t d i ≡ b → View t i d
+    go : (m : Stage) → d i ≡ m → (b : Bool) → blocked t d i ≡ b → View t i d
     go (kept v) e b f = copied v e (λ k. rw (e, build))
     go taken e b f = inside e (λ k. rw (e, build))
     go fresh e true f = stuck e f (λ k. rw (e, f, build))
     go fresh e false f = entered e f (λ k. rw (e, f, build))
 
-build-left : (t : List Node) (n k i : ℕ) (d : Marks) → left (build t k i d .1) n ≤ left d n
+build-left : (t : List Node) (n k i : ℕ) (d : Stages) → left (build t k i d .1) n ≤ left d n
 unfolding build freshness
 build-left t n zero i d = omega arith
 build-left t n (suc k) i d = go (view t i d) (build-left t n k)
   where
-    go : View t i d → ((j : ℕ) (c : Marks) → left (build t k j c .1) n ≤ left c n) → left (build t (suc k) i d .1) n ≤ left d n
+    go : View t i d → ((j : ℕ) (c : Stages) → left (build t k j c .1) n ≤ left c n) → left (build t (suc k) i d .1) n ≤ left d n
     go (copied v e f) ih = rw (f k) (omega arith)
     go (inside e f) ih = rw (f k) (omega arith)
-    go (stuck e b f) ih = rw (f k) (left-mark d i (kept none) n refl)
+    go (stuck e b f) ih = rw (f k) (left-stage d i (kept none) n refl)
     go (entered e b f) ih =
-        let p = each (build t k) (at t i .kids) (mark i taken d) in
-        rw (f k) (omega (arith, finish-left t n i p, each-left n (build t k) ih (at t i .kids) (mark i taken d), left-mark d i taken n refl))
+        let p = each (build t k) (at t i .kids) (stage i taken d) in
+        rw (f k) (omega (arith, finish-left t n i p, each-left n (build t k) ih (at t i .kids) (stage i taken d), left-stage d i taken n refl))
 
 -- two calls that agree wherever fewer nodes are fresh agree on the contents of a fresh node
-kids-same : (t : List Node) (g h : ℕ → Marks → Value × Marks) (i : ℕ) (d : Marks) → ((j : ℕ) (c : Marks) → left (g j c .1) (length t) ≤ left c (length t)) → d i ≡ fresh
-    → ((j : ℕ) (c : Marks) → left c (length t) < left d (length t) → g j c ≡ h j c) → each g (at t i .kids) (mark i taken d) ≡ each h (at t i .kids) (mark i taken d)
+kids-same : (t : List Node) (g h : ℕ → Stages → Value × Stages) (i : ℕ) (d : Stages) → ((j : ℕ) (c : Stages) → left (g j c .1) (length t) ≤ left c (length t)) → d i ≡ fresh
+    → ((j : ℕ) (c : Stages) → left c (length t) < left d (length t) → g j c ≡ h j c) → each g (at t i .kids) (stage i taken d) ≡ each h (at t i .kids) (stage i taken d)
 unfolding freshness each
 kids-same t g h i d down e same = go (decLt i (length t))
   where
-    go : Dec (i < length t) → each g (at t i .kids) (mark i taken d) ≡ each h (at t i .kids) (mark i taken d)
+    go : Dec (i < length t) → each g (at t i .kids) (stage i taken d) ≡ each h (at t i .kids) (stage i taken d)
     go (yes l) =
         let n = length t in
-        let l₀ : left (mark i taken d) n < left d n = left-less d i taken n refl e l in
-        each-same n (left (mark i taken d) n) g h down (at t i .kids) (mark i taken d) (omega arith) (λ j x c y. same j c (omega arith))
+        let l₀ : left (stage i taken d) n < left d n = left-less d i taken n refl e l in
+        each-same n (left (stage i taken d) n) g h down (at t i .kids) (stage i taken d) (omega arith) (λ j x c y. same j c (omega arith))
     go (no l) = rw (outside t i l)
 
 -- as much fuel as there are fresh nodes, and one more, is enough
-pub build-fuel : (t : List Node) (k k′ i : ℕ) (d : Marks) → left d (length t) < k → left d (length t) < k′ → build t k i d ≡ build t k′ i d
+pub build-fuel : (t : List Node) (k k′ i : ℕ) (d : Stages) → left d (length t) < k → left d (length t) < k′ → build t k i d ≡ build t k′ i d
 build-fuel t zero k′ i d l l′ = absurd (omega arith)
 build-fuel t (suc k) zero i d l l′ = absurd (omega arith)
 build-fuel t (suc k) (suc k′) i d l l′ = go (view t i d) (build-fuel t k k′)
   where
-    go : View t i d → ((j : ℕ) (c : Marks) → left c (length t) < k → left c (length t) < k′ → build t k j c ≡ build t k′ j c) → build t (suc k) i d ≡ build t (suc k′) i d
+    go : View t i d → ((j : ℕ) (c : Stages) → left c (length t) < k → left c (length t) < k′ → build t k j c ≡ build t k′ j c) → build t (suc k) i d ≡ build t (suc k′) i d
     go (copied v e f) ih = rw (f k, f k′)
     go (inside e f) ih = rw (f k, f k′)
     go (stuck e b f) ih = rw (f k, f k′)
     go (entered e b f) ih = rw (f k, f k′, kids-same t (build t k) (build t k′) i d (build-left t (length t) k) e (λ j c m. ih j c (omega arith) (omega arith)))
 
 -- `build` with no fuel in it, and its equation for a fresh node that is not blocked; the other three cases are `view`'s
-unfoldable pub builds : List Node → ℕ → Marks → Value × Marks
+unfoldable pub builds : List Node → ℕ → Stages → Value × Stages
 builds t i d = build t (suc (left d (length t))) i d
 
-pub builds-new : (t : List Node) (i : ℕ) (d : Marks) → d i ≡ fresh → blocked t d i ≡ false → builds t i d ≡ finish t i (each (builds t) (at t i .kids) (mark i taken d))
+pub builds-new : (t : List Node) (i : ℕ) (d : Stages) → d i ≡ fresh → blocked t d i ≡ false → builds t i d ≡ finish t i (each (builds t) (at t i .kids) (stage i taken d))
 unfolding builds
 builds-new t i d e b = go (view t i d)
   where
-    go : View t i d → build t (suc (left d (length t))) i d ≡ finish t i (each (builds t) (at t i .kids) (mark i taken d))
+    go : View t i d → build t (suc (left d (length t))) i d ≡ finish t i (each (builds t) (at t i .kids) (stage i taken d))
     go (copied v e′ f) = cc
     go (inside e′ f) = cc
     go (stuck e′ b′ f) = cc
     go (entered e′ b′ f) =
         let n = left d (length t) in
         rw (f n, kids-same t (build t n) (builds t) i d (build-left t (length t) n) e (λ j c m. build-fuel t n (suc (left c (length t))) j c (omega arith) (omega arith)))
-
--- the tree, with no fuel in it
-pub tree-is : (t : List Node) (root : ℕ) → tree t root ≡ builds t root unbuilt .0
-unfolding tree builds
-tree-is t root = rw (left-all (length t))

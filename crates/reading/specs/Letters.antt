@@ -25,7 +25,7 @@ use Rattle.text.specs.Pieces.{bytesOf}
 use Rattle.text.specs.Laws.{unicode-valid}
 use Rattle.value.specs.Value.{Label, NoneL, BoolL, I64L, F64L, BytesL, StringL, ListL, TupleL, SetL, FrozenSetL, DictL, GlobalL, ObjectL}
 use Rattle.value.specs.Shape.{and-l, and-r}
-use Rattle.steps.specs.State.{Node, State, Res, ok, no, plain, nodeAt, bytes, byte, line, pop, popMark, popMany, pushId, pushNode, push, link, extend, get, put}
+use Rattle.steps.specs.State.{Node, State, Res, ok, no, kidless, nodeAt, bytes, byte, line, pop, popMark, popMany, pushId, pushNode, push, link, extend, get, put}
 use Rattle.steps.specs.Opcodes.{isTuple, classOf, proto, mark, popOne, popToMark, dup, intLabel, int, lowBytes, binint, binint1, binint2, long, longN, float, binfloat, string, binstring, shortBinstring, unicode, binunicode, global, made, list, tuple, tupleN, dict, added, append, appends, setitem, setitems, getLine, getBytes, putLine, putBytes, builtin, setName, frozensetName, object, setOf, reduced, called, reduce, newobj, buildState}
 use Rattle.steps.specs.Run.{Next, goes, stops, going, does, decide, admit, step, runs, start, run}
 use Rattle.steps.specs.Out.{Out, out, bind, bind-any, bind-need, bind-leaf, Every, every-append}
@@ -39,7 +39,7 @@ unfoldable pub Labelled : (Label → Type 0) → List Node → Type 0
 Labelled P l = Every (λ (n : Node). P (n .label)) l
 
 module _ (P : Label → Type 0) where
-  pub labelled-at : P NoneL → (l : List Node) (i : ℕ) → Labelled P l → P (getD l i (plain NoneL) .label)
+  pub labelled-at : P NoneL → (l : List Node) (i : ℕ) → Labelled P l → P (getD l i (kidless NoneL) .label)
   unfolding Labelled Every
   labelled-at z [] i a = z
   labelled-at z (n ∷ l) zero a = a .0
@@ -83,7 +83,7 @@ pub record Made (P : Label → Type 0) : Type 0 where
 
 module _ (P : Label → Type 0) (m : Made P) where
   -- a node's label has it, and so has what stands for a node that is not there
-  held : (l : List Node) (i : ℕ) → Labelled P l → P (getD l i (plain NoneL) .label)
+  held : (l : List Node) (i : ℕ) → Labelled P l → P (getD l i (kidless NoneL) .label)
   held l i a = labelled-at P (m .none) l i a
 
   -- ---- the parts of a step
@@ -146,7 +146,7 @@ module _ (P : Label → Type 0) (m : Made P) where
 
   push-l : (l : Label) (s : State) → L s → P l → Out L (push l s)
   unfolding push
-  push-l l s h v = pushNode-l (plain l) s h v
+  push-l l s h v = pushNode-l (kidless l) s h v
 
   made-l : (l : Label) (is : List ℕ) (s : State) → L s → P l → Out L (made l is s)
   unfolding made
@@ -395,7 +395,7 @@ HasValid l = T (validText l)
 unfoldable pub Lettered : List Node → Type 0
 Lettered l = Labelled HasValid l
 
-pub lettered-at : (l : List Node) (i : ℕ) → Lettered l → T (validText (getD l i (plain NoneL) .label))
+pub lettered-at : (l : List Node) (i : ℕ) → Lettered l → T (validText (getD l i (kidless NoneL) .label))
 unfolding Lettered
 lettered-at l i a = labelled-at HasValid tt l i a
 

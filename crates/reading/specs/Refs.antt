@@ -14,8 +14,8 @@ use Rattle.value.specs.WellFormed.{isTuple}
 use Rattle.steps.specs.State.{Node}
 use Rattle.steps.specs.Opcodes.{isObject}
 use Rattle.steps.specs.Shape.{Shaped}
-use Rattle.reading.specs.Build.{Mark, Marks, fresh, taken, kept, unbuilt, mark, none, before, isTaken, at, firstTaken, blocked, finish, each, build, tree}
-use Rattle.reading.specs.Unfold.{In, here, there, Marked, same, other, marked, freshness, outside}
+use Rattle.reading.specs.Build.{Stage, Stages, fresh, taken, kept, unbuilt, stage, none, before, isTaken, at, firstTaken, blocked, finish, each, build, tree}
+use Rattle.reading.specs.Unfold.{In, here, there, Staged, same, other, staged, freshness, outside}
 use Rattle.reading.specs.Form.{tuple-object, and-left}
 use Rattle.reading.specs.Well.{object-of, right-at}
 
@@ -48,29 +48,29 @@ module _ (t : List Node) (reached : ℕ → Bool) where
   refs root j = times j (root ∷ []) + refsBelow j (length t)
 
 -- `build` as the Rust has it, keeping the nodes that `keep` says
-unfoldable pub moves : List Node → (ℕ → Bool) → ℕ → Forest × Marks → Value × Marks
+unfoldable pub moves : List Node → (ℕ → Bool) → ℕ → Forest × Stages → Value × Stages
 moves t keep i p =
     let v : Value = record { label = at t i .label; contents = p .0 } in
-    (v, cond (keep i) (mark i (kept v) (p .1)) (p .1))
+    (v, cond (keep i) (stage i (kept v) (p .1)) (p .1))
 
-unfoldable pub buildRefs : List Node → (ℕ → Bool) → ℕ → ℕ → Marks → Value × Marks
+unfoldable pub buildRefs : List Node → (ℕ → Bool) → ℕ → ℕ → Stages → Value × Stages
 buildRefs t keep zero i d = (none, d)
 buildRefs t keep (suc k) i d =
     elim (d i) [
       | kept v ↦ (v, d)
       | taken ↦ (none, d)
       | fresh ↦
-          elim (blocked t d i) [ true ↦ (none, mark i taken d) | false ↦ moves t keep i (each (buildRefs t keep k) (at t i .kids) (mark i taken d)) ]
+          elim (blocked t d i) [ true ↦ (none, stage i taken d) | false ↦ moves t keep i (each (buildRefs t keep k) (at t i .kids) (stage i taken d)) ]
     ]
 
 -- ---- references still to come
 
-abbrev waits : Mark → ℕ → ℕ
+abbrev waits : Stage → ℕ → ℕ
 waits fresh x = x
 waits taken x = 0
 waits (kept v) x = 0
 
-waits-none : (m : Mark) (x : ℕ) → freshness m ≡ 0 → waits m x ≡ 0
+waits-none : (m : Stage) (x : ℕ) → freshness m ≡ 0 → waits m x ≡ 0
 unfolding freshness
 waits-none fresh x e = absurd (omega arith)
 waits-none taken x e = refl
@@ -78,7 +78,7 @@ waits-none (kept v) x e = refl
 
 module _ (t : List Node) (reached : ℕ → Bool) where
   -- references to j from nodes below n that are reached and fresh
-  unfoldable open-refs : Marks → ℕ → ℕ → ℕ
+  unfoldable open-refs : Stages → ℕ → ℕ → ℕ
   open-refs d j zero = 0
   open-refs d j (suc n) = cond (reached n) (waits (d n) (times j (at t n .kids))) 0 + open-refs d j n
 
@@ -91,38 +91,38 @@ module _ (t : List Node) (reached : ℕ → Bool) where
   cond-none true x e = e
   cond-none false x e = refl
 
-  open-mark : (d : Marks) (i j : ℕ) (m : Mark) (n : ℕ) → freshness m ≡ 0 → open-refs (mark i m d) j n ≤ open-refs d j n
+  open-stage : (d : Stages) (i j : ℕ) (m : Stage) (n : ℕ) → freshness m ≡ 0 → open-refs (stage i m d) j n ≤ open-refs d j n
   unfolding open-refs
-  open-mark d i j m zero z = omega arith
-  open-mark d i j m (suc n) z = go (marked i m d n) (open-mark d i j m n z)
+  open-stage d i j m zero z = omega arith
+  open-stage d i j m (suc n) z = go (staged i m d n) (open-stage d i j m n z)
     where
-      go : Marked i m d n → open-refs (mark i m d) j n ≤ open-refs d j n → open-refs (mark i m d) j (suc n) ≤ open-refs d j (suc n)
+      go : Staged i m d n → open-refs (stage i m d) j n ≤ open-refs d j n → open-refs (stage i m d) j (suc n) ≤ open-refs d j (suc n)
       go (same p e) h = rw (e, cond-none (reached n) (waits m (times j (at t n .kids))) (waits-none m (times j (at t n .kids)) z)) (omega arith)
       go (other p e) h = rw e (omega arith)
 
-  open-below : (d : Marks) (i j : ℕ) (m : Mark) (n : ℕ) → freshness m ≡ 0 → d i ≡ fresh → reached i ≡ true → i < n → open-refs (mark i m d) j n + times j (at t i .kids) ≤ open-refs d j n
+  open-below : (d : Stages) (i j : ℕ) (m : Stage) (n : ℕ) → freshness m ≡ 0 → d i ≡ fresh → reached i ≡ true → i < n → open-refs (stage i m d) j n + times j (at t i .kids) ≤ open-refs d j n
   unfolding open-refs
   open-below d i j m zero z f r l = absurd (omega arith)
-  open-below d i j m (suc n) z f r l = go (marked i m d n) (open-below d i j m n z f r)
+  open-below d i j m (suc n) z f r l = go (staged i m d n) (open-below d i j m n z f r)
     where
-      go : Marked i m d n → (i < n → open-refs (mark i m d) j n + times j (at t i .kids) ≤ open-refs d j n) → open-refs (mark i m d) j (suc n) + times j (at t i .kids) ≤ open-refs d j (suc n)
+      go : Staged i m d n → (i < n → open-refs (stage i m d) j n + times j (at t i .kids) ≤ open-refs d j n) → open-refs (stage i m d) j (suc n) + times j (at t i .kids) ≤ open-refs d j (suc n)
       go (same p e) h =
           let q : d n ≡ fresh = ap d p ∙ f in
           let w : reached n ≡ true = ap reached p ∙ r in
           let k : times j (at t n .kids) ≡ times j (at t i .kids) = ap (λ (x : ℕ). times j (at t x .kids)) p in
-          let u = open-mark d i j m n z in
+          let u = open-stage d i j m n z in
           let c = waits-none m (times j (at t n .kids)) z in
           rw (e, q, w) (omega arith)
       go (other p e) h = rw e (let u = h (omega arith) in omega arith)
 
   -- a fresh node that is reached has its references among those to come
-  open-enter : (d : Marks) (i j : ℕ) (m : Mark) → freshness m ≡ 0 → d i ≡ fresh → reached i ≡ true → open-refs (mark i m d) j (length t) + times j (at t i .kids) ≤ open-refs d j (length t)
+  open-enter : (d : Stages) (i j : ℕ) (m : Stage) → freshness m ≡ 0 → d i ≡ fresh → reached i ≡ true → open-refs (stage i m d) j (length t) + times j (at t i .kids) ≤ open-refs d j (length t)
   unfolding times
   open-enter d i j m z f r = go (decLt i (length t))
     where
-      go : Dec (i < length t) → open-refs (mark i m d) j (length t) + times j (at t i .kids) ≤ open-refs d j (length t)
+      go : Dec (i < length t) → open-refs (stage i m d) j (length t) + times j (at t i .kids) ≤ open-refs d j (length t)
       go (yes l) = open-below d i j m (length t) z f r l
-      go (no l) = rw (outside t i l) (let u = open-mark d i j m (length t) z in omega arith)
+      go (no l) = rw (outside t i l) (let u = open-stage d i j m (length t) z in omega arith)
 
 -- ---- the two builders side by side
 
@@ -131,40 +131,40 @@ module _
     (reached-in : (i j : ℕ) → reached i ≡ true → In j (at t i .kids) → reached j ≡ true)
     (object-args : (i : ℕ) → T (isObject (at t i .label)) → (0 < length (at t i .kids)) × T (isTuple (at t (getD (at t i .kids) 0 0) .label)))
   where
-    -- the mark of j there and here: the same, but for a node that was moved into its value, and for an Object that is None
-    data Like (j : ℕ) : Mark → Mark → Type 0 where
-      alike : (m : Mark) → Like j m m
+    -- the stage of j there and here: the same, but for a node that was moved into its value, and for an Object that is None
+    data Like (j : ℕ) : Stage → Stage → Type 0 where
+      alike : (m : Stage) → Like j m m
       moved : (v : Value) → keep j ≡ false → Like j (kept v) taken
       void : T (isObject (at t j .label)) → Like j (kept none) taken
 
-    Likes : Marks → Marks → Type 0
+    Likes : Stages → Stages → Type 0
     Likes d e = (j : ℕ) → Like j (d j) (e j)
 
     -- a node that is not kept has at most one reference to come while it is fresh, and none after
-    Once : Marks → List ℕ → Type 0
+    Once : Stages → List ℕ → Type 0
     Once d l = (j : ℕ) → keep j ≡ false → open-refs t reached d j (length t) + times j l ≤ freshness (d j)
 
-    record Follows (d : Marks) (rest : List ℕ) (v w : Value) (d′ e′ : Marks) : Type 0 where
+    record Follows (d : Stages) (rest : List ℕ) (v w : Value) (d′ e′ : Stages) : Type 0 where
       value : w ≡ v
       likes : Likes d′ e′
       once : Once d′ rest
       later : (j : ℕ) → freshness (d′ j) ≤ freshness (d j)
       stays : (j : ℕ) → d j ≡ taken → d′ j ≡ taken
 
-    record FollowsEach (d : Marks) (rest : List ℕ) (f g : Forest) (d′ e′ : Marks) : Type 0 where
+    record FollowsEach (d : Stages) (rest : List ℕ) (f g : Forest) (d′ e′ : Stages) : Type 0 where
       forest : g ≡ f
       likes : Likes d′ e′
       once : Once d′ rest
       later : (j : ℕ) → freshness (d′ j) ≤ freshness (d j)
       stays : (j : ℕ) → d j ≡ taken → d′ j ≡ taken
 
-    once-rest : (d : Marks) (i : ℕ) (rest : List ℕ) → Once d (i ∷ rest) → Once d rest
+    once-rest : (d : Stages) (i : ℕ) (rest : List ℕ) → Once d (i ∷ rest) → Once d rest
     unfolding Once
     once-rest d i rest o j k = omega (arith, o j k, times-more j i rest)
 
-    each-follows : (g h : ℕ → Marks → Value × Marks)
-        → ((i : ℕ) (rest : List ℕ) (d e : Marks) → reached i ≡ true → Likes d e → Once d (i ∷ rest) → Follows d rest (g i d .0) (h i e .0) (g i d .1) (h i e .1))
-        → (is rest : List ℕ) (d e : Marks) → ((i : ℕ) → In i is → reached i ≡ true) → Likes d e → Once d (is ++ rest)
+    each-follows : (g h : ℕ → Stages → Value × Stages)
+        → ((i : ℕ) (rest : List ℕ) (d e : Stages) → reached i ≡ true → Likes d e → Once d (i ∷ rest) → Follows d rest (g i d .0) (h i e .0) (g i d .1) (h i e .1))
+        → (is rest : List ℕ) (d e : Stages) → ((i : ℕ) → In i is → reached i ≡ true) → Likes d e → Once d (is ++ rest)
         → FollowsEach d rest (each g is d .0) (each h is e .0) (each g is d .1) (each h is e .1)
     unfolding each
     each-follows g h s [] rest d e r l o = record { forest = refl; likes = l; once = o; later = λ j. omega arith; stays = λ j x. x }
@@ -175,7 +175,7 @@ module _
         record { forest = ap₂ before (a .value) (b .forest); likes = b .likes; once = b .once; later = λ j. omega (arith, a .later j, b .later j); stays = λ j x. b .stays j (a .stays j x) }
 
     -- an Object's arguments are taken out there where they are here
-    blocked-same : (i : ℕ) (rest : List ℕ) (d e : Marks) → d i ≡ fresh → reached i ≡ true → Likes d e → Once d (i ∷ rest) → blocked t e i ≡ blocked t d i
+    blocked-same : (i : ℕ) (rest : List ℕ) (d e : Stages) → d i ≡ fresh → reached i ≡ true → Likes d e → Once d (i ∷ rest) → blocked t e i ≡ blocked t d i
     unfolding blocked firstTaken Likes Once freshness
     blocked-same i rest d e f r l o = go (isObject (at t i .label)) refl
       where
@@ -186,7 +186,7 @@ module _
             is-tuple : T (isTuple (at t a .label))
             is-tuple = let h = object-args i ob .1 in rw q at h
 
-            look : (m n : Mark) → d a ≡ m → e a ≡ n → Like a m n → isTaken (e a) ≡ isTaken (d a)
+            look : (m n : Stage) → d a ≡ m → e a ≡ n → Like a m n → isTaken (e a) ≡ isTaken (d a)
             look m n p u (alike x) = rw (p, u)
             look m n p u (moved v k) =
                 let c : open-refs t reached d a (length t) + times a (i ∷ rest) ≤ 0 = let h = o a k in rw p at h in
@@ -199,47 +199,47 @@ module _
         go true q = rw q (first (rw q tt) (at t i .kids) refl)
         go false q = rw q
 
-    -- after a mark that is not fresh, at i, which was to be visited
-    once-mark : (i : ℕ) (rest : List ℕ) (d : Marks) (m : Mark) → freshness m ≡ 0 → d i ≡ fresh → reached i ≡ true → Once d (i ∷ rest) → Once (mark i m d) (at t i .kids ++ rest)
+    -- after a stage that is not fresh, at i, which was to be visited
+    once-stage : (i : ℕ) (rest : List ℕ) (d : Stages) (m : Stage) → freshness m ≡ 0 → d i ≡ fresh → reached i ≡ true → Once d (i ∷ rest) → Once (stage i m d) (at t i .kids ++ rest)
     unfolding Once freshness
-    once-mark i rest d m z f r o j k = go (marked i m d j)
+    once-stage i rest d m z f r o j k = go (staged i m d j)
       where
-        go : Marked i m d j → open-refs t reached (mark i m d) j (length t) + times j (at t i .kids ++ rest) ≤ freshness (mark i m d j)
+        go : Staged i m d j → open-refs t reached (stage i m d) j (length t) + times j (at t i .kids ++ rest) ≤ freshness (stage i m d j)
         go (same p q) =
             let c : open-refs t reached d i (length t) + times i (i ∷ rest) ≤ 1 = let h = o i (rw p at k) in rw f at h in
             let b = open-enter t reached d i i m z f r in
             rw (q, z, p) (omega (arith, times-append i (at t i .kids) rest, times-here i rest))
         go (other p q) = rw q (omega (arith, o j k, open-enter t reached d i j m z f r, times-append j (at t i .kids) rest, times-more j i rest))
 
-    likes-mark : (i : ℕ) (d e : Marks) (m n : Mark) → Like i m n → Likes d e → Likes (mark i m d) (mark i n e)
+    likes-stage : (i : ℕ) (d e : Stages) (m n : Stage) → Like i m n → Likes d e → Likes (stage i m d) (stage i n e)
     unfolding Likes
-    likes-mark i d e m n h l j = go (eqb j i) refl
+    likes-stage i d e m n h l j = go (eqb j i) refl
       where
         go : (b : Bool) → eqb j i ≡ b → Like j (cond (eqb j i) m (d j)) (cond (eqb j i) n (e j))
         go true q = let p : j ≡ i = eqb-true j i q in rw (q, p) h
         go false q = rw q (l j)
 
-    like-taken : (j : ℕ) (m n : Mark) → m ≡ taken → Like j m n → n ≡ taken
+    like-taken : (j : ℕ) (m n : Stage) → m ≡ taken → Like j m n → n ≡ taken
     like-taken j m n e (alike x) = e
     like-taken j m n e (moved v k) = refl
     like-taken j m n e (void o) = refl
 
-    -- a mark at a fresh node leaves what is taken out
-    mark-stays : (i : ℕ) (m : Mark) (d c : Marks) (j : ℕ) → d i ≡ fresh → d j ≡ taken → c j ≡ taken → mark i m c j ≡ taken
-    mark-stays i m d c j f x y = go (marked i m c j)
+    -- a stage at a fresh node leaves what is taken out
+    stage-stays : (i : ℕ) (m : Stage) (d c : Stages) (j : ℕ) → d i ≡ fresh → d j ≡ taken → c j ≡ taken → stage i m c j ≡ taken
+    stage-stays i m d c j f x y = go (staged i m c j)
       where
-        go : Marked i m c j → mark i m c j ≡ taken
+        go : Staged i m c j → stage i m c j ≡ taken
         go (same p q) = absurd (let u : d i ≡ taken = ap d (sym p) ∙ x in let z : _≡_ {A = ℕ} 0 1 = cc in omega arith)
         go (other p q) = q ∙ y
 
-    taken-at : (i : ℕ) (d : Marks) → mark i taken d i ≡ taken
+    taken-at : (i : ℕ) (d : Stages) → stage i taken d i ≡ taken
     taken-at i d = rw (eq-eqb i i refl)
 
-    finish-follows : (i : ℕ) (rest : List ℕ) (d e : Marks) (p q : Forest × Marks) → d i ≡ fresh → FollowsEach (mark i taken d) rest (p .0) (q .0) (p .1) (q .1)
+    finish-follows : (i : ℕ) (rest : List ℕ) (d e : Stages) (p q : Forest × Stages) → d i ≡ fresh → FollowsEach (stage i taken d) rest (p .0) (q .0) (p .1) (q .1)
         → Follows d rest (finish t i p .0) (moves t keep i q .0) (finish t i p .1) (moves t keep i q .1)
     unfolding finish moves freshness Once Likes
     finish-follows i rest d e p q f m =
-        record { value = ap (λ (c : Forest). record { label = at t i .label; contents = c }) (m .forest); likes = go (keep i) refl; once = λ j k. after j k (marked i (kept v) (p .1) j); later = λ j. less j (marked i (kept v) (p .1) j) (marked i taken d j); stays = λ j x. mark-stays i (kept v) d (p .1) j f x (m .stays j (kept-out j x (marked i taken d j))) }
+        record { value = ap (λ (c : Forest). record { label = at t i .label; contents = c }) (m .forest); likes = go (keep i) refl; once = λ j k. after j k (staged i (kept v) (p .1) j); later = λ j. less j (staged i (kept v) (p .1) j) (staged i taken d j); stays = λ j x. stage-stays i (kept v) d (p .1) j f x (m .stays j (kept-out j x (staged i taken d j))) }
       where
         v : Value
         v = record { label = at t i .label; contents = p .0 }
@@ -253,39 +253,39 @@ module _
         out-i : p .1 i ≡ taken
         out-i = m .stays i (taken-at i d)
 
-        kept-out : (j : ℕ) → d j ≡ taken → Marked i taken d j → mark i taken d j ≡ taken
+        kept-out : (j : ℕ) → d j ≡ taken → Staged i taken d j → stage i taken d j ≡ taken
         kept-out j x (same a b) = b
         kept-out j x (other a b) = b ∙ x
 
-        one-like : keep i ≡ false → (j : ℕ) → Marked i (kept v) (p .1) j → Like j (mark i (kept v) (p .1) j) (q .1 j)
+        one-like : keep i ≡ false → (j : ℕ) → Staged i (kept v) (p .1) j → Like j (stage i (kept v) (p .1) j) (q .1 j)
         one-like k j (same a b) =
             let u : q .1 j ≡ taken = ap (q .1) a ∙ like-taken i (p .1 i) (q .1 i) out-i (m .likes i) in
             rw (b, u) (moved v (ap keep a ∙ k))
         one-like k j (other a b) = rw b (m .likes j)
 
-        go : (b : Bool) → keep i ≡ b → Likes (mark i (kept v) (p .1)) (cond (keep i) (mark i (kept w) (q .1)) (q .1))
-        go true k = rw (k, w-v) (likes-mark i (p .1) (q .1) (kept v) (kept v) (alike (kept v)) (m .likes))
-        go false k = rw k (λ j. one-like k j (marked i (kept v) (p .1) j))
+        go : (b : Bool) → keep i ≡ b → Likes (stage i (kept v) (p .1)) (cond (keep i) (stage i (kept w) (q .1)) (q .1))
+        go true k = rw (k, w-v) (likes-stage i (p .1) (q .1) (kept v) (kept v) (alike (kept v)) (m .likes))
+        go false k = rw k (λ j. one-like k j (staged i (kept v) (p .1) j))
 
-        after : (j : ℕ) → keep j ≡ false → Marked i (kept v) (p .1) j → open-refs t reached (mark i (kept v) (p .1)) j (length t) + times j rest ≤ freshness (mark i (kept v) (p .1) j)
+        after : (j : ℕ) → keep j ≡ false → Staged i (kept v) (p .1) j → open-refs t reached (stage i (kept v) (p .1)) j (length t) + times j rest ≤ freshness (stage i (kept v) (p .1) j)
         after j k (same a b) =
             let u : freshness (p .1 j) ≡ 0 = let y : p .1 j ≡ taken = ap (p .1) a ∙ out-i in rw y in
-            rw b (omega (arith, m .once j k, open-mark t reached (p .1) i j (kept v) (length t) refl))
-        after j k (other a b) = rw b (omega (arith, m .once j k, open-mark t reached (p .1) i j (kept v) (length t) refl))
+            rw b (omega (arith, m .once j k, open-stage t reached (p .1) i j (kept v) (length t) refl))
+        after j k (other a b) = rw b (omega (arith, m .once j k, open-stage t reached (p .1) i j (kept v) (length t) refl))
 
-        less : (j : ℕ) → Marked i (kept v) (p .1) j → Marked i taken d j → freshness (mark i (kept v) (p .1) j) ≤ freshness (d j)
+        less : (j : ℕ) → Staged i (kept v) (p .1) j → Staged i taken d j → freshness (stage i (kept v) (p .1) j) ≤ freshness (d j)
         less j (same a b) x = rw b (omega arith)
         less j (other a b) (same a′ b′) = absurd (a a′)
         less j (other a b) (other a′ b′) = let y : freshness (p .1 j) ≤ freshness (d j) = let h = m .later j in rw b′ at h in rw b y
 
-    build-follows : (k i : ℕ) (rest : List ℕ) (d e : Marks) → reached i ≡ true → Likes d e → Once d (i ∷ rest)
+    build-follows : (k i : ℕ) (rest : List ℕ) (d e : Stages) → reached i ≡ true → Likes d e → Once d (i ∷ rest)
         → Follows d rest (build t k i d .0) (buildRefs t keep k i e .0) (build t k i d .1) (buildRefs t keep k i e .1)
     unfolding build buildRefs freshness Once Likes blocked
     build-follows zero i rest d e r l o = record { value = refl; likes = l; once = once-rest d i rest o; later = λ j. omega arith; stays = λ j x. x }
     build-follows (suc k) i rest d e r l o = go (d i) (e i) refl refl (l i) (build-follows k)
       where
         More : Type 0
-        More = (j : ℕ) (s : List ℕ) (c b : Marks) → reached j ≡ true → Likes c b → Once c (j ∷ s) → Follows c s (build t k j c .0) (buildRefs t keep k j b .0) (build t k j c .1) (buildRefs t keep k j b .1)
+        More = (j : ℕ) (s : List ℕ) (c b : Stages) → reached j ≡ true → Likes c b → Once c (j ∷ s) → Follows c s (build t k j c .0) (buildRefs t keep k j b .0) (build t k j c .1) (buildRefs t keep k j b .1)
 
         Goal : Type 0
         Goal = Follows d rest (build t (suc k) i d .0) (buildRefs t keep (suc k) i e .0) (build t (suc k) i d .1) (buildRefs t keep (suc k) i e .1)
@@ -295,20 +295,20 @@ module _
             let c : blocked t e i ≡ true = blocked-same i rest d e f r l o ∙ b in
             rw (f, u, b, c, build, buildRefs) (record {
               value = refl;
-              likes = likes-mark i d e (kept none) taken (void (and-left (isObject (at t i .label)) (firstTaken d (at t i .kids)) b)) l;
-              once = λ j q. omega (arith, once-mark i rest d (kept none) refl f r o j q, times-append j (at t i .kids) rest);
-              later = λ j. late j (marked i (kept none) d j);
-              stays = λ j x. mark-stays i (kept none) d d j f x x;
+              likes = likes-stage i d e (kept none) taken (void (and-left (isObject (at t i .label)) (firstTaken d (at t i .kids)) b)) l;
+              once = λ j q. omega (arith, once-stage i rest d (kept none) refl f r o j q, times-append j (at t i .kids) rest);
+              later = λ j. late j (staged i (kept none) d j);
+              stays = λ j x. stage-stays i (kept none) d d j f x x;
             })
           where
-            late : (j : ℕ) → Marked i (kept none) d j → freshness (mark i (kept none) d j) ≤ freshness (d j)
+            late : (j : ℕ) → Staged i (kept none) d j → freshness (stage i (kept none) d j) ≤ freshness (d j)
             late j (same p q) = rw q (omega arith)
             late j (other p q) = rw q (omega arith)
         new f u false b ih =
             let c : blocked t e i ≡ false = blocked-same i rest d e f r l o ∙ b in
-            rw (f, u, b, c, build, buildRefs) (finish-follows i rest d e _ _ f (each-follows (build t k) (buildRefs t keep k) ih (at t i .kids) rest (mark i taken d) (mark i taken e) (λ j m. reached-in i j r m) (likes-mark i d e taken taken (alike taken) l) (once-mark i rest d taken refl f r o)))
+            rw (f, u, b, c, build, buildRefs) (finish-follows i rest d e _ _ f (each-follows (build t k) (buildRefs t keep k) ih (at t i .kids) rest (stage i taken d) (stage i taken e) (λ j m. reached-in i j r m) (likes-stage i d e taken taken (alike taken) l) (once-stage i rest d taken refl f r o)))
 
-        go : (m n : Mark) → d i ≡ m → e i ≡ n → Like i m n → More → Goal
+        go : (m n : Stage) → d i ≡ m → e i ≡ n → Like i m n → More → Goal
         go m n p u (alike (kept v)) ih = rw (p, u, build, buildRefs) (record { value = refl; likes = l; once = once-rest d i rest o; later = λ j. omega arith; stays = λ j x. x })
         go m n p u (alike taken) ih = rw (p, u, build, buildRefs) (record { value = refl; likes = l; once = once-rest d i rest o; later = λ j. omega arith; stays = λ j x. x })
         go m n p u (alike fresh) ih = new p u (blocked t d i) refl ih

@@ -10,11 +10,11 @@ use lib.Dec.{eqb, T, eqb→eq, eqb-refl}
 use native.Mathlib.Omega.{arith}
 use native.Mathlib.Decide.{decLt}
 use Rattle.value.specs.Value.{Label, Forest, Value, NoneL, one, nil, node}
-use Rattle.steps.specs.State.{Node, plain}
+use Rattle.steps.specs.State.{Node, kidless}
 use Rattle.steps.specs.Opcodes.{isObject}
-use Rattle.reading.specs.Build.{Mark, Marks, fresh, taken, kept, unbuilt, mark, isTaken, at, firstTaken, blocked, finish, each, build, tree}
+use Rattle.reading.specs.Build.{Stage, Stages, fresh, taken, kept, unbuilt, stage, isTaken, at, firstTaken, blocked, finish, each, build, tree}
 
--- The plain write-out of nodes one after the other: for each its label over the write-out of its children, whatever has been written
+-- The kidless write-out of nodes one after the other: for each its label over the write-out of its children, whatever has been written
 -- before. A Set's child is its argument, a Dict's are all its keys and values, an Object's its arguments and its last state.
 pub data WritesOut (t : List Node) : List ℕ → Forest → Type 0 where
   nothing : WritesOut t [] nil
@@ -41,61 +41,61 @@ pub contains-in : {t : List Node} {i j k : ℕ} → Contains t i j → In k (at 
 contains-in (direct m) h = through m (direct h)
 contains-in (through m c) h = through m (contains-in c h)
 
--- ---- marks
+-- ---- stages
 
--- what stands at j after i is marked: at i the mark, elsewhere what stood there
-pub data Marked (i : ℕ) (m : Mark) (d : Marks) (j : ℕ) : Type 0 where
-  same : j ≡ i → mark i m d j ≡ m → Marked i m d j
-  other : j ≢ i → mark i m d j ≡ d j → Marked i m d j
+-- what stands at j after i is staged: at i the stage, elsewhere what stood there
+pub data Staged (i : ℕ) (m : Stage) (d : Stages) (j : ℕ) : Type 0 where
+  same : j ≡ i → stage i m d j ≡ m → Staged i m d j
+  other : j ≢ i → stage i m d j ≡ d j → Staged i m d j
 
-pub marked : (i : ℕ) (m : Mark) (d : Marks) (j : ℕ) → Marked i m d j
-marked i m d j = go (eqb j i) refl
+pub staged : (i : ℕ) (m : Stage) (d : Stages) (j : ℕ) → Staged i m d j
+staged i m d j = go (eqb j i) refl
   where
-    go : (b : Bool) → eqb j i ≡ b → Marked i m d j
+    go : (b : Bool) → eqb j i ≡ b → Staged i m d j
     go true e = same (eqb→eq j i (rw e tt)) (rw e)
     go false e = other (λ p. let t : T (eqb j i) = rw p (eqb-refl i) in rw e at t) (rw e)
 
 -- how many nodes below n are fresh
-unfoldable pub freshness : Mark → ℕ
+unfoldable pub freshness : Stage → ℕ
 freshness fresh = 1
 freshness taken = 0
 freshness (kept v) = 0
 
-unfoldable pub left : Marks → ℕ → ℕ
+unfoldable pub left : Stages → ℕ → ℕ
 left d zero = 0
 left d (suc n) = freshness (d n) + left d n
 
-pub left-mark : (d : Marks) (i : ℕ) (m : Mark) (n : ℕ) → freshness m ≡ 0 → left (mark i m d) n ≤ left d n
+pub left-stage : (d : Stages) (i : ℕ) (m : Stage) (n : ℕ) → freshness m ≡ 0 → left (stage i m d) n ≤ left d n
 unfolding left
-left-mark d i m zero z = omega arith
-left-mark d i m (suc n) z = go (marked i m d n) (left-mark d i m n z)
+left-stage d i m zero z = omega arith
+left-stage d i m (suc n) z = go (staged i m d n) (left-stage d i m n z)
   where
-    go : Marked i m d n → left (mark i m d) n ≤ left d n → left (mark i m d) (suc n) ≤ left d (suc n)
+    go : Staged i m d n → left (stage i m d) n ≤ left d n → left (stage i m d) (suc n) ≤ left d (suc n)
     go (same p e) h = rw e (omega arith)
     go (other p e) h = rw e (omega arith)
 
-pub left-less : (d : Marks) (i : ℕ) (m : Mark) (n : ℕ) → freshness m ≡ 0 → d i ≡ fresh → i < n → left (mark i m d) n < left d n
+pub left-less : (d : Stages) (i : ℕ) (m : Stage) (n : ℕ) → freshness m ≡ 0 → d i ≡ fresh → i < n → left (stage i m d) n < left d n
 unfolding left freshness
 left-less d i m zero z f h = omega arith
-left-less d i m (suc n) z f h = go (marked i m d n) (left-less d i m n z f)
+left-less d i m (suc n) z f h = go (staged i m d n) (left-less d i m n z f)
   where
-    go : Marked i m d n → (i < n → left (mark i m d) n < left d n) → left (mark i m d) (suc n) < left d (suc n)
-    go (same p e) k = let q : d n ≡ fresh = ap d p ∙ f in let l = left-mark d i m n z in rw (e, q) (omega arith)
+    go : Staged i m d n → (i < n → left (stage i m d) n < left d n) → left (stage i m d) (suc n) < left d (suc n)
+    go (same p e) k = let q : d n ≡ fresh = ap d p ∙ f in let l = left-stage d i m n z in rw (e, q) (omega arith)
     go (other p e) k = rw e (let l = k (omega arith) in omega arith)
 
 -- ---- the theorem
 
 -- a number with no node has nothing in it
 pub outside : (t : List Node) (i : ℕ) → ¬ (i < length t) → at t i .kids ≡ []
-outside t i h = rw (List·getD-eq-default t (plain NoneL) (let l : length t ≤ i = omega arith in l))
+outside t i h = rw (List·getD-eq-default t (kidless NoneL) (let l : length t ≤ i = omega arith in l))
 
 -- what is known while the nodes P are being built: a taken node is one of them, and a kept node has its write-out
-record Known (t : List Node) (P : ℕ → Type 0) (d : Marks) : Type 0 where
+record Known (t : List Node) (P : ℕ → Type 0) (d : Stages) : Type 0 where
   open-in : (j : ℕ) → d j ≡ taken → P j
   kept-is : (j : ℕ) (v : Value) → d j ≡ kept v → WritesOut t (j ∷ []) (one v)
 
 -- what a call makes of nodes `is` below the nodes P
-record Made (t : List Node) (P : ℕ → Type 0) (d : Marks) (is : List ℕ) (f : Forest) (d′ : Marks) : Type 0 where
+record Made (t : List Node) (P : ℕ → Type 0) (d : Stages) (is : List ℕ) (f : Forest) (d′ : Stages) : Type 0 where
   written : WritesOut t is f
   known : Known t P d′
   less : left d′ (length t) ≤ left d (length t)
@@ -109,9 +109,9 @@ module _ (t : List Node) (Good : ℕ → Type 0) (good-in : (i j : ℕ) → Good
     good : Good i
     below : (j : ℕ) → P j → Contains t j i
 
-  each-made : (P : ℕ → Type 0) (k : ℕ) (g : ℕ → Marks → Value × Marks)
-      → ((i : ℕ) (d : Marks) → left d (length t) < k → Ready P i → Known t P d → Made t P d (i ∷ []) (one (g i d .0)) (g i d .1))
-      → (is : List ℕ) (d : Marks) → left d (length t) < k → ((i : ℕ) → In i is → Ready P i) → Known t P d
+  each-made : (P : ℕ → Type 0) (k : ℕ) (g : ℕ → Stages → Value × Stages)
+      → ((i : ℕ) (d : Stages) → left d (length t) < k → Ready P i → Known t P d → Made t P d (i ∷ []) (one (g i d .0)) (g i d .1))
+      → (is : List ℕ) (d : Stages) → left d (length t) < k → ((i : ℕ) → In i is → Ready P i) → Known t P d
       → Made t P d is (each g is d .0) (each g is d .1)
   unfolding each
   each-made P k g h [] d l r kn = record { written = nothing; known = kn; less = omega arith }
@@ -125,23 +125,23 @@ module _ (t : List Node) (Good : ℕ → Type 0) (good-in : (i j : ℕ) → Good
   With : (ℕ → Type 0) → ℕ → ℕ → Type 0
   With P i j = P j ⊎ (j ≡ i)
 
-  taken-known : (P : ℕ → Type 0) (i : ℕ) (d : Marks) → Known t P d → Known t (With P i) (mark i taken d)
+  taken-known : (P : ℕ → Type 0) (i : ℕ) (d : Stages) → Known t P d → Known t (With P i) (stage i taken d)
   unfolding With
-  taken-known P i d kn = record { open-in = λ j e. go j (marked i taken d j) e; kept-is = λ j v e. go2 j v (marked i taken d j) e }
+  taken-known P i d kn = record { open-in = λ j e. go j (staged i taken d j) e; kept-is = λ j v e. go2 j v (staged i taken d j) e }
     where
-      go : (j : ℕ) → Marked i taken d j → mark i taken d j ≡ taken → P j ⊎ (j ≡ i)
+      go : (j : ℕ) → Staged i taken d j → stage i taken d j ≡ taken → P j ⊎ (j ≡ i)
       go j (same p q) e = inr p
       go j (other p q) e = inl (kn .open-in j (sym q ∙ e))
 
-      go2 : (j : ℕ) (v : Value) → Marked i taken d j → mark i taken d j ≡ kept v → WritesOut t (j ∷ []) (one v)
+      go2 : (j : ℕ) (v : Value) → Staged i taken d j → stage i taken d j ≡ kept v → WritesOut t (j ∷ []) (one v)
       go2 j v (same p q) e = absurd (let z : _≡_ {A = ℕ} 0 1 = cc in omega arith)
       go2 j v (other p q) e = kn .kept-is j v (sym q ∙ e)
 
-  kept-known : (P : ℕ → Type 0) (i : ℕ) (v : Value) (d : Marks) → WritesOut t (i ∷ []) (one v) → Known t (With P i) d → Known t P (mark i (kept v) d)
+  kept-known : (P : ℕ → Type 0) (i : ℕ) (v : Value) (d : Stages) → WritesOut t (i ∷ []) (one v) → Known t (With P i) d → Known t P (stage i (kept v) d)
   unfolding With
-  kept-known P i v d u kn = record { open-in = λ j e. go j (marked i (kept v) d j) e; kept-is = λ j w e. go2 j w (marked i (kept v) d j) e }
+  kept-known P i v d u kn = record { open-in = λ j e. go j (staged i (kept v) d j) e; kept-is = λ j w e. go2 j w (staged i (kept v) d j) e }
     where
-      go : (j : ℕ) → Marked i (kept v) d j → mark i (kept v) d j ≡ taken → P j
+      go : (j : ℕ) → Staged i (kept v) d j → stage i (kept v) d j ≡ taken → P j
       go j (same p q) e = absurd (let z : _≡_ {A = ℕ} 0 1 = cc in omega arith)
       go j (other p q) e = pickP (kn .open-in j (sym q ∙ e))
         where
@@ -149,11 +149,11 @@ module _ (t : List Node) (Good : ℕ → Type 0) (good-in : (i j : ℕ) → Good
           pickP (inl h) = h
           pickP (inr h) = absurd (p h)
 
-      go2 : (j : ℕ) (w : Value) → Marked i (kept v) d j → mark i (kept v) d j ≡ kept w → WritesOut t (j ∷ []) (one w)
+      go2 : (j : ℕ) (w : Value) → Staged i (kept v) d j → stage i (kept v) d j ≡ kept w → WritesOut t (j ∷ []) (one w)
       go2 j w (same p q) e = let s : v ≡ w = cc in rw (p, ← s) u
       go2 j w (other p q) e = kn .kept-is j w (sym q ∙ e)
 
-  not-blocked : (P : ℕ → Type 0) (i : ℕ) (d : Marks) → Ready P i → Known t P d → blocked t d i ≡ true → ⊥
+  not-blocked : (P : ℕ → Type 0) (i : ℕ) (d : Stages) → Ready P i → Known t P d → blocked t d i ≡ true → ⊥
   unfolding blocked firstTaken
   not-blocked P i d r kn e = go (at t i .kids) refl (and-right (isObject (at t i .label)) (firstTaken d (at t i .kids)) e)
     where
@@ -161,7 +161,7 @@ module _ (t : List Node) (Good : ℕ → Type 0) (good-in : (i j : ℕ) → Good
       and-right true b h = h
       and-right false b h = cc
 
-      bad : (j : ℕ) → In j (at t i .kids) → (m : Mark) → d j ≡ m → isTaken m ≡ true → ⊥
+      bad : (j : ℕ) → In j (at t i .kids) → (m : Stage) → d j ≡ m → isTaken m ≡ true → ⊥
       bad j h fresh q f = let z : _≡_ {A = ℕ} 0 1 = cc in omega arith
       bad j h taken q f = acyclic j (good-in i j (r .good) h) (contains-in (r .below j (kn .open-in j q)) h)
       bad j h (kept v) q f = let z : _≡_ {A = ℕ} 0 1 = cc in omega arith
@@ -170,7 +170,7 @@ module _ (t : List Node) (Good : ℕ → Type 0) (good-in : (i j : ℕ) → Good
       go [] q f = let z : _≡_ {A = ℕ} 0 1 = cc in omega arith
       go (x ∷ l) q f = bad x (rw q here) (d x) refl f
 
-  blocked-no : (P : ℕ → Type 0) (i : ℕ) (d : Marks) → Ready P i → Known t P d → blocked t d i ≡ false
+  blocked-no : (P : ℕ → Type 0) (i : ℕ) (d : Stages) → Ready P i → Known t P d → blocked t d i ≡ false
   blocked-no P i d r kn = go (blocked t d i) refl
     where
       go : (b : Bool) → blocked t d i ≡ b → blocked t d i ≡ false
@@ -186,30 +186,30 @@ module _ (t : List Node) (Good : ℕ → Type 0) (good-in : (i j : ℕ) → Good
       go m (inr q) = rw q (direct h)
 
   -- the contents of i are made: so is i
-  finish-made : (P : ℕ → Type 0) (i : ℕ) (d : Marks) (p : Forest × Marks) → Made t (With P i) (mark i taken d) (at t i .kids) (p .0) (p .1)
+  finish-made : (P : ℕ → Type 0) (i : ℕ) (d : Stages) (p : Forest × Stages) → Made t (With P i) (stage i taken d) (at t i .kids) (p .0) (p .1)
       → Made t P d (i ∷ []) (one (finish t i p .0)) (finish t i p .1)
   unfolding finish freshness
   finish-made P i d p m =
       let v : Value = record { label = at t i .label; contents = p .0 } in
       let u : WritesOut t (i ∷ []) (one v) = afresh (m .written) nothing in
-      record { written = u; known = kept-known P i v (p .1) u (m .known); less = omega (arith, m .less, left-mark (p .1) i (kept v) (length t) refl, left-mark d i taken (length t) refl) }
+      record { written = u; known = kept-known P i v (p .1) u (m .known); less = omega (arith, m .less, left-stage (p .1) i (kept v) (length t) refl, left-stage d i taken (length t) refl) }
 
-  build-made : (k : ℕ) (P : ℕ → Type 0) (i : ℕ) (d : Marks) → left d (length t) < k → Ready P i → Known t P d
+  build-made : (k : ℕ) (P : ℕ → Type 0) (i : ℕ) (d : Stages) → left d (length t) < k → Ready P i → Known t P d
       → Made t P d (i ∷ []) (one (build t k i d .0)) (build t k i d .1)
   unfolding build each freshness
   build-made zero P i d l r kn = absurd (omega arith)
   build-made (suc k) P i d l r kn = go (d i) refl (build-made k)
     where
-      go : (m : Mark) → d i ≡ m
-          → ((Q : ℕ → Type 0) (j : ℕ) (c : Marks) → left c (length t) < k → Ready Q j → Known t Q c → Made t Q c (j ∷ []) (one (build t k j c .0)) (build t k j c .1))
+      go : (m : Stage) → d i ≡ m
+          → ((Q : ℕ → Type 0) (j : ℕ) (c : Stages) → left c (length t) < k → Ready Q j → Known t Q c → Made t Q c (j ∷ []) (one (build t k j c .0)) (build t k j c .1))
           → Made t P d (i ∷ []) (one (build t (suc k) i d .0)) (build t (suc k) i d .1)
       go (kept v) e ih = rw (e, build) (record { written = kn .kept-is i v e; known = kn; less = omega arith })
       go taken e ih = absurd (acyclic i (r .good) (r .below i (kn .open-in i e)))
       go fresh e ih = rw (e, build, blocked-no P i d r kn) (finish-made P i d _ (inside (decLt i (length t))))
         where
-          inside : Dec (i < length t) → Made t (With P i) (mark i taken d) (at t i .kids) (each (build t k) (at t i .kids) (mark i taken d) .0) (each (build t k) (at t i .kids) (mark i taken d) .1)
+          inside : Dec (i < length t) → Made t (With P i) (stage i taken d) (at t i .kids) (each (build t k) (at t i .kids) (stage i taken d) .0) (each (build t k) (at t i .kids) (stage i taken d) .1)
           inside (yes h) =
-              each-made (With P i) k (build t k) (ih (With P i)) (at t i .kids) (mark i taken d) (let l₀ = left-less d i taken (length t) refl e h in omega arith) (ready-in P i r) (taken-known P i d kn)
+              each-made (With P i) k (build t k) (ih (With P i)) (at t i .kids) (stage i taken d) (let l₀ = left-less d i taken (length t) refl e h in omega arith) (ready-in P i r) (taken-known P i d kn)
           inside (no h) = rw (outside t i h) (record { written = nothing; known = taken-known P i d kn; less = omega arith })
 
 -- ---- demand 3
@@ -231,15 +231,15 @@ tree-writes-out t root h =
     into i j (inl q) m = inr (rw (← q) (direct m))
     into i j (inr c) m = inr (contains-in c m)
 
--- nodes have one plain write-out at most
+-- nodes have one kidless write-out at most
 pub write-out-unique : {t : List Node} {is : List ℕ} {f g : Forest} → WritesOut t is f → WritesOut t is g → f ≡ g
 write-out-unique nothing nothing = refl
 write-out-unique (afresh a b) (afresh c d) = let p = write-out-unique a c in let q = write-out-unique b d in cc
 
--- so the tree is the plain write-out
+-- so the tree is the kidless write-out
 pub tree-is-write-out : (t : List Node) (root : ℕ) (f : Forest) → NothingContainsItself t root → WritesOut t (root ∷ []) f → one (tree t root) ≡ f
 tree-is-write-out t root f h w = write-out-unique (tree-writes-out t root h) w
 
--- a plain write-out there is, and one alone
+-- a kidless write-out there is, and one alone
 pub write-out : (t : List Node) (root : ℕ) → NothingContainsItself t root → (f : Forest) × WritesOut t (root ∷ []) f × ((g : Forest) → WritesOut t (root ∷ []) g → g ≡ f)
 write-out t root h = (one (tree t root), tree-writes-out t root h, λ g w. write-out-unique w (tree-writes-out t root h))

@@ -1,9 +1,9 @@
 -- Counts that fit the words of a step.
 use Prim.Native.Nat.{_≤_}
 use native.Mathlib.Omega.{arith}
-use Rattle.decoder.specs.declared.Counts.{Counts}
-use Rattle.decoder.specs.Rooms.{Rooms}
-use Rattle.decoder.specs.Effects.{Sound}
+use Rattle.store.specs.declared.Counts.{Counts}
+use Rattle.store.specs.Rooms.{Rooms}
+use Rattle.store.specs.Effects.{Sound}
 
 pub record Shown (c : Counts) : Type 0 where
   pub at : c .at ≤ 65536

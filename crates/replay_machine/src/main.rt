@@ -1,16 +1,15 @@
 // Replays the machine: standard input has pickles, each after its length in four bytes, low byte first; for each a line says what
 // the machine does with it. Numbers are hexadecimal and of a fixed length: a step is the counts before an opcode in two words; at STOP
 // the length read, the node on top of the stack, and then the rooms as they are used, in words.
-use decoder::Counts;
 use effects::Step;
 use machine::Outcome;
 use machine::take_step;
 use op::Edition;
+use store::Counts;
 ghost use Prim.Native.Nat.{_≤_};
-ghost use mathlib.Core.Path.{_≡_};
 ghost use lib.ListN.{length};
-ghost use Rattle.decoder.specs.Effects.{Sound};
-ghost use Rattle.machine.specs.Lent.{roomsOf};
+ghost use Rattle.store.specs.Effects.{Sound};
+ghost use Rattle.machine.specs.RoomsOf.{roomsOf};
 ghost use Rattle.machine.specs.Ran.{start};
 ghost use Rattle.replay_machine.specs.Shown.{Shown};
 

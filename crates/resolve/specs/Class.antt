@@ -1,4 +1,4 @@
--- The text of a container itself: an Object's is its class's, whose word the class's mark has, read ahead or not.
+-- The text of a container itself: an Object's is its class's, whose word the class's measure has, read ahead or not.
 use Prim.Native.Nat.{ℕ, _+_, _*_, _<_, min}
 use mathlib.Core.Bool.{true, false}
 use mathlib.Core.List.{List}
@@ -17,14 +17,14 @@ use Rattle.resolve.specs.Facts.{wordOf, containerKind, kindAt, classAt, 
 use Rattle.resolve.specs.Known.{word-big, leaf-word, no-text}
 
 -- what the code needs
-pub record Owned (p ws marks : List ℕ) (n kind : ℕ) : Type 0 where
+pub record Owned (p ws measures : List ℕ) (n kind : ℕ) : Type 0 where
   pub kind-is : kind ≡ kindAt ws n
   pub container : containerKind kind ≡ true
   pub long : 2 * n < length ws
-  pub class-below : kind ≡ 12 → classAt ws n < length marks
+  pub class-below : kind ≡ 12 → classAt ws n < length measures
   pub class-reads : kind ≡ 12 → Readable p ws (classAt ws n)
 
--- the text's length, capped; the marks still fit
+-- the text's length, capped; the measures still fit
 unfoldable pub Owns : List ℕ → List ℕ → List ℕ → List ℕ → ℕ → ℕ → Type 0
 Owns p ws before after n r =
     (starts : List ℕ) (t : List Node) (s : State) → Facts p ws starts t → Noted t wordOf before s → n < length t → (r ≡ min (textLen p ws n) 65537) × (Noted t wordOf after s)
@@ -49,12 +49,12 @@ leaf-text l = texts-pack 1 1 l (omega arith)
 early-text : (w : ℕ) → textsW (w + ahead) ≡ textsW w
 early-text w = omega arith
 
-module _ (p ws marks : List ℕ) (n kind : ℕ) (o : Owned p ws marks n kind) where
-  pub own-none : kind ≢ 12 → Owns p ws marks marks n 0
+module _ (p ws measures : List ℕ) (n kind : ℕ) (o : Owned p ws measures n kind) where
+  pub own-none : kind ≢ 12 → Owns p ws measures measures n 0
   unfolding Owns
   own-none d starts t s f m l = (no-text p ws n kind (o .kind-is) (o .container) d, m)
 
-  module _ (e : kind ≡ 12) (starts : List ℕ) (t : List Node) (s : State) (f : Facts p ws starts t) (m : Noted t wordOf marks s) (l : n < length t) where
+  module _ (e : kind ≡ 12) (starts : List ℕ) (t : List Node) (s : State) (f : Facts p ws starts t) (m : Noted t wordOf measures s) (l : n < length t) where
     object : kindAt ws n ≡ 12
     object = sym (o .kind-is) ∙ e
 
@@ -64,33 +64,33 @@ module _ (p ws marks : List ℕ) (n kind : ℕ) (o : Owned p ws marks n kind) wh
     word-text : (w : ℕ) → w ≡ packW 1 1 (textLen p ws (classAt ws n)) → textsW w ≡ min (textLen p ws n) 65537
     word-text w x = ap textsW x ∙ (leaf-text (textLen p ws (classAt ws n)) ∙ ap (λ (z : ℕ). min z 65537) (class-text p ws n object (f .classes n l object .1)))
 
-    class-noted : LeafNoted t wordOf (s .done) (classAt ws n) (getD marks (classAt ws n) 0)
+    class-noted : LeafNoted t wordOf (s .done) (classAt ws n) (getD measures (classAt ws n) 0)
     class-noted = m .leaf (classAt ws n) (f .classes n l object .0) (class-leaf p ws starts t n f l object)
 
-    kept-text : getD marks (classAt ws n) 0 ≢ 0 → textsW (getD marks (classAt ws n) 0) ≡ min (textLen p ws n) 65537
+    kept-text : getD measures (classAt ws n) 0 ≢ 0 → textsW (getD measures (classAt ws n) 0) ≡ min (textLen p ws n) 65537
     kept-text d = go class-noted
       where
-        go : LeafNoted t wordOf (s .done) (classAt ws n) (getD marks (classAt ws n) 0)
-            → textsW (getD marks (classAt ws n) 0) ≡ min (textLen p ws n) 65537
+        go : LeafNoted t wordOf (s .done) (classAt ws n) (getD measures (classAt ws n) 0)
+            → textsW (getD measures (classAt ws n) 0) ≡ min (textLen p ws n) 65537
         go (unseen x q) = absurd (d x)
         go (early x q) = ap textsW x ∙ (early-text (wordOf (leafOf t (classAt ws n))) ∙ word-text _ (sym class-word))
         go (reached x q) = word-text _ (x ∙ sym class-word)
 
-    new-noted : (w : ℕ) → getD marks (classAt ws n) 0 ≡ 0 → w ≡ packW 1 1 (textLen p ws (classAt ws n))
-        → Noted t wordOf (set marks (classAt ws n) (w + ahead)) s
-    new-noted w z x = rw (x ∙ class-word) (noted-early t wordOf marks s (classAt ws n) m (f .classes n l object .0) (class-leaf p ws starts t n f l object) (go class-noted))
+    new-noted : (w : ℕ) → getD measures (classAt ws n) 0 ≡ 0 → w ≡ packW 1 1 (textLen p ws (classAt ws n))
+        → Noted t wordOf (set measures (classAt ws n) (w + ahead)) s
+    new-noted w z x = rw (x ∙ class-word) (noted-early t wordOf measures s (classAt ws n) m (f .classes n l object .0) (class-leaf p ws starts t n f l object) (go class-noted))
       where
-        go : LeafNoted t wordOf (s .done) (classAt ws n) (getD marks (classAt ws n) 0) → isTextLeaf (at t (classAt ws n) .label) ≡ true
+        go : LeafNoted t wordOf (s .done) (classAt ws n) (getD measures (classAt ws n) 0) → isTextLeaf (at t (classAt ws n) .label) ≡ true
             → ¬ In (classAt ws n) (s .done)
         go (unseen y q) = q
         go (early y q) = q
         go (reached y q) = absurd (omega (arith, word-big (leafOf t (classAt ws n))))
 
-  pub own-kept : kind ≡ 12 → getD marks (classAt ws n) 0 ≢ 0 → Owns p ws marks marks n (textsW (getD marks (classAt ws n) 0))
+  pub own-kept : kind ≡ 12 → getD measures (classAt ws n) 0 ≢ 0 → Owns p ws measures measures n (textsW (getD measures (classAt ws n) 0))
   unfolding Owns
   own-kept e d starts t s f m l = (kept-text e starts t s f m l d, m)
 
-  pub own-new : (w : ℕ) → kind ≡ 12 → getD marks (classAt ws n) 0 ≡ 0 → w ≡ packW 1 1 (textLen p ws (classAt ws n))
-      → Owns p ws marks (set marks (classAt ws n) (w + ahead)) n (textsW w)
+  pub own-new : (w : ℕ) → kind ≡ 12 → getD measures (classAt ws n) 0 ≡ 0 → w ≡ packW 1 1 (textLen p ws (classAt ws n))
+      → Owns p ws measures (set measures (classAt ws n) (w + ahead)) n (textsW w)
   unfolding Owns
   own-new w e z y starts t s f m l = (word-text e starts t s f m l w y, new-noted e starts t s f m l w z y)

@@ -12,20 +12,18 @@ use native.Mathlib.Numerals.{add-one, sub-one}
 use native.Mathlib.Omega.{arith}
 use Rattle.value.specs.Value.{Value, textOf}
 use Rattle.steps.specs.State.{Node}
-use Rattle.reading.specs.Build.{Mark, fresh, taken, kept, mark, none, at, isTaken, firstTaken, blocked}
-use Rattle.reading.specs.Unfold.{In, here, Marked, same, other, marked}
+use Rattle.reading.specs.Build.{Stage, fresh, taken, kept, stage, none, at, isTaken, firstTaken, blocked}
+use Rattle.reading.specs.Unfold.{In, here, Staged, same, other, staged}
 use Rattle.reading.specs.Measures.{value, measure}
 use Rattle.resolve.specs.Word.{packW, deepW, valuesW, textsW, deep-pack}
 use Rattle.resolve.specs.Length.{textLen}
 use Rattle.resolve.specs.Blocked.{held, headTaken}
-use Rattle.resolved.specs.Walk.{State, Made, markR, eachR, finishR, walk}
-use Rattle.resolved.specs.Resolves.{mark-own}
+use Rattle.resolved.specs.Walk.{State, Made, stageR, eachR, finishR, walk}
+use Rattle.resolved.specs.Resolves.{stage-own}
 use Rattle.resolved.specs.Inside.{walk-within}
-use Rattle.resolved.specs.Dues.{dues}
 use Rattle.resolved.specs.Noted.{isContainer, leafOf, LeafNoted, unseen, early, reached, Noted, Reads, is-fresh, is-taken, is-gone, is-kept, reads}
 use Rattle.resolved.specs.Ranges.{Lies}
 use Rattle.resolved.specs.Resolving.{walk-resolves}
-use Rattle.resolved.specs.Listed.{Listing}
 use Rattle.resolved.specs.Fits.{fits-take, fits-block}
 use Rattle.resolve.specs.Facts.{wordOf, kindAt, classAt, Facts, Shallow, HoldsWalk}
 use Rattle.resolve.specs.Noting.{Notes}
@@ -38,163 +36,158 @@ use Rattle.resolve.specs.declared.Seen.{Seen}
 use Rattle.resolve.specs.declared.Seen.the-variants.{Open, Empty, Word}
 
 -- the rooms hold some state of a walk over some nodes, and node n is a container that is fresh in it
-pub record Opens (p ws starts marks children room : List ℕ) (n : ℕ) : Type 0 where
+pub record Opens (p ws starts measures children room : List ℕ) (n : ℕ) : Type 0 where
   pub nodes : List Node
   pub facts : Facts p ws starts nodes
   pub state : State
   pub lent : List ℕ
   pub roomy : length nodes < length lent
-  pub holds : HoldsWalk nodes (facts .beyond) starts lent marks children room state
+  pub holds : HoldsWalk nodes (facts .beyond) starts lent measures children room state
   pub below : n < length nodes
   pub container : isContainer (at nodes n .label) ≡ true
-  pub fresh-is : state .marks n ≡ fresh
+  pub fresh-is : state .stages n ≡ fresh
 
 -- what an answer says of m, which the walk makes of n, and of the rooms after
-pub data Ends (t : List Node) (beyond : length t ≤ 4096) (starts lent : List ℕ) (levels n : ℕ) (m : Made) (marks children room : List ℕ) : Answer → Type 0 where
-  ends-deep : levels < value (m .value) .deep → Listing lent room → Ends t beyond starts lent levels n m marks children room answer.TooDeep
-  ends-empty : m .slot ≡ 4096 → m .value ≡ none → HoldsWalk t beyond starts lent marks children room (m .after)
-      → Ends t beyond starts lent levels n m marks children room answer.Empty
+pub data Ends (t : List Node) (beyond : length t ≤ 4096) (starts lent : List ℕ) (levels n : ℕ) (m : Made) (measures children room : List ℕ) : Answer → Type 0 where
+  ends-deep : levels < value (m .value) .deep → Ends t beyond starts lent levels n m measures children room answer.TooDeep
+  ends-empty : m .slot ≡ 4096 → m .value ≡ none → HoldsWalk t beyond starts lent measures children room (m .after)
+      → Ends t beyond starts lent levels n m measures children room answer.Empty
   ends-word : (w : ℕ) → m .slot ≡ n → w ≡ wordOf (m .value) → value (m .value) .deep ≤ levels
-      → HoldsWalk t beyond starts lent marks children room (m .after)
-      → Ends t beyond starts lent levels n m marks children room (answer.Word w)
+      → HoldsWalk t beyond starts lent measures children room (m .after)
+      → Ends t beyond starts lent levels n m measures children room (answer.Word w)
 
 -- whatever nodes and state they are
 unfoldable pub Walks : List ℕ → List ℕ → List ℕ → ℕ → ℕ → List ℕ → List ℕ → List ℕ → List ℕ → List ℕ → List ℕ → Answer → Type 0
-Walks p ws starts levels n marks children room marks′ children′ room′ r =
-    (o : Opens p ws starts marks children room n) → Ends (o .nodes) (o .facts .beyond) starts (o .lent) levels n (walk (o .nodes) 4096 levels n (o .state)) marks′ children′ room′ r
-
-pub held-list : {t : List Node} {beyond : length t ≤ 4096} {starts lent marks children room : List ℕ} {s : State}
-    → HoldsWalk t beyond starts lent marks children room s → Listing lent room
-held-list {t} {s = s} h = record { list = dues t (s .done); lists = h .listed }
+Walks p ws starts levels n measures children room measures′ children′ room′ r =
+    (o : Opens p ws starts measures children room n) → Ends (o .nodes) (o .facts .beyond) starts (o .lent) levels n (walk (o .nodes) 4096 levels n (o .state)) measures′ children′ room′ r
 
 -- ---- an Object's first child
 
-head-taken : (t : List Node) (marks : List ℕ) (s : State) (l : List ℕ) → Noted t wordOf marks s → ((j : ℕ) → In j l → j < length t)
-    → headTaken marks l ≡ firstTaken (s .marks) l
+head-taken : (t : List Node) (measures : List ℕ) (s : State) (l : List ℕ) → Noted t wordOf measures s → ((j : ℕ) → In j l → j < length t)
+    → headTaken measures l ≡ firstTaken (s .stages) l
 unfolding headTaken firstTaken
-head-taken t marks s [] n b = refl
-head-taken t marks s (x ∷ l) n b = go (isContainer (at t x .label)) refl
+head-taken t measures s [] n b = refl
+head-taken t measures s (x ∷ l) n b = go (isContainer (at t x .label)) refl
   where
-    go : (c : Bool) → isContainer (at t x .label) ≡ c → eqb (getD marks x 0) 1 ≡ isTaken (s .marks x)
-    go true c = box (reads t wordOf marks s x n (b x here) c)
+    go : (c : Bool) → isContainer (at t x .label) ≡ c → eqb (getD measures x 0) 1 ≡ isTaken (s .stages x)
+    go true c = box (reads t wordOf measures s x n (b x here) c)
       where
-        box : Reads t wordOf s x (getD marks x 0) → eqb (getD marks x 0) 1 ≡ isTaken (s .marks x)
+        box : Reads t wordOf s x (getD measures x 0) → eqb (getD measures x 0) 1 ≡ isTaken (s .stages x)
         box (is-fresh e y) = rw (e, y)
         box (is-taken e y) = rw (e, y)
         box (is-gone v e g y) = rw (e, y)
-        box (is-kept v e g y) = rw e (ne-eqb (getD marks x 0) 1 (λ q. omega (arith, word-big v, q)))
-    go false c = leafy (n .leaf x (b x here) c) ∙ sym (calm (s .marks x) (n .calm x c))
+        box (is-kept v e g y) = rw e (ne-eqb (getD measures x 0) 1 (λ q. omega (arith, word-big v, q)))
+    go false c = leafy (n .leaf x (b x here) c) ∙ sym (calm (s .stages x) (n .calm x c))
       where
-        leafy : LeafNoted t wordOf (s .done) x (getD marks x 0) → eqb (getD marks x 0) 1 ≡ false
-        leafy (unseen y f) = ne-eqb (getD marks x 0) 1 (λ q. omega arith)
-        leafy (early y f) = ne-eqb (getD marks x 0) 1 (λ q. omega arith)
-        leafy (reached y f) = ne-eqb (getD marks x 0) 1 (λ q. omega (arith, word-big (leafOf t x), q))
+        leafy : LeafNoted t wordOf (s .done) x (getD measures x 0) → eqb (getD measures x 0) 1 ≡ false
+        leafy (unseen y f) = ne-eqb (getD measures x 0) 1 (λ q. omega arith)
+        leafy (early y f) = ne-eqb (getD measures x 0) 1 (λ q. omega arith)
+        leafy (reached y f) = ne-eqb (getD measures x 0) 1 (λ q. omega (arith, word-big (leafOf t x), q))
 
-        calm : (m : Mark) → m ≢ taken → isTaken m ≡ false
+        calm : (m : Stage) → m ≢ taken → isTaken m ≡ false
         calm fresh e = refl
         calm taken e = absurd (e refl)
         calm (kept v) e = refl
 
 -- ---- the returns
 
-module _ {p ws starts marks children room : List ℕ} {n : ℕ} (o : Opens p ws starts marks children room n) where
+module _ {p ws starts measures children room : List ℕ} {n : ℕ} (o : Opens p ws starts measures children room n) where
   kids-at : slice (getD starts n 0) (getD starts (suc n) 0) children ≡ at (o .nodes) n .kids
   kids-at = o .holds .fits .lies .lists n (o .below) ∙ o .holds .fits .resolves .fresh-is n (o .fresh-is)
 
-  held-is : held (kindAt ws n) (slice (getD starts n 0) (getD starts (n + 1) 0) children) marks ≡ blocked (o .nodes) (o .state .marks) n
+  held-is : held (kindAt ws n) (slice (getD starts n 0) (getD starts (n + 1) 0) children) measures ≡ blocked (o .nodes) (o .state .stages) n
   unfolding held blocked
   held-is =
       let e = kids-at in
       let f = o .facts .objects n (o .below) in
-      let h = head-taken (o .nodes) marks (o .state) (at (o .nodes) n .kids) (o .holds .fits .noted) (λ j m. o .facts .inside n j m) in
+      let h = head-taken (o .nodes) measures (o .state) (at (o .nodes) n .kids) (o .holds .fits .noted) (λ j m. o .facts .inside n j m) in
       rw (add-one, e, f, h)
 
   -- the code's test was false
-  pub open-free : {r : Bool} → r ≡ held (kindAt ws n) (slice (getD starts n 0) (getD starts (n + 1) 0) children) marks → r ≡ false
-      → blocked (o .nodes) (o .state .marks) n ≡ false
+  pub open-free : {r : Bool} → r ≡ held (kindAt ws n) (slice (getD starts n 0) (getD starts (n + 1) 0) children) measures → r ≡ false
+      → blocked (o .nodes) (o .state .stages) n ≡ false
   open-free e h = sym held-is ∙ (sym e ∙ h)
 
-  -- marks[n] = 1
-  abbrev pub enter : Entered p ws starts (set marks n 1) children room n
+  -- measures[n] = 1
+  abbrev pub enter : Entered p ws starts (set measures n 1) children room n
   enter = record {
     nodes = o .nodes;
     facts = o .facts;
-    state = markR n taken (o .state);
+    state = stageR n taken (o .state);
     lent = o .lent;
     roomy = o .roomy;
     holds = record {
-      fits = fits-take (o .nodes) 4096 (o .facts .beyond) wordOf starts marks children (o .state) (o .holds .fits) n (o .below) (o .container) (o .fresh-is);
-      small = λ j v x. small-taken j v x (marked n taken (o .state .marks) j);
+      fits = fits-take (o .nodes) 4096 (o .facts .beyond) wordOf starts measures children (o .state) (o .holds .fits) n (o .below) (o .container) (o .fresh-is);
+      small = λ j v x. small-taken j v x (staged n taken (o .state .stages) j);
       within = o .holds .within;
       listed = o .holds .listed;
     };
     below = o .below;
     container = o .container;
-    taken-is = mark-own n taken (o .state .marks);
+    taken-is = stage-own n taken (o .state .stages);
     kids-are = o .holds .fits .resolves .fresh-is n (o .fresh-is);
   }
     where
-      small-taken : (j : ℕ) (v : Value) → mark n taken (o .state .marks) j ≡ kept v → Marked n taken (o .state .marks) j → value v .deep ≤ 64
+      small-taken : (j : ℕ) (v : Value) → stage n taken (o .state .stages) j ≡ kept v → Staged n taken (o .state .stages) j → value v .deep ≤ 64
       small-taken j v x (same a d) = absurd (let z : _≡_ {A = ℕ} 0 1 = cc in omega arith)
       small-taken j v x (other a d) = o .holds .small j v (sym d ∙ x)
 
   module _ (levels : ℕ) (l : 1 ≤ levels) where
     -- the walk, by the test of the code
-    walk-stuck : blocked (o .nodes) (o .state .marks) n ≡ true
-        → walk (o .nodes) 4096 levels n (o .state) ≡ record { slot = 4096; value = none; after = markR n (kept none) (o .state) }
+    walk-stuck : blocked (o .nodes) (o .state .stages) n ≡ true
+        → walk (o .nodes) 4096 levels n (o .state) ≡ record { slot = 4096; value = none; after = stageR n (kept none) (o .state) }
     unfolding walk
     walk-stuck b = go levels l
       where
-        go : (k : ℕ) → 1 ≤ k → walk (o .nodes) 4096 k n (o .state) ≡ record { slot = 4096; value = none; after = markR n (kept none) (o .state) }
+        go : (k : ℕ) → 1 ≤ k → walk (o .nodes) 4096 k n (o .state) ≡ record { slot = 4096; value = none; after = stageR n (kept none) (o .state) }
         go zero q = absurd (omega arith)
         go (suc k) q = let e = o .fresh-is in rw (e, b, walk)
 
-    walk-entered : blocked (o .nodes) (o .state .marks) n ≡ false
-        → walk (o .nodes) 4096 levels n (o .state) ≡ finishR (o .nodes) n (eachR (walk (o .nodes) 4096 (levels - 1)) n [] (at (o .nodes) n .kids) (markR n taken (o .state)))
+    walk-entered : blocked (o .nodes) (o .state .stages) n ≡ false
+        → walk (o .nodes) 4096 levels n (o .state) ≡ finishR (o .nodes) n (eachR (walk (o .nodes) 4096 (levels - 1)) n [] (at (o .nodes) n .kids) (stageR n taken (o .state)))
     unfolding walk
     walk-entered b = go levels l
       where
         go : (k : ℕ) → 1 ≤ k
-            → walk (o .nodes) 4096 k n (o .state) ≡ finishR (o .nodes) n (eachR (walk (o .nodes) 4096 (k - 1)) n [] (at (o .nodes) n .kids) (markR n taken (o .state)))
+            → walk (o .nodes) 4096 k n (o .state) ≡ finishR (o .nodes) n (eachR (walk (o .nodes) 4096 (k - 1)) n [] (at (o .nodes) n .kids) (stageR n taken (o .state)))
         go zero q = absurd (omega arith)
         go (suc k) q = let e = o .fresh-is in rw (e, b, walk, sub-one)
 
-    -- marks[n] = 3
-    pub ends-blocked : {r : Bool} → r ≡ held (kindAt ws n) (slice (getD starts n 0) (getD starts (n + 1) 0) children) marks → r ≡ true
-        → Ends (o .nodes) (o .facts .beyond) starts (o .lent) levels n (walk (o .nodes) 4096 levels n (o .state)) (set marks n 3) children room answer.Empty
+    -- measures[n] = 3
+    pub ends-blocked : {r : Bool} → r ≡ held (kindAt ws n) (slice (getD starts n 0) (getD starts (n + 1) 0) children) measures → r ≡ true
+        → Ends (o .nodes) (o .facts .beyond) starts (o .lent) levels n (walk (o .nodes) 4096 levels n (o .state)) (set measures n 3) children room answer.Empty
     unfolding blocked measure
     ends-blocked e h =
-        let b : blocked (o .nodes) (o .state .marks) n ≡ true = sym held-is ∙ (sym e ∙ h) in
-        let f = fits-block (o .nodes) 4096 (o .facts .beyond) wordOf starts marks children (o .state) (o .holds .fits) n (o .below) (o .container) (o .fresh-is) (left _ _ b) in
+        let b : blocked (o .nodes) (o .state .stages) n ≡ true = sym held-is ∙ (sym e ∙ h) in
+        let f = fits-block (o .nodes) 4096 (o .facts .beyond) wordOf starts measures children (o .state) (o .holds .fits) n (o .below) (o .container) (o .fresh-is) (left _ _ b) in
         rw (walk-stuck b) (ends-empty refl refl (record { fits = f; small = small-none; within = o .holds .within; listed = o .holds .listed }))
       where
         left : (b c : Bool) → (b && c) ≡ true → b ≡ true
         left true c h = refl
         left false c h = h
 
-        small-none : Shallow (markR n (kept none) (o .state))
-        small-none j v x = pick (marked n (kept none) (o .state .marks) j)
+        small-none : Shallow (stageR n (kept none) (o .state))
+        small-none j v x = pick (staged n (kept none) (o .state .stages) j)
           where
-            pick : Marked n (kept none) (o .state .marks) j → value v .deep ≤ 64
+            pick : Staged n (kept none) (o .state .stages) j → value v .deep ≤ 64
             pick (same a d) = let y : none ≡ v = cc in rw (← y) (omega arith)
             pick (other a d) = o .holds .small j v (sym d ∙ x)
 
-    module _ (h : blocked (o .nodes) (o .state .marks) n ≡ false) {len : ℕ} {marks′ children′ room′ : List ℕ} {deepest values texts i : ℕ} (T : Midway enter (levels - 1) len marks′ children′ room′ deepest values texts i) where
+    module _ (h : blocked (o .nodes) (o .state .stages) n ≡ false) {len : ℕ} {measures′ children′ room′ : List ℕ} {deepest values texts i : ℕ} (T : Midway enter (levels - 1) len measures′ children′ room′ deepest values texts i) where
       -- a child is too deep
-      pub ends-too : (marks″ children″ room″ : List ℕ) → i < getD starts (n + 1) 0 → levels ≤ value (called enter (levels - 1) T .value) .deep
-          → Listing (o .lent) room″
-          → Ends (o .nodes) (o .facts .beyond) starts (o .lent) levels n (walk (o .nodes) 4096 levels n (o .state)) marks″ children″ room″ answer.TooDeep
+      pub ends-too : (measures″ children″ room″ : List ℕ) → i < getD starts (n + 1) 0 → levels ≤ value (called enter (levels - 1) T .value) .deep
+          → Ends (o .nodes) (o .facts .beyond) starts (o .lent) levels n (walk (o .nodes) 4096 levels n (o .state)) measures″ children″ room″ answer.TooDeep
       unfolding finishR
-      ends-too marks″ children″ room″ m q x =
+      ends-too measures″ children″ room″ m q =
           let m′ : i < getD starts (suc n) 0 = rw add-one at m in
           let d = too-deep enter (levels - 1) T m′ in
-          rw (walk-entered h) (ends-deep (omega arith) x)
+          rw (walk-entered h) (ends-deep (omega arith))
 
       -- all are done
       pub ends-done : (w : ℕ) (room″ : List ℕ) → levels ≤ 64 → getD starts (n + 1) 0 ≤ i → Notes (kindAt ws n) n room′ room″
           → len ≡ min (length (textOf (at (o .nodes) n .label))) 65537
           → w ≡ deepest + 1 + 128 * min values 2049 + 524288 * min texts 65537
-          → Ends (o .nodes) (o .facts .beyond) starts (o .lent) levels n (walk (o .nodes) 4096 levels n (o .state)) (set marks′ n w) children′ room″ (answer.Word w)
+          → Ends (o .nodes) (o .facts .beyond) starts (o .lent) levels n (walk (o .nodes) 4096 levels n (o .state)) (set measures′ n w) children′ room″ (answer.Word w)
       unfolding finishR
       ends-done w room″ b m x q e =
           let m′ : getD starts (suc n) 0 ≤ i = rw add-one at m in
@@ -202,30 +195,30 @@ module _ {p ws starts marks children room : List ℕ} {n : ℕ} (o : Opens p ws 
           let y = mid-shallow enter (levels - 1) T m′ in
           rw (walk-entered h) (ends-word w own-slot z (omega arith) (mid-finish enter (levels - 1) T m′ w room″ (omega arith) x z))
         where
-          own-slot : finishR (o .nodes) n (eachR (walk (o .nodes) 4096 (levels - 1)) n [] (at (o .nodes) n .kids) (markR n taken (o .state))) .slot ≡ n
+          own-slot : finishR (o .nodes) n (eachR (walk (o .nodes) 4096 (levels - 1)) n [] (at (o .nodes) n .kids) (stageR n taken (o .state))) .slot ≡ n
           own-slot = refl
 
 -- ---- a turn, by the answers
 
-module _ {p ws starts marks₀ children₀ room₀ : List ℕ} {n : ℕ} (I : Entered p ws starts marks₀ children₀ room₀ n) (k : ℕ) (small : (1 ≤ k) × (k ≤ 64)) {len : ℕ} {marks children room : List ℕ} {deepest values texts i : ℕ}
-    (T : Midway I k len marks children room deepest values texts i) (h : i < getD starts (n + 1) 0) (marks′ : List ℕ) where
+module _ {p ws starts measures₀ children₀ room₀ : List ℕ} {n : ℕ} (I : Entered p ws starts measures₀ children₀ room₀ n) (k : ℕ) (small : (1 ≤ k) × (k ≤ 64)) {len : ℕ} {measures children room : List ℕ} {deepest values texts i : ℕ}
+    (T : Midway I k len measures children room deepest values texts i) (h : i < getD starts (n + 1) 0) (measures′ : List ℕ) where
   h′ : i < getD starts (suc n) 0
   h′ = rw add-one at h
 
-  learns : (r : Seen) → Learns p ws marks marks′ (getD children i 0) r → Knows (I .nodes) marks marks′ (T .state) (getD children i 0) r
+  learns : (r : Seen) → Learns p ws measures measures′ (getD children i 0) r → Knows (I .nodes) measures measures′ (T .state) (getD children i 0) r
   unfolding Learns
   learns r a = a starts (I .nodes) (T .state) (I .facts) (T .holds .fits .resolves) (T .holds .fits .noted) (T .holds .small) (child-below I k T h′)
 
-  yields : (slot w : ℕ) → ((j : ℕ) → Yields (I .nodes) marks′ (T .state) (walk (I .nodes) 4096 (suc j) (getD children i 0) (T .state)) slot w)
-      → Yields (I .nodes) marks′ (T .state) (called I k T) slot w
+  yields : (slot w : ℕ) → ((j : ℕ) → Yields (I .nodes) measures′ (T .state) (walk (I .nodes) 4096 (suc j) (getD children i 0) (T .state)) slot w)
+      → Yields (I .nodes) measures′ (T .state) (called I k T) slot w
   yields slot w b = go k (small .0)
     where
-      go : (m : ℕ) → 1 ≤ m → Yields (I .nodes) marks′ (T .state) (walk (I .nodes) 4096 m (getD children i 0) (T .state)) slot w
+      go : (m : ℕ) → 1 ≤ m → Yields (I .nodes) measures′ (T .state) (walk (I .nodes) 4096 m (getD children i 0) (T .state)) slot w
       go zero q = absurd (omega arith)
       go (suc m) q = b m
 
-  yields-back : (slot w : ℕ) → Yields (I .nodes) marks′ (T .state) (called I k T) slot w → value (called I k T .value) .deep ≤ k
-      → Back (I .nodes) (I .facts .beyond) starts (I .lent) k (called I k T) w marks′ children room
+  yields-back : (slot w : ℕ) → Yields (I .nodes) measures′ (T .state) (called I k T) slot w → value (called I k T .value) .deep ≤ k
+      → Back (I .nodes) (I .facts .beyond) starts (I .lent) k (called I k T) w measures′ children room
   yields-back slot w b d =
       let e = b .kids in
       let f = b .dues-stay in
@@ -241,109 +234,109 @@ module _ {p ws starts marks₀ children₀ room₀ : List ℕ} {n : ℕ} (I : En
         };
       }
 
-  yields-deep : (slot w : ℕ) → Yields (I .nodes) marks′ (T .state) (called I k T) slot w → deepW w ≡ value (called I k T .value) .deep
+  yields-deep : (slot w : ℕ) → Yields (I .nodes) measures′ (T .state) (called I k T) slot w → deepW w ≡ value (called I k T .value) .deep
   yields-deep slot w b = let v = value (called I k T .value) in ap deepW (b .is) ∙ deep-pack (v .deep) (v .values) (v .texts) (omega (arith, b .deep))
 
   -- a word that is known
-  pub known-deep : (w : ℕ) → Learns p ws marks marks′ (getD children i 0) (Word w) → deepW w ≡ value (called I k T .value) .deep
+  pub known-deep : (w : ℕ) → Learns p ws measures measures′ (getD children i 0) (Word w) → deepW w ≡ value (called I k T .value) .deep
   known-deep w a = go (learns (Word w) a)
     where
-      go : Knows (I .nodes) marks marks′ (T .state) (getD children i 0) (Word w) → deepW w ≡ value (called I k T .value) .deep
+      go : Knows (I .nodes) measures measures′ (T .state) (getD children i 0) (Word w) → deepW w ≡ value (called I k T .value) .deep
       go (k-word w b) = yields-deep (getD children i 0) w (yields (getD children i 0) w b)
 
-  pub known-word : (w : ℕ) → Learns p ws marks marks′ (getD children i 0) (Word w) → deepW w ≤ k
-      → Midway I k len marks′ children room (max deepest (deepW w)) (values + valuesW w) (texts + textsW w) (i + 1)
+  pub known-word : (w : ℕ) → Learns p ws measures measures′ (getD children i 0) (Word w) → deepW w ≤ k
+      → Midway I k len measures′ children room (max deepest (deepW w)) (values + valuesW w) (texts + textsW w) (i + 1)
   known-word w a d = go (learns (Word w) a) (known-deep w a)
     where
-      go : Knows (I .nodes) marks marks′ (T .state) (getD children i 0) (Word w) → deepW w ≡ value (called I k T .value) .deep
-          → Midway I k len marks′ children room (max deepest (deepW w)) (values + valuesW w) (texts + textsW w) (i + 1)
-      go (k-word w b) e = let c = yields (getD children i 0) w b in mid-same I k T h′ (small .1) w marks′ children room (yields-back (getD children i 0) w c (omega arith)) (c .slot-is)
+      go : Knows (I .nodes) measures measures′ (T .state) (getD children i 0) (Word w) → deepW w ≡ value (called I k T .value) .deep
+          → Midway I k len measures′ children room (max deepest (deepW w)) (values + valuesW w) (texts + textsW w) (i + 1)
+      go (k-word w b) e = let c = yields (getD children i 0) w b in mid-same I k T h′ (small .1) w measures′ children room (yields-back (getD children i 0) w c (omega arith)) (c .slot-is)
 
-  pub known-empty : Learns p ws marks marks′ (getD children i 0) Empty
-      → Midway I k len marks′ (set children i 4096) room (max deepest (deepW 129)) (values + valuesW 129) (texts + textsW 129) (i + 1)
+  pub known-empty : Learns p ws measures measures′ (getD children i 0) Empty
+      → Midway I k len measures′ (set children i 4096) room (max deepest (deepW 129)) (values + valuesW 129) (texts + textsW 129) (i + 1)
   known-empty a = go (learns Empty a)
     where
-      go : Knows (I .nodes) marks marks′ (T .state) (getD children i 0) Empty
-          → Midway I k len marks′ (set children i 4096) room (max deepest (deepW 129)) (values + valuesW 129) (texts + textsW 129) (i + 1)
-      go (k-empty b) = let c = yields 4096 129 b in let e = yields-deep 4096 129 c in mid-none I k T h′ (small .1) 129 marks′ children room (yields-back 4096 129 c (omega (arith, small .0))) (c .slot-is)
+      go : Knows (I .nodes) measures measures′ (T .state) (getD children i 0) Empty
+          → Midway I k len measures′ (set children i 4096) room (max deepest (deepW 129)) (values + valuesW 129) (texts + textsW 129) (i + 1)
+      go (k-empty b) = let c = yields 4096 129 b in let e = yields-deep 4096 129 c in mid-none I k T h′ (small .1) 129 measures′ children room (yields-back 4096 129 c (omega (arith, small .0))) (c .slot-is)
 
   -- a fresh container is walked
-  same-holds : (m : List ℕ) → m ≡ marks → HoldsWalk (I .nodes) (I .facts .beyond) starts (I .lent) m children room (T .state)
+  same-holds : (m : List ℕ) → m ≡ measures → HoldsWalk (I .nodes) (I .facts .beyond) starts (I .lent) m children room (T .state)
   same-holds m e = rw e (T .holds)
 
-  module _ (a : Learns p ws marks marks′ (getD children i 0) Open) where
-    opened : Knows (I .nodes) marks marks′ (T .state) (getD children i 0) Open → Opens p ws starts marks′ children room (getD children i 0)
+  module _ (a : Learns p ws measures measures′ (getD children i 0) Open) where
+    opened : Knows (I .nodes) measures measures′ (T .state) (getD children i 0) Open → Opens p ws starts measures′ children room (getD children i 0)
     opened (k-open c f e) =
-        record { nodes = I .nodes; facts = I .facts; state = T .state; lent = I .lent; roomy = I .roomy; holds = same-holds marks′ e; below = child-below I k T h′; container = c; fresh-is = f }
+        record { nodes = I .nodes; facts = I .facts; state = T .state; lent = I .lent; roomy = I .roomy; holds = same-holds measures′ e; below = child-below I k T h′; container = c; fresh-is = f }
 
-    pub known-open : Opens p ws starts marks′ children room (getD children i 0)
+    pub known-open : Opens p ws starts measures′ children room (getD children i 0)
     known-open = opened (learns Open a)
 
-    module _ (marks″ children″ room″ : List ℕ) where
-      walks : (r : Answer) → Walks p ws starts k (getD children i 0) marks′ children room marks″ children″ room″ r
-          → Ends (I .nodes) (I .facts .beyond) starts (I .lent) k (getD children i 0) (called I k T) marks″ children″ room″ r
+    module _ (measures″ children″ room″ : List ℕ) where
+      walks : (r : Answer) → Walks p ws starts k (getD children i 0) measures′ children room measures″ children″ room″ r
+          → Ends (I .nodes) (I .facts .beyond) starts (I .lent) k (getD children i 0) (called I k T) measures″ children″ room″ r
       unfolding Walks opened
       walks r b = go (learns Open a)
         where
-          go : Knows (I .nodes) marks marks′ (T .state) (getD children i 0) Open
-              → Ends (I .nodes) (I .facts .beyond) starts (I .lent) k (getD children i 0) (called I k T) marks″ children″ room″ r
+          go : Knows (I .nodes) measures measures′ (T .state) (getD children i 0) Open
+              → Ends (I .nodes) (I .facts .beyond) starts (I .lent) k (getD children i 0) (called I k T) measures″ children″ room″ r
           go (k-open c f e) = b (opened (k-open c f e))
 
-      pub walk-deep : Walks p ws starts k (getD children i 0) marks′ children room marks″ children″ room″ answer.TooDeep
-          → (k < value (called I k T .value) .deep) × Listing (I .lent) room″
+      pub walk-deep : Walks p ws starts k (getD children i 0) measures′ children room measures″ children″ room″ answer.TooDeep
+          → k < value (called I k T .value) .deep
       walk-deep b = go (walks answer.TooDeep b)
         where
-          go : Ends (I .nodes) (I .facts .beyond) starts (I .lent) k (getD children i 0) (called I k T) marks″ children″ room″ answer.TooDeep
-              → (k < value (called I k T .value) .deep) × Listing (I .lent) room″
-          go (ends-deep d x) = (d, x)
+          go : Ends (I .nodes) (I .facts .beyond) starts (I .lent) k (getD children i 0) (called I k T) measures″ children″ room″ answer.TooDeep
+              → k < value (called I k T .value) .deep
+          go (ends-deep d) = d
 
-      pub walk-word : (w : ℕ) → Walks p ws starts k (getD children i 0) marks′ children room marks″ children″ room″ (answer.Word w)
-          → Midway I k len marks″ children″ room″ (max deepest (deepW w)) (values + valuesW w) (texts + textsW w) (i + 1)
+      pub walk-word : (w : ℕ) → Walks p ws starts k (getD children i 0) measures′ children room measures″ children″ room″ (answer.Word w)
+          → Midway I k len measures″ children″ room″ (max deepest (deepW w)) (values + valuesW w) (texts + textsW w) (i + 1)
       walk-word w b = go (walks (answer.Word w) b)
         where
-          go : Ends (I .nodes) (I .facts .beyond) starts (I .lent) k (getD children i 0) (called I k T) marks″ children″ room″ (answer.Word w)
-              → Midway I k len marks″ children″ room″ (max deepest (deepW w)) (values + valuesW w) (texts + textsW w) (i + 1)
-          go (ends-word w e q d f) = mid-same I k T h′ (small .1) w marks″ children″ room″ (record { is = q; shallow = d; holds = f }) e
+          go : Ends (I .nodes) (I .facts .beyond) starts (I .lent) k (getD children i 0) (called I k T) measures″ children″ room″ (answer.Word w)
+              → Midway I k len measures″ children″ room″ (max deepest (deepW w)) (values + valuesW w) (texts + textsW w) (i + 1)
+          go (ends-word w e q d f) = mid-same I k T h′ (small .1) w measures″ children″ room″ (record { is = q; shallow = d; holds = f }) e
 
-      pub walk-empty : Walks p ws starts k (getD children i 0) marks′ children room marks″ children″ room″ answer.Empty
-          → Midway I k len marks″ (set children″ i 4096) room″ (max deepest (deepW 129)) (values + valuesW 129) (texts + textsW 129) (i + 1)
+      pub walk-empty : Walks p ws starts k (getD children i 0) measures′ children room measures″ children″ room″ answer.Empty
+          → Midway I k len measures″ (set children″ i 4096) room″ (max deepest (deepW 129)) (values + valuesW 129) (texts + textsW 129) (i + 1)
       unfolding measure packW
       walk-empty b = go (walks answer.Empty b)
         where
-          go : Ends (I .nodes) (I .facts .beyond) starts (I .lent) k (getD children i 0) (called I k T) marks″ children″ room″ answer.Empty
-              → Midway I k len marks″ (set children″ i 4096) room″ (max deepest (deepW 129)) (values + valuesW 129) (texts + textsW 129) (i + 1)
-          go (ends-empty e q f) = mid-none I k T h′ (small .1) 129 marks″ children″ room″ (record { is = rw q; shallow = rw q (omega (arith, small .0)); holds = f }) e
+          go : Ends (I .nodes) (I .facts .beyond) starts (I .lent) k (getD children i 0) (called I k T) measures″ children″ room″ answer.Empty
+              → Midway I k len measures″ (set children″ i 4096) room″ (max deepest (deepW 129)) (values + valuesW 129) (texts + textsW 129) (i + 1)
+          go (ends-empty e q f) = mid-none I k T h′ (small .1) 129 measures″ children″ room″ (record { is = rw q; shallow = rw q (omega (arith, small .0)); holds = f }) e
 
 -- where the arms of a turn meet
-pub join : {p ws starts marks₀ children₀ room₀ : List ℕ} {n : ℕ} (I : Entered p ws starts marks₀ children₀ room₀ n) (k len : ℕ) (marks children room marks′ children′ room′ : List ℕ) (deepest values texts i w w′ r : ℕ)
-    → marks′ ≡ marks → children′ ≡ children → room′ ≡ room → w′ ≡ w → r ≡ max deepest (deepW w′)
-    → Midway I k len marks children room (max deepest (deepW w)) (values + valuesW w) (texts + textsW w) (i + 1)
-    → Midway I k len marks′ children′ room′ r (values + valuesW w′) (texts + textsW w′) (i + 1)
-join I k len marks children room marks′ children′ room′ deepest values texts i w w′ r e f d g h t = rw (h, e, f, d, g) t
+pub join : {p ws starts measures₀ children₀ room₀ : List ℕ} {n : ℕ} (I : Entered p ws starts measures₀ children₀ room₀ n) (k len : ℕ) (measures children room measures′ children′ room′ : List ℕ) (deepest values texts i w w′ r : ℕ)
+    → measures′ ≡ measures → children′ ≡ children → room′ ≡ room → w′ ≡ w → r ≡ max deepest (deepW w′)
+    → Midway I k len measures children room (max deepest (deepW w)) (values + valuesW w) (texts + textsW w) (i + 1)
+    → Midway I k len measures′ children′ room′ r (values + valuesW w′) (texts + textsW w′) (i + 1)
+join I k len measures children room measures′ children′ room′ deepest values texts i w w′ r e f d g h t = rw (h, e, f, d, g) t
 
 -- ---- what the code reads and writes
 
-pub child-at : {p ws starts marks₀ children₀ room₀ : List ℕ} {n : ℕ} (I : Entered p ws starts marks₀ children₀ room₀ n) (k : ℕ) {len : ℕ} {marks children room : List ℕ} {deepest values texts i : ℕ}
-    (T : Midway I k len marks children room deepest values texts i) → i < getD starts (n + 1) 0 → getD children i 0 < length (I .nodes)
+pub child-at : {p ws starts measures₀ children₀ room₀ : List ℕ} {n : ℕ} (I : Entered p ws starts measures₀ children₀ room₀ n) (k : ℕ) {len : ℕ} {measures children room : List ℕ} {deepest values texts i : ℕ}
+    (T : Midway I k len measures children room deepest values texts i) → i < getD starts (n + 1) 0 → getD children i 0 < length (I .nodes)
 child-at {n = n} I k T h = child-below I k T (rw add-one at h)
 
-module _ {p ws starts marks children room : List ℕ} {n : ℕ} (o : Opens p ws starts marks children room n) where
+module _ {p ws starts measures children room : List ℕ} {n : ℕ} (o : Opens p ws starts measures children room n) where
   pub open-words : 2 * n < length ws
   open-words = omega (arith, o .below, o .facts .words-long)
 
   pub open-starts : n + 1 < length starts
   open-starts = omega (arith, o .below, o .facts .starts-long)
 
-  pub open-marked : n < length marks
-  open-marked = omega (arith, o .below, o .holds .fits .noted .long)
+  pub open-measured : n < length measures
+  open-measured = omega (arith, o .below, o .holds .fits .noted .long)
 
   pub open-end : getD starts (n + 1) 0 ≤ length children
   open-end = rw add-one (o .holds .fits .lies .bounds n (o .below) .1)
 
-  pub open-first : getD starts n 0 < getD starts (n + 1) 0 → getD children (getD starts n 0) 0 < length marks
+  pub open-first : getD starts n 0 < getD starts (n + 1) 0 → getD children (getD starts n 0) 0 < length measures
   open-first h = let a = child-at (enter o) 0 (mid-start (enter o) 0 0) h in let b = o .holds .fits .noted .long in omega arith
 
-  pub open-owned : Owned p ws marks n (kindAt ws n)
+  pub open-owned : Owned p ws measures n (kindAt ws n)
   open-owned =
       let g = o .holds .fits .noted .long in
       record {
@@ -355,13 +348,13 @@ module _ {p ws starts marks children room : List ℕ} {n : ℕ} (o : Opens p ws 
       }
 
   -- the class is measured
-  pub own-noted : (marks′ : List ℕ) (r : ℕ) → Owns p ws marks marks′ n r
-      → (r ≡ min (textLen p ws n) 65537) × (Noted (o .nodes) wordOf marks′ (o .state))
+  pub own-noted : (measures′ : List ℕ) (r : ℕ) → Owns p ws measures measures′ n r
+      → (r ≡ min (textLen p ws n) 65537) × (Noted (o .nodes) wordOf measures′ (o .state))
   unfolding Owns
-  own-noted marks′ r w = w starts (o .nodes) (o .state) (o .facts) (o .holds .fits .noted) (o .below)
+  own-noted measures′ r w = w starts (o .nodes) (o .state) (o .facts) (o .holds .fits .noted) (o .below)
 
-  module _ (marks′ : List ℕ) (r : ℕ) (w : Owns p ws marks marks′ n r) where
-    abbrev pub moved : Opens p ws starts marks′ children room n
+  module _ (measures′ : List ℕ) (r : ℕ) (w : Owns p ws measures measures′ n r) where
+    abbrev pub moved : Opens p ws starts measures′ children room n
     moved = record {
       nodes = o .nodes;
       facts = o .facts;
@@ -369,7 +362,7 @@ module _ {p ws starts marks children room : List ℕ} {n : ℕ} (o : Opens p ws 
       lent = o .lent;
       roomy = o .roomy;
       holds = record {
-        fits = record { resolves = o .holds .fits .resolves; noted = own-noted marks′ r w .1; lies = o .holds .fits .lies };
+        fits = record { resolves = o .holds .fits .resolves; noted = own-noted measures′ r w .1; lies = o .holds .fits .lies };
         small = o .holds .small;
         within = o .holds .within;
         listed = o .holds .listed;
@@ -380,4 +373,4 @@ module _ {p ws starts marks children room : List ℕ} {n : ℕ} (o : Opens p ws 
     }
 
     pub own-len : r ≡ min (length (textOf (at (o .nodes) n .label))) 65537
-    own-len = own-noted marks′ r w .0 ∙ ap (λ (x : ℕ). min x 65537) (o .facts .lens-are n (o .below))
+    own-len = own-noted measures′ r w .0 ∙ ap (λ (x : ℕ). min x 65537) (o .facts .lens-are n (o .below))

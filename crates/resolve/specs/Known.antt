@@ -1,4 +1,4 @@
--- What a node comes to without a walk: what its kind and its mark say is what the walk would make of it.
+-- What a node comes to without a walk: what its kind and its measure say is what the walk would make of it.
 use Prim.Native.Nat.{ℕ, suc, _+_, _-_, _*_, _<_, _≤_, min}
 use mathlib.Core.Bool.{Bool, true, false, cond}
 use mathlib.Core.List.{List, _∷_}
@@ -10,12 +10,12 @@ use native.Mathlib.Decide.{decLt}
 use native.Mathlib.Omega.{arith}
 use Rattle.value.specs.Value.{Label, Value, textOf, NoneL, BoolL, I64L, F64L, BytesL, StringL, ListL, TupleL, SetL, FrozenSetL, DictL, GlobalL, ObjectL}
 use Rattle.steps.specs.State.{Node}
-use Rattle.reading.specs.Build.{fresh, taken, kept, mark, none, at}
-use Rattle.reading.specs.Unfold.{Marked, same, other, marked}
+use Rattle.reading.specs.Build.{fresh, taken, kept, stage, none, at}
+use Rattle.reading.specs.Unfold.{Staged, same, other, staged}
 use Rattle.reading.specs.Measures.{value, measure}
 use Rattle.resolve.specs.Length.{textLen, len-nothing}
 use Rattle.resolve.specs.Word.{packW, word-large}
-use Rattle.resolved.specs.Walk.{State, Made, View, copied, inside, stuck, entered, view, gone, markR, eachR, finishR, walk}
+use Rattle.resolved.specs.Walk.{State, Made, View, copied, inside, stuck, entered, view, gone, stageR, eachR, finishR, walk}
 use Rattle.resolved.specs.Resolves.{Resolves}
 use Rattle.resolved.specs.Dues.{isDue, dues}
 use Rattle.resolved.specs.Noted.{isContainer, ahead, leafOf, LeafNoted, unseen, early, reached, Noted, Stamped, stamp-store, stamp-there, stamp-textless, leaf-walk, Reads, is-fresh, is-taken, is-gone, is-kept, reads}
@@ -23,18 +23,18 @@ use Rattle.resolve.specs.Facts.{wordOf, containerKind, kindAt, Facts, Sh
 use Rattle.resolve.specs.declared.Seen.{Seen}
 use Rattle.resolve.specs.declared.Seen.the-variants.{Open, Empty, Word}
 
--- what the walk m makes of a node in the state s: its word is w and `slot` stands for it; children and dues stay, the marks are these
-pub record Yields (t : List Node) (marks : List ℕ) (s : State) (m : Made) (slot w : ℕ) : Type 0 where
+-- what the walk m makes of a node in the state s: its word is w and `slot` stands for it; children and dues stay, the measures are these
+pub record Yields (t : List Node) (measures : List ℕ) (s : State) (m : Made) (slot w : ℕ) : Type 0 where
   pub is : w ≡ wordOf (m .value)
   pub slot-is : m .slot ≡ slot
   pub deep : value (m .value) .deep ≤ 64
-  pub noted-still : Noted t wordOf marks (m .after)
+  pub noted-still : Noted t wordOf measures (m .after)
   pub small : Shallow (m .after)
   pub kids : m .after .kids ≡ s .kids
   pub dues-stay : dues t (m .after .done) ≡ dues t (s .done)
 
 pub data Knows (t : List Node) (before after : List ℕ) (s : State) (i : ℕ) : Seen → Type 0 where
-  k-open : isContainer (at t i .label) ≡ true → s .marks i ≡ fresh → after ≡ before → Knows t before after s i Open
+  k-open : isContainer (at t i .label) ≡ true → s .stages i ≡ fresh → after ≡ before → Knows t before after s i Open
   k-empty : ((k : ℕ) → Yields t after s (walk t 4096 (suc k) i s) 4096 129) → Knows t before after s i Empty
   k-word : (w : ℕ) → ((k : ℕ) → Yields t after s (walk t 4096 (suc k) i s) i w) → Knows t before after s i (Word w)
 
@@ -103,10 +103,10 @@ module _ (p ws starts : List ℕ) (t : List Node) (s : State) (f : Facts p ws st
       go (inside e q) = rw q same-state
       go (stuck e b q) = rw q (record { small = small-none; kids = refl; dues-stay = refl })
         where
-          small-none : Shallow (markR i (kept none) s)
-          small-none j v x = pick (marked i (kept none) (s .marks) j)
+          small-none : Shallow (stageR i (kept none) s)
+          small-none j v x = pick (staged i (kept none) (s .stages) j)
             where
-              pick : Marked i (kept none) (s .marks) j → value v .deep ≤ 64
+              pick : Staged i (kept none) (s .stages) j → value v .deep ≤ 64
               pick (same a d) = let y : none ≡ v = cc in rw (← y) (omega arith)
               pick (other a d) = z j v (sym d ∙ x)
       go (entered e b q) =
@@ -114,10 +114,10 @@ module _ (p ws starts : List ℕ) (t : List Node) (s : State) (f : Facts p ws st
           let d = leaf-not-due (at t i .label) c in
           rw (q, n) (record { small = small-leaf; kids = refl; dues-stay = rw d })
         where
-          small-leaf : Shallow (record { marks = mark i (kept (leafOf t i)) (mark i taken (s .marks)); kids = s .kids; done = i ∷ s .done })
-          small-leaf j v x = pick (marked i (kept (leafOf t i)) (mark i taken (s .marks)) j) (marked i taken (s .marks) j)
+          small-leaf : Shallow (record { stages = stage i (kept (leafOf t i)) (stage i taken (s .stages)); kids = s .kids; done = i ∷ s .done })
+          small-leaf j v x = pick (staged i (kept (leafOf t i)) (stage i taken (s .stages)) j) (staged i taken (s .stages) j)
             where
-              pick : Marked i (kept (leafOf t i)) (mark i taken (s .marks)) j → Marked i taken (s .marks) j → value v .deep ≤ 64
+              pick : Staged i (kept (leafOf t i)) (stage i taken (s .stages)) j → Staged i taken (s .stages) j → value v .deep ≤ 64
               pick (same a d) w = let y : leafOf t i ≡ v = cc in rw (← y) (leaf-deep t i)
               pick (other a d) (same a′ d′) = absurd (a a′)
               pick (other a d) (other a′ d′) = z j v (sym (d ∙ d′) ∙ x)
@@ -151,13 +151,13 @@ module _ (p ws starts : List ℕ) (t : List Node) (s : State) (f : Facts p ws st
     pub know-leaf : (w : ℕ) → containerKind (kindAt ws i) ≡ false → w ≡ packW 1 1 (textLen p ws i) → Knows t before (set before i w) s i (Word w)
     know-leaf w h e = store w (f .containers i l ∙ h) (e ∙ leaf-word t i (textLen p ws i) (f .lens-are i l))
 
-    -- ---- a mark that is there
+    -- ---- a stage that is there
 
-    kept-yields : (k : ℕ) (v : Value) → s .marks i ≡ kept v → Yields t before s (walk t 4096 (suc k) i s) (cond (gone t i v) 4096 i) (wordOf v)
+    kept-yields : (k : ℕ) (v : Value) → s .stages i ≡ kept v → Yields t before s (walk t 4096 (suc k) i s) (cond (gone t i v) 4096 i) (wordOf v)
     unfolding walk
     kept-yields k v e = rw (e, walk) (record { is = refl; slot-is = refl; deep = z i v e; noted-still = n; small = z; kids = refl; dues-stay = refl })
 
-    taken-yields : (k : ℕ) → s .marks i ≡ taken → Yields t before s (walk t 4096 (suc k) i s) 4096 129
+    taken-yields : (k : ℕ) → s .stages i ≡ taken → Yields t before s (walk t 4096 (suc k) i s) 4096 129
     unfolding walk measure packW
     taken-yields k e = rw (e, walk) (record { is = refl; slot-is = refl; deep = omega arith; noted-still = n; small = z; kids = refl; dues-stay = refl })
 

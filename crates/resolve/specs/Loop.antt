@@ -8,8 +8,8 @@ use lib.Seq.{slice, length-slice, getD-append-seam, getD-drop, getD-take}
 use native.Mathlib.Omega.{arith}
 use Rattle.value.specs.Value.{Value, textOf}
 use Rattle.steps.specs.State.{Node}
-use Rattle.reading.specs.Build.{taken, kept, mark, at}
-use Rattle.reading.specs.Unfold.{In, here, there, Marked, same, other, marked}
+use Rattle.reading.specs.Build.{taken, kept, stage, at}
+use Rattle.reading.specs.Unfold.{In, here, there, Staged, same, other, staged}
 use Rattle.reading.specs.Measures.{Measure, nilM, pushM, value, measure}
 use Rattle.resolve.specs.Word.{packW, deepW, valuesW, textsW, deep-pack, values-pack, texts-pack}
 use Rattle.resolved.specs.Walk.{State, Made, overwrite, eachR, finishR, walk}
@@ -23,23 +23,23 @@ use Rattle.resolve.specs.Facts.{wordOf, kindAt, Facts, Shallow, HoldsWal
 use Rattle.resolve.specs.Noting.{Notes}
 
 -- what the rooms say where the loop begins: node n is taken, its children are as they were, and the room of dues, lent as it was, has room
-pub record Entered (p ws starts marks children room : List ℕ) (n : ℕ) : Type 0 where
+pub record Entered (p ws starts measures children room : List ℕ) (n : ℕ) : Type 0 where
   pub nodes : List Node
   pub facts : Facts p ws starts nodes
   pub state : State
   pub lent : List ℕ
   pub roomy : length nodes < length lent
-  pub holds : HoldsWalk nodes (facts .beyond) starts lent marks children room state
+  pub holds : HoldsWalk nodes (facts .beyond) starts lent measures children room state
   pub below : n < length nodes
   pub container : isContainer (at nodes n .label) ≡ true
-  pub taken-is : state .marks n ≡ taken
+  pub taken-is : state .stages n ≡ taken
   pub kids-are : state .kids n ≡ at nodes n .kids
 
 -- a child is done: w is the word of what the walk made of it, and the rooms hold the state after
-pub record Back (t : List Node) (beyond : length t ≤ 4096) (starts lent : List ℕ) (k : ℕ) (m : Made) (w : ℕ) (marks children room : List ℕ) : Type 0 where
+pub record Back (t : List Node) (beyond : length t ≤ 4096) (starts lent : List ℕ) (k : ℕ) (m : Made) (w : ℕ) (measures children room : List ℕ) : Type 0 where
   pub is : w ≡ wordOf (m .value)
   pub shallow : value (m .value) .deep ≤ k
-  pub holds : HoldsWalk t beyond starts lent marks children room (m .after)
+  pub holds : HoldsWalk t beyond starts lent measures children room (m .after)
 
 -- ---- the child to come: what is left of a list
 
@@ -64,21 +64,21 @@ over f e l is (x ∷ js) h b g c =
     let y : length (slice f e l) ≡ length is + suc (length js) = ap length h ∙ length-append is (x ∷ js) in
     absurd (omega arith)
 
-put-there : (t : List Node) (beyond : length t ≤ 4096) (starts marks children : List ℕ) (n : ℕ) (is js : List ℕ) (s : State) (i x place : ℕ)
+put-there : (t : List Node) (beyond : length t ≤ 4096) (starts measures children : List ℕ) (n : ℕ) (is js : List ℕ) (s : State) (i x place : ℕ)
     → i ≡ place → x ≡ 4096
-    → FitsState t 4096 beyond wordOf starts marks (set children place 4096) (overwrite n (is ++ (4096 ∷ js)) s)
-    → FitsState t 4096 beyond wordOf starts marks (set children i 4096) (overwrite n (is ++ (x ∷ js)) s)
-put-there t beyond starts marks children n is js s i x place e f h = rw (e, f) h
+    → FitsState t 4096 beyond wordOf starts measures (set children place 4096) (overwrite n (is ++ (4096 ∷ js)) s)
+    → FitsState t 4096 beyond wordOf starts measures (set children i 4096) (overwrite n (is ++ (x ∷ js)) s)
+put-there t beyond starts measures children n is js s i x place e f h = rw (e, f) h
 
-module _ {p ws starts marks₀ children₀ room₀ : List ℕ} {n : ℕ} (I : Entered p ws starts marks₀ children₀ room₀ n) (k : ℕ) where
+module _ {p ws starts measures₀ children₀ room₀ : List ℕ} {n : ℕ} (I : Entered p ws starts measures₀ children₀ room₀ n) (k : ℕ) where
   -- Before a turn: `done` children and those `todo`, the state, the sums so far beside what they measure, and the place of the next child.
-  pub record Midway (len : ℕ) (marks children room : List ℕ) (deepest values texts i : ℕ) : Type 0 where
+  pub record Midway (len : ℕ) (measures children room : List ℕ) (deepest values texts i : ℕ) : Type 0 where
     pub done : List ℕ
     pub todo : List ℕ
     pub state : State
     pub sum : Measure
     pub turn : Turn (I .nodes) 4096 (I .facts .beyond) (walk (I .nodes) 4096 k) n (I .state) done todo state sum
-    pub holds : HoldsWalk (I .nodes) (I .facts .beyond) starts (I .lent) marks children room state
+    pub holds : HoldsWalk (I .nodes) (I .facts .beyond) starts (I .lent) measures children room state
     pub place : i ≡ getD starts n 0 + length done
     pub below : (j : ℕ) → In j todo → j < length (I .nodes)
     pub deep-is : deepest ≡ sum .deep
@@ -86,7 +86,7 @@ module _ {p ws starts marks₀ children₀ room₀ : List ℕ} {n : ℕ} (I : En
     pub values-are : min values 2049 ≡ min (suc (sum .values)) 2049
     pub texts-are : min texts 65537 ≡ min (len + sum .texts) 65537
 
-  pub mid-start : (len : ℕ) → Midway len marks₀ children₀ room₀ 0 1 len (getD starts n 0)
+  pub mid-start : (len : ℕ) → Midway len measures₀ children₀ room₀ 0 1 len (getD starts n 0)
   mid-start len =
       record {
         done = [];
@@ -103,7 +103,7 @@ module _ {p ws starts marks₀ children₀ room₀ : List ℕ} {n : ℕ} (I : En
         texts-are = omega arith;
       }
 
-  module _ {len : ℕ} {marks children room : List ℕ} {deepest values texts i : ℕ} (T : Midway len marks children room deepest values texts i) where
+  module _ {len : ℕ} {measures children room : List ℕ} {deepest values texts i : ℕ} (T : Midway len measures children room deepest values texts i) where
     lists : slice (getD starts n 0) (getD starts (suc n) 0) children ≡ T .done ++ T .todo
     lists = T .holds .fits .lies .lists n (I .below) ∙ T .turn .held
 
@@ -136,17 +136,17 @@ module _ {p ws starts marks₀ children₀ room₀ : List ℕ} {n : ℕ} (I : En
       pub too-deep : value (called .value) .deep ≤ measure (eachR (walk (I .nodes) 4096 k) n [] (at (I .nodes) n .kids) (I .state) .0) .deep
       too-deep = turn-deep (I .nodes) 4096 (I .facts .beyond) (walk (I .nodes) 4096 k) n (I .state) (T .done) (getD children i 0) (next h .rest) (T .state) (T .sum) turn-at .0
 
-      after-taken : called .after .marks n ≡ taken
-      after-taken = called-is .later .marks-stay n (old-taken _ (T .turn .open-still)) ∙ T .turn .open-still
+      after-taken : called .after .stages n ≡ taken
+      after-taken = called-is .later .stages-stay n (old-taken _ (T .turn .open-still)) ∙ T .turn .open-still
 
       after-kids : called .after .kids n ≡ T .done ++ (getD children i 0 ∷ next h .rest)
       after-kids = called-is .later .kids-stay n tt (old-taken _ (T .turn .open-still)) ∙ turn-at .held
 
-      step : (k ≤ 64) → (w : ℕ) (marks′ children′ children″ room′ : List ℕ)
-          → Back (I .nodes) (I .facts .beyond) starts (I .lent) k called w marks′ children′ room′
-          → FitsState (I .nodes) 4096 (I .facts .beyond) wordOf starts marks′ children″ (overwrite n (T .done ++ (called .slot ∷ next h .rest)) (called .after))
-          → Midway len marks′ children″ room′ (max deepest (deepW w)) (values + valuesW w) (texts + textsW w) (i + 1)
-      step q w marks′ children′ children″ room′ c f =
+      step : (k ≤ 64) → (w : ℕ) (measures′ children′ children″ room′ : List ℕ)
+          → Back (I .nodes) (I .facts .beyond) starts (I .lent) k called w measures′ children′ room′
+          → FitsState (I .nodes) 4096 (I .facts .beyond) wordOf starts measures′ children″ (overwrite n (T .done ++ (called .slot ∷ next h .rest)) (called .after))
+          → Midway len measures′ children″ room′ (max deepest (deepW w)) (values + valuesW w) (texts + textsW w) (i + 1)
+      step q w measures′ children′ children″ room′ c f =
           let v = value (called .value) in
           let d : deepW w ≡ v .deep = ap deepW (c .is) ∙ deep-pack (v .deep) (v .values) (v .texts) (omega (arith, c .shallow)) in
           let a : valuesW w ≡ min (v .values) 2049 = ap valuesW (c .is) ∙ values-pack (v .deep) (v .values) (v .texts) (omega (arith, c .shallow)) in
@@ -167,20 +167,20 @@ module _ {p ws starts marks₀ children₀ room₀ : List ℕ} {n : ℕ} (I : En
           }
 
       -- the child stays what it is
-      pub mid-same : (k ≤ 64) → (w : ℕ) (marks′ children′ room′ : List ℕ)
-          → Back (I .nodes) (I .facts .beyond) starts (I .lent) k called w marks′ children′ room′ → called .slot ≡ getD children i 0
-          → Midway len marks′ children′ room′ (max deepest (deepW w)) (values + valuesW w) (texts + textsW w) (i + 1)
-      mid-same q w marks′ children′ room′ c e =
-          step q w marks′ children′ children′ room′ c
-          (fits-same (I .nodes) 4096 (I .facts .beyond) wordOf starts marks′ children′ (called .after) (c .holds .fits) n after-taken (T .done ++ (called .slot ∷ next h .rest)) (rw e after-kids))
+      pub mid-same : (k ≤ 64) → (w : ℕ) (measures′ children′ room′ : List ℕ)
+          → Back (I .nodes) (I .facts .beyond) starts (I .lent) k called w measures′ children′ room′ → called .slot ≡ getD children i 0
+          → Midway len measures′ children′ room′ (max deepest (deepW w)) (values + valuesW w) (texts + textsW w) (i + 1)
+      mid-same q w measures′ children′ room′ c e =
+          step q w measures′ children′ children′ room′ c
+          (fits-same (I .nodes) 4096 (I .facts .beyond) wordOf starts measures′ children′ (called .after) (c .holds .fits) n after-taken (T .done ++ (called .slot ∷ next h .rest)) (rw e after-kids))
 
       -- the child is None there
-      pub mid-none : (k ≤ 64) → (w : ℕ) (marks′ children′ room′ : List ℕ)
-          → Back (I .nodes) (I .facts .beyond) starts (I .lent) k called w marks′ children′ room′ → called .slot ≡ 4096
-          → Midway len marks′ (set children′ i 4096) room′ (max deepest (deepW w)) (values + valuesW w) (texts + textsW w) (i + 1)
-      mid-none q w marks′ children′ room′ c e =
-          step q w marks′ children′ (set children′ i 4096) room′ c
-          (put-there (I .nodes) (I .facts .beyond) starts marks′ children′ n (T .done) (next h .rest) (called .after) i (called .slot) _ (T .place) e (fits-put (I .nodes) 4096 (I .facts .beyond) wordOf starts marks′ children′ (called .after) (c .holds .fits) n (I .below) after-taken (T .done) (next h .rest) (getD children i 0) 4096 after-kids))
+      pub mid-none : (k ≤ 64) → (w : ℕ) (measures′ children′ room′ : List ℕ)
+          → Back (I .nodes) (I .facts .beyond) starts (I .lent) k called w measures′ children′ room′ → called .slot ≡ 4096
+          → Midway len measures′ (set children′ i 4096) room′ (max deepest (deepW w)) (values + valuesW w) (texts + textsW w) (i + 1)
+      mid-none q w measures′ children′ room′ c e =
+          step q w measures′ children′ (set children′ i 4096) room′ c
+          (put-there (I .nodes) (I .facts .beyond) starts measures′ children′ n (T .done) (next h .rest) (called .after) i (called .slot) _ (T .place) e (fits-put (I .nodes) 4096 (I .facts .beyond) wordOf starts measures′ children′ (called .after) (c .holds .fits) n (I .below) after-taken (T .done) (next h .rest) (getD children i 0) 4096 after-kids))
 
     -- all are done
     module _ (h : getD starts (suc n) 0 ≤ i) where
@@ -200,21 +200,21 @@ module _ {p ws starts marks₀ children₀ room₀ : List ℕ} {n : ℕ} (I : En
       unfolding finishR
       mid-shallow = let q = ended .1 in rw q (omega (arith, T .shallow))
 
-      -- the node's due noted, its mark the word
+      -- the node's due noted, its measure the word
       pub mid-finish : (w : ℕ) (room′ : List ℕ) → (k ≤ 63) → Notes (kindAt ws n) n room room′
           → w ≡ wordOf (finishR (I .nodes) n (eachR (walk (I .nodes) 4096 k) n [] (at (I .nodes) n .kids) (I .state)) .value)
-          → HoldsWalk (I .nodes) (I .facts .beyond) starts (I .lent) (set marks n w) children room′ (finishR (I .nodes) n (eachR (walk (I .nodes) 4096 k) n [] (at (I .nodes) n .kids) (I .state)) .after)
+          → HoldsWalk (I .nodes) (I .facts .beyond) starts (I .lent) (set measures n w) children room′ (finishR (I .nodes) n (eachR (walk (I .nodes) 4096 k) n [] (at (I .nodes) n .kids) (I .state)) .after)
       unfolding finishR Notes dues
       mid-finish w room′ b c e =
           let q = ended .0 in
           let s = eachR (walk (I .nodes) 4096 k) n [] (at (I .nodes) n .kids) (I .state) in
           let r : Resolved (I .nodes) 4096 (I .facts .beyond) n [] (I .state) s = each-resolves (I .nodes) 4096 (I .facts .beyond) (walk (I .nodes) 4096 k) (λ j c. walk-resolves (I .nodes) 4096 (I .facts .beyond) k j c) n [] (at (I .nodes) n .kids) (I .state) (I .holds .fits .resolves) (I .taken-is) (I .kids-are) in
-          let f : FitsState (I .nodes) 4096 (I .facts .beyond) wordOf starts marks children (s .1) = rw q (T .holds .fits) in
-          let o : s .1 .marks n ≡ taken = rw q (T .turn .open-still) in
+          let f : FitsState (I .nodes) 4096 (I .facts .beyond) wordOf starts measures children (s .1) = rw q (T .holds .fits) in
+          let o : s .1 .stages n ≡ taken = rw q (T .turn .open-still) in
           let g = r .held in
           let d = I .facts .due-are n (I .below) in
           record {
-            fits = rw e (fits-finish (I .nodes) 4096 (I .facts .beyond) wordOf starts marks children (s .1) f n (I .below) (I .container) o (s .0) (rw g (r .stands)) (λ j m. r .final j (rw g at m)));
+            fits = rw e (fits-finish (I .nodes) 4096 (I .facts .beyond) wordOf starts measures children (s .1) f n (I .below) (I .container) o (s .0) (rw g (r .stands)) (λ j m. r .final j (rw g at m)));
             small = small-finish (s .0) (s .1) q (mid-shallow);
             within = within-finish (s .1) q;
             listed = rw (q, d) (c (I .lent) (dues (I .nodes) (T .state .done)) (T .holds .listed) (omega (arith, last-room, I .roomy)));
@@ -228,15 +228,15 @@ module _ {p ws starts marks₀ children₀ room₀ : List ℕ} {n : ℕ} (I : En
           within-finish x e j (there m) = T .holds .within j (rw e at m)
 
           small-finish : (c : _) (x : State) → x ≡ T .state → value (record { label = at (I .nodes) n .label; contents = c }) .deep ≤ k + 1
-              → Shallow (record { marks = mark n (kept (record { label = at (I .nodes) n .label; contents = c })) (x .marks); kids = x .kids; done = n ∷ x .done })
-          small-finish c x e l j v y = pick (marked n (kept (record { label = at (I .nodes) n .label; contents = c })) (x .marks) j)
+              → Shallow (record { stages = stage n (kept (record { label = at (I .nodes) n .label; contents = c })) (x .stages); kids = x .kids; done = n ∷ x .done })
+          small-finish c x e l j v y = pick (staged n (kept (record { label = at (I .nodes) n .label; contents = c })) (x .stages) j)
             where
               u : Value
               u = record { label = at (I .nodes) n .label; contents = c }
 
-              pick : Marked n (kept u) (x .marks) j → value v .deep ≤ 64
+              pick : Staged n (kept u) (x .stages) j → value v .deep ≤ 64
               pick (same a d) = let z : u ≡ v = cc in rw (← z) (omega arith)
-              pick (other a d) = let z : T .state .marks j ≡ kept v = ap (λ (m : State). m .marks j) (sym e) ∙ (sym d ∙ y) in T .holds .small j v z
+              pick (other a d) = let z : T .state .stages j ≡ kept v = ap (λ (m : State). m .stages j) (sym e) ∙ (sym d ∙ y) in T .holds .small j v z
 
     -- there is room to note one
     pub mid-room : (n < 65536) × (getD room 0 0 < 65535) × (getD room 0 0 + 1 < length room)

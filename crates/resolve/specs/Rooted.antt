@@ -11,9 +11,9 @@ use native.Mathlib.Decide.{decLt}
 use native.Mathlib.Omega.{arith}
 use Rattle.value.specs.Value.{Value, one, size, depth, text}
 use Rattle.steps.specs.State.{Node}
-use Rattle.reading.specs.Build.{Marks, unbuilt, at, build, tree}
+use Rattle.reading.specs.Build.{Stages, unbuilt, at, build, tree}
 use Rattle.reading.specs.Graph.{Graph}
-use Rattle.resolve.specs.Standing.{Stands}
+use Rattle.resolve.specs.Standing.{SaysNodes}
 use Rattle.reading.specs.Unfold.{In, left-all}
 use Rattle.reading.specs.Fuel.{build-fuel}
 use Rattle.reading.specs.Shallow.{deep, levels}
@@ -25,7 +25,7 @@ use Rattle.resolved.specs.Inside.{walk-within}
 use Rattle.resolved.specs.Dues.{dues}
 use Rattle.resolved.specs.Ranges.{Lies}
 use Rattle.resolved.specs.Resolving.{walk-resolves}
-use Rattle.resolved.specs.Listed.{Listing, lists-none}
+use Rattle.resolved.specs.Listed.{lists-none}
 use Rattle.resolved.specs.Sums.{upTo}
 use Rattle.resolved.specs.Noted.{isContainer, isTextLeaf, ahead, leafOf, LeafNoted, unseen, early, reached, Reads, is-fresh, is-taken, is-gone, is-kept, reads}
 use Rattle.resolved.specs.Reached.{textIf, container-done, leaf-done, done-leaf, done-container, texts-held}
@@ -41,39 +41,39 @@ use Rattle.resolve.specs.declared.Answer.the-variants as answer
 use Rattle.resolve.specs.declared.Seen.{Seen}
 use Rattle.resolve.specs.declared.Seen.the-variants as seen
 
--- no node is marked
-abbrev pub Unmarked : ℕ → List ℕ → Type 0
-Unmarked n d = (i : ℕ) → i < n → getD d i 0 ≡ 0
+-- no node has a measure yet
+abbrev pub Unmeasured : ℕ → List ℕ → Type 0
+Unmeasured n d = (i : ℕ) → i < n → getD d i 0 ≡ 0
 
 -- w is the word of v, which is no deeper than 64
 pub record Measured (v : Value) (w : ℕ) : Type 0 where
   pub shallow : depth (one v) ≤ 64
   pub is : w ≡ packW (depth (one v)) (size (one v)) (length (text (one v)))
 
--- a node table at STOP is what the rooms say, no node is marked, and no due is noted in the room lent for them
-pub record Begins (p ws starts children marks room : List ℕ) (root : ℕ) : Type 0 where
+-- a node table at STOP is what the rooms say, no node has a measure yet, and no due is noted in the room lent for them
+pub record Begins (p ws starts children measures room : List ℕ) (root : ℕ) : Type 0 where
   pub nodes : List Node
-  pub stands : Stands p ws nodes
+  pub stands : SaysNodes p ws nodes
   pub graph : Graph nodes starts children
   pub beyond : length nodes ≤ 4096
-  pub many : length marks ≡ length nodes
-  pub blank : Unmarked (length nodes) marks
+  pub many : length measures ≡ length nodes
+  pub blank : Unmeasured (length nodes) measures
   pub roomy : length nodes < length room
   pub no-dues : getD room 0 0 ≡ 0
   pub below : root < length nodes
 
 -- what the answer says of the tree and of the rooms after; `lent` is the room of dues before
-pub data Rooted (t : List Node) (beyond : length t ≤ 4096) (starts lent marks children room : List ℕ) (root : ℕ) : Answer → Type 0 where
-  r-deep : 64 < depth (one (tree t root)) → Listing lent room → Rooted t beyond starts lent marks children room root answer.TooDeep
+pub data Rooted (t : List Node) (beyond : length t ≤ 4096) (starts lent measures children room : List ℕ) (root : ℕ) : Answer → Type 0 where
+  r-deep : 64 < depth (one (tree t root)) → Rooted t beyond starts lent measures children room root answer.TooDeep
   r-word : (w : ℕ)
       → Measured (tree t root) w
       → StandsFor t (walked t 4096 64 root .after .kids) root (tree t root)
-      → HoldsWalk t beyond starts lent marks children room (walked t 4096 64 root .after)
-      → Rooted t beyond starts lent marks children room root (answer.Word w)
+      → HoldsWalk t beyond starts lent measures children room (walked t 4096 64 root .after)
+      → Rooted t beyond starts lent measures children room root (answer.Word w)
 
 unfoldable pub Roots : List ℕ → List ℕ → List ℕ → List ℕ → List ℕ → List ℕ → List ℕ → List ℕ → List ℕ → ℕ → Answer → Type 0
-Roots p ws starts children marks room children′ marks′ room′ root r =
-    (b : Begins p ws starts children marks room root) → Rooted (b .nodes) (b .beyond) starts room marks′ children′ room′ root r
+Roots p ws starts children measures room children′ measures′ room′ root r =
+    (b : Begins p ws starts children measures room root) → Rooted (b .nodes) (b .beyond) starts room measures′ children′ room′ root r
 
 -- ---- depths and words
 
@@ -96,7 +96,7 @@ built-whole t root h =
     let n = length t in
     let e : build t (suc n) root unbuilt ≡ build t (suc n + 64) root unbuilt = build-fuel t (suc n) (suc n + 64) root unbuilt (rw left-all (omega arith)) (rw left-all (omega arith)) in
     let f : build t 64 root unbuilt ≡ build t (suc n + 64) root unbuilt = levels t 64 (suc n) root unbuilt h in
-    ap (λ (x : Value × Marks). x .0) (f ∙ sym e)
+    ap (λ (x : Value × Stages). x .0) (f ∙ sym e)
 
 -- made within 64 levels, it is the tree that the walk makes
 walked-tree : (t : List Node) (beyond : length t ≤ 4096) (root : ℕ) → depth (one (tree t root)) ≤ 64 → walked t 4096 64 root .value ≡ tree t root
@@ -105,54 +105,54 @@ walked-tree t beyond root h = walk-build t 4096 64 root (start t) .value ∙ lev
 -- ---- for the passes behind
 
 -- the word of a finished node is there, unless it is a leaf without text; it is not one that was read ahead
-pub root-words : {t : List Node} {beyond : length t ≤ 4096} {starts lent marks children room : List ℕ} {s : State}
-    → HoldsWalk t beyond starts lent marks children room s
+pub root-words : {t : List Node} {beyond : length t ≤ 4096} {starts lent measures children room : List ℕ} {s : State}
+    → HoldsWalk t beyond starts lent measures children room s
     → (j : ℕ) → j < length t → In j (s .done) → (isContainer (at t j .label) || isTextLeaf (at t j .label)) ≡ true
-    → (128 ≤ getD marks j 0) × (getD marks j 0 < ahead)
-root-words {t} {marks = marks} {s = s} h j l m c = go (isContainer (at t j .label)) refl c
+    → (128 ≤ getD measures j 0) × (getD measures j 0 < ahead)
+root-words {t} {measures = measures} {s = s} h j l m c = go (isContainer (at t j .label)) refl c
   where
-    worded : (v : Value) → getD marks j 0 ≡ wordOf v → value v .deep ≤ 64 → (128 ≤ getD marks j 0) × (getD marks j 0 < ahead)
+    worded : (v : Value) → getD measures j 0 ≡ wordOf v → value v .deep ≤ 64 → (128 ≤ getD measures j 0) × (getD measures j 0 < ahead)
     worded v e d = (omega (arith, word-big v), omega (arith, word-low v d))
 
-    go : (b : Bool) → isContainer (at t j .label) ≡ b → (b || isTextLeaf (at t j .label)) ≡ true → (128 ≤ getD marks j 0) × (getD marks j 0 < ahead)
+    go : (b : Bool) → isContainer (at t j .label) ≡ b → (b || isTextLeaf (at t j .label)) ≡ true → (128 ≤ getD measures j 0) × (getD measures j 0 < ahead)
     go true e d =
         let o = h .fits .resolves .done-stands j m in
-        worded (o .value) (done-container t wordOf 4096 marks s (h .fits .resolves) (h .fits .noted) j l e m) (h .small j (o .value) (o .keeps))
-    go false e d = worded (leafOf t j) (done-leaf t wordOf 4096 marks s (h .fits .resolves) (h .fits .noted) j l e d m) (leaf-deep t j)
+        worded (o .value) (done-container t wordOf 4096 measures s (h .fits .resolves) (h .fits .noted) j l e m) (h .small j (o .value) (o .keeps))
+    go false e d = worded (leafOf t j) (done-leaf t wordOf 4096 measures s (h .fits .resolves) (h .fits .noted) j l e d m) (leaf-deep t j)
 
 -- and whose word is there, is finished
-pub words-done : {t : List Node} {beyond : length t ≤ 4096} {starts lent marks children room : List ℕ} {s : State}
-    → HoldsWalk t beyond starts lent marks children room s
-    → (j : ℕ) → j < length t → 128 ≤ getD marks j 0 → (isContainer (at t j .label) ≡ false → getD marks j 0 < ahead) → In j (s .done)
-words-done {t} {marks = marks} {s = s} h j l w a = go (isContainer (at t j .label)) refl
+pub words-done : {t : List Node} {beyond : length t ≤ 4096} {starts lent measures children room : List ℕ} {s : State}
+    → HoldsWalk t beyond starts lent measures children room s
+    → (j : ℕ) → j < length t → 128 ≤ getD measures j 0 → (isContainer (at t j .label) ≡ false → getD measures j 0 < ahead) → In j (s .done)
+words-done {t} {measures = measures} {s = s} h j l w a = go (isContainer (at t j .label)) refl
   where
     go : (b : Bool) → isContainer (at t j .label) ≡ b → In j (s .done)
-    go true e = container-done t wordOf 4096 marks s (h .fits .resolves) (h .fits .noted) j l e (omega arith)
-    go false e = leaf-done t wordOf 4096 marks s (h .fits .resolves) (h .fits .noted) j l e (omega arith) (a e)
+    go true e = container-done t wordOf 4096 measures s (h .fits .resolves) (h .fits .noted) j l e (omega arith)
+    go false e = leaf-done t wordOf 4096 measures s (h .fits .resolves) (h .fits .noted) j l e (omega arith) (a e)
 
--- no mark reaches 2^42: what the passes behind put there is above all words
-pub marks-low : {t : List Node} {beyond : length t ≤ 4096} {starts lent marks children room : List ℕ} {s : State} → HoldsWalk t beyond starts lent marks children room s
-    → (j : ℕ) → j < length t → getD marks j 0 < 2 * ahead
-marks-low {t} {marks = marks} {s = s} h j l = go (isContainer (at t j .label)) refl
+-- no measure reaches 2^42: what the passes behind put there is above all words
+pub measures-low : {t : List Node} {beyond : length t ≤ 4096} {starts lent measures children room : List ℕ} {s : State} → HoldsWalk t beyond starts lent measures children room s
+    → (j : ℕ) → j < length t → getD measures j 0 < 2 * ahead
+measures-low {t} {measures = measures} {s = s} h j l = go (isContainer (at t j .label)) refl
   where
-    box : Reads t wordOf s j (getD marks j 0) → getD marks j 0 < 2 * ahead
+    box : Reads t wordOf s j (getD measures j 0) → getD measures j 0 < 2 * ahead
     box (is-fresh e y) = omega arith
     box (is-taken e y) = omega arith
     box (is-gone v e g y) = omega arith
     box (is-kept v e g y) = omega (arith, word-low v (h .small j v e))
 
-    leafy : LeafNoted t wordOf (s .done) j (getD marks j 0) → getD marks j 0 < 2 * ahead
+    leafy : LeafNoted t wordOf (s .done) j (getD measures j 0) → getD measures j 0 < 2 * ahead
     leafy (unseen e f) = omega arith
     leafy (early e f) = omega (arith, word-low (leafOf t j) (leaf-deep t j))
     leafy (reached e f) = omega (arith, word-low (leafOf t j) (leaf-deep t j))
 
-    go : (b : Bool) → isContainer (at t j .label) ≡ b → getD marks j 0 < 2 * ahead
-    go true e = box (reads t wordOf marks s j (h .fits .noted) l e)
+    go : (b : Bool) → isContainer (at t j .label) ≡ b → getD measures j 0 < 2 * ahead
+    go true e = box (reads t wordOf measures s j (h .fits .noted) l e)
     go false e = leafy (h .fits .noted .leaf j l e)
 
 -- the word of node j is there, and of a leaf not read ahead
 abbrev pub worded : List Node → List ℕ → ℕ → Bool
-worded t marks j = leb 128 (getD marks j 0) && (isContainer (at t j .label) || ltb (getD marks j 0) ahead)
+worded t measures j = leb 128 (getD measures j 0) && (isContainer (at t j .label) || ltb (getD measures j 0) ahead)
 
 -- the texts of nodes whose words are there are together no longer than the tree's; and so for any others that are finished
 pub root-texts : (t : List Node) (beyond : length t ≤ 4096) (root : ℕ) → depth (one (tree t root)) ≤ 64
@@ -162,10 +162,10 @@ root-texts t beyond root h due d =
     let e = walked-tree t beyond root h in
     rw (← e) (texts-held t 4096 beyond 64 root due d)
 
-pub worded-texts : {t : List Node} {beyond : length t ≤ 4096} {starts lent marks children room : List ℕ} (root : ℕ) → depth (one (tree t root)) ≤ 64
-    → HoldsWalk t beyond starts lent marks children room (walked t 4096 64 root .after)
-    → upTo (textIf t (worded t marks)) (length t) ≤ length (text (one (tree t root)))
-worded-texts {t} {beyond = beyond} {marks = marks} root d h = root-texts t beyond root d (worded t marks) go
+pub worded-texts : {t : List Node} {beyond : length t ≤ 4096} {starts lent measures children room : List ℕ} (root : ℕ) → depth (one (tree t root)) ≤ 64
+    → HoldsWalk t beyond starts lent measures children room (walked t 4096 64 root .after)
+    → upTo (textIf t (worded t measures)) (length t) ≤ length (text (one (tree t root)))
+worded-texts {t} {beyond = beyond} {measures = measures} root d h = root-texts t beyond root d (worded t measures) go
   where
     both : (b c : Bool) → (b && c) ≡ true → (b ≡ true) × (c ≡ true)
     both true c e = (refl, e)
@@ -175,14 +175,14 @@ worded-texts {t} {beyond = beyond} {marks = marks} root d h = root-texts t beyon
     low true w e f = absurd (let z : _≡_ {A = ℕ} 0 1 = cc in omega arith)
     low false w e f = ltb-true w ahead e
 
-    go : (j : ℕ) → j < length t → worded t marks j ≡ true → In j (walked t 4096 64 root .after .done)
+    go : (j : ℕ) → j < length t → worded t measures j ≡ true → In j (walked t 4096 64 root .after .done)
     go j l e =
-        let a = both (leb 128 (getD marks j 0)) (isContainer (at t j .label) || ltb (getD marks j 0) ahead) e in
-        words-done h j l (leb-true 128 (getD marks j 0) (a .0)) (low (isContainer (at t j .label)) (getD marks j 0) (a .1))
+        let a = both (leb 128 (getD measures j 0)) (isContainer (at t j .label) || ltb (getD measures j 0) ahead) e in
+        words-done h j l (leb-true 128 (getD measures j 0) (a .0)) (low (isContainer (at t j .label)) (getD measures j 0) (a .1))
 
 -- ---- the answers
 
-module _ {p ws starts children marks room : List ℕ} {root : ℕ} (b : Begins p ws starts children marks room root) where
+module _ {p ws starts children measures room : List ℕ} {root : ℕ} (b : Begins p ws starts children measures room root) where
   facts-there : Facts p ws starts (b .nodes)
   facts-there = facts p ws (b .nodes) starts children (b .stands) (b .graph) (b .beyond)
 
@@ -211,11 +211,11 @@ module _ {p ws starts children marks room : List ℕ} {root : ℕ} (b : Begins p
   small-start : Shallow (start (b .nodes))
   small-start j v e = absurd (let z : _≡_ {A = ℕ} 0 1 = cc in omega arith)
 
-  holds-start : HoldsWalk (b .nodes) (b .beyond) starts room marks children room (start (b .nodes))
+  holds-start : HoldsWalk (b .nodes) (b .beyond) starts room measures children room (start (b .nodes))
   unfolding dues
   holds-start =
       record {
-        fits = fits-start (b .nodes) 4096 (b .beyond) wordOf starts marks children (b .graph) (b .many) (b .blank);
+        fits = fits-start (b .nodes) 4096 (b .beyond) wordOf starts measures children (b .graph) (b .many) (b .blank);
         small = small-start;
         within = λ j m. elim m [ ];
         listed = lists-none room (omega (arith, b .roomy)) (b .no-dues);
@@ -225,11 +225,11 @@ module _ {p ws starts children marks room : List ℕ} {root : ℕ} (b : Begins p
   root-own : walked (b .nodes) 4096 64 root .slot ≡ root
   root-own = root-slot (b .nodes) 4096 (b .beyond) 63 root
 
-  rooted : (w : ℕ) (marks′ children′ room′ : List ℕ) → w ≡ wordOf (walked (b .nodes) 4096 64 root .value)
+  rooted : (w : ℕ) (measures′ children′ room′ : List ℕ) → w ≡ wordOf (walked (b .nodes) 4096 64 root .value)
       → value (walked (b .nodes) 4096 64 root .value) .deep ≤ 64
-      → HoldsWalk (b .nodes) (b .beyond) starts room marks′ children′ room′ (walked (b .nodes) 4096 64 root .after)
-      → Rooted (b .nodes) (b .beyond) starts room marks′ children′ room′ root (answer.Word w)
-  rooted w marks′ children′ room′ e d h =
+      → HoldsWalk (b .nodes) (b .beyond) starts room measures′ children′ room′ (walked (b .nodes) 4096 64 root .after)
+      → Rooted (b .nodes) (b .beyond) starts room measures′ children′ room′ root (answer.Word w)
+  rooted w measures′ children′ room′ e d h =
       let x = value-deep (walked (b .nodes) 4096 64 root .value) in
       let y : depth (one (walked (b .nodes) 4096 64 root .value)) ≤ 64 = omega arith in
       let v = walk-build (b .nodes) 4096 64 root (start (b .nodes)) .value in
@@ -238,9 +238,9 @@ module _ {p ws starts children marks room : List ℕ} {root : ℕ} (b : Begins p
       let s : depth (one (tree (b .nodes) root)) ≤ 64 = rw i at y in
       r-word w (record { shallow = s; is = e ∙ (ap wordOf i ∙ value-word (tree (b .nodes) root)) }) (tree-stands (b .nodes) 4096 (b .beyond) 63 root s) h
 
-  rooted-deep : (marks′ children′ room′ : List ℕ) → 64 < value (walked (b .nodes) 4096 64 root .value) .deep → Listing room room′
-      → Rooted (b .nodes) (b .beyond) starts room marks′ children′ room′ root answer.TooDeep
-  rooted-deep marks′ children′ room′ h x = r-deep (go (decLt 64 (depth (one (tree (b .nodes) root))))) x
+  rooted-deep : (measures′ children′ room′ : List ℕ) → 64 < value (walked (b .nodes) 4096 64 root .value) .deep
+      → Rooted (b .nodes) (b .beyond) starts room measures′ children′ room′ root answer.TooDeep
+  rooted-deep measures′ children′ room′ h = r-deep (go (decLt 64 (depth (one (tree (b .nodes) root)))))
     where
       go : Dec (64 < depth (one (tree (b .nodes) root))) → 64 < depth (one (tree (b .nodes) root))
       go (yes x) = x
@@ -250,35 +250,35 @@ module _ {p ws starts children marks room : List ℕ} {root : ℕ} (b : Begins p
           let z : depth (one (walked (b .nodes) 4096 64 root .value)) ≡ depth (one (tree (b .nodes) root)) = ap (λ (v : Value). depth (one v)) i in
           absurd (omega arith)
 
-  module _ (marks′ : List ℕ) where
-    learns : (r : Seen) → Learns p ws marks marks′ root r → Knows (b .nodes) marks marks′ (start (b .nodes)) root r
+  module _ (measures′ : List ℕ) where
+    learns : (r : Seen) → Learns p ws measures measures′ root r → Knows (b .nodes) measures measures′ (start (b .nodes)) root r
     unfolding Learns
     learns r a = a starts (b .nodes) (start (b .nodes)) facts-at (holds-start .fits .resolves) (holds-start .fits .noted) small-start (b .below)
 
-    same-holds : (m : List ℕ) → m ≡ marks → HoldsWalk (b .nodes) (b .beyond) starts room m children room (start (b .nodes))
+    same-holds : (m : List ℕ) → m ≡ measures → HoldsWalk (b .nodes) (b .beyond) starts room m children room (start (b .nodes))
     same-holds m e = rw e holds-start
 
     -- a container: it is walked
-    opened : Knows (b .nodes) marks marks′ (start (b .nodes)) root seen.Open → Opens p ws starts marks′ children room root
+    opened : Knows (b .nodes) measures measures′ (start (b .nodes)) root seen.Open → Opens p ws starts measures′ children room root
     opened (k-open c f e) =
-        record { nodes = b .nodes; facts = facts-at; state = start (b .nodes); lent = room; roomy = b .roomy; holds = same-holds marks′ e; below = b .below; container = c; fresh-is = f }
+        record { nodes = b .nodes; facts = facts-at; state = start (b .nodes); lent = room; roomy = b .roomy; holds = same-holds measures′ e; below = b .below; container = c; fresh-is = f }
 
-    pub root-open : Learns p ws marks marks′ root seen.Open → Opens p ws starts marks′ children room root
+    pub root-open : Learns p ws measures measures′ root seen.Open → Opens p ws starts measures′ children room root
     root-open a = opened (learns seen.Open a)
 
     -- a leaf
-    pub root-word : (w : ℕ) → Learns p ws marks marks′ root (seen.Word w)
-        → Rooted (b .nodes) (b .beyond) starts room marks′ children room root (answer.Word w)
+    pub root-word : (w : ℕ) → Learns p ws measures measures′ root (seen.Word w)
+        → Rooted (b .nodes) (b .beyond) starts room measures′ children room root (answer.Word w)
     root-word w a = go (learns (seen.Word w) a)
       where
-        go : Knows (b .nodes) marks marks′ (start (b .nodes)) root (seen.Word w)
-            → Rooted (b .nodes) (b .beyond) starts room marks′ children room root (answer.Word w)
+        go : Knows (b .nodes) measures measures′ (start (b .nodes)) root (seen.Word w)
+            → Rooted (b .nodes) (b .beyond) starts room measures′ children room root (answer.Word w)
         go (k-word w q) =
             let x = q 63 in
             let e = x .kids in
             let d = x .dues-stay in
             let y : Lies starts (length (b .nodes)) children (walked (b .nodes) 4096 64 root .after .kids) = rw e (holds-start .fits .lies) in
-            rooted w marks′ children room (x .is) (x .deep)
+            rooted w measures′ children room (x .is) (x .deep)
             (record {
               fits = record { resolves = walk-resolves (b .nodes) 4096 (b .beyond) 64 root (start (b .nodes)) (holds-start .fits .resolves) .resolves; noted = x .noted-still; lies = y };
               small = x .small;
@@ -286,24 +286,24 @@ module _ {p ws starts children marks room : List ℕ} {root : ℕ} (b : Begins p
               listed = rw d (holds-start .listed);
             })
 
-    pub root-empty : Learns p ws marks marks′ root seen.Empty → ⊥
+    pub root-empty : Learns p ws measures measures′ root seen.Empty → ⊥
     root-empty a = go (learns seen.Empty a)
       where
-        go : Knows (b .nodes) marks marks′ (start (b .nodes)) root seen.Empty → ⊥
+        go : Knows (b .nodes) measures measures′ (start (b .nodes)) root seen.Empty → ⊥
         go (k-empty q) = let x = q 63 .slot-is in omega (arith, root-own, b .below, b .beyond)
 
-    pub root-walk : (a : Learns p ws marks marks′ root seen.Open) (marks″ children″ room″ : List ℕ) (r : Answer)
-        → Walks p ws starts 64 root marks′ children room marks″ children″ room″ r
-        → Rooted (b .nodes) (b .beyond) starts room marks″ children″ room″ root r
+    pub root-walk : (a : Learns p ws measures measures′ root seen.Open) (measures″ children″ room″ : List ℕ) (r : Answer)
+        → Walks p ws starts 64 root measures′ children room measures″ children″ room″ r
+        → Rooted (b .nodes) (b .beyond) starts room measures″ children″ room″ root r
     unfolding Walks opened
-    root-walk a marks″ children″ room″ r q = pick (learns seen.Open a)
+    root-walk a measures″ children″ room″ r q = pick (learns seen.Open a)
       where
-        go : (r : Answer) → Ends (b .nodes) (b .beyond) starts room 64 root (walked (b .nodes) 4096 64 root) marks″ children″ room″ r
-            → Rooted (b .nodes) (b .beyond) starts room marks″ children″ room″ root r
-        go _ (ends-deep d x) = rooted-deep marks″ children″ room″ d x
+        go : (r : Answer) → Ends (b .nodes) (b .beyond) starts room 64 root (walked (b .nodes) 4096 64 root) measures″ children″ room″ r
+            → Rooted (b .nodes) (b .beyond) starts room measures″ children″ room″ root r
+        go _ (ends-deep d) = rooted-deep measures″ children″ room″ d
         go _ (ends-empty e v h) = absurd (omega (arith, root-own, e, b .below, b .beyond))
-        go _ (ends-word w e q d h) = rooted w marks″ children″ room″ q d h
+        go _ (ends-word w e q d h) = rooted w measures″ children″ room″ q d h
 
-        pick : Knows (b .nodes) marks marks′ (start (b .nodes)) root seen.Open
-            → Rooted (b .nodes) (b .beyond) starts room marks″ children″ room″ root r
+        pick : Knows (b .nodes) measures measures′ (start (b .nodes)) root seen.Open
+            → Rooted (b .nodes) (b .beyond) starts room measures″ children″ room″ root r
         pick (k-open c f e) = go r (q (opened (k-open c f e)))

@@ -8,12 +8,12 @@ use borrow.Author.Tests.{le-ltb, ne-eqb}
 use native.Mathlib.Omega.{arith}
 use Rattle.value.specs.Value.{Label, NoneL, textOf}
 use Rattle.value.specs.Shape.{kindIn}
-use Rattle.steps.specs.State.{Node, plain}
-use Rattle.decoder.specs.declared.Counts.{Counts}
-use Rattle.decoder.specs.Rooms.{Rooms, nodeOf, kidsOf, stateOf, Class, Classed}
+use Rattle.steps.specs.State.{Node, kidless}
+use Rattle.store.specs.declared.Counts.{Counts}
+use Rattle.store.specs.Rooms.{Rooms, nodeOf, kidsOf, stateOf, Class, Classed}
 use Rattle.steps.specs.NodeWords.{first, second, choices, nodeIs, classIn, object-kind}
-use Rattle.decoder.specs.RoomReads.{node-at, nodes-length}
-use Rattle.decoder.specs.Effects.{Firm, Sound}
+use Rattle.store.specs.RoomReads.{node-at, nodes-length}
+use Rattle.store.specs.Effects.{Firm, Sound}
 use Rattle.reading.specs.Build.{at}
 use Rattle.reading.specs.Graph.{Graph}
 use Rattle.resolved.specs.Shown.{labelOf}
@@ -24,7 +24,7 @@ use Rattle.resolve.specs.Length.{textLen}
 use Rattle.resolve.specs.Facts.{containerKind, dueKind, kindAt, Facts}
 
 -- the nodes t are those that the pickle p and the words ws say
-pub record Stands (p ws : List ℕ) (t : List Node) : Type 0 where
+pub record SaysNodes (p ws : List ℕ) (t : List Node) : Type 0 where
   pub rooms : Rooms
   pub counts : Counts
   pub sound : Sound rooms counts
@@ -55,7 +55,7 @@ unfolding dueKind
 far-due k h = let a : 8 ≤ k = omega arith in let b : 11 ≤ k = omega arith in rw (le-ltb k 8 a, le-ltb k 11 b)
 
 module _ (p ws ks : List ℕ) (a b : ℕ) where
-  suits : (k : ℕ) → Suits k (getD (choices p ws ks a b) k (plain NoneL))
+  suits : (k : ℕ) → Suits k (getD (choices p ws ks a b) k (kidless NoneL))
   unfolding containerKind dueKind
   suits zero = leaf refl refl refl refl refl (λ h. refl)
   suits (suc zero) = leaf refl refl refl refl refl (λ h. refl)
@@ -74,22 +74,22 @@ module _ (p ws ks : List ℕ) (a b : ℕ) where
   suits (suc (suc (suc (suc (suc (suc (suc (suc (suc (suc (suc (suc (suc (suc zero)))))))))))))) = leaf refl refl refl refl refl (λ h. absurd (omega arith))
   suits (suc (suc (suc (suc (suc (suc (suc (suc (suc (suc (suc (suc (suc (suc (suc k))))))))))))))) = leaf (far (suc (suc (suc (suc (suc (suc (suc (suc (suc (suc (suc (suc (suc (suc (suc k))))))))))))))) (omega arith)) refl (far-due (suc (suc (suc (suc (suc (suc (suc (suc (suc (suc (suc (suc (suc (suc (suc k))))))))))))))) (omega arith)) refl refl (λ h. refl)
 
-module _ (p ws : List ℕ) (t : List Node) (s : Stands p ws t) where
+module _ (p ws : List ℕ) (t : List Node) (s : SaysNodes p ws t) where
   many-nodes : s .counts .nodes ≡ length t
   many-nodes = sym (nodes-length (s .rooms) (s .counts)) ∙ sym (ap length (s .nodes))
 
   module _ (i : ℕ) (l : i < length t) where
     pub node-is : at t i ≡ nodeOf (s .rooms) (s .counts) i
-    node-is = ap (λ (n : List Node). getD n i (plain NoneL)) (s .nodes) ∙ node-at (s .rooms) (s .counts) i (omega (arith, many-nodes))
+    node-is = ap (λ (n : List Node). getD n i (kidless NoneL)) (s .nodes) ∙ node-at (s .rooms) (s .counts) i (omega (arith, many-nodes))
 
     -- a node's label is the one that its words say
     pub label-is : at t i .label ≡ labelOf p ws i
     unfolding labelOf nodeIs
     label-is =
         rw (node-is, ← s .pickle, ← s .words)
-        (sym (List·getD-map (λ (n : Node). n .label) (choices (s .rooms .pickle) (s .rooms .nodes) (kidsOf (s .rooms) (s .counts) i) (first (s .rooms .nodes) i) (second (s .rooms .nodes) i)) (kindIn (first (s .rooms .nodes) i)) (plain NoneL)))
+        (sym (List·getD-map (λ (n : Node). n .label) (choices (s .rooms .pickle) (s .rooms .nodes) (kidsOf (s .rooms) (s .counts) i) (first (s .rooms .nodes) i) (second (s .rooms .nodes) i)) (kindIn (first (s .rooms .nodes) i)) (kidless NoneL)))
 
-pub facts : (p ws : List ℕ) (t : List Node) (starts children : List ℕ) → Stands p ws t → Graph t starts children → length t ≤ 4096 → Facts p ws starts t
+pub facts : (p ws : List ℕ) (t : List Node) (starts children : List ℕ) → SaysNodes p ws t → Graph t starts children → length t ≤ 4096 → Facts p ws starts t
 unfolding nodeIs kindIn first classIn Classed Class textLen
 facts p ws t starts children s g b =
     record {

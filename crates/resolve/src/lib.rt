@@ -1,7 +1,7 @@
 // The root's tree measured, and its graph resolved, in one walk over the nodes: depth, values and text of each container as one word in its
-// mark, each child that is None at its place overwritten by the number of no node, and the Sets and Dicts noted in the order in which they
+// measure, each child that is None at its place overwritten by the number of no node, and the Sets and Dicts noted in the order in which they
 // are finished. Nothing is decoded, ordered or written here, so that what comes after is bounded by what is found out here.
-use decoder::NodeId;
+use store::NodeId;
 use text::Decoded;
 use text::Quoted;
 use text::string_len;
@@ -23,7 +23,7 @@ ghost use Rattle.resolve.specs.Known.{Learns};
 ghost use Rattle.resolve.specs.Ends.{Opens, Walks};
 ghost use Rattle.resolve.specs.Rooted.{Begins, Roots};
 
-// A mark: 0 for a fresh node, 1 for one taken out, 3 for an Object that is None for good, else a word: depth + 128 * values + 2^19 * text,
+// A measure: 0 for a fresh node, 1 for one taken out, 3 for an Object that is None for good, else a word: depth + 128 * values + 2^19 * text,
 // values capped at 2,049 and text at 65,537. The word of a leaf with a text is stored when the walk comes to it.
 
 // A Global measured for an Object of its class, where the walk has not come to the Global itself.
@@ -131,10 +131,10 @@ fn node_text_len(pickle: &[u8], nodes: &[u64], node: NodeId) -> usize
         let class = (a / 64) as usize;
         return names_len(pickle, nodes[2 * class], nodes[2 * class + 1]);
     }
-    if kind == decoder::KIND_ESCAPED {
+    if kind == store::KIND_ESCAPED {
         return string_text(cut(pickle, place, len));
     }
-    if kind == decoder::KIND_UNICODE {
+    if kind == store::KIND_UNICODE {
         return unicode_text(cut(pickle, place, len));
     }
     0
@@ -164,18 +164,18 @@ fn leaf_word(node: NodeId, pickle: &[u8], nodes: &[u64]) -> u64
 }
 
 // A node as far as no walk is needed for it.
-fn known(node: NodeId, pickle: &[u8], nodes: &[u64], marks: &mut [u64]) -> Seen
+fn known(node: NodeId, pickle: &[u8], nodes: &[u64], measures: &mut [u64]) -> Seen
     requires { ⌜ Readable (now pickle) (now nodes) (node .0) ⌝ }
-    requires { ⌜ node .0 < length (now marks) ⌝ }
+    requires { ⌜ node .0 < length (now measures) ⌝ }
     ensures { λ r.
-        ⌜ Learns (now (pickle .entry)) (now (nodes .entry)) (now (marks .entry)) (now (marks .exit)) (node .0) r ⌝ }
+        ⌜ Learns (now (pickle .entry)) (now (nodes .entry)) (now (measures .entry)) (now (measures .exit)) (node .0) r ⌝ }
 {
     let n = node.0;
     let kind = nodes[2 * n] % 16;
     if kind < value::BYTES {
         return Seen::Word(129);
     }
-    let m = marks[n];
+    let m = measures[n];
     if m != 0 {
         if m < 4 {
             return Seen::Empty;
@@ -184,48 +184,48 @@ fn known(node: NodeId, pickle: &[u8], nodes: &[u64], marks: &mut [u64]) -> Seen
             return Seen::Word(m);
         }
         let w = m - AHEAD;
-        marks[n] = w;
+        measures[n] = w;
         return Seen::Word(w);
     }
     if is_container(kind) {
         return Seen::Open;
     }
     let w = leaf_word(node, pickle, nodes);
-    marks[n] = w;
+    measures[n] = w;
     Seen::Word(w)
 }
 
 // How long a container's own text is: an Object's is its class's, which is measured once.
-fn own_text(kind: u64, node: NodeId, pickle: &[u8], nodes: &[u64], marks: &mut [u64]) -> u64
-    requires { ⌜ Owned (now pickle) (now nodes) (now marks) (node .0) kind ⌝ }
+fn own_text(kind: u64, node: NodeId, pickle: &[u8], nodes: &[u64], measures: &mut [u64]) -> u64
+    requires { ⌜ Owned (now pickle) (now nodes) (now measures) (node .0) kind ⌝ }
     ensures { λ r.
-        ⌜ Owns (now (pickle .entry)) (now (nodes .entry)) (now (marks .entry)) (now (marks .exit)) (node .0) r ⌝ }
+        ⌜ Owns (now (pickle .entry)) (now (nodes .entry)) (now (measures .entry)) (now (measures .exit)) (node .0) r ⌝ }
 {
     if kind != value::OBJECT {
         return 0;
     }
     let n = node.0;
     let class = (nodes[2 * n] / 64) as usize;
-    let m = marks[class];
+    let m = measures[class];
     if m != 0 {
         return m / 524288 % 131072;
     }
     let w = leaf_word(NodeId(class), pickle, nodes);
-    marks[class] = w + AHEAD;
+    measures[class] = w + AHEAD;
     w / 524288 % 131072
 }
 
 // Is it an Object whose arguments, its first child, are taken out?
-fn blocked(kind: u64, at: usize, end: usize, children: &[u16], marks: &[u64]) -> bool
+fn blocked(kind: u64, at: usize, end: usize, children: &[u16], measures: &[u64]) -> bool
     requires { ⌜ end ≤ length (now children) ⌝ }
-    requires { ⌜ (at < end → getD (now children) at 0 < length (now marks)) ⌝ }
-    ensures { λ r. ⌜ r ≡ held kind (slice at end (now (children .entry))) (now (marks .entry)) ⌝ }
+    requires { ⌜ (at < end → getD (now children) at 0 < length (now measures)) ⌝ }
+    ensures { λ r. ⌜ r ≡ held kind (slice at end (now (children .entry))) (now (measures .entry)) ⌝ }
 {
     if kind != value::OBJECT {
         false
     } else if at < end {
         let first = children[at] as usize;
-        marks[first] == 1
+        measures[first] == 1
     } else {
         false
     }
@@ -255,26 +255,26 @@ fn measure(
     children: &mut [u16],
     pickle: &[u8],
     nodes: &[u64],
-    marks: &mut [u64],
+    measures: &mut [u64],
     dues: &mut [u16],
 ) -> Answer
     requires { ⌜ (1 ≤ levels) × (levels ≤ 64) ⌝ }
-    requires { ⌜ Opens (now pickle) (now nodes) (now starts) (now marks) (now children) (now dues) (node .0) ⌝ }
+    requires { ⌜ Opens (now pickle) (now nodes) (now starts) (now measures) (now children) (now dues) (node .0) ⌝ }
     ensures { λ r.
         ⌜ Walks (now (pickle .entry)) (now (nodes .entry)) (now (starts .entry)) levels (node .0)
-        (now (marks .entry)) (now (children .entry)) (now (dues .entry))
-        (now (marks .exit)) (now (children .exit)) (now (dues .exit)) r ⌝ }
+        (now (measures .entry)) (now (children .entry)) (now (dues .entry))
+        (now (measures .exit)) (now (children .exit)) (now (dues .exit)) r ⌝ }
 {
     let n = node.0;
     let kind = nodes[2 * n] % 16;
     let at = starts[n] as usize;
     let end = starts[n + 1] as usize;
-    if blocked(kind, at, end, children, marks) {
-        marks[n] = 3;
+    if blocked(kind, at, end, children, measures) {
+        measures[n] = 3;
         return Answer::Empty;
     }
-    let mut texts = own_text(kind, node, pickle, nodes, marks);
-    marks[n] = 1;
+    let mut texts = own_text(kind, node, pickle, nodes, measures);
+    measures[n] = 1;
     let mut deepest: u64 = 0;
     let mut values: u64 = 1;
     let mut i = at;
@@ -284,7 +284,7 @@ fn measure(
         }
         let child = NodeId(children[i] as usize);
         let mut w: u64 = 129;
-        match known(child, pickle, nodes, marks) {
+        match known(child, pickle, nodes, measures) {
             Seen::Word(k) => {
                 if levels <= k % 128 {
                     return Answer::TooDeep;
@@ -301,7 +301,7 @@ fn measure(
                 children,
                 pickle,
                 nodes,
-                marks,
+                measures,
                 dues,
             ) {
                 Answer::TooDeep => return Answer::TooDeep,
@@ -320,7 +320,7 @@ fn measure(
     }
     note(kind, node, dues);
     let w = deepest + 1 + 128 * least(values, 2049) + 524288 * least(texts, 65537);
-    marks[n] = w;
+    measures[n] = w;
     Answer::Word(w)
 }
 
@@ -331,18 +331,18 @@ pub fn measure_root(
     children: &mut [u16],
     pickle: &[u8],
     nodes: &[u64],
-    marks: &mut [u64],
+    measures: &mut [u64],
     dues: &mut [u16],
 ) -> Answer
-    requires { ⌜ Begins (now pickle) (now nodes) (now starts) (now children) (now marks) (now dues) (node .0) ⌝ }
+    requires { ⌜ Begins (now pickle) (now nodes) (now starts) (now children) (now measures) (now dues) (node .0) ⌝ }
     ensures { λ r.
         ⌜ Roots (now (pickle .entry)) (now (nodes .entry)) (now (starts .entry))
-        (now (children .entry)) (now (marks .entry)) (now (dues .entry))
-        (now (children .exit)) (now (marks .exit)) (now (dues .exit)) (node .0) r ⌝ }
+        (now (children .entry)) (now (measures .entry)) (now (dues .entry))
+        (now (children .exit)) (now (measures .exit)) (now (dues .exit)) (node .0) r ⌝ }
 {
-    match known(node, pickle, nodes, marks) {
+    match known(node, pickle, nodes, measures) {
         Seen::Word(w) => Answer::Word(w),
         Seen::Empty => Answer::Empty,
-        Seen::Open => measure(node, 64, starts, children, pickle, nodes, marks, dues),
+        Seen::Open => measure(node, 64, starts, children, pickle, nodes, measures, dues),
     }
 }

@@ -11,15 +11,15 @@ use native.Mathlib.Omega.{arith}
 use Rattle.value.specs.Value.{Label, Forest, Value, one, nil, node, textOf, text, count, size, NoneL, BoolL, I64L, F64L, BytesL, StringL, ListL, TupleL, SetL, FrozenSetL, DictL, GlobalL, ObjectL}
 use Rattle.steps.specs.State.{Node}
 use Rattle.steps.specs.Opcodes.{isList, isTuple}
-use Rattle.reading.specs.Build.{Mark, Marks, fresh, taken, kept, mark, none, at, blocked}
+use Rattle.reading.specs.Build.{Stage, Stages, fresh, taken, kept, stage, none, at, blocked}
 use Rattle.reading.specs.Settle.{items}
-use Rattle.reading.specs.Unfold.{In, here, there, Marked, same, other, marked}
+use Rattle.reading.specs.Unfold.{In, here, there, Staged, same, other, staged}
 use Rattle.resolved.specs.Resolved.{Kids, Stand, sNil, sNode}
 use Rattle.resolved.specs.Arrange.{byN, insertN, asSetN, itemsN}
 use Rattle.resolved.specs.Moved.{stand-count}
-use Rattle.resolved.specs.Walk.{State, Made, put, overwrite, markR, eachR, finishR, walk, start}
+use Rattle.resolved.specs.Walk.{State, Made, put, overwrite, stageR, eachR, finishR, walk, start}
 use Rattle.resolved.specs.Tree.{walked, start-resolves}
-use Rattle.resolved.specs.Resolves.{Resolves, Called, open-not-done, overwrite-resolves, mark-own, put-same, old-taken}
+use Rattle.resolved.specs.Resolves.{Resolves, Called, open-not-done, overwrite-resolves, stage-own, put-same, old-taken}
 use Rattle.resolved.specs.Resolving.{Resolved, take-resolves, each-resolves, walk-resolves}
 
 module _ (weight : Label → Forest → ℕ) where
@@ -28,39 +28,39 @@ module _ (weight : Label → Forest → ℕ) where
   weighs nil = 0
   weighs (node l c r) = weight l c + (weighs c + weighs r)
 
-  abbrev pub weightOf : Mark → ℕ
+  abbrev pub weightOf : Stage → ℕ
   weightOf fresh = 0
   weightOf taken = 0
   weightOf (kept v) = weight (v .label) (v .contents)
 
   -- of the nodes of a list, by what they keep
-  unfoldable pub spent : Marks → List ℕ → ℕ
+  unfoldable pub spent : Stages → List ℕ → ℕ
   spent d [] = 0
   spent d (i ∷ l) = weightOf (d i) + spent d l
 
   abbrev pub used : State → ℕ
-  used s = spent (s .marks) (s .done)
+  used s = spent (s .stages) (s .done)
 
-  spent-mark : (d : Marks) (i : ℕ) (m : Mark) (l : List ℕ) → ((j : ℕ) → In j l → j ≢ i) → spent (mark i m d) l ≡ spent d l
+  spent-stage : (d : Stages) (i : ℕ) (m : Stage) (l : List ℕ) → ((j : ℕ) → In j l → j ≢ i) → spent (stage i m d) l ≡ spent d l
   unfolding spent
-  spent-mark d i m [] n = refl
-  spent-mark d i m (j ∷ l) n = go (marked i m d j) (spent-mark d i m l (λ k x. n k (there x)))
+  spent-stage d i m [] n = refl
+  spent-stage d i m (j ∷ l) n = go (staged i m d j) (spent-stage d i m l (λ k x. n k (there x)))
     where
-      go : Marked i m d j → spent (mark i m d) l ≡ spent d l → spent (mark i m d) (j ∷ l) ≡ spent d (j ∷ l)
+      go : Staged i m d j → spent (stage i m d) l ≡ spent d l → spent (stage i m d) (j ∷ l) ≡ spent d (j ∷ l)
       go (same p q) ih = absurd (n j here p)
       go (other p q) ih = rw (q, ih)
 
   module _ (t : List Node) (nowhere : ℕ) (beyond : length t ≤ nowhere) where
     each-spent : (g : ℕ → State → Made) → ((i : ℕ) (s : State) → Resolves t nowhere s → Called t nowhere s (g i s))
         → ((i : ℕ) (s : State) → Resolves t nowhere s → used (g i s .after) ≤ used s + weighs (one (g i s .value)))
-        → (n : ℕ) (is js : List ℕ) (s : State) → Resolves t nowhere s → s .marks n ≡ taken → s .kids n ≡ is ++ js
+        → (n : ℕ) (is js : List ℕ) (s : State) → Resolves t nowhere s → s .stages n ≡ taken → s .kids n ≡ is ++ js
         → used (eachR g n is js s .1) ≤ used s + weighs (eachR g n is js s .0)
     unfolding eachR weighs
     each-spent g h u n is [] s r e k = omega arith
     each-spent g h u n is (i ∷ js) s r e k =
         let p = g i s in
         let a : Called t nowhere s p = h i s r in
-        let e₁ : p .after .marks n ≡ taken = a .later .marks-stay n (old-taken _ e) ∙ e in
+        let e₁ : p .after .stages n ≡ taken = a .later .stages-stay n (old-taken _ e) ∙ e in
         let l = is ++ (p .slot ∷ js) in
         let b : p .after .kids n ≡ is ++ (i ∷ js) = a .later .kids-stay n tt (old-taken _ e) ∙ k in
         let m : length l ≡ length (p .after .kids n) = rw b (simp length-append) in
@@ -70,26 +70,26 @@ module _ (weight : Label → Forest → ℕ) where
         let w = each-spent g h u n (is ++ (p .slot ∷ [])) js (overwrite n l (p .after)) r₂ e₁ k₂ in
         omega arith
 
-    fresh-not-done : {s : State} → Resolves t nowhere s → (i : ℕ) → s .marks i ≡ fresh → (j : ℕ) → In j (s .done) → j ≢ i
-    fresh-not-done {s} r i e j m p = let o = r .done-stands j m in let a = o .keeps in let b : s .marks j ≡ fresh = ap (s .marks) p ∙ e in let z : _≡_ {A = ℕ} 0 1 = cc in omega arith
+    fresh-not-done : {s : State} → Resolves t nowhere s → (i : ℕ) → s .stages i ≡ fresh → (j : ℕ) → In j (s .done) → j ≢ i
+    fresh-not-done {s} r i e j m p = let o = r .done-stands j m in let a = o .keeps in let b : s .stages j ≡ fresh = ap (s .stages) p ∙ e in let z : _≡_ {A = ℕ} 0 1 = cc in omega arith
 
-    finish-spent : (i : ℕ) (p : Forest × State) → Resolves t nowhere (p .1) → p .1 .marks i ≡ taken
+    finish-spent : (i : ℕ) (p : Forest × State) → Resolves t nowhere (p .1) → p .1 .stages i ≡ taken
         → used (finishR t i p .after) ≡ used (p .1) + weight (at t i .label) (p .0)
     unfolding finishR spent
     finish-spent i p r e =
         let v : Value = record { label = at t i .label; contents = p .0 } in
-        let a = spent-mark (p .1 .marks) i (kept v) (p .1 .done) (open-not-done t nowhere beyond r i e) in
-        let b : mark i (kept v) (p .1 .marks) i ≡ kept v = mark-own i (kept v) (p .1 .marks) in
+        let a = spent-stage (p .1 .stages) i (kept v) (p .1 .done) (open-not-done t nowhere beyond r i e) in
+        let b : stage i (kept v) (p .1 .stages) i ≡ kept v = stage-own i (kept v) (p .1 .stages) in
         rw (b, a) (omega arith)
 
-    enter-spent : (i : ℕ) (s : State) (p : Forest × State) → Resolves t nowhere s → s .marks i ≡ fresh
-        → Resolved t nowhere beyond i [] (markR i taken s) p → used (p .1) ≤ used (markR i taken s) + weighs (p .0)
+    enter-spent : (i : ℕ) (s : State) (p : Forest × State) → Resolves t nowhere s → s .stages i ≡ fresh
+        → Resolved t nowhere beyond i [] (stageR i taken s) p → used (p .1) ≤ used (stageR i taken s) + weighs (p .0)
         → used (finishR t i p .after) ≤ used s + weighs (one (finishR t i p .value))
     unfolding finishR weighs
     enter-spent i s p r e a u =
-        let o : mark i taken (s .marks) i ≡ taken = mark-own i taken (s .marks) in
-        let e₁ : p .1 .marks i ≡ taken = a .later .marks-stay i (old-taken _ o) ∙ o in
-        let b = spent-mark (s .marks) i taken (s .done) (fresh-not-done r i e) in
+        let o : stage i taken (s .stages) i ≡ taken = stage-own i taken (s .stages) in
+        let e₁ : p .1 .stages i ≡ taken = a .later .stages-stay i (old-taken _ o) ∙ o in
+        let b = spent-stage (s .stages) i taken (s .done) (fresh-not-done r i e) in
         let c = finish-spent i p (a .resolves) e₁ in
         omega arith
 
@@ -97,20 +97,20 @@ module _ (weight : Label → Forest → ℕ) where
         → used (walk t nowhere k i s .after) ≤ used s + weighs (one (walk t nowhere k i s .value))
     unfolding walk
     walk-spent zero i s r = omega arith
-    walk-spent (suc k) i s r = go (s .marks i) refl (blocked t (s .marks) i) refl (walk-spent k)
+    walk-spent (suc k) i s r = go (s .stages i) refl (blocked t (s .stages) i) refl (walk-spent k)
       where
-        go : (m : Mark) → s .marks i ≡ m → (b : Bool) → blocked t (s .marks) i ≡ b
+        go : (m : Stage) → s .stages i ≡ m → (b : Bool) → blocked t (s .stages) i ≡ b
             → ((j : ℕ) (c : State) → Resolves t nowhere c → used (walk t nowhere k j c .after) ≤ used c + weighs (one (walk t nowhere k j c .value)))
             → used (walk t nowhere (suc k) i s .after) ≤ used s + weighs (one (walk t nowhere (suc k) i s .value))
         go (kept v) e b f ih = rw (e, walk) (omega arith)
         go taken e b f ih = rw (e, walk) (omega arith)
-        go fresh e true f ih = let a = spent-mark (s .marks) i (kept none) (s .done) (fresh-not-done r i e) in rw (e, f, walk) (omega arith)
+        go fresh e true f ih = let a = spent-stage (s .stages) i (kept none) (s .done) (fresh-not-done r i e) in rw (e, f, walk) (omega arith)
         go fresh e false f ih =
             let r₀ = take-resolves t nowhere beyond s i r e in
-            let o = mark-own i taken (s .marks) in
+            let o = stage-own i taken (s .stages) in
             rw (e, f, walk)
-            (enter-spent i s _ r e (each-resolves t nowhere beyond (walk t nowhere k) (walk-resolves t nowhere beyond k) i [] (at t i .kids) (markR i taken s) r₀ o (r .fresh-is i e))
-            (each-spent (walk t nowhere k) (walk-resolves t nowhere beyond k) ih i [] (at t i .kids) (markR i taken s) r₀ o (r .fresh-is i e)))
+            (enter-spent i s _ r e (each-resolves t nowhere beyond (walk t nowhere k) (walk-resolves t nowhere beyond k) i [] (at t i .kids) (stageR i taken s) r₀ o (r .fresh-is i e))
+            (each-spent (walk t nowhere k) (walk-resolves t nowhere beyond k) ih i [] (at t i .kids) (stageR i taken s) r₀ o (r .fresh-is i e)))
 
 -- ---- the texts
 
@@ -221,7 +221,7 @@ unfolding weighs size
 one-weighs nil = refl
 one-weighs (node l c r) = let a = one-weighs c in let b = one-weighs r in omega arith
 
-one-spent : (d : Marks) (l : List ℕ) → ((i : ℕ) → In i l → (v : Value) × (d i ≡ kept v)) → spent ownOne d l ≡ length l
+one-spent : (d : Stages) (l : List ℕ) → ((i : ℕ) → In i l → (v : Value) × (d i ≡ kept v)) → spent ownOne d l ≡ length l
 unfolding spent
 one-spent d [] h = refl
 one-spent d (i ∷ l) h = let a = one-spent d l (λ j m. h j (there m)) in let e = h i here .1 in rw e (omega arith)
@@ -230,7 +230,7 @@ one-spent d (i ∷ l) h = let a = one-spent d l (λ j m. h j (there m)) in let e
 
 module _ (t : List Node) (nowhere : ℕ) (beyond : length t ≤ nowhere) (k root : ℕ) where
   -- the items of finished Sets, and one for the root
-  pub items-spent : spent ownItems (walked t nowhere k root .after .marks) (walked t nowhere k root .after .done) + 1 ≤ size (one (walked t nowhere k root .value))
+  pub items-spent : spent ownItems (walked t nowhere k root .after .stages) (walked t nowhere k root .after .done) + 1 ≤ size (one (walked t nowhere k root .value))
   unfolding spent count
   items-spent =
       let a = walk-spent ownItems t nowhere beyond k root (start t) (start-resolves t nowhere beyond) in
@@ -238,7 +238,7 @@ module _ (t : List Node) (nowhere : ℕ) (beyond : length t ≤ nowhere) (k root
       omega arith
 
   -- the texts of finished nodes
-  pub text-spent : spent ownText (walked t nowhere k root .after .marks) (walked t nowhere k root .after .done) ≤ length (text (one (walked t nowhere k root .value)))
+  pub text-spent : spent ownText (walked t nowhere k root .after .stages) (walked t nowhere k root .after .done) ≤ length (text (one (walked t nowhere k root .value)))
   unfolding spent
   text-spent =
       let a = walk-spent ownText t nowhere beyond k root (start t) (start-resolves t nowhere beyond) in
@@ -252,5 +252,5 @@ module _ (t : List Node) (nowhere : ℕ) (beyond : length t ≤ nowhere) (k root
       let r = walk-resolves t nowhere beyond k root (start t) (start-resolves t nowhere beyond) .resolves in
       let a = walk-spent ownOne t nowhere beyond k root (start t) (start-resolves t nowhere beyond) in
       let b = one-weighs (one (walked t nowhere k root .value)) in
-      let c = one-spent (walked t nowhere k root .after .marks) (walked t nowhere k root .after .done) (λ i m. let o = r .done-stands i m in (o .value, o .keeps)) in
+      let c = one-spent (walked t nowhere k root .after .stages) (walked t nowhere k root .after .done) (λ i m. let o = r .done-stands i m in (o .value, o .keeps)) in
       omega arith

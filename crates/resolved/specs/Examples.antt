@@ -3,7 +3,7 @@ use mathlib.Core.List.{List, [], _∷_}
 use mathlib.Core.Path.{_≡_, refl}
 use Rattle.value.specs.Value.{I64L, ListL, TupleL, SetL, DictL}
 use Rattle.value.specs.Order.{lex, labels, _then_}
-use Rattle.steps.specs.State.{Node, plain}
+use Rattle.steps.specs.State.{Node, kidless}
 use Rattle.reading.specs.Build.{blocked, firstTaken}
 use Rattle.resolved.specs.Resolved.{Kids}
 use Rattle.resolved.specs.Walk.{State, start, eachR, finishR, walk}
@@ -14,8 +14,8 @@ use Rattle.resolved.specs.Compare.{forestsN, orderN, compareN}
 -- the numbers 2 and 1, the List [2, 1, 2], its Set, the Dict {2: 1, 1: 1, 2: the Set}, and the Tuple of Set and Dict
 abbrev nodes : List Node
 nodes =
-    plain (I64L 2)
-    ∷ plain (I64L 1)
+    kidless (I64L 2)
+    ∷ kidless (I64L 1)
     ∷ record { label = ListL; kids = 0 ∷ 1 ∷ 0 ∷ [] }
     ∷ record { label = SetL; kids = 2 ∷ [] }
     ∷ record { label = DictL; kids = 0 ∷ 1 ∷ 1 ∷ 1 ∷ 0 ∷ 3 ∷ [] }

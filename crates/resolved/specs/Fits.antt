@@ -1,4 +1,4 @@
--- The rooms of the code hold a state of the walk: its marks as words, its lists side by side. A law for each store that the code makes.
+-- The rooms of the code hold a state of the walk: its stages as words, its lists side by side. A law for each store that the code makes.
 use Prim.Native.Nat.{ℕ, _+_, _<_, _≤_}
 use mathlib.Core.Bool.{true, false}
 use mathlib.Core.List.{List, _∷_, _++_}
@@ -14,12 +14,12 @@ use Rattle.reading.specs.Graph.{Graph}
 use Rattle.reading.specs.Unfold.{In, freshness}
 use Rattle.resolved.specs.Resolved.{Stand}
 use Rattle.resolved.specs.Ordered.{Final}
-use Rattle.resolved.specs.Walk.{State, put, gone, overwrite, markR, finishR, start}
-use Rattle.resolved.specs.Resolves.{Resolves, put-same, put-other, own-stays, overwrite-resolves, mark-resolves, finish-resolves}
+use Rattle.resolved.specs.Walk.{State, put, gone, overwrite, stageR, finishR, start}
+use Rattle.resolved.specs.Resolves.{Resolves, put-same, put-other, own-stays, overwrite-resolves, stage-resolves, finish-resolves}
 use Rattle.resolved.specs.Resolving.{take-resolves}
 use Rattle.resolved.specs.Tree.{start-resolves}
 use Rattle.resolved.specs.Ranges.{Lies, graph-lies, lies-put}
-use Rattle.resolved.specs.Noted.{isContainer, Noted, unseen, noted-mark, noted-done}
+use Rattle.resolved.specs.Noted.{isContainer, Noted, unseen, noted-stage, noted-done}
 
 module _ (t : List Node) (nowhere : ℕ) (beyond : length t ≤ nowhere) (word : Value → ℕ) (starts : List ℕ) where
   pub record FitsState (words children : List ℕ) (s : State) : Type 0 where
@@ -38,22 +38,22 @@ module _ (t : List Node) (nowhere : ℕ) (beyond : length t ≤ nowhere) (word :
       }
 
   module _ (words children : List ℕ) (s : State) (f : FitsState words children s) where
-    -- marks[i] = 1
-    pub fits-take : (i : ℕ) → i < length t → isContainer (at t i .label) ≡ true → s .marks i ≡ fresh → FitsState (set words i 1) children (markR i taken s)
-    fits-take i l c e = record { resolves = take-resolves t nowhere beyond s i (f .resolves) e; noted = noted-mark t word words s i 1 taken (f .noted) l c refl; lies = f .lies }
+    -- measures[i] = 1
+    pub fits-take : (i : ℕ) → i < length t → isContainer (at t i .label) ≡ true → s .stages i ≡ fresh → FitsState (set words i 1) children (stageR i taken s)
+    fits-take i l c e = record { resolves = take-resolves t nowhere beyond s i (f .resolves) e; noted = noted-stage t word words s i 1 taken (f .noted) l c refl; lies = f .lies }
 
-    -- marks[i] = 3
-    pub fits-block : (i : ℕ) → i < length t → isContainer (at t i .label) ≡ true → s .marks i ≡ fresh → isObject (at t i .label) ≡ true
-        → FitsState (set words i 3) children (markR i (kept none) s)
+    -- measures[i] = 3
+    pub fits-block : (i : ℕ) → i < length t → isContainer (at t i .label) ≡ true → s .stages i ≡ fresh → isObject (at t i .label) ≡ true
+        → FitsState (set words i 3) children (stageR i (kept none) s)
     unfolding freshness
     fits-block i l c e o =
-        record { resolves = mark-resolves t nowhere beyond s i (kept none) (f .resolves) e refl blocks; noted = noted-mark t word words s i 3 (kept none) (f .noted) l c (let o′ = o in rw o′); lies = f .lies }
+        record { resolves = stage-resolves t nowhere beyond s i (kept none) (f .resolves) e refl blocks; noted = noted-stage t word words s i 3 (kept none) (f .noted) l c (let o′ = o in rw o′); lies = f .lies }
       where
         blocks : (v : Value) → kept none ≡ kept v → (gone t i v ≡ true) × (v ≡ none)
         blocks v q = let z : none ≡ v = cc in let o′ = o in (rw (← z, o′), sym z)
 
     -- children[starts[n] + the number of those before] = x
-    pub fits-put : (n : ℕ) → n < length t → s .marks n ≡ taken → (is js : List ℕ) (c x : ℕ) → s .kids n ≡ is ++ (c ∷ js)
+    pub fits-put : (n : ℕ) → n < length t → s .stages n ≡ taken → (is js : List ℕ) (c x : ℕ) → s .kids n ≡ is ++ (c ∷ js)
         → FitsState words (set children (getD starts n 0 + length is) x) (overwrite n (is ++ (x ∷ js)) s)
     fits-put n l e is js c x h =
         record {
@@ -63,7 +63,7 @@ module _ (t : List Node) (nowhere : ℕ) (beyond : length t ≤ nowhere) (word :
         }
 
     -- a child that stays is not stored
-    pub fits-same : (n : ℕ) → s .marks n ≡ taken → (l : List ℕ) → s .kids n ≡ l → FitsState words children (overwrite n l s)
+    pub fits-same : (n : ℕ) → s .stages n ≡ taken → (l : List ℕ) → s .kids n ≡ l → FitsState words children (overwrite n l s)
     fits-same n e l h =
         record {
           resolves = overwrite-resolves t nowhere beyond s n l (f .resolves) e (ap length (sym h));
@@ -75,13 +75,13 @@ module _ (t : List Node) (nowhere : ℕ) (beyond : length t ≤ nowhere) (word :
         go j (yes p) = ap (s .kids) p ∙ (h ∙ (sym (put-same n l (s .kids)) ∙ ap (put n l (s .kids)) (sym p)))
         go j (no p) = sym (put-other n l (s .kids) j p)
 
-    -- marks[i] = the word of what it keeps
-    pub fits-finish : (i : ℕ) → i < length t → isContainer (at t i .label) ≡ true → s .marks i ≡ taken → (c : Forest)
+    -- measures[i] = the word of what it keeps
+    pub fits-finish : (i : ℕ) → i < length t → isContainer (at t i .label) ≡ true → s .stages i ≡ taken → (c : Forest)
         → Stand t (s .kids) (s .kids i) c → ((j : ℕ) → In j (s .kids i) → Final nowhere (s .done) j)
         → let v : Value = record { label = at t i .label; contents = c } in FitsState (set words i (word v)) children (finishR t i (c, s) .after)
     unfolding finishR
     fits-finish i l b e c w z =
         let v : Value = record { label = at t i .label; contents = c } in
         let o : gone t i v ≡ false = own-stays (at t i .label) in
-        let n : Noted t word (set words i (word v)) (markR i (kept v) s) = noted-mark t word words s i (word v) (kept v) (f .noted) l b (rw o) in
-        record { resolves = finish-resolves t nowhere beyond s i c (f .resolves) e w z; noted = noted-done t word (set words i (word v)) (markR i (kept v) s) i n b; lies = f .lies }
+        let n : Noted t word (set words i (word v)) (stageR i (kept v) s) = noted-stage t word words s i (word v) (kept v) (f .noted) l b (rw o) in
+        record { resolves = finish-resolves t nowhere beyond s i c (f .resolves) e w z; noted = noted-done t word (set words i (word v)) (stageR i (kept v) s) i n b; lies = f .lies }

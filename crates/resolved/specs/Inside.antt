@@ -7,11 +7,11 @@ use lib.ListN.{length}
 use native.Mathlib.Omega.{arith}
 use Rattle.value.specs.Value.{Forest, one, depth}
 use Rattle.steps.specs.State.{Node}
-use Rattle.reading.specs.Build.{Mark, fresh, taken, kept, at, blocked, tree}
+use Rattle.reading.specs.Build.{Stage, fresh, taken, kept, at, blocked, tree}
 use Rattle.reading.specs.Settle.{settle}
 use Rattle.reading.specs.Unfold.{In, here, there}
 use Rattle.resolved.specs.Resolved.{Kids, Stand}
-use Rattle.resolved.specs.Walk.{State, Made, overwrite, markR, eachR, finishR, walk, start}
+use Rattle.resolved.specs.Walk.{State, Made, overwrite, stageR, eachR, finishR, walk, start}
 use Rattle.resolved.specs.Ordered.{Final}
 use Rattle.resolved.specs.Resolves.{Called, resolves-empty}
 use Rattle.resolved.specs.Resolving.{walk-resolves}
@@ -39,14 +39,14 @@ module _ (t : List Node) (inside : (i j : ℕ) → In j (at t i .kids) → j < l
   pub walk-within : (k i : ℕ) (s : State) → i < length t → Within t s → Within t (walk t nowhere k i s .after)
   unfolding walk
   walk-within zero i s l w = w
-  walk-within (suc k) i s l w = go (s .marks i) refl (blocked t (s .marks) i) refl (walk-within k)
+  walk-within (suc k) i s l w = go (s .stages i) refl (blocked t (s .stages) i) refl (walk-within k)
     where
-      go : (m : Mark) → s .marks i ≡ m → (b : Bool) → blocked t (s .marks) i ≡ b
+      go : (m : Stage) → s .stages i ≡ m → (b : Bool) → blocked t (s .stages) i ≡ b
           → ((j : ℕ) (c : State) → j < length t → Within t c → Within t (walk t nowhere k j c .after)) → Within t (walk t nowhere (suc k) i s .after)
       go (kept v) e b f ih = rw (e, walk) w
       go taken e b f ih = rw (e, walk) w
       go fresh e true f ih = rw (e, f, walk) w
-      go fresh e false f ih = rw (e, f, walk) (finish-within i _ l (each-within (walk t nowhere k) ih i [] (at t i .kids) (markR i taken s) (inside i) w))
+      go fresh e false f ih = rw (e, f, walk) (finish-within i _ l (each-within (walk t nowhere k) ih i [] (at t i .kids) (stageR i taken s) (inside i) w))
 
   -- the walk's graph, settled: the root stands for the tree settled
   pub tree-settled : length t ≤ nowhere → (k root : ℕ) → root < length t → depth (one (tree t root)) ≤ suc k → (h : Kids)

@@ -1,6 +1,6 @@
--- The marks of the code, a word a node, beside those of the walk. A container's is 0 while it is fresh, 1 while it is taken, 3 when it is
+-- The measures of the code, a word a node, beside the stages of the walk. A container's is 0 while it is fresh, 1 while it is taken, 3 when it is
 -- None for good, else the word of the value that is kept. A leaf's word is stored when the walk comes to it; one that was wanted before, as
--- an Object's class, is stored with the bit `ahead`, which goes when the walk comes there too. So the marks tell which texts are in the tree.
+-- an Object's class, is stored with the bit `ahead`, which goes when the walk comes there too. So the measures tell which texts are in the tree.
 use Prim.Native.Nat.{ℕ, suc, _+_, _<_, _≤_}
 use mathlib.Core.Bool.{Bool, true, false, cond}
 use mathlib.Core.List.{List, [], _∷_}
@@ -13,11 +13,11 @@ use native.Mathlib.Omega.{arith}
 use Rattle.value.specs.Value.{Label, Value, nil, NoneL, BoolL, I64L, F64L, BytesL, StringL, ListL, TupleL, SetL, FrozenSetL, DictL, GlobalL, ObjectL}
 use Rattle.steps.specs.State.{Node}
 use Rattle.steps.specs.Opcodes.{isObject}
-use Rattle.reading.specs.Build.{Mark, fresh, taken, kept, mark, at, blocked}
-use Rattle.reading.specs.Unfold.{In, here, there, Marked, same, other, marked}
+use Rattle.reading.specs.Build.{Stage, fresh, taken, kept, stage, at, blocked}
+use Rattle.reading.specs.Unfold.{In, here, there, Staged, same, other, staged}
 use Rattle.resolved.specs.Resolved.{sNil, sNode, StandsFor, value-unique}
 use Rattle.resolved.specs.Ordered.{in-rest}
-use Rattle.resolved.specs.Walk.{State, Made, gone, markR, eachR, finishR, walk}
+use Rattle.resolved.specs.Walk.{State, Made, gone, stageR, eachR, finishR, walk}
 use Rattle.resolved.specs.Resolves.{Resolves, childless}
 
 -- what has children
@@ -79,13 +79,13 @@ both : (b : Bool) → b ≡ true → b ≡ false → ⊥
 both b p q = let z : _≡_ {A = ℕ} 0 1 = cc in omega arith
 
 module _ (t : List Node) (word : Value → ℕ) where
-  -- the word of a container's mark
-  abbrev pub noted : ℕ → Mark → ℕ
+  -- the word of a container's stage
+  abbrev pub noted : ℕ → Stage → ℕ
   noted i fresh = 0
   noted i taken = 1
   noted i (kept v) = cond (gone t i v) 3 (word v)
 
-  -- the word of a leaf's mark, where the walk has finished these nodes
+  -- the word of a leaf's stage, where the walk has finished these nodes
   pub data LeafNoted (done : List ℕ) (j w : ℕ) : Type 0 where
     unseen : w ≡ 0 → (isTextLeaf (at t j .label) ≡ true → ¬ In j done) → LeafNoted done j w
     early : w ≡ word (leafOf t j) + ahead → (isTextLeaf (at t j .label) ≡ true → ¬ In j done) → LeafNoted done j w
@@ -93,10 +93,10 @@ module _ (t : List Node) (word : Value → ℕ) where
 
   pub record Noted (words : List ℕ) (s : State) : Type 0 where
     pub long : length words ≡ length t
-    pub container : (j : ℕ) → j < length t → isContainer (at t j .label) ≡ true → getD words j 0 ≡ noted j (s .marks j)
+    pub container : (j : ℕ) → j < length t → isContainer (at t j .label) ≡ true → getD words j 0 ≡ noted j (s .stages j)
     pub leaf : (j : ℕ) → j < length t → isContainer (at t j .label) ≡ false → LeafNoted (s .done) j (getD words j 0)
     -- no leaf is walked in
-    pub calm : (j : ℕ) → isContainer (at t j .label) ≡ false → s .marks j ≢ taken
+    pub calm : (j : ℕ) → isContainer (at t j .label) ≡ false → s .stages j ≢ taken
 
   -- another node is finished
   leaf-more : {done : List ℕ} {i j w : ℕ} → j ≢ i → LeafNoted done j w → LeafNoted (i ∷ done) j w
@@ -107,12 +107,12 @@ module _ (t : List Node) (word : Value → ℕ) where
   leaf-other : (i j : ℕ) → isContainer (at t i .label) ≡ true → isContainer (at t j .label) ≡ false → j ≢ i
   leaf-other i j c d q = let x : isContainer (at t i .label) ≡ false = rw q at d in both _ c x
 
-  -- ---- a container is marked, and finished
+  -- ---- a container is staged, and finished
 
-  pub noted-mark : (words : List ℕ) (s : State) (i w : ℕ) (m : Mark) → Noted words s → i < length t → isContainer (at t i .label) ≡ true
+  pub noted-stage : (words : List ℕ) (s : State) (i w : ℕ) (m : Stage) → Noted words s → i < length t → isContainer (at t i .label) ≡ true
       → w ≡ noted i m
-      → Noted (set words i w) (markR i m s)
-  noted-mark words s i w m n l c e =
+      → Noted (set words i w) (stageR i m s)
+  noted-stage words s i w m n l c e =
       record {
         long = length-set words i w ∙ n .long;
         container = go;
@@ -120,22 +120,22 @@ module _ (t : List Node) (word : Value → ℕ) where
         calm = go3;
       }
     where
-      go : (j : ℕ) → j < length t → isContainer (at t j .label) ≡ true → getD (set words i w) j 0 ≡ noted j (mark i m (s .marks) j)
-      go j k d = pick (marked i m (s .marks) j)
+      go : (j : ℕ) → j < length t → isContainer (at t j .label) ≡ true → getD (set words i w) j 0 ≡ noted j (stage i m (s .stages) j)
+      go j k d = pick (staged i m (s .stages) j)
         where
-          pick : Marked i m (s .marks) j → getD (set words i w) j 0 ≡ noted j (mark i m (s .marks) j)
+          pick : Staged i m (s .stages) j → getD (set words i w) j 0 ≡ noted j (stage i m (s .stages) j)
           pick (same p q) = let k′ : i < length words = omega (arith, n .long) in rw (q, p, getD-set-same words i w 0 k′) e
           pick (other p q) = rw (q, getD-set-other words i j w 0 p) (n .container j k d)
 
-      go3 : (j : ℕ) → isContainer (at t j .label) ≡ false → mark i m (s .marks) j ≢ taken
-      go3 j d f = pick (marked i m (s .marks) j)
+      go3 : (j : ℕ) → isContainer (at t j .label) ≡ false → stage i m (s .stages) j ≢ taken
+      go3 j d f = pick (staged i m (s .stages) j)
         where
-          pick : Marked i m (s .marks) j → ⊥
+          pick : Staged i m (s .stages) j → ⊥
           pick (same p q) = leaf-other i j c d p
           pick (other p q) = n .calm j d (sym q ∙ f)
 
   pub noted-done : (words : List ℕ) (s : State) (i : ℕ) → Noted words s → isContainer (at t i .label) ≡ true
-      → Noted words (record { marks = s .marks; kids = s .kids; done = i ∷ s .done })
+      → Noted words (record { stages = s .stages; kids = s .kids; done = i ∷ s .done })
   noted-done words s i n c = record { long = n .long; container = n .container; leaf = λ j k d. leaf-more (leaf-other i j c d) (n .leaf j k d); calm = n .calm }
 
   -- ---- the walk comes to a leaf
@@ -192,15 +192,15 @@ module _ (t : List Node) (word : Value → ℕ) where
   -- ---- what a container's word says
 
   pub data Reads (s : State) (i w : ℕ) : Type 0 where
-    is-fresh : s .marks i ≡ fresh → w ≡ 0 → Reads s i w
-    is-taken : s .marks i ≡ taken → w ≡ 1 → Reads s i w
-    is-gone : (v : Value) → s .marks i ≡ kept v → gone t i v ≡ true → w ≡ 3 → Reads s i w
-    is-kept : (v : Value) → s .marks i ≡ kept v → gone t i v ≡ false → w ≡ word v → Reads s i w
+    is-fresh : s .stages i ≡ fresh → w ≡ 0 → Reads s i w
+    is-taken : s .stages i ≡ taken → w ≡ 1 → Reads s i w
+    is-gone : (v : Value) → s .stages i ≡ kept v → gone t i v ≡ true → w ≡ 3 → Reads s i w
+    is-kept : (v : Value) → s .stages i ≡ kept v → gone t i v ≡ false → w ≡ word v → Reads s i w
 
   pub reads : (words : List ℕ) (s : State) (i : ℕ) → Noted words s → i < length t → isContainer (at t i .label) ≡ true → Reads s i (getD words i 0)
-  reads words s i n l c = go (s .marks i) refl (n .container i l c)
+  reads words s i n l c = go (s .stages i) refl (n .container i l c)
     where
-      go : (m : Mark) → s .marks i ≡ m → getD words i 0 ≡ noted i (s .marks i) → Reads s i (getD words i 0)
+      go : (m : Stage) → s .stages i ≡ m → getD words i 0 ≡ noted i (s .stages i) → Reads s i (getD words i 0)
       go fresh e h = is-fresh e (h ∙ ap (noted i) e)
       go taken e h = is-taken e (h ∙ ap (noted i) e)
       go (kept v) e h = go2 (gone t i v) refl (h ∙ ap (noted i) e)
@@ -237,36 +237,36 @@ module _ (t : List Node) (word : Value → ℕ) where
         }
 
     -- finished now
-    leaf-finish : Leaf words′ i (finishR t i (nil, markR i taken s))
+    leaf-finish : Leaf words′ i (finishR t i (nil, stageR i taken s))
     unfolding finishR
     leaf-finish = record { value = refl; slot = refl; noted-still = record { long = x .long ∙ n .long; container = go; leaf = leaf-stamped (i ∷ s .done) here (λ j q a. leaf-more q a); calm = go2 } }
       where
         go : (j : ℕ) → j < length t → isContainer (at t j .label) ≡ true
-            → getD words′ j 0 ≡ noted j (mark i (kept (leafOf t i)) (mark i taken (s .marks)) j)
-        go j k d = pick (marked i (kept (leafOf t i)) (mark i taken (s .marks)) j) (marked i taken (s .marks) j)
+            → getD words′ j 0 ≡ noted j (stage i (kept (leafOf t i)) (stage i taken (s .stages)) j)
+        go j k d = pick (staged i (kept (leafOf t i)) (stage i taken (s .stages)) j) (staged i taken (s .stages) j)
           where
-            pick : Marked i (kept (leafOf t i)) (mark i taken (s .marks)) j → Marked i taken (s .marks) j
-                → getD words′ j 0 ≡ noted j (mark i (kept (leafOf t i)) (mark i taken (s .marks)) j)
+            pick : Staged i (kept (leafOf t i)) (stage i taken (s .stages)) j → Staged i taken (s .stages) j
+                → getD words′ j 0 ≡ noted j (stage i (kept (leafOf t i)) (stage i taken (s .stages)) j)
             pick (same p q) y = absurd (leaf-other j i d c (sym p))
             pick (other p q) (same p′ q′) = absurd (p p′)
             pick (other p q) (other p′ q′) = x .others j p ∙ (n .container j k d ∙ ap (noted j) (sym (q ∙ q′)))
 
-        go2 : (j : ℕ) → isContainer (at t j .label) ≡ false → mark i (kept (leafOf t i)) (mark i taken (s .marks)) j ≢ taken
-        go2 j d f = pick (marked i (kept (leafOf t i)) (mark i taken (s .marks)) j) (marked i taken (s .marks) j)
+        go2 : (j : ℕ) → isContainer (at t j .label) ≡ false → stage i (kept (leafOf t i)) (stage i taken (s .stages)) j ≢ taken
+        go2 j d f = pick (staged i (kept (leafOf t i)) (stage i taken (s .stages)) j) (staged i taken (s .stages) j)
           where
-            pick : Marked i (kept (leafOf t i)) (mark i taken (s .marks)) j → Marked i taken (s .marks) j → ⊥
+            pick : Staged i (kept (leafOf t i)) (stage i taken (s .stages)) j → Staged i taken (s .stages) j → ⊥
             pick (same p q) y = let z : _≡_ {A = ℕ} 0 1 = cc in omega arith
             pick (other p q) (same p′ q′) = p p′
             pick (other p q) (other p′ q′) = n .calm j d (sym (q ∙ q′) ∙ f)
 
     pub leaf-walk : (k : ℕ) → Resolves t nowhere s → at t i .kids ≡ [] → Leaf words′ i (walk t nowhere (suc k) i s)
     unfolding walk blocked eachR
-    leaf-walk k r e = go (s .marks i) refl
+    leaf-walk k r e = go (s .stages i) refl
       where
         o : isObject (at t i .label) ≡ false
         o = not-object (at t i .label) c
 
-        go : (m : Mark) → s .marks i ≡ m → Leaf words′ i (walk t nowhere (suc k) i s)
+        go : (m : Stage) → s .stages i ≡ m → Leaf words′ i (walk t nowhere (suc k) i s)
         go (kept v) f =
             let g : gone t i v ≡ false = rw o in
             let m = r .kept-done i v f g in

@@ -1,4 +1,4 @@
--- What the marks tell the passes behind the walk: a container with a word, and a leaf with one that was not read ahead, is finished; and a
+-- What the measures tell the passes behind the walk: a container with a word, and a leaf with one that was not read ahead, is finished; and a
 -- finished node has its word, unless it is a leaf without text. The texts of finished nodes are together no longer than the value's.
 use Prim.Native.Nat.{ℕ, _<_, _≤_}
 use mathlib.Core.Bool.{Bool, true, false, cond}
@@ -65,7 +65,7 @@ module _ (t : List Node) (word : Value → ℕ) (nowhere : ℕ) (words : List �
 module _ (t : List Node) (nowhere : ℕ) (s : State) (r : Resolves t nowhere s) where
   -- finished nodes' texts are among those that the walk has spent
   pub due-texts : (due : ℕ → Bool) → ((j : ℕ) → j < length t → due j ≡ true → In j (s .done))
-      → upTo (textIf t due) (length t) ≤ spent ownText (s .marks) (s .done)
+      → upTo (textIf t due) (length t) ≤ spent ownText (s .stages) (s .done)
   unfolding over spent
   due-texts due h = omega (arith, upTo-over (textIf t due) (length t) (s .done) some, each (s .done) (λ j m. m))
     where
@@ -76,7 +76,7 @@ module _ (t : List Node) (nowhere : ℕ) (s : State) (r : Resolves t nowhere s) 
           go true e = h j l e
           go false e = absurd (d (rw e))
 
-      each : (l : List ℕ) → ((j : ℕ) → In j l → In j (s .done)) → over (textIf t due) l ≤ spent ownText (s .marks) l
+      each : (l : List ℕ) → ((j : ℕ) → In j l → In j (s .done)) → over (textIf t due) l ≤ spent ownText (s .stages) l
       each [] h = omega arith
       each (j ∷ l) h = let ih = each l (λ i m. h i (there m)) in one-more (r .done-stands j (h j here)) ih
         where
@@ -84,7 +84,7 @@ module _ (t : List Node) (nowhere : ℕ) (s : State) (r : Resolves t nowhere s) 
           part true = omega arith
           part false = omega arith
 
-          one-more : Stood t s j → over (textIf t due) l ≤ spent ownText (s .marks) l → over (textIf t due) (j ∷ l) ≤ spent ownText (s .marks) (j ∷ l)
+          one-more : Stood t s j → over (textIf t due) l ≤ spent ownText (s .stages) l → over (textIf t due) (j ∷ l) ≤ spent ownText (s .stages) (j ∷ l)
           one-more o ih =
               let k = o .keeps in
               let e : o .value .label ≡ at t j .label = stand-label (o .stands) in

@@ -9,25 +9,25 @@ use native.Mathlib.Omega.{arith}
 use Rattle.value.specs.Value.{Forest, Value}
 use Rattle.steps.specs.State.{Node}
 use Rattle.steps.specs.Opcodes.{isObject}
-use Rattle.reading.specs.Build.{Mark, Marks, fresh, taken, kept, mark, none, at, firstTaken, blocked}
-use Rattle.reading.specs.Unfold.{In, here, there, Marked, same, other, marked, freshness}
+use Rattle.reading.specs.Build.{Stage, Stages, fresh, taken, kept, stage, none, at, firstTaken, blocked}
+use Rattle.reading.specs.Unfold.{In, here, there, Staged, same, other, staged, freshness}
 use Rattle.resolved.specs.Resolved.{Stand, sNil, sNode, StandsFor, frame, stand-before}
 use Rattle.resolved.specs.Ordered.{Final}
-use Rattle.resolved.specs.Walk.{State, Made, gone, overwrite, markR, eachR, finishR, walk}
-use Rattle.resolved.specs.Resolves.{Resolves, Later, Any, Called, old-taken, not-old, put-same, mark-own, nowhere-none, resolves-empty, later-frame, open-not-done, overwrite-later, overwrite-resolves, mark-later, mark-resolves, finish-resolves}
+use Rattle.resolved.specs.Walk.{State, Made, gone, overwrite, stageR, eachR, finishR, walk}
+use Rattle.resolved.specs.Resolves.{Resolves, Later, Any, Called, old-taken, not-old, put-same, stage-own, nowhere-none, resolves-empty, later-frame, open-not-done, overwrite-later, overwrite-resolves, stage-later, stage-resolves, finish-resolves}
 
 module _ (t : List Node) (nowhere : ℕ) (beyond : length t ≤ nowhere) where
   -- ---- over a list of children
 
   pub later-all : {s s′ : State} (Q : ℕ → Type 0) → Later Any s s′ → Later Q s s′
-  later-all Q l = record { marks-stay = l .marks-stay; kids-stay = λ j q z. l .kids-stay j tt z; more = l .more }
+  later-all Q l = record { stages-stay = l .stages-stay; kids-stay = λ j q z. l .kids-stay j tt z; more = l .more }
 
   pub later-then : {Q : ℕ → Type 0} {s s′ s″ : State} → Later Q s s′ → Later Q s′ s″ → Later Q s s″
   later-then {Q} {s} {s′} {s″} a b =
-      record { marks-stay = λ j z. b .marks-stay j (old j z) ∙ a .marks-stay j z; kids-stay = λ j q z. b .kids-stay j q (old j z) ∙ a .kids-stay j q z; more = λ j m. b .more j (a .more j m) }
+      record { stages-stay = λ j z. b .stages-stay j (old j z) ∙ a .stages-stay j z; kids-stay = λ j q z. b .kids-stay j q (old j z) ∙ a .kids-stay j q z; more = λ j m. b .more j (a .more j m) }
     where
-      old : (j : ℕ) → freshness (s .marks j) ≡ 0 → freshness (s′ .marks j) ≡ 0
-      old j z = rw (a .marks-stay j z) z
+      old : (j : ℕ) → freshness (s .stages j) ≡ 0 → freshness (s′ .stages j) ≡ 0
+      old j z = rw (a .stages-stay j z) z
 
   -- when the children of node n behind `is` are done: the numbers now in their places, and what these stand for
   pub record Resolved (n : ℕ) (is : List ℕ) (s : State) (p : Forest × State) : Type 0 where
@@ -39,13 +39,13 @@ module _ (t : List Node) (nowhere : ℕ) (beyond : length t ≤ nowhere) where
     pub final : (j : ℕ) → In j news → Final nowhere (p .1 .done) j
 
   pub each-resolves : (g : ℕ → State → Made) → ((i : ℕ) (s : State) → Resolves t nowhere s → Called t nowhere s (g i s))
-      → (n : ℕ) (is js : List ℕ) (s : State) → Resolves t nowhere s → s .marks n ≡ taken → s .kids n ≡ is ++ js → Resolved n is s (eachR g n is js s)
+      → (n : ℕ) (is js : List ℕ) (s : State) → Resolves t nowhere s → s .stages n ≡ taken → s .kids n ≡ is ++ js → Resolved n is s (eachR g n is js s)
   unfolding eachR
-  each-resolves g h n is [] s r e k = record { news = []; resolves = r; later = record { marks-stay = λ j z. refl; kids-stay = λ j q z. refl; more = λ j m. m }; held = k; stands = sNil; final = λ j m. elim m [ ] }
+  each-resolves g h n is [] s r e k = record { news = []; resolves = r; later = record { stages-stay = λ j z. refl; kids-stay = λ j q z. refl; more = λ j m. m }; held = k; stands = sNil; final = λ j m. elim m [ ] }
   each-resolves g h n is (i ∷ js) s r e k =
       let p = g i s in
       let a : Called t nowhere s p = h i s r in
-      let e₁ : p .after .marks n ≡ taken = a .later .marks-stay n (old-taken _ e) ∙ e in
+      let e₁ : p .after .stages n ≡ taken = a .later .stages-stay n (old-taken _ e) ∙ e in
       let l = is ++ (p .slot ∷ js) in
       let s₂ = overwrite n l (p .after) in
       let r₂ : Resolves t nowhere s₂ = overwrite-resolves t nowhere beyond (p .after) n l (a .resolves) e₁ (same-length a) in
@@ -80,52 +80,52 @@ module _ (t : List Node) (nowhere : ℕ) (beyond : length t ≤ nowhere) where
       fin a l b j (there y) = b .final j y
 
   -- the node is finished
-  pub finish-called : (s : State) (i : ℕ) (p : Forest × State) → Resolves t nowhere s → s .marks i ≡ fresh → Resolved i [] (markR i taken s) p
+  pub finish-called : (s : State) (i : ℕ) (p : Forest × State) → Resolves t nowhere s → s .stages i ≡ fresh → Resolved i [] (stageR i taken s) p
       → Called t nowhere s (finishR t i p)
   unfolding finishR
   finish-called s i p r e a =
-      let o : mark i taken (s .marks) i ≡ taken = mark-own i taken (s .marks) in
-      let e₁ : p .1 .marks i ≡ taken = a .later .marks-stay i (old-taken _ o) ∙ o in
+      let o : stage i taken (s .stages) i ≡ taken = stage-own i taken (s .stages) in
+      let e₁ : p .1 .stages i ≡ taken = a .later .stages-stay i (old-taken _ o) ∙ o in
       let h : p .1 .kids i ≡ a .news = a .held in
       let w : Stand t (p .1 .kids) (p .1 .kids i) (p .0) = rw h (a .stands) in
       record {
         resolves = finish-resolves t nowhere beyond (p .1) i (p .0) (a .resolves) e₁ w (λ j m. a .final j (rw h at m));
-        later = record { marks-stay = go; kids-stay = λ j q z. a .later .kids-stay j (λ x. fresh-not j z x) (still j z); more = λ j m. there (a .later .more j m) };
+        later = record { stages-stay = go; kids-stay = λ j q z. a .later .kids-stay j (λ x. fresh-not j z x) (still j z); more = λ j m. there (a .later .more j m) };
         stands = sNode w sNil;
         final = inr here;
       }
     where
-      fresh-not : (j : ℕ) → freshness (s .marks j) ≡ 0 → j ≢ i
-      fresh-not j z x = not-old (s .marks j) (ap (s .marks) x ∙ e) z
+      fresh-not : (j : ℕ) → freshness (s .stages j) ≡ 0 → j ≢ i
+      fresh-not j z x = not-old (s .stages j) (ap (s .stages) x ∙ e) z
 
-      unmoved : (m : Mark) (d : Marks) (j : ℕ) → j ≢ i → mark i m d j ≡ d j
-      unmoved m d j n = pick (marked i m d j)
+      unmoved : (m : Stage) (d : Stages) (j : ℕ) → j ≢ i → stage i m d j ≡ d j
+      unmoved m d j n = pick (staged i m d j)
         where
-          pick : Marked i m d j → mark i m d j ≡ d j
+          pick : Staged i m d j → stage i m d j ≡ d j
           pick (same x q) = absurd (n x)
           pick (other x q) = q
 
-      still : (j : ℕ) → freshness (s .marks j) ≡ 0 → freshness (mark i taken (s .marks) j) ≡ 0
-      still j z = let q = unmoved taken (s .marks) j (fresh-not j z) in rw q z
+      still : (j : ℕ) → freshness (s .stages j) ≡ 0 → freshness (stage i taken (s .stages) j) ≡ 0
+      still j z = let q = unmoved taken (s .stages) j (fresh-not j z) in rw q z
 
-      go : (j : ℕ) → freshness (s .marks j) ≡ 0 → finishR t i p .after .marks j ≡ s .marks j
-      go j z = unmoved _ (p .1 .marks) j (fresh-not j z) ∙ (a .later .marks-stay j (still j z) ∙ unmoved taken (s .marks) j (fresh-not j z))
+      go : (j : ℕ) → freshness (s .stages j) ≡ 0 → finishR t i p .after .stages j ≡ s .stages j
+      go j z = unmoved _ (p .1 .stages) j (fresh-not j z) ∙ (a .later .stages-stay j (still j z) ∙ unmoved taken (s .stages) j (fresh-not j z))
 
-  pub take-resolves : (s : State) (i : ℕ) → Resolves t nowhere s → s .marks i ≡ fresh → Resolves t nowhere (markR i taken s)
+  pub take-resolves : (s : State) (i : ℕ) → Resolves t nowhere s → s .stages i ≡ fresh → Resolves t nowhere (stageR i taken s)
   unfolding freshness
-  take-resolves s i r e = mark-resolves t nowhere beyond s i taken r e refl (λ v q. absurd (let z : _≡_ {A = ℕ} 0 1 = cc in omega arith))
+  take-resolves s i r e = stage-resolves t nowhere beyond s i taken r e refl (λ v q. absurd (let z : _≡_ {A = ℕ} 0 1 = cc in omega arith))
 
   -- ---- a call
 
   pub walk-resolves : (k i : ℕ) (s : State) → Resolves t nowhere s → Called t nowhere s (walk t nowhere k i s)
   unfolding walk blocked freshness
-  walk-resolves zero i s r = record { resolves = r; later = record { marks-stay = λ j z. refl; kids-stay = λ j q z. refl; more = λ j m. m }; stands = nowhere-none t nowhere beyond (s .kids) (resolves-empty t nowhere beyond r); final = inl refl }
-  walk-resolves (suc k) i s r = go (s .marks i) refl (blocked t (s .marks) i) refl (walk-resolves k)
+  walk-resolves zero i s r = record { resolves = r; later = record { stages-stay = λ j z. refl; kids-stay = λ j q z. refl; more = λ j m. m }; stands = nowhere-none t nowhere beyond (s .kids) (resolves-empty t nowhere beyond r); final = inl refl }
+  walk-resolves (suc k) i s r = go (s .stages i) refl (blocked t (s .stages) i) refl (walk-resolves k)
     where
       stay : Later Any s s
-      stay = record { marks-stay = λ j z. refl; kids-stay = λ j q z. refl; more = λ j m. m }
+      stay = record { stages-stay = λ j z. refl; kids-stay = λ j q z. refl; more = λ j m. m }
 
-      has : (v : Value) → s .marks i ≡ kept v → (b : Bool) → gone t i v ≡ b
+      has : (v : Value) → s .stages i ≡ kept v → (b : Bool) → gone t i v ≡ b
           → Called t nowhere s (record { slot = cond b nowhere i; value = v; after = s })
       has v e true f = record { resolves = r; later = stay; stands = let n : v ≡ none = r .kept-none i v e f in rw n (nowhere-none t nowhere beyond (s .kids) (resolves-empty t nowhere beyond r)); final = inl refl }
       has v e false f =
@@ -135,20 +135,20 @@ module _ (t : List Node) (nowhere : ℕ) (beyond : length t ≤ nowhere) where
           let q′ : o .value ≡ v = cc in
           record { resolves = r; later = stay; stands = rw q′ at (o .stands); final = inr m }
 
-      object : blocked t (s .marks) i ≡ true → isObject (at t i .label) ≡ true
-      object f = left (isObject (at t i .label)) (firstTaken (s .marks) (at t i .kids)) f
+      object : blocked t (s .stages) i ≡ true → isObject (at t i .label) ≡ true
+      object f = left (isObject (at t i .label)) (firstTaken (s .stages) (at t i .kids)) f
         where
           left : (b c : Bool) → (b && c) ≡ true → b ≡ true
           left true c h = refl
           left false c h = h
 
-      go : (m : Mark) → s .marks i ≡ m → (b : Bool) → blocked t (s .marks) i ≡ b
+      go : (m : Stage) → s .stages i ≡ m → (b : Bool) → blocked t (s .stages) i ≡ b
           → ((j : ℕ) (c : State) → Resolves t nowhere c → Called t nowhere c (walk t nowhere k j c)) → Called t nowhere s (walk t nowhere (suc k) i s)
       go (kept v) e b f ih = rw (e, walk) (has v e (gone t i v) refl)
       go taken e b f ih = rw (e, walk) (record { resolves = r; later = stay; stands = nowhere-none t nowhere beyond (s .kids) (resolves-empty t nowhere beyond r); final = inl refl })
       go fresh e true f ih =
-          rw (e, f, walk) (record { resolves = mark-resolves t nowhere beyond s i (kept none) r e refl blocks; later = mark-later t nowhere beyond s i (kept none) e; stands = nowhere-none t nowhere beyond (s .kids) (resolves-empty t nowhere beyond r); final = inl refl })
+          rw (e, f, walk) (record { resolves = stage-resolves t nowhere beyond s i (kept none) r e refl blocks; later = stage-later t nowhere beyond s i (kept none) e; stands = nowhere-none t nowhere beyond (s .kids) (resolves-empty t nowhere beyond r); final = inl refl })
         where
           blocks : (v : Value) → kept none ≡ kept v → (gone t i v ≡ true) × (v ≡ none)
           blocks v q = let z : none ≡ v = cc in let o = object f in (rw (← z, o), sym z)
-      go fresh e false f ih = rw (e, f, walk) (finish-called s i _ r e (each-resolves (walk t nowhere k) ih i [] (at t i .kids) (markR i taken s) (take-resolves s i r e) (mark-own i taken (s .marks)) (r .fresh-is i e)))
+      go fresh e false f ih = rw (e, f, walk) (finish-called s i _ r e (each-resolves (walk t nowhere k) ih i [] (at t i .kids) (stageR i taken s) (take-resolves s i r e) (stage-own i taken (s .stages)) (r .fresh-is i e)))

@@ -93,7 +93,7 @@ hasText DictL = false
 hasText (GlobalL m n) = true
 hasText (ObjectL m n b) = true
 
--- A mark of 2 ^ 62 or more of a node with text: it was decoded. Below that bit are its place, the lengths of what leads and of what trails.
+-- A measure of 2 ^ 62 or more of a node with text: it was decoded. Below that bit are its place, the lengths of what leads and of what trails.
 unfoldable pub isDecoded : ℕ → Bool
 isDecoded m = leb (2 ^ 62) m
 
@@ -118,53 +118,53 @@ rawTrail p ws i =
     cond (eqb (kindIn a) 11) (within 32 (second ws i) p) (cond (eqb (kindIn a) 12) (within 32 (second ws (classIn a)) p) [])
 
 unfoldable pub leadText : List ℕ → List ℕ → List ℕ → List ℕ → ℕ → List ℕ
-leadText p d ws marks i =
-    let m = getD marks i 0 in
+leadText p d ws measures i =
+    let m = getD measures i 0 in
     cond (isDecoded m) (take (leadIn m) (drop (placeIn m) d)) (rawLead p ws i)
 
 unfoldable pub trailText : List ℕ → List ℕ → List ℕ → List ℕ → ℕ → List ℕ
-trailText p d ws marks i =
-    let m = getD marks i 0 in
+trailText p d ws measures i =
+    let m = getD measures i 0 in
     cond (isDecoded m) (take (trailIn m) (drop (placeIn m + leadIn m) d)) (rawTrail p ws i)
 
--- node i's text stands where its mark says, and is its label's
-pub record Spelled (p d ws marks : List ℕ) (i : ℕ) (l : Label) : Type 0 where
-  pub lead : leadText p d ws marks i ≡ leading l
-  pub trail : trailText p d ws marks i ≡ trailing l
-  pub inside : isDecoded (getD marks i 0) ≡ true → placeIn (getD marks i 0) + leadIn (getD marks i 0) + trailIn (getD marks i 0) ≤ length d
+-- node i's text stands where its measure says, and is its label's
+pub record Spelled (p d ws measures : List ℕ) (i : ℕ) (l : Label) : Type 0 where
+  pub lead : leadText p d ws measures i ≡ leading l
+  pub trail : trailText p d ws measures i ≡ trailing l
+  pub inside : isDecoded (getD measures i 0) ≡ true → placeIn (getD measures i 0) + leadIn (getD measures i 0) + trailIn (getD measures i 0) ≤ length d
 
 -- ---- its list
 
--- kinds whose lists are put in order: Set, FrozenSet, Dict. Their marks then have 2 ^ 61, below it where the list begins and how many it has
+-- kinds whose lists are put in order: Set, FrozenSet, Dict. Their measures then have 2 ^ 61, below it where the list begins and how many it has
 unfoldable pub isSorted : ℕ → Bool
 isSorted k = eqb k 8 || (eqb k 9 || eqb k 10)
 
 unfoldable pub fromIn : List ℕ → List ℕ → List ℕ → ℕ → ℕ
-fromIn ws starts marks i = cond (isSorted (kindIn (first ws i))) (getD marks i 0 % 2 ^ 16) (getD starts i 0)
+fromIn ws starts measures i = cond (isSorted (kindIn (first ws i))) (getD measures i 0 % 2 ^ 16) (getD starts i 0)
 
 unfoldable pub manyIn : List ℕ → List ℕ → List ℕ → ℕ → ℕ
-manyIn ws starts marks i = cond (isSorted (kindIn (first ws i))) (getD marks i 0 / 2 ^ 16 % 2 ^ 16) (getD starts (suc i) 0 - getD starts i 0)
+manyIn ws starts measures i = cond (isSorted (kindIn (first ws i))) (getD measures i 0 / 2 ^ 16 % 2 ^ 16) (getD starts (suc i) 0 - getD starts i 0)
 
 -- a Set's items stand in the log, all other lists among the children
 unfoldable pub roomOf : List ℕ → List ℕ → List ℕ → ℕ → List ℕ
 roomOf ws children log i = cond (eqb (kindIn (first ws i)) 8 || eqb (kindIn (first ws i)) 9) log children
 
 unfoldable pub listOf : List ℕ → List ℕ → List ℕ → List ℕ → List ℕ → ℕ → List ℕ
-listOf ws starts children log marks i = take (manyIn ws starts marks i) (drop (fromIn ws starts marks i) (roomOf ws children log i))
+listOf ws starts children log measures i = take (manyIn ws starts measures i) (drop (fromIn ws starts measures i) (roomOf ws children log i))
 
 -- it lies in its room
 unfoldable pub Inside : List ℕ → List ℕ → List ℕ → List ℕ → List ℕ → ℕ → Type 0
-Inside ws starts children log marks i = fromIn ws starts marks i + manyIn ws starts marks i ≤ length (roomOf ws children log i)
+Inside ws starts children log measures i = fromIn ws starts measures i + manyIn ws starts measures i ≤ length (roomOf ws children log i)
 
 -- ---- all of it
 
 -- The nodes t, of which P are in the graph h, as the rooms show them: p the pickle, d the decoded text, ws the nodes' words.
-pub record Shown (t : List Node) (h : Kids) (P : ℕ → Type 0) (p d ws starts children log marks : List ℕ) : Type 0 where
+pub record Shown (t : List Node) (h : Kids) (P : ℕ → Type 0) (p d ws starts children log measures : List ℕ) : Type 0 where
   pub beyond : length t ≤ 4096
   pub short : length p ≤ 65536
   pub words-long : 2 * length t ≤ length ws
   pub starts-long : length t < length starts
-  pub marks-long : length t ≤ length marks
+  pub measures-long : length t ≤ length measures
   pub rising : (i : ℕ) → i < length t → getD starts i 0 ≤ getD starts (suc i) 0
   pub labels-are : (i : ℕ) → i < length t → at t i .label ≡ labelOf p ws i
   pub classes : (i : ℕ) → i < length t → kindIn (first ws i) ≡ 12 → (classIn (first ws i) < length t) × (kindIn (first ws (classIn (first ws i))) ≡ 11)
@@ -173,6 +173,6 @@ pub record Shown (t : List Node) (h : Kids) (P : ℕ → Type 0) (p d ws starts 
   pub closed : (i : ℕ) → P i → (j : ℕ) → In j (h i) → P j
   pub none : h 4096 ≡ []
   pub leaves : (i : ℕ) → P i → i < length t → isContainer (at t i .label) ≡ false → h i ≡ []
-  pub inside : (i : ℕ) → P i → i < length t → isContainer (at t i .label) ≡ true → Inside ws starts children log marks i
-  pub lists : (i : ℕ) → P i → i < length t → isContainer (at t i .label) ≡ true → listOf ws starts children log marks i ≡ h i
-  pub spelled : (i : ℕ) → P i → i < length t → hasText (at t i .label) ≡ true → Spelled p d ws marks i (at t i .label)
+  pub inside : (i : ℕ) → P i → i < length t → isContainer (at t i .label) ≡ true → Inside ws starts children log measures i
+  pub lists : (i : ℕ) → P i → i < length t → isContainer (at t i .label) ≡ true → listOf ws starts children log measures i ≡ h i
+  pub spelled : (i : ℕ) → P i → i < length t → hasText (at t i .label) ≡ true → Spelled p d ws measures i (at t i .label)

@@ -1,4 +1,4 @@
--- The walk from the root, in which nothing is marked yet: afterwards the root stands for `Builder`'s tree, if the levels suffice for it.
+-- The walk from the root, in which nothing is staged yet: afterwards the root stands for `Builder`'s tree, if the levels suffice for it.
 -- Two examples are computed.
 use Prim.Native.Nat.{ℕ, suc, _+_, _≤_}
 use mathlib.Core.Bool.{Bool, true, false, _&&_}
@@ -7,9 +7,9 @@ use mathlib.Core.Path.{_≡_, refl, sym, _∙_, ap}
 use lib.ListN.{length}
 use native.Mathlib.Omega.{arith}
 use Rattle.value.specs.Value.{Value, one, depth, BytesL, ListL, TupleL, ObjectL}
-use Rattle.steps.specs.State.{Node, plain}
+use Rattle.steps.specs.State.{Node, kidless}
 use Rattle.steps.specs.Opcodes.{isObject}
-use Rattle.reading.specs.Build.{Marks, unbuilt, at, firstTaken, blocked, build, tree}
+use Rattle.reading.specs.Build.{Stages, unbuilt, at, firstTaken, blocked, build, tree}
 use Rattle.reading.specs.Unfold.{left-all}
 use Rattle.reading.specs.Fuel.{build-fuel}
 use Rattle.reading.specs.Shallow.{deep, levels-back}
@@ -70,7 +70,7 @@ module _ (t : List Node) (nowhere : ℕ) (beyond : length t ≤ nowhere) where
       let n = length t in
       let e : build t (suc n) root unbuilt ≡ build t (suc n + k) root unbuilt = build-fuel t (suc n) (suc n + k) root unbuilt (omega (arith, left-all n)) (omega (arith, left-all n)) in
       let b : build t (suc n + k) root unbuilt ≡ build t k root unbuilt = levels-back t k (suc n) root unbuilt (rw (← e) l) in
-      sym (ap (λ (x : Value × Marks). x .0) (e ∙ b))
+      sym (ap (λ (x : Value × Stages). x .0) (e ∙ b))
 
   pub tree-stands : (k root : ℕ) → depth (one (tree t root)) ≤ suc k → StandsFor t (walked t nowhere (suc k) root .after .kids) root (tree t root)
   tree-stands k root l = let a = build-stands k root in rw (levels-enough (suc k) root l) at a
@@ -94,7 +94,7 @@ inItsArguments =
     record { label = ListL; kids = 2 ∷ [] }
     ∷ record { label = TupleL; kids = 0 ∷ [] }
     ∷ record { label = ObjectL [] [] true; kids = 1 ∷ 3 ∷ [] }
-    ∷ plain (BytesL (97 ∷ []))
+    ∷ kidless (BytesL (97 ∷ []))
     ∷ record { label = TupleL; kids = 1 ∷ 2 ∷ [] }
     ∷ []
 

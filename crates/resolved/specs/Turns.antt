@@ -33,7 +33,7 @@ module _ (t : List Node) (nowhere : ℕ) (beyond : length t ≤ nowhere) (g : �
   -- Node n was entered in the state s₀; now the state is s, `is` are in place of the children done, `js` are to come, m is measured so far.
   pub record Turn (n : ℕ) (s₀ : State) (is js : List ℕ) (s : State) (m : Measure) : Type 0 where
     pub resolves : Resolves t nowhere s
-    pub open-still : s .marks n ≡ taken
+    pub open-still : s .stages n ≡ taken
     pub held : s .kids n ≡ is ++ js
     pub rest : eachR g n [] (at t n .kids) s₀ .1 ≡ eachR g n is js s .1
     pub sum : measure (eachR g n [] (at t n .kids) s₀ .0) ≡ pushM m (measure (eachR g n is js s .0))
@@ -47,7 +47,7 @@ module _ (t : List Node) (nowhere : ℕ) (beyond : length t ≤ nowhere) (g : �
       let p = g i s in
       let l = is ++ (p .slot ∷ js) in
       let old = old-taken _ (x .open-still) in
-      let e₁ : p .after .marks n ≡ taken = a .later .marks-stay n old ∙ x .open-still in
+      let e₁ : p .after .stages n ≡ taken = a .later .stages-stay n old ∙ x .open-still in
       let b : p .after .kids n ≡ is ++ (i ∷ js) = a .later .kids-stay n tt old ∙ x .held in
       let k : length l ≡ length (p .after .kids n) = rw b (simp length-append) in
       record {

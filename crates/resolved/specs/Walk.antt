@@ -1,4 +1,4 @@
--- The walk whose graph is used afterwards. It makes what `build` makes, with the same marks, and on the way puts into each node's list, from
+-- The walk whose graph is used afterwards. It makes what `build` makes, with the same stages, and on the way puts into each node's list, from
 -- the left, what the child came to there: its own number, or `nowhere`, which is no node's, for a None. Nodes are listed as they are finished.
 use Prim.Native.Nat.{ℕ, suc, zero}
 use mathlib.Core.Bool.{Bool, true, false, cond, _&&_}
@@ -8,11 +8,11 @@ use lib.Dec.{eqb}
 use Rattle.value.specs.Value.{Forest, Value, kind, nil}
 use Rattle.steps.specs.State.{Node}
 use Rattle.steps.specs.Opcodes.{isObject}
-use Rattle.reading.specs.Build.{Mark, Marks, fresh, taken, kept, unbuilt, mark, none, before, at, blocked, finish, each, build}
+use Rattle.reading.specs.Build.{Stage, Stages, fresh, taken, kept, unbuilt, stage, none, before, at, blocked, finish, each, build}
 use Rattle.resolved.specs.Resolved.{Kids}
 
 pub record State : Type 0 where
-  pub marks : Marks
+  pub stages : Stages
   pub kids : Kids
   pub done : List ℕ
 
@@ -32,11 +32,11 @@ pub record Made : Type 0 where
 
 -- a new list for node n
 abbrev pub overwrite : ℕ → List ℕ → State → State
-overwrite n l s = record { marks = s .marks; kids = put n l (s .kids); done = s .done }
+overwrite n l s = record { stages = s .stages; kids = put n l (s .kids); done = s .done }
 
--- a new mark for node i
-abbrev pub markR : ℕ → Mark → State → State
-markR i m s = record { marks = mark i m (s .marks); kids = s .kids; done = s .done }
+-- a new stage for node i
+abbrev pub stageR : ℕ → Stage → State → State
+stageR i m s = record { stages = stage i m (s .stages); kids = s .kids; done = s .done }
 
 -- the children of node n from the first to the last, where `is` have come before: a number is replaced when its call has returned
 unfoldable pub eachR : (ℕ → State → Made) → ℕ → List ℕ → List ℕ → State → Forest × State
@@ -49,83 +49,83 @@ eachR g n is (i ∷ js) s =
 unfoldable pub finishR : List Node → ℕ → Forest × State → Made
 finishR t i p =
     let v : Value = record { label = at t i .label; contents = p .0 } in
-    record { slot = i; value = v; after = record { marks = mark i (kept v) (p .1 .marks); kids = p .1 .kids; done = i ∷ p .1 .done } }
+    record { slot = i; value = v; after = record { stages = stage i (kept v) (p .1 .stages); kids = p .1 .kids; done = i ∷ p .1 .done } }
 
 unfoldable pub walk : List Node → ℕ → ℕ → ℕ → State → Made
 walk t nowhere zero i s = record { slot = nowhere; value = none; after = s }
 walk t nowhere (suc k) i s =
-    elim (s .marks i) [
+    elim (s .stages i) [
       | kept v ↦ record { slot = cond (gone t i v) nowhere i; value = v; after = s }
       | taken ↦ record { slot = nowhere; value = none; after = s }
       | fresh ↦
-          elim (blocked t (s .marks) i) [
-            | true ↦ record { slot = nowhere; value = none; after = markR i (kept none) s }
-            | false ↦ finishR t i (eachR (walk t nowhere k) i [] (at t i .kids) (markR i taken s))
+          elim (blocked t (s .stages) i) [
+            | true ↦ record { slot = nowhere; value = none; after = stageR i (kept none) s }
+            | false ↦ finishR t i (eachR (walk t nowhere k) i [] (at t i .kids) (stageR i taken s))
           ]
     ]
 
--- nothing is marked, lists are the nodes' own
+-- nothing is staged, lists are the nodes' own
 abbrev pub start : List Node → State
-start t = record { marks = unbuilt; kids = λ i. at t i .kids; done = [] }
+start t = record { stages = unbuilt; kids = λ i. at t i .kids; done = [] }
 
--- ---- a call, by the mark that it finds
+-- ---- a call, by the stage that it finds
 
 pub data View (t : List Node) (nowhere k i : ℕ) (s : State) : Type 0 where
-  copied : (v : Value) → s .marks i ≡ kept v → walk t nowhere (suc k) i s ≡ record { slot = cond (gone t i v) nowhere i; value = v; after = s }
+  copied : (v : Value) → s .stages i ≡ kept v → walk t nowhere (suc k) i s ≡ record { slot = cond (gone t i v) nowhere i; value = v; after = s }
       → View t nowhere k i s
-  inside : s .marks i ≡ taken → walk t nowhere (suc k) i s ≡ record { slot = nowhere; value = none; after = s } → View t nowhere k i s
-  stuck : s .marks i ≡ fresh → blocked t (s .marks) i ≡ true
-      → walk t nowhere (suc k) i s ≡ record { slot = nowhere; value = none; after = markR i (kept none) s } → View t nowhere k i s
-  entered : s .marks i ≡ fresh → blocked t (s .marks) i ≡ false
-      → walk t nowhere (suc k) i s ≡ finishR t i (eachR (walk t nowhere k) i [] (at t i .kids) (markR i taken s)) → View t nowhere k i s
+  inside : s .stages i ≡ taken → walk t nowhere (suc k) i s ≡ record { slot = nowhere; value = none; after = s } → View t nowhere k i s
+  stuck : s .stages i ≡ fresh → blocked t (s .stages) i ≡ true
+      → walk t nowhere (suc k) i s ≡ record { slot = nowhere; value = none; after = stageR i (kept none) s } → View t nowhere k i s
+  entered : s .stages i ≡ fresh → blocked t (s .stages) i ≡ false
+      → walk t nowhere (suc k) i s ≡ finishR t i (eachR (walk t nowhere k) i [] (at t i .kids) (stageR i taken s)) → View t nowhere k i s
 
 pub view : (t : List Node) (nowhere k i : ℕ) (s : State) → View t nowhere k i s
 unfolding walk
-view t nowhere k i s = go (s .marks i) refl (blocked t (s .marks) i) refl
+view t nowhere k i s = go (s .stages i) refl (blocked t (s .stages) i) refl
   where
-    go : (m : Mark) → s .marks i ≡ m → (b : Bool) → blocked t (s .marks) i ≡ b → View t nowhere k i s
+    go : (m : Stage) → s .stages i ≡ m → (b : Bool) → blocked t (s .stages) i ≡ b → View t nowhere k i s
     go (kept v) e b f = copied v e (rw (e, walk))
     go taken e b f = inside e (rw (e, walk))
     go fresh e true f = stuck e f (rw (e, f, walk))
     go fresh e false f = entered e f (rw (e, f, walk))
 
--- ---- value and marks are those of `build`
+-- ---- value and stages are those of `build`
 
-pub record AsBuilt (p : Made) (q : Value × Marks) : Type 0 where
+pub record AsBuilt (p : Made) (q : Value × Stages) : Type 0 where
   pub value : p .value ≡ q .0
-  pub marked : p .after .marks ≡ q .1
+  pub staged : p .after .stages ≡ q .1
 
-record AsEach (p : Forest × State) (q : Forest × Marks) : Type 0 where
+record AsEach (p : Forest × State) (q : Forest × Stages) : Type 0 where
   forest : p .0 ≡ q .0
-  marked : p .1 .marks ≡ q .1
+  staged : p .1 .stages ≡ q .1
 
 module _ (t : List Node) (nowhere : ℕ) where
-  each-as : (g : ℕ → State → Made) (b : ℕ → Marks → Value × Marks) → ((i : ℕ) (s : State) → AsBuilt (g i s) (b i (s .marks)))
-      → (n : ℕ) (is js : List ℕ) (s : State) → AsEach (eachR g n is js s) (each b js (s .marks))
+  each-as : (g : ℕ → State → Made) (b : ℕ → Stages → Value × Stages) → ((i : ℕ) (s : State) → AsBuilt (g i s) (b i (s .stages)))
+      → (n : ℕ) (is js : List ℕ) (s : State) → AsEach (eachR g n is js s) (each b js (s .stages))
   unfolding each eachR
-  each-as g b h n is [] s = record { forest = refl; marked = refl }
+  each-as g b h n is [] s = record { forest = refl; staged = refl }
   each-as g b h n is (i ∷ js) s =
       let p = g i s in
-      let a : AsBuilt p (b i (s .marks)) = h i s in
+      let a : AsBuilt p (b i (s .stages)) = h i s in
       let e = each-as g b h n (is ++ (p .slot ∷ [])) js (overwrite n (is ++ (p .slot ∷ js)) (p .after)) in
-      let m : each b js (p .after .marks) ≡ each b js (b i (s .marks) .1) = ap (each b js) (a .marked) in
+      let m : each b js (p .after .stages) ≡ each b js (b i (s .stages) .1) = ap (each b js) (a .staged) in
       let x = e .forest in
-      let y = e .marked in
-      record { forest = ap₂ before (a .value) (x ∙ ap (λ (z : Forest × Marks). z .0) m); marked = y ∙ ap (λ (z : Forest × Marks). z .1) m }
+      let y = e .staged in
+      record { forest = ap₂ before (a .value) (x ∙ ap (λ (z : Forest × Stages). z .0) m); staged = y ∙ ap (λ (z : Forest × Stages). z .1) m }
 
-  finish-as : (i : ℕ) (p : Forest × State) (q : Forest × Marks) → AsEach p q → AsBuilt (finishR t i p) (finish t i q)
+  finish-as : (i : ℕ) (p : Forest × State) (q : Forest × Stages) → AsEach p q → AsBuilt (finishR t i p) (finish t i q)
   unfolding finish finishR
-  finish-as i p q a = let e = a .forest in let m = a .marked in record { value = rw e; marked = rw (e, m) }
+  finish-as i p q a = let e = a .forest in let m = a .staged in record { value = rw e; staged = rw (e, m) }
 
-  pub walk-build : (k i : ℕ) (s : State) → AsBuilt (walk t nowhere k i s) (build t k i (s .marks))
+  pub walk-build : (k i : ℕ) (s : State) → AsBuilt (walk t nowhere k i s) (build t k i (s .stages))
   unfolding walk build
-  walk-build zero i s = record { value = refl; marked = refl }
-  walk-build (suc k) i s = go (s .marks i) refl (blocked t (s .marks) i) refl (walk-build k)
+  walk-build zero i s = record { value = refl; staged = refl }
+  walk-build (suc k) i s = go (s .stages i) refl (blocked t (s .stages) i) refl (walk-build k)
     where
-      go : (m : Mark) → s .marks i ≡ m → (b : Bool) → blocked t (s .marks) i ≡ b
-          → ((j : ℕ) (r : State) → AsBuilt (walk t nowhere k j r) (build t k j (r .marks)))
-          → AsBuilt (walk t nowhere (suc k) i s) (build t (suc k) i (s .marks))
-      go (kept v) e b f ih = rw (e, walk, build) (record { value = refl; marked = refl })
-      go taken e b f ih = rw (e, walk, build) (record { value = refl; marked = refl })
-      go fresh e true f ih = rw (e, f, walk, build) (record { value = refl; marked = refl })
-      go fresh e false f ih = rw (e, f, walk, build) (finish-as i _ _ (each-as (walk t nowhere k) (build t k) ih i [] (at t i .kids) (markR i taken s)))
+      go : (m : Stage) → s .stages i ≡ m → (b : Bool) → blocked t (s .stages) i ≡ b
+          → ((j : ℕ) (r : State) → AsBuilt (walk t nowhere k j r) (build t k j (r .stages)))
+          → AsBuilt (walk t nowhere (suc k) i s) (build t (suc k) i (s .stages))
+      go (kept v) e b f ih = rw (e, walk, build) (record { value = refl; staged = refl })
+      go taken e b f ih = rw (e, walk, build) (record { value = refl; staged = refl })
+      go fresh e true f ih = rw (e, f, walk, build) (record { value = refl; staged = refl })
+      go fresh e false f ih = rw (e, f, walk, build) (finish-as i _ _ (each-as (walk t nowhere k) (build t k) ih i [] (at t i .kids) (stageR i taken s)))

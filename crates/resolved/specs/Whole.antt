@@ -8,12 +8,12 @@ use lib.ListN.{length}
 use native.Mathlib.Omega.{arith}
 use Rattle.value.specs.Value.{Forest, Value, one, depth}
 use Rattle.steps.specs.State.{Node}
-use Rattle.reading.specs.Build.{Mark, fresh, taken, kept, none, at, blocked, tree}
+use Rattle.reading.specs.Build.{Stage, fresh, taken, kept, none, at, blocked, tree}
 use Rattle.reading.specs.Settle.{settle}
-use Rattle.reading.specs.Unfold.{In, Marked, same, other, marked}
+use Rattle.reading.specs.Unfold.{In, Staged, same, other, staged}
 use Rattle.resolved.specs.Resolved.{Kids, Stand}
 use Rattle.resolved.specs.Ordered.{in-rest}
-use Rattle.resolved.specs.Walk.{State, Made, overwrite, markR, eachR, finishR, walk, start, walk-build}
+use Rattle.resolved.specs.Walk.{State, Made, overwrite, stageR, eachR, finishR, walk, start, walk-build}
 use Rattle.resolved.specs.Resolves.{Called, resolves-empty}
 use Rattle.resolved.specs.Resolving.{walk-resolves}
 use Rattle.resolved.specs.Tree.{walked, start-resolves, levels-enough}
@@ -23,7 +23,7 @@ use Rattle.resolved.specs.Compare.{compareN, compare-nodes}
 
 -- what finished nodes keep is at most m deep
 abbrev pub Bounded : ℕ → State → Type 0
-Bounded m s = (j : ℕ) → In j (s .done) → (v : Value) → s .marks j ≡ kept v → depth (one v) ≤ m
+Bounded m s = (j : ℕ) → In j (s .done) → (v : Value) → s .stages j ≡ kept v → depth (one v) ≤ m
 
 module _ (t : List Node) (nowhere m : ℕ) where
   each-bounded : (g : ℕ → State → Made) → ((i : ℕ) (s : State) → Bounded m s → depth (one (g i s .value)) ≤ m → Bounded m (g i s .after))
@@ -34,37 +34,37 @@ module _ (t : List Node) (nowhere m : ℕ) where
       let p = g i s in
       each-bounded g h n (is ++ (p .slot ∷ [])) js (overwrite n (is ++ (p .slot ∷ js)) (p .after)) (h i s b (omega arith)) (omega arith)
 
-  mark-bounded : (s : State) (i : ℕ) (x : Mark) → ((v : Value) → x ≡ kept v → depth (one v) ≤ m) → Bounded m s → Bounded m (markR i x s)
-  mark-bounded s i x k b j h v e = go (marked i x (s .marks) j)
+  stage-bounded : (s : State) (i : ℕ) (x : Stage) → ((v : Value) → x ≡ kept v → depth (one v) ≤ m) → Bounded m s → Bounded m (stageR i x s)
+  stage-bounded s i x k b j h v e = go (staged i x (s .stages) j)
     where
-      go : Marked i x (s .marks) j → depth (one v) ≤ m
+      go : Staged i x (s .stages) j → depth (one v) ≤ m
       go (same p q) = k v (sym q ∙ e)
       go (other p q) = b j h v (sym q ∙ e)
 
   finish-bounded : (i : ℕ) (p : Forest × State) → (depth (p .0) ≤ m → Bounded m (p .1)) → depth (one (finishR t i p .value)) ≤ m
       → Bounded m (finishR t i p .after)
   unfolding finishR depth
-  finish-bounded i p b l j h v e = go (marked i (kept u) (p .1 .marks) j)
+  finish-bounded i p b l j h v e = go (staged i (kept u) (p .1 .stages) j)
     where
       u : Value
       u = record { label = at t i .label; contents = p .0 }
 
-      go : Marked i (kept u) (p .1 .marks) j → depth (one v) ≤ m
+      go : Staged i (kept u) (p .1 .stages) j → depth (one v) ≤ m
       go (same x q) = let z : kept u ≡ kept v = sym q ∙ e in let w : u ≡ v = cc in rw (← w) l
       go (other x q) = b (omega arith) j (in-rest x h) v (sym q ∙ e)
 
   pub walk-bounded : (k i : ℕ) (s : State) → Bounded m s → depth (one (walk t nowhere k i s .value)) ≤ m → Bounded m (walk t nowhere k i s .after)
   unfolding walk
   walk-bounded zero i s b l = b
-  walk-bounded (suc k) i s b l = go (s .marks i) refl (blocked t (s .marks) i) refl (walk-bounded k) l
+  walk-bounded (suc k) i s b l = go (s .stages i) refl (blocked t (s .stages) i) refl (walk-bounded k) l
     where
-      go : (x : Mark) → s .marks i ≡ x → (f : Bool) → blocked t (s .marks) i ≡ f
+      go : (x : Stage) → s .stages i ≡ x → (f : Bool) → blocked t (s .stages) i ≡ f
           → ((j : ℕ) (c : State) → Bounded m c → depth (one (walk t nowhere k j c .value)) ≤ m → Bounded m (walk t nowhere k j c .after))
           → depth (one (walk t nowhere (suc k) i s .value)) ≤ m → Bounded m (walk t nowhere (suc k) i s .after)
       go (kept v) e f q ih = rw (e, walk) (λ z. b)
       go taken e f q ih = rw (e, walk) (λ z. b)
-      go fresh e true q ih = rw (e, q, walk) (λ z. mark-bounded s i (kept none) (λ v w. let y : none ≡ v = cc in rw (← y) z) b)
-      go fresh e false q ih = rw (e, q, walk) (finish-bounded i _ (each-bounded (walk t nowhere k) ih i [] (at t i .kids) (markR i taken s) (mark-bounded s i taken (λ v w. absurd (let y : _≡_ {A = ℕ} 0 1 = cc in omega arith)) b)))
+      go fresh e true q ih = rw (e, q, walk) (λ z. stage-bounded s i (kept none) (λ v w. let y : none ≡ v = cc in rw (← y) z) b)
+      go fresh e false q ih = rw (e, q, walk) (finish-bounded i _ (each-bounded (walk t nowhere k) ih i [] (at t i .kids) (stageR i taken s) (stage-bounded s i taken (λ v w. absurd (let y : _≡_ {A = ℕ} 0 1 = cc in omega arith)) b)))
 
 -- ---- the pickle's value
 

@@ -7,11 +7,11 @@ use lib.ListN.{length, length-append, take, drop}
 use lib.Seq.{take-add, drop-drop, take-take, take-nil}
 use native.Mathlib.Nat.{zero-add, suc-add}
 use native.Mathlib.Omega.{arith}
-use Rattle.value.specs.Value.{Forest, Value, one, nil, node, textOf, text, count, size, recordOf, record-length, table, table-length}
+use Rattle.value.specs.Value.{Forest, nil, node, textOf, text, count, size, recordOf, record-length, table, table-length}
 use Rattle.steps.specs.State.{Node}
-use Rattle.reading.specs.Build.{at, before}
-use Rattle.resolved.specs.Resolved.{Kids, Stand, sNil, sNode, stand-before}
-use Rattle.resolved.specs.Moved.{text-before, table-before, stand-count, moves, moved}
+use Rattle.reading.specs.Build.{at}
+use Rattle.resolved.specs.Resolved.{Kids, Stand, sNil, sNode}
+use Rattle.resolved.specs.Moved.{stand-count, moves, moved}
 
 -- ---- a part of a room
 
@@ -47,18 +47,6 @@ module _ (t : List Node) (h : Kids) (records bytes : List ℕ) where
   pub written-none : (a p : ℕ) → Written t h records bytes [] nil a p
   unfolding table text
   written-none a p = record { stands = sNil; table-is = refl; text-is = refl }
-
-  -- a node's value, then those behind it
-  pub written-next : {i : ℕ} {is : List ℕ} {f : Forest} (v : Value) (a p : ℕ) → Written t h records bytes (i ∷ []) (one v) a p
-      → Written t h records bytes is f (a + size (one v)) (p + length (text (one v)))
-      → Written t h records bytes (i ∷ is) (before v f) a p
-  written-next {f = f} v a p x y =
-      let m = table-length (one v) p in
-      record {
-        stands = stand-before (x .stands) (y .stands);
-        table-is = rw (table-before v f p) (part-join records (4 * a) (4 * (a + size (one v))) _ _ (x .table-is) (omega arith) (y .table-is));
-        text-is = rw (text-before v f) (part-join bytes p (p + length (text (one v))) _ _ (x .text-is) refl (y .text-is));
-      }
 
   -- a node's own record and text, then its contents
   pub written-node : {i : ℕ} {c : Forest} (a p : ℕ) → Part records (4 * a) (recordOf (at t i .label) p (length (h i)) (suc (size c)))

@@ -9,14 +9,14 @@ use native.Mathlib.Omega.{arith}
 use Rattle.refusal.specs.declared.Refusal.{Refusal}
 use Rattle.op.specs.declared.Edition.{Edition}
 use Rattle.input.specs.Bytes.{lt-or-le}
-use Rattle.decoder.specs.declared.Counts.{Counts}
+use Rattle.store.specs.declared.Counts.{Counts}
 use Rattle.steps.specs.State.{State, Res, ok, no, _>>=_}
 use Rattle.steps.specs.Run.{Next, goes, stops, step, start, run}
 use Rattle.steps.specs.Out.{Out}
 use Rattle.steps.specs.Keeps.{after}
 use Rattle.steps.specs.Shrinks.{step-less}
 use Rattle.steps.specs.Fuel.{finish, run-finish, finish-refused, finish-stops, finish-goes}
-use Rattle.decoder.specs.Rooms.{Rooms, stateOf}
+use Rattle.store.specs.Rooms.{Rooms, stateOf}
 use Rattle.effects.specs.declared.Step.the-variants as step-of
 use Rattle.effects.specs.Done.{meant, Done}
 use Rattle.machine.specs.declared.Outcome.{Outcome}

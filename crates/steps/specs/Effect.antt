@@ -11,7 +11,7 @@ use lib.Dec.{ltb, T}
 use native.Mathlib.Omega.{arith}
 use Rattle.op.specs.Table.{Stack, values, toMark, aMark}
 use Rattle.value.specs.Value.{Label, NoneL, BoolL, I64L, F64L, BytesL, StringL, ListL, TupleL, SetL, FrozenSetL, DictL, GlobalL, ObjectL}
-use Rattle.steps.specs.State.{Node, State, ok, plain, stackLimit, marksLimit, memoLimit, nodesLimit, linksLimit, withStack, withMarks, withMemo, last, butLast, nodeAt, find, has, insert}
+use Rattle.steps.specs.State.{Node, State, ok, kidless, stackLimit, marksLimit, memoLimit, nodesLimit, linksLimit, withStack, withMarks, withMemo, last, butLast, nodeAt, find, has, insert}
 use Rattle.steps.specs.Opcodes.{isList, isTuple, isDict, isObject}
 use Rattle.steps.specs.Out.{Every, every-of}
 
@@ -46,10 +46,10 @@ Right l SetL ks = length ks ≡ 1
 Right l FrozenSetL ks = length ks ≡ 1
 Right l DictL ks = length ks % 2 ≡ 0
 Right l (GlobalL m n) ks = ks ≡ []
-Right l (ObjectL m n b) ks = (0 < length ks) × (length ks ≤ 2) × T (isTuple (getD l (getD ks 0 0) (plain NoneL) .label))
+Right l (ObjectL m n b) ks = (0 < length ks) × (length ks ≤ 2) × T (isTuple (getD l (getD ks 0 0) (kidless NoneL) .label))
 
 -- a node whose label is known to be no None is one that the machine has
-pub labelled : (P : Label → Type 0) (l : List Node) (i : ℕ) → (P NoneL → ⊥) → P (getD l i (plain NoneL) .label) → i < length l
+pub labelled : (P : Label → Type 0) (l : List Node) (i : ℕ) → (P NoneL → ⊥) → P (getD l i (kidless NoneL) .label) → i < length l
 labelled P [] i n h = absurd (n h)
 labelled P (x ∷ l) zero n h = omega arith
 labelled P (x ∷ l) (suc i) n h = let u = labelled P l i n h in omega arith
@@ -77,11 +77,11 @@ Part a b = (n : ℕ) × (a ≡ take n b)
 unfoldable pub TakesItems : Label → ℕ → Type 0
 TakesItems l n = T (isList l) ⊎ (T (isDict l) × (n % 2 ≡ 0))
 
-pub grows-inside : (l : List Node) (i n : ℕ) → TakesItems (getD l i (plain NoneL) .label) n → i < length l
+pub grows-inside : (l : List Node) (i n : ℕ) → TakesItems (getD l i (kidless NoneL) .label) n → i < length l
 unfolding TakesItems
 grows-inside l i n g = labelled (λ (x : Label). TakesItems x n) l i (λ h. ⊎-elim (λ u. u) (λ u. u .0) h) g
 
-pub object-inside : (l : List Node) (i : ℕ) → T (isObject (getD l i (plain NoneL) .label)) → i < length l
+pub object-inside : (l : List Node) (i : ℕ) → T (isObject (getD l i (kidless NoneL) .label)) → i < length l
 object-inside l i h = labelled (λ (x : Label). T (isObject x)) l i (λ u. u) h
 
 pub data Effect (s : State) : State → Type 0 where

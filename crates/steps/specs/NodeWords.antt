@@ -22,7 +22,7 @@ use Rattle.text.specs.Pieces.{bytesOf}
 use Rattle.text.specs.Text.{unescapeString, unescapeUnicode}
 use Rattle.value.specs.Value.{Label, bit, NoneL, BoolL, I64L, F64L, BytesL, StringL, ListL, TupleL, SetL, FrozenSetL, DictL, GlobalL, ObjectL}
 use Rattle.value.specs.Shape.{kindIn, newIn, stateIn}
-use Rattle.steps.specs.State.{Node, ok, plain}
+use Rattle.steps.specs.State.{Node, ok, kidless}
 use Rattle.steps.specs.State as state
 use Rattle.steps.specs.Opcodes.{isList, isTuple, isDict, isObject, classOf, object}
 
@@ -65,26 +65,26 @@ partsOf a b = b % 2 ^ 32 ∷ cond (stateIn a) (b / 2 ^ 32 ∷ []) []
 -- links. 13 are Bytes of a STRING with an escape and 14 a String of UNICODE, both as their lines
 abbrev pub choices : List ℕ → List ℕ → List ℕ → ℕ → ℕ → List Node
 choices p ws ks a b =
-    plain NoneL
-    ∷ plain (BoolL (eqb b 1))
-    ∷ plain (I64L b)
-    ∷ plain (F64L b)
-    ∷ plain (BytesL (within 32 b p))
-    ∷ plain (StringL (repair (within 32 b p)))
+    kidless NoneL
+    ∷ kidless (BoolL (eqb b 1))
+    ∷ kidless (I64L b)
+    ∷ kidless (F64L b)
+    ∷ kidless (BytesL (within 32 b p))
+    ∷ kidless (StringL (repair (within 32 b p)))
     ∷ record { label = ListL; kids = ks }
     ∷ record { label = TupleL; kids = ks }
     ∷ record { label = SetL; kids = b ∷ [] }
     ∷ record { label = FrozenSetL; kids = b ∷ [] }
     ∷ record { label = DictL; kids = ks }
-    ∷ plain (GlobalL (moduleOf p a) (nameOf p b))
+    ∷ kidless (GlobalL (moduleOf p a) (nameOf p b))
     ∷ record { label = ObjectL (moduleOf p (first ws (classIn a))) (nameOf p (second ws (classIn a))) (newIn a); kids = partsOf a b }
-    ∷ plain (BytesL (bytesOf (unescapeString (within 32 b p))))
-    ∷ plain (StringL (bytesOf (unescapeUnicode (within 32 b p))))
+    ∷ kidless (BytesL (bytesOf (unescapeString (within 32 b p))))
+    ∷ kidless (StringL (bytesOf (unescapeUnicode (within 32 b p))))
     ∷ []
 
 -- the one of the kind that a says
 unfoldable pub nodeIs : List ℕ → List ℕ → List ℕ → ℕ → ℕ → Node
-nodeIs p ws ks a b = getD (choices p ws ks a b) (kindIn a) (plain NoneL)
+nodeIs p ws ks a b = getD (choices p ws ks a b) (kindIn a) (kidless NoneL)
 
 -- the first word of a node that holds links
 pub data HoldsLinks (a : ℕ) : Type 0 where
@@ -148,7 +148,7 @@ itself true = refl
 itself false = refl
 
 module _ (p ws ks : List ℕ) (a b : ℕ) where
-  pub node-kind : (k : ℕ) → kindIn a ≡ k → nodeIs p ws ks a b ≡ getD (choices p ws ks a b) k (plain NoneL)
+  pub node-kind : (k : ℕ) → kindIn a ≡ k → nodeIs p ws ks a b ≡ getD (choices p ws ks a b) k (kidless NoneL)
   unfolding nodeIs
   node-kind k e = rw e
 
@@ -156,7 +156,7 @@ module _ (p ws ks : List ℕ) (a b : ℕ) where
   alone : {B : Type 0} (f : Label → B) (n : ℕ) (x d : B) → n < 15 → f NoneL ≡ d → map (λ (l : Node). f (l .label)) (choices p ws ks a b) ≡ set (replicate 15 d) n x → f (nodeIs p ws ks a b .label) ≡ cond (eqb (kindIn a) n) x d
   unfolding nodeIs
   alone f n x d h z e =
-      sym (List·getD-map (λ (l : Node). f (l .label)) (choices p ws ks a b) (kindIn a) (plain NoneL))
+      sym (List·getD-map (λ (l : Node). f (l .label)) (choices p ws ks a b) (kindIn a) (kidless NoneL))
       ∙ rw (e, z) (go (ℕ-discrete (kindIn a) n))
     where
       go : Dec (kindIn a ≡ n) → getD (set (replicate 15 d) n x) (kindIn a) d ≡ cond (eqb (kindIn a) n) x d
@@ -236,9 +236,9 @@ module _ (p : List ℕ) (a b : ℕ) where
   unfolding nodeIs
   node-words ks ws ws′ h = go (ℕ-discrete (kindIn a) 12)
     where
-      go : Dec (kindIn a ≡ 12) → getD (choices p ws′ ks a b) (kindIn a) (plain NoneL) ≡ getD (choices p ws ks a b) (kindIn a) (plain NoneL)
+      go : Dec (kindIn a ≡ 12) → getD (choices p ws′ ks a b) (kindIn a) (kidless NoneL) ≡ getD (choices p ws ks a b) (kindIn a) (kidless NoneL)
       go (yes e) = rw (h e .0, h e .1)
-      go (no d) = getD-set-other (choices p ws ks a b) 12 (kindIn a) (getD (choices p ws′ ks a b) 12 (plain NoneL)) (plain NoneL) d
+      go (no d) = getD-set-other (choices p ws ks a b) 12 (kindIn a) (getD (choices p ws′ ks a b) 12 (kidless NoneL)) (kidless NoneL) d
 
   -- a List, Tuple or Dict with a child more
   pub node-grown : (ks ws : List ℕ) (k : ℕ) → HoldsLinks a → nodeIs p ws (ks ++ (k ∷ [])) a b ≡ record { label = nodeIs p ws ks a b .label; kids = nodeIs p ws ks a b .kids ++ (k ∷ []) }

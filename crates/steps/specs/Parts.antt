@@ -13,7 +13,7 @@ use Rattle.refusal.specs.declared.Refusal.{Refusal}
 use Rattle.op.specs.Table.{Stack, values, toMark, aMark}
 use Rattle.number.specs.Space.{same as sameText}
 use Rattle.value.specs.Value.{Label, SetL, FrozenSetL, ListL, TupleL, DictL}
-use Rattle.steps.specs.State.{Node, State, Res, _>>=_, plain, linksLimit, withStack, withMarks, withLinks, last, butLast, pop, top, popMark, popMany, pushId, pushNode, push, link, nodeAt, extend, get, put}
+use Rattle.steps.specs.State.{Node, State, Res, _>>=_, kidless, linksLimit, withStack, withMarks, withLinks, last, butLast, pop, top, popMark, popMany, pushId, pushNode, push, link, nodeAt, extend, get, put}
 use Rattle.steps.specs.Opcodes.{isList, isDict, isTuple, mark, popOne, popToMark, dup, made, list, tuple, tupleN, pairs, dict, added, append, appends, setitem, setitems, builtin, setName, frozensetName, object, setOf, reduced, called, reduce, newobj, buildState}
 use Rattle.steps.specs.Out.{Out, out, bind-any, bind-need, join-need, Every, every-of}
 use Rattle.steps.specs.Effect.{linked, linked-none, held, Right, Known, stacked, kept, inside, known-drop, Part, TakesItems, same, marked, cut, again, new, grown, built, noted, moved, Stacks, Did}
@@ -164,7 +164,7 @@ node-did tk s n st ms lk a b c d e r f =
 -- a value, or an empty container
 pub push-did : (l : Label) (s : State) → Right (s .nodes) l [] → Out (Did (values 0) (values 1) s) (push l s)
 unfolding push Every held
-push-did l s r = node-did (values 0) s (plain l) (s .stack) (s .marks) (s .links) (whole (s .stack)) (whole (s .marks)) tt r (rw (linked-none l) (omega arith)) (λ h. h) (one-more (length (s .nodes)) s)
+push-did l s r = node-did (values 0) s (kidless l) (s .stack) (s .marks) (s .links) (whole (s .stack)) (whole (s .marks)) tt r (rw (linked-none l) (omega arith)) (λ h. h) (one-more (length (s .nodes)) s)
 
 -- a container with items: a link each
 made-did :

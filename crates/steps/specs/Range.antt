@@ -8,7 +8,7 @@ use lib.Dec.{eqb}
 use native.Mathlib.Omega.{arith}
 use Rattle.op.specs.declared.Edition.{Edition}
 use Rattle.value.specs.Value.{NoneL}
-use Rattle.steps.specs.State.{Node, State, ok, plain, withInput, nodeAt, find, insert}
+use Rattle.steps.specs.State.{Node, State, ok, kidless, withInput, nodeAt, find, insert}
 use Rattle.steps.specs.Run.{Next, step, start, run}
 use Rattle.steps.specs.Out.{Out, Every, every-append, every-take, every-at, every-more}
 use Rattle.steps.specs.Effect.{Known, stacked, kept, inside, Part, object-inside, Effect, same, marked, cut, again, new, grown, built, noted}
@@ -40,7 +40,7 @@ found n (x ∷ m) k i a e = go (eqb k (x .0)) e (found n m k i (a .1))
     go true h f = let c : x .1 ≡ i = cc in rw c at (a .0)
     go false h f = f h
 
-contents-at : (n : ℕ) (l : List Node) (i : ℕ) → Contents n l → Below n (getD l i (plain NoneL) .kids)
+contents-at : (n : ℕ) (l : List Node) (i : ℕ) → Contents n l → Below n (getD l i (kidless NoneL) .kids)
 unfolding Every
 contents-at n [] i a = tt
 contents-at n (x ∷ l) zero a = a .0

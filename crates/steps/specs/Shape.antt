@@ -12,7 +12,7 @@ use native.Mathlib.Omega.{arith}
 use Rattle.op.specs.declared.Edition.{Edition}
 use Rattle.input.specs.Bytes.{lt-or-le}
 use Rattle.value.specs.Value.{Label, NoneL, BoolL, I64L, F64L, BytesL, StringL, ListL, TupleL, SetL, FrozenSetL, DictL, GlobalL, ObjectL}
-use Rattle.steps.specs.State.{Node, State, plain}
+use Rattle.steps.specs.State.{Node, State, kidless}
 use Rattle.steps.specs.Opcodes.{isTuple, isObject}
 use Rattle.steps.specs.Run.{Next, step, start, run}
 use Rattle.steps.specs.Out.{Out}
@@ -21,11 +21,11 @@ use Rattle.steps.specs.Keeps.{after, step-keeps, run-keeps}
 use Rattle.steps.specs.Tuples.{Changed, stays, longer, stated, changed-label, Changes, effect-changes}
 
 unfoldable pub Shaped : List Node → Type 0
-Shaped l = (i : ℕ) → i < length l → Right l (getD l i (plain NoneL) .label) (getD l i (plain NoneL) .kids)
+Shaped l = (i : ℕ) → i < length l → Right l (getD l i (kidless NoneL) .label) (getD l i (kidless NoneL) .kids)
 
 -- a tuple is a tuple for good
-tuple-stays : (l m : List Node) (i : ℕ) → Changes l m → T (isTuple (getD l i (plain NoneL) .label)) → T (isTuple (getD m i (plain NoneL) .label))
-tuple-stays l m i c h = rw (changed-label _ (getD m i (plain NoneL)) (c .each i (labelled (λ (x : Label). T (isTuple x)) l i (λ u. u) h))) h
+tuple-stays : (l m : List Node) (i : ℕ) → Changes l m → T (isTuple (getD l i (kidless NoneL) .label)) → T (isTuple (getD m i (kidless NoneL) .label))
+tuple-stays l m i c h = rw (changed-label _ (getD m i (kidless NoneL)) (c .each i (labelled (λ (x : Label). T (isTuple x)) l i (λ u. u) h))) h
 
 -- only lists and dicts grow
 never : {A B : Type 0} → ⊥ ⊎ (⊥ × B) → A
@@ -91,9 +91,9 @@ module _ (l m : List Node) (c : Changes l m) where
   right-changed n k (stated i h) r = right-stated (n .label) (n .kids) i h r
 
   -- the nodes that there were
-  shaped-old : Shaped l → (i : ℕ) → i < length l → Right m (getD m i (plain NoneL) .label) (getD m i (plain NoneL) .kids)
+  shaped-old : Shaped l → (i : ℕ) → i < length l → Right m (getD m i (kidless NoneL) .label) (getD m i (kidless NoneL) .kids)
   unfolding Shaped
-  shaped-old s i h = right-changed (getD l i (plain NoneL)) (getD m i (plain NoneL)) (c .each i h) (s i h)
+  shaped-old s i h = right-changed (getD l i (kidless NoneL)) (getD m i (kidless NoneL)) (c .each i h) (s i h)
 
   -- and no more than there were
   shaped-all : length m ≡ length l → Shaped l → Shaped m
@@ -105,8 +105,8 @@ shaped-more : (l : List Node) (n : Node) → Changes l (l ++ (n ∷ [])) → Rig
 unfolding Shaped
 shaped-more l n c r s i h = ⊎-elim (λ u. shaped-old l (l ++ (n ∷ [])) c s i u) last (lt-or-le i (length l))
   where
-    last : length l ≤ i → Right (l ++ (n ∷ [])) (getD (l ++ (n ∷ [])) i (plain NoneL) .label) (getD (l ++ (n ∷ [])) i (plain NoneL) .kids)
-    last u = let e : i ≡ length l = let z = rw length-append at h in omega arith in rw (e, getD-append-seam l n [] (plain NoneL)) (right-later l (l ++ (n ∷ [])) c (n .label) (n .kids) r)
+    last : length l ≤ i → Right (l ++ (n ∷ [])) (getD (l ++ (n ∷ [])) i (kidless NoneL) .label) (getD (l ++ (n ∷ [])) i (kidless NoneL) .kids)
+    last u = let e : i ≡ length l = let z = rw length-append at h in omega arith in rw (e, getD-append-seam l n [] (kidless NoneL)) (right-later l (l ++ (n ∷ [])) c (n .label) (n .kids) r)
 
 pub shaped-effect : (s t : State) → Shaped (s .nodes) → Effect s t → Shaped (t .nodes)
 shaped-effect s t h same = h

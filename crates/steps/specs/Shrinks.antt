@@ -5,13 +5,12 @@ use mathlib.Core.Path.{_≡_, refl, _∙_}
 use lib.ListN.{length, drop, length-drop}
 use lib.Seq.{drop-drop}
 use native.Mathlib.Omega.{arith}
-use Rattle.op.specs.declared.Opcode.{Opcode}
 use Rattle.op.specs.declared.Edition.{Edition}
 use Rattle.steps.specs.State.{State, Res, ok, no, withInput}
-use Rattle.steps.specs.Run.{Next, goes, stops, does, step, runs, start, run}
+use Rattle.steps.specs.Run.{Next, goes, stops, step, runs, start, run}
 use Rattle.steps.specs.Out.{Out, weaken}
 use Rattle.steps.specs.Effect.{effect-input}
-use Rattle.steps.specs.Keeps.{after, Effected, does-effected, step-effected}
+use Rattle.steps.specs.Keeps.{after, Effected, step-effected}
 
 -- t's input is i less its first bytes, `least` at least
 pub record Later (least : ℕ) (i : List ℕ) (t : State) : Type 0 where
@@ -22,10 +21,6 @@ pub record Later (least : ℕ) (i : List ℕ) (t : State) : Type 0 where
 
 later : {least : ℕ} (s t : State) → Effected least s t → Later least (s .input) t
 later s t e = record { read = e .read; enough = e .enough; inside = e .inside; left = effect-input (withInput s (drop (e .read) (s .input))) t (e .effect) }
-
--- an opcode whose byte has been read: no bytes, or some
-pub does-later : (v : ℕ) (o : Opcode) (s : State) → Out (λ (n : Next). Later 0 (s .input) (after n)) (does v o s)
-does-later v o s = weaken _ _ _ (does-effected v o s) (λ n e. later s (after n) e)
 
 -- a step: a byte at least
 pub step-later : (ed : Edition) (s : State) → Out (λ (n : Next). Later 1 (s .input) (after n)) (step ed s)

@@ -35,8 +35,8 @@ pub record Node : Type 0 where
   pub label : Label
   pub kids : List ℕ
 
-abbrev pub plain : Label → Node
-plain l = record { label = l; kids = [] }
+abbrev pub kidless : Label → Node
+kidless l = record { label = l; kids = [] }
 
 -- the bytes still to be read; stack and marks with the top last; memo numbers with their nodes, different numbers only
 pub record State : Type 0 where
@@ -150,7 +150,7 @@ pushNode n s = do
   pushId (length (s .nodes)) (withNodes s (s .nodes ++ (n ∷ [])))
 
 unfoldable pub push : Label → State → Res State
-push l s = pushNode (plain l) s
+push l s = pushNode (kidless l) s
 
 -- LinksFull: k links more
 unfoldable pub link : ℕ → State → Res State
@@ -161,7 +161,7 @@ link k s = do
 -- ---- nodes
 
 abbrev pub nodeAt : State → ℕ → Node
-nodeAt s i = getD (s .nodes) i (plain NoneL)
+nodeAt s i = getD (s .nodes) i (kidless NoneL)
 
 -- items after those that a node has
 unfoldable pub extend : ℕ → List ℕ → State → State

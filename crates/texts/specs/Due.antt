@@ -16,12 +16,12 @@ use Rattle.steps.specs.NodeWords.{first, second, classIn}
 use Rattle.resolved.specs.Noted.{isContainer}
 use Rattle.resolved.specs.Shown.{labels, labelOf, leading, trailing, hasText, isDecoded, placeIn, leadIn, trailIn, rawLead, rawTrail, leadText, trailText, Spelled}
 use Rattle.texts.specs.declared.Spelling.{Spelling}
-use Rattle.texts.specs.Mark.{markOf, mark-least, mark-most, mark-decoded, mark-place, mark-lead, mark-trail}
-use Rattle.texts.specs.Spell.{TextRoom, Stands, stays, stands, SpellsNode}
+use Rattle.texts.specs.Measure.{measureOf, measure-least, measure-most, measure-decoded, measure-place, measure-lead, measure-trail}
+use Rattle.texts.specs.Spell.{TextRoom, StandsDecoded, stays, stands, SpellsNode}
 
 -- ---- whose text is wanted
 
--- The text of node i with the mark m: the mark is a word, of a leaf not one that was looked up ahead for an Object's class.
+-- The text of node i with the measure m: the measure is a word, of a leaf not one that was looked up ahead for an Object's class.
 unfoldable pub isDue : List ℕ → List ℕ → ℕ → ℕ → Bool
 isDue p ws i m = hasText (labelOf p ws i) && (leb 128 m && ltb m (cond (isContainer (labelOf p ws i)) (2 ^ 42) (2 ^ 41)))
 
@@ -31,10 +31,10 @@ textLength p ws i = length (leading (labelOf p ws i)) + length (trailing (labelO
 
 -- the texts of the first n nodes together
 unfoldable pub dueText : List ℕ → List ℕ → List ℕ → ℕ → ℕ
-dueText p ws marks zero = 0
-dueText p ws marks (suc n) = dueText p ws marks n + cond (isDue p ws n (getD marks n 0)) (textLength p ws n) 0
+dueText p ws measures zero = 0
+dueText p ws measures (suc n) = dueText p ws measures n + cond (isDue p ws n (getD measures n 0)) (textLength p ws n) 0
 
--- by the first word and the mark
+-- by the first word and the measure
 unfoldable pub textKind : ℕ → Bool
 textKind k = cond (ltb k 4) false (cond (ltb k 6) true (cond (ltb k 11) false (ltb k 15)))
 
@@ -137,40 +137,40 @@ module _ (k : ℕ) where
 
 -- ---- one node
 
-pub record Turn (p ws : List ℕ) (i : ℕ) (d marks : List ℕ) (used : ℕ) : Type 0 where
+pub record Turn (p ws : List ℕ) (i : ℕ) (d measures : List ℕ) (used : ℕ) : Type 0 where
   pub words : 2 * i + 1 < length ws
   pub class : kindIn (first ws i) ≡ 12 → 2 * classIn (first ws i) + 1 < length ws
-  pub marked : i < length marks
-  pub fits : isDue p ws i (getD marks i 0) ≡ true → TextRoom (leading (labelOf p ws i)) (trailing (labelOf p ws i)) used d
+  pub measured : i < length measures
+  pub fits : isDue p ws i (getD measures i 0) ≡ true → TextRoom (leading (labelOf p ws i)) (trailing (labelOf p ws i)) used d
 
-pub data Turns (p ws : List ℕ) (i : ℕ) (d marks : List ℕ) (used : ℕ) (d′ marks′ : List ℕ) (used′ : ℕ) : Type 0 where
-  passed : isDue p ws i (getD marks i 0) ≡ false → d′ ≡ d → marks′ ≡ marks → used′ ≡ used → Turns p ws i d marks used d′ marks′ used′
-  spelled : isDue p ws i (getD marks i 0) ≡ true → (r : Spelling) → SpellsNode p ws i (getD marks i 0) used d r d′ → marks′ ≡ set marks i (r .mark) → used′ ≡ r .used → Turns p ws i d marks used d′ marks′ used′
+pub data Turns (p ws : List ℕ) (i : ℕ) (d measures : List ℕ) (used : ℕ) (d′ measures′ : List ℕ) (used′ : ℕ) : Type 0 where
+  passed : isDue p ws i (getD measures i 0) ≡ false → d′ ≡ d → measures′ ≡ measures → used′ ≡ used → Turns p ws i d measures used d′ measures′ used′
+  spelled : isDue p ws i (getD measures i 0) ≡ true → (r : Spelling) → SpellsNode p ws i (getD measures i 0) used d r d′ → measures′ ≡ set measures i (r .measure) → used′ ≡ r .used → Turns p ws i d measures used d′ measures′ used′
 
 -- ---- all nodes
 
-pub record Decodable (p ws : List ℕ) (n : ℕ) (d marks : List ℕ) : Type 0 where
+pub record Decodable (p ws : List ℕ) (n : ℕ) (d measures : List ℕ) : Type 0 where
   pub words : 2 * n ≤ length ws
   pub classes : (i : ℕ) → i < n → kindIn (first ws i) ≡ 12 → classIn (first ws i) < n
-  pub marked : n ≤ length marks
-  pub fits : dueText p ws marks n ≤ 65536
+  pub measured : n ≤ length measures
+  pub fits : dueText p ws measures n ≤ 65536
   pub room : 65536 ≤ length d
 
--- node i's text stands where its mark says, within what is used of the decoded text
-pub record Placed (p d ws marks : List ℕ) (i used : ℕ) : Type 0 where
-  pub spelled : Spelled p d ws marks i (labelOf p ws i)
-  pub within : isDecoded (getD marks i 0) ≡ true → placeIn (getD marks i 0) + leadIn (getD marks i 0) + trailIn (getD marks i 0) ≤ used
+-- node i's text stands where its measure says, within what is used of the decoded text
+pub record Placed (p d ws measures : List ℕ) (i used : ℕ) : Type 0 where
+  pub spelled : Spelled p d ws measures i (labelOf p ws i)
+  pub within : isDecoded (getD measures i 0) ≡ true → placeIn (getD measures i 0) + leadIn (getD measures i 0) + trailIn (getD measures i 0) ≤ used
 
--- of the first n nodes, d₀ and marks₀ being the rooms as they were
-pub record Decodes (p ws d₀ marks₀ : List ℕ) (n : ℕ) (d marks : List ℕ) (used : ℕ) : Type 0 where
-  pub texts : (i : ℕ) → i < n → isDue p ws i (getD marks₀ i 0) ≡ true → Placed p d ws marks i used
-  pub others : (i : ℕ) → i < n → isDue p ws i (getD marks₀ i 0) ≡ false → getD marks i 0 ≡ getD marks₀ i 0
-  pub later : (i : ℕ) → n ≤ i → getD marks i 0 ≡ getD marks₀ i 0
-  pub changed : (i : ℕ) → (getD marks i 0 ≡ getD marks₀ i 0) ⊎ ((2 ^ 62 ≤ getD marks i 0) × (getD marks i 0 < 2 ^ 63))
-  pub spent : used ≤ dueText p ws marks₀ n
+-- of the first n nodes, d₀ and measures₀ being the rooms as they were
+pub record Decodes (p ws d₀ measures₀ : List ℕ) (n : ℕ) (d measures : List ℕ) (used : ℕ) : Type 0 where
+  pub texts : (i : ℕ) → i < n → isDue p ws i (getD measures₀ i 0) ≡ true → Placed p d ws measures i used
+  pub others : (i : ℕ) → i < n → isDue p ws i (getD measures₀ i 0) ≡ false → getD measures i 0 ≡ getD measures₀ i 0
+  pub later : (i : ℕ) → n ≤ i → getD measures i 0 ≡ getD measures₀ i 0
+  pub changed : (i : ℕ) → (getD measures i 0 ≡ getD measures₀ i 0) ⊎ ((2 ^ 62 ≤ getD measures i 0) × (getD measures i 0 < 2 ^ 63))
+  pub spent : used ≤ dueText p ws measures₀ n
   pub behind : drop used d ≡ drop used d₀
   pub same-room : length d ≡ length d₀
-  pub same-marks : length marks ≡ length marks₀
+  pub same-measures : length measures ≡ length measures₀
 
 -- ---- parts of lists that agree
 
@@ -219,12 +219,12 @@ module _ (lead trail d : List ℕ) (used : ℕ) (f : used + length lead + length
       let k : used + length (lead ++ trail) ≡ used + length lead + length trail = rw length-append (omega arith) in
       sym (drop-drop (length trail) (used + length lead) put) ∙ ap (drop (length trail)) behind-lead ∙ drop-append-seam trail rest ∙ ap (λ (n : ℕ). drop n d) k
 
--- a text that is placed stays so, if its mark and what is used of the decoded text do
-placed-stays : (p ws d marks d′ marks′ : List ℕ) (j used used′ : ℕ) → Placed p d ws marks j used → getD marks′ j 0 ≡ getD marks j 0 → take used d′ ≡ take used d → used ≤ used′ → used ≤ length d → length d′ ≡ length d → Placed p d′ ws marks′ j used′
+-- a text that is placed stays so, if its measure and what is used of the decoded text do
+placed-stays : (p ws d measures d′ measures′ : List ℕ) (j used used′ : ℕ) → Placed p d ws measures j used → getD measures′ j 0 ≡ getD measures j 0 → take used d′ ≡ take used d → used ≤ used′ → used ≤ length d → length d′ ≡ length d → Placed p d′ ws measures′ j used′
 unfolding leadText trailText
-placed-stays p ws d marks d′ marks′ j used used′ x e f u v w = go (isDecoded (getD marks j 0)) refl
+placed-stays p ws d measures d′ measures′ j used used′ x e f u v w = go (isDecoded (getD measures j 0)) refl
   where
-    go : (b : Bool) → isDecoded (getD marks j 0) ≡ b → Placed p d′ ws marks′ j used′
+    go : (b : Bool) → isDecoded (getD measures j 0) ≡ b → Placed p d′ ws measures′ j used′
     go false q =
         let l : rawLead p ws j ≡ leading (labelOf p ws j) = rw q at (x .spelled .lead) in
         let t : rawTrail p ws j ≡ trailing (labelOf p ws j) = rw q at (x .spelled .trail) in
@@ -233,7 +233,7 @@ placed-stays p ws d marks d′ marks′ j used used′ x e f u v w = go (isDecod
           within = rw (e, q) (λ z. absurd (let y : _≡_ {A = ℕ} 0 1 = cc in omega arith));
         }
     go true q =
-        let m = getD marks j 0 in
+        let m = getD measures j 0 in
         let l : take (leadIn m) (drop (placeIn m) d) ≡ leading (labelOf p ws j) = rw q at (x .spelled .lead) in
         let t : take (trailIn m) (drop (placeIn m + leadIn m) d) ≡ trailing (labelOf p ws j) = rw q at (x .spelled .trail) in
         let k = x .within q in
@@ -245,21 +245,21 @@ placed-stays p ws d marks d′ marks′ j used used′ x e f u v w = go (isDecod
         }
 
 -- a text that was put is placed
-own-stands : (p ws d marks : List ℕ) (i used : ℕ) (r : Spelling) (d′ : List ℕ)
-    → i < length marks
+own-stands : (p ws d measures : List ℕ) (i used : ℕ) (r : Spelling) (d′ : List ℕ)
+    → i < length measures
     → used + length (leading (labelOf p ws i)) + length (trailing (labelOf p ws i)) ≤ 65536
     → used + length (leading (labelOf p ws i)) + length (trailing (labelOf p ws i)) ≤ length d
-    → Stands (leading (labelOf p ws i)) (trailing (labelOf p ws i)) used d r d′
-    → Placed p d′ ws (set marks i (r .mark)) i (r .used)
+    → StandsDecoded (leading (labelOf p ws i)) (trailing (labelOf p ws i)) used d r d′
+    → Placed p d′ ws (set measures i (r .measure)) i (r .used)
 unfolding leadText trailText
-own-stands p ws d marks i used r d′ here small f s =
+own-stands p ws d measures i used r d′ here small f s =
     let lead = leading (labelOf p ws i) in
     let trail = trailing (labelOf p ws i) in
-    let m : getD (set marks i (r .mark)) i 0 ≡ markOf used (length lead) (length trail) = getD-set-same marks i (r .mark) 0 here ∙ s .mark in
-    let q = mark-decoded used (length lead) (length trail) in
-    let place = mark-place used (length lead) (length trail) (omega arith) (omega arith) (omega arith) in
-    let a = mark-lead used (length lead) (length trail) (omega arith) (omega arith) (omega arith) in
-    let b = mark-trail used (length lead) (length trail) (omega arith) (omega arith) (omega arith) in
+    let m : getD (set measures i (r .measure)) i 0 ≡ measureOf used (length lead) (length trail) = getD-set-same measures i (r .measure) 0 here ∙ s .measure in
+    let q = measure-decoded used (length lead) (length trail) in
+    let place = measure-place used (length lead) (length trail) (omega arith) (omega arith) (omega arith) in
+    let a = measure-lead used (length lead) (length trail) (omega arith) (omega arith) (omega arith) in
+    let b = measure-trail used (length lead) (length trail) (omega arith) (omega arith) (omega arith) in
     let y = s .bytes in
     record {
       spelled =
@@ -272,16 +272,16 @@ own-stands p ws d marks i used r d′ here small f s =
     }
 
 -- and so is one that is left in the pickle
-own-stays : (p ws marks : List ℕ) (i : ℕ) (r : Spelling) (d′ : List ℕ)
-    → i < length marks
+own-stays : (p ws measures : List ℕ) (i : ℕ) (r : Spelling) (d′ : List ℕ)
+    → i < length measures
     → rawLead p ws i ≡ leading (labelOf p ws i)
     → rawTrail p ws i ≡ trailing (labelOf p ws i)
-    → r .mark < 2 ^ 62
-    → Placed p d′ ws (set marks i (r .mark)) i (r .used)
+    → r .measure < 2 ^ 62
+    → Placed p d′ ws (set measures i (r .measure)) i (r .used)
 unfolding leadText trailText isDecoded
-own-stays p ws marks i r d′ here a b small =
-    let m = getD-set-same marks i (r .mark) 0 here in
-    let q = lt-leb (2 ^ 62) (r .mark) small in
+own-stays p ws measures i r d′ here a b small =
+    let m = getD-set-same measures i (r .measure) 0 here in
+    let q = lt-leb (2 ^ 62) (r .measure) small in
     record {
       spelled = record { lead = rw (m, q) a; trail = rw (m, q) b; inside = rw (m, q) (λ z. absurd (let y : _≡_ {A = ℕ} 0 1 = cc in omega arith)) };
       within = rw (m, q) (λ z. absurd (let y : _≡_ {A = ℕ} 0 1 = cc in omega arith));
@@ -293,18 +293,18 @@ further n k m l l′ e q = rw e (sym (drop-drop k n l) ∙ ap (drop k) q ∙ dro
 
 -- ---- one node further
 
-due-rises : (p ws marks : List ℕ) (i n : ℕ) → i ≤ n → dueText p ws marks i ≤ dueText p ws marks n
+due-rises : (p ws measures : List ℕ) (i n : ℕ) → i ≤ n → dueText p ws measures i ≤ dueText p ws measures n
 unfolding dueText
-due-rises p ws marks i zero h = let e : i ≡ 0 = omega arith in rw e (omega arith)
-due-rises p ws marks i (suc n) h = go (decLt i (suc n)) (λ l. due-rises p ws marks i n l)
+due-rises p ws measures i zero h = let e : i ≡ 0 = omega arith in rw e (omega arith)
+due-rises p ws measures i (suc n) h = go (decLt i (suc n)) (λ l. due-rises p ws measures i n l)
   where
-    go : Dec (i < suc n) → (i ≤ n → dueText p ws marks i ≤ dueText p ws marks n) → dueText p ws marks i ≤ dueText p ws marks n + cond (isDue p ws n (getD marks n 0)) (textLength p ws n) 0
+    go : Dec (i < suc n) → (i ≤ n → dueText p ws measures i ≤ dueText p ws measures n) → dueText p ws measures i ≤ dueText p ws measures n + cond (isDue p ws n (getD measures n 0)) (textLength p ws n) 0
     go (yes l) r = let s = r (omega arith) in omega arith
     go (no l) r = let e : i ≡ suc n = omega arith in rw e (omega arith)
 
-pub decodes-none : (p ws d marks : List ℕ) → Decodes p ws d marks 0 d marks 0
+pub decodes-none : (p ws d measures : List ℕ) → Decodes p ws d measures 0 d measures 0
 unfolding dueText
-decodes-none p ws d marks =
+decodes-none p ws d measures =
     record {
       texts = λ i h. absurd (omega arith);
       others = λ i h. absurd (omega arith);
@@ -313,33 +313,33 @@ decodes-none p ws d marks =
       spent = omega arith;
       behind = refl;
       same-room = refl;
-      same-marks = refl;
+      same-measures = refl;
     }
 
-module _ (p ws d₀ marks₀ : List ℕ) (n : ℕ) (h : Decodable p ws n d₀ marks₀) (i : ℕ) (l : i < n) (d marks : List ℕ) (used : ℕ) (x : Decodes p ws d₀ marks₀ i d marks used) where
-  as-it-was : isDue p ws i (getD marks i 0) ≡ isDue p ws i (getD marks₀ i 0)
+module _ (p ws d₀ measures₀ : List ℕ) (n : ℕ) (h : Decodable p ws n d₀ measures₀) (i : ℕ) (l : i < n) (d measures : List ℕ) (used : ℕ) (x : Decodes p ws d₀ measures₀ i d measures used) where
+  as-it-was : isDue p ws i (getD measures i 0) ≡ isDue p ws i (getD measures₀ i 0)
   as-it-was = ap (isDue p ws i) (x .later i (omega arith))
 
-  next-fits : isDue p ws i (getD marks₀ i 0) ≡ true → used + length (leading (labelOf p ws i)) + length (trailing (labelOf p ws i)) ≤ dueText p ws marks₀ (suc i)
+  next-fits : isDue p ws i (getD measures₀ i 0) ≡ true → used + length (leading (labelOf p ws i)) + length (trailing (labelOf p ws i)) ≤ dueText p ws measures₀ (suc i)
   unfolding dueText
   next-fits e = rw e (omega (arith, x .spent))
 
-  all-fits : dueText p ws marks₀ (suc i) ≤ 65536
-  all-fits = let r = due-rises p ws marks₀ (suc i) n (omega arith) in omega (arith, h .fits)
+  all-fits : dueText p ws measures₀ (suc i) ≤ 65536
+  all-fits = let r = due-rises p ws measures₀ (suc i) n (omega arith) in omega (arith, h .fits)
 
-  next-spent : dueText p ws marks₀ i ≤ dueText p ws marks₀ (suc i)
-  next-spent = due-rises p ws marks₀ i (suc i) (omega arith)
+  next-spent : dueText p ws measures₀ i ≤ dueText p ws measures₀ (suc i)
+  next-spent = due-rises p ws measures₀ i (suc i) (omega arith)
 
-  pub turn-ready : Turn p ws i d marks used
+  pub turn-ready : Turn p ws i d measures used
   turn-ready =
       record {
         words = omega (arith, h .words);
         class = λ k. (let c = h .classes i l k in omega (arith, h .words));
-        marked = omega (arith, h .marked, x .same-marks);
+        measured = omega (arith, h .measured, x .same-measures);
         fits = λ e. record { fits = (let f = next-fits (sym as-it-was ∙ e) in omega (arith, all-fits)); room = omega (arith, h .room, x .same-room) };
       }
 
-  turn-passed : isDue p ws i (getD marks i 0) ≡ false → Decodes p ws d₀ marks₀ (suc i) d marks used
+  turn-passed : isDue p ws i (getD measures i 0) ≡ false → Decodes p ws d₀ measures₀ (suc i) d measures used
   turn-passed e =
       record {
         texts = λ j k q. texts′ j q (ℕ-discrete j i) k;
@@ -349,67 +349,67 @@ module _ (p ws d₀ marks₀ : List ℕ) (n : ℕ) (h : Decodable p ws n d₀ ma
         spent = omega (arith, next-spent, x .spent);
         behind = x .behind;
         same-room = x .same-room;
-        same-marks = x .same-marks;
+        same-measures = x .same-measures;
       }
     where
-      texts′ : (j : ℕ) → isDue p ws j (getD marks₀ j 0) ≡ true → Dec (j ≡ i) → j < suc i → Placed p d ws marks j used
-      texts′ j q (yes y) k = let z : isDue p ws i (getD marks₀ i 0) ≡ true = rw y at q in let w : isDue p ws i (getD marks₀ i 0) ≡ false = sym as-it-was ∙ e in absurd (let v : _≡_ {A = ℕ} 0 1 = cc in omega arith)
+      texts′ : (j : ℕ) → isDue p ws j (getD measures₀ j 0) ≡ true → Dec (j ≡ i) → j < suc i → Placed p d ws measures j used
+      texts′ j q (yes y) k = let z : isDue p ws i (getD measures₀ i 0) ≡ true = rw y at q in let w : isDue p ws i (getD measures₀ i 0) ≡ false = sym as-it-was ∙ e in absurd (let v : _≡_ {A = ℕ} 0 1 = cc in omega arith)
       texts′ j q (no y) k = x .texts j (omega arith) q
 
-      others′ : (j : ℕ) → isDue p ws j (getD marks₀ j 0) ≡ false → Dec (j ≡ i) → j < suc i → getD marks j 0 ≡ getD marks₀ j 0
+      others′ : (j : ℕ) → isDue p ws j (getD measures₀ j 0) ≡ false → Dec (j ≡ i) → j < suc i → getD measures j 0 ≡ getD measures₀ j 0
       others′ j q (yes y) k = x .later j (omega arith)
       others′ j q (no y) k = x .others j (omega arith) q
 
-  -- its mark is m, and what is used of the decoded text stays as it is
-  module _ (e : isDue p ws i (getD marks i 0) ≡ true) (m : ℕ) (d′ : List ℕ) (used′ : ℕ) where
+  -- its measure is m, and what is used of the decoded text stays as it is
+  module _ (e : isDue p ws i (getD measures i 0) ≡ true) (m : ℕ) (d′ : List ℕ) (used′ : ℕ) where
     turn-placed :
-        Placed p d′ ws (set marks i m) i used′
-        → (m ≡ getD marks₀ i 0) ⊎ ((2 ^ 62 ≤ m) × (m < 2 ^ 63))
+        Placed p d′ ws (set measures i m) i used′
+        → (m ≡ getD measures₀ i 0) ⊎ ((2 ^ 62 ≤ m) × (m < 2 ^ 63))
         → take used d′ ≡ take used d
         → used ≤ used′
-        → used′ ≤ dueText p ws marks₀ (suc i)
+        → used′ ≤ dueText p ws measures₀ (suc i)
         → drop used′ d′ ≡ drop used′ d₀
         → length d′ ≡ length d
-        → Decodes p ws d₀ marks₀ (suc i) d′ (set marks i m) used′
-    turn-placed own at-mark front more spent′ behind′ long =
+        → Decodes p ws d₀ measures₀ (suc i) d′ (set measures i m) used′
+    turn-placed own at-measure front more spent′ behind′ long =
         record {
           texts = λ j k q. texts′ j q (ℕ-discrete j i) k;
           others = λ j k q. others′ j q (ℕ-discrete j i) k;
-          later = λ j k. (let y : j ≢ i = λ z. omega arith in rw (getD-set-other marks i j m 0 y) (x .later j (omega arith)));
+          later = λ j k. (let y : j ≢ i = λ z. omega arith in rw (getD-set-other measures i j m 0 y) (x .later j (omega arith)));
           changed = λ j. changed′ j (ℕ-discrete j i);
           spent = spent′;
           behind = behind′;
           same-room = long ∙ x .same-room;
-          same-marks = length-set marks i m ∙ x .same-marks;
+          same-measures = length-set measures i m ∙ x .same-measures;
         }
       where
-        inside : i < length marks
-        inside = omega (arith, h .marked, x .same-marks)
+        inside : i < length measures
+        inside = omega (arith, h .measured, x .same-measures)
 
         used-inside : used ≤ length d
         used-inside = omega (arith, x .spent, next-spent, all-fits, h .room, x .same-room)
 
-        texts′ : (j : ℕ) → isDue p ws j (getD marks₀ j 0) ≡ true → Dec (j ≡ i) → j < suc i → Placed p d′ ws (set marks i m) j used′
+        texts′ : (j : ℕ) → isDue p ws j (getD measures₀ j 0) ≡ true → Dec (j ≡ i) → j < suc i → Placed p d′ ws (set measures i m) j used′
         texts′ j q (yes y) k = rw y own
-        texts′ j q (no y) k = placed-stays p ws d marks d′ (set marks i m) j used used′ (x .texts j (omega arith) q) (getD-set-other marks i j m 0 y) front more used-inside long
+        texts′ j q (no y) k = placed-stays p ws d measures d′ (set measures i m) j used used′ (x .texts j (omega arith) q) (getD-set-other measures i j m 0 y) front more used-inside long
 
-        others′ : (j : ℕ) → isDue p ws j (getD marks₀ j 0) ≡ false → Dec (j ≡ i) → j < suc i → getD (set marks i m) j 0 ≡ getD marks₀ j 0
-        others′ j q (yes y) k = let z : isDue p ws i (getD marks₀ i 0) ≡ false = rw y at q in let w : isDue p ws i (getD marks₀ i 0) ≡ true = sym as-it-was ∙ e in absurd (let v : _≡_ {A = ℕ} 0 1 = cc in omega arith)
-        others′ j q (no y) k = rw (getD-set-other marks i j m 0 y) (x .others j (omega arith) q)
+        others′ : (j : ℕ) → isDue p ws j (getD measures₀ j 0) ≡ false → Dec (j ≡ i) → j < suc i → getD (set measures i m) j 0 ≡ getD measures₀ j 0
+        others′ j q (yes y) k = let z : isDue p ws i (getD measures₀ i 0) ≡ false = rw y at q in let w : isDue p ws i (getD measures₀ i 0) ≡ true = sym as-it-was ∙ e in absurd (let v : _≡_ {A = ℕ} 0 1 = cc in omega arith)
+        others′ j q (no y) k = rw (getD-set-other measures i j m 0 y) (x .others j (omega arith) q)
 
-        changed′ : (j : ℕ) → Dec (j ≡ i) → (getD (set marks i m) j 0 ≡ getD marks₀ j 0) ⊎ ((2 ^ 62 ≤ getD (set marks i m) j 0) × (getD (set marks i m) j 0 < 2 ^ 63))
-        changed′ j (yes y) = rw (y, getD-set-same marks i m 0 inside) at-mark
-        changed′ j (no y) = rw (getD-set-other marks i j m 0 y) (x .changed j)
+        changed′ : (j : ℕ) → Dec (j ≡ i) → (getD (set measures i m) j 0 ≡ getD measures₀ j 0) ⊎ ((2 ^ 62 ≤ getD (set measures i m) j 0) × (getD (set measures i m) j 0 < 2 ^ 63))
+        changed′ j (yes y) = rw (y, getD-set-same measures i m 0 inside) at-measure
+        changed′ j (no y) = rw (getD-set-other measures i j m 0 y) (x .changed j)
 
   -- it is put behind the others, or left in the pickle
-  module _ (e : isDue p ws i (getD marks i 0) ≡ true) (r : Spelling) (d′ : List ℕ) where
-    to-here : used + length (leading (labelOf p ws i)) + length (trailing (labelOf p ws i)) ≤ dueText p ws marks₀ (suc i)
+  module _ (e : isDue p ws i (getD measures i 0) ≡ true) (r : Spelling) (d′ : List ℕ) where
+    to-here : used + length (leading (labelOf p ws i)) + length (trailing (labelOf p ws i)) ≤ dueText p ws measures₀ (suc i)
     to-here = next-fits (sym as-it-was ∙ e)
 
-    here : i < length marks
-    here = omega (arith, h .marked, x .same-marks)
+    here : i < length measures
+    here = omega (arith, h .measured, x .same-measures)
 
-    turn-stands : Stands (leading (labelOf p ws i)) (trailing (labelOf p ws i)) used d r d′ → Decodes p ws d₀ marks₀ (suc i) d′ (set marks i (r .mark)) (r .used)
+    turn-stands : StandsDecoded (leading (labelOf p ws i)) (trailing (labelOf p ws i)) used d r d′ → Decodes p ws d₀ measures₀ (suc i) d′ (set measures i (r .measure)) (r .used)
     turn-stands s =
         let lead = leading (labelOf p ws i) in
         let trail = trailing (labelOf p ws i) in
@@ -417,19 +417,19 @@ module _ (p ws d₀ marks₀ : List ℕ) (n : ℕ) (h : Decodable p ws n d₀ ma
         let f : used + length lead + length trail ≤ length d = omega (arith, h .room, x .same-room) in
         let b = s .bytes in
         let u = s .used-then in
-        turn-placed e (r .mark) d′ (r .used)
-        (own-stands p ws d marks i used r d′ here a f s)
-        (inr (rw (s .mark) (mark-least used (length lead) (length trail), mark-most used (length lead) (length trail) (omega arith) (omega arith) (omega arith))))
+        turn-placed e (r .measure) d′ (r .used)
+        (own-stands p ws d measures i used r d′ here a f s)
+        (inr (rw (s .measure) (measure-least used (length lead) (length trail), measure-most used (length lead) (length trail) (omega arith) (omega arith) (omega arith))))
         (rw b (front-same lead trail d used f))
         (omega arith)
         (omega (arith, to-here))
         (rw (u, b) (behind-both lead trail d used f ∙ further used (length lead + length trail) (used + length lead + length trail) d d₀ (omega arith) (x .behind)))
         (rw b (length-sets d used (lead ++ trail)))
 
-    turn-stays : rawLead p ws i ≡ leading (labelOf p ws i) → rawTrail p ws i ≡ trailing (labelOf p ws i) → r .mark ≡ getD marks i 0 → r .used ≡ used → d′ ≡ d → Decodes p ws d₀ marks₀ (suc i) d′ (set marks i (r .mark)) (r .used)
+    turn-stays : rawLead p ws i ≡ leading (labelOf p ws i) → rawTrail p ws i ≡ trailing (labelOf p ws i) → r .measure ≡ getD measures i 0 → r .used ≡ used → d′ ≡ d → Decodes p ws d₀ measures₀ (suc i) d′ (set measures i (r .measure)) (r .used)
     turn-stays a b m u q =
-        turn-placed e (r .mark) d′ (r .used)
-        (own-stays p ws marks i r d′ here a b (let z = due-raw p ws i (getD marks i 0) e in omega arith))
+        turn-placed e (r .measure) d′ (r .used)
+        (own-stays p ws measures i r d′ here a b (let z = due-raw p ws i (getD measures i 0) e in omega arith))
         (inl (m ∙ x .later i (omega arith)))
         (rw q)
         (omega arith)
@@ -437,10 +437,10 @@ module _ (p ws d₀ marks₀ : List ℕ) (n : ℕ) (h : Decodable p ws n d₀ ma
         (rw (u, q) (x .behind))
         (rw q)
 
-  pub turn-more : (d′ marks′ : List ℕ) (used′ : ℕ) → Turns p ws i d marks used d′ marks′ used′ → Decodes p ws d₀ marks₀ (suc i) d′ marks′ used′
-  turn-more d′ marks′ used′ (passed e a b c) = rw (a, b, c) (turn-passed e)
-  turn-more d′ marks′ used′ (spelled e r s b c) = rw (b, c) (go s)
+  pub turn-more : (d′ measures′ : List ℕ) (used′ : ℕ) → Turns p ws i d measures used d′ measures′ used′ → Decodes p ws d₀ measures₀ (suc i) d′ measures′ used′
+  turn-more d′ measures′ used′ (passed e a b c) = rw (a, b, c) (turn-passed e)
+  turn-more d′ measures′ used′ (spelled e r s b c) = rw (b, c) (go s)
     where
-      go : SpellsNode p ws i (getD marks i 0) used d r d′ → Decodes p ws d₀ marks₀ (suc i) d′ (set marks i (r .mark)) (r .used)
+      go : SpellsNode p ws i (getD measures i 0) used d r d′ → Decodes p ws d₀ measures₀ (suc i) d′ (set measures i (r .measure)) (r .used)
       go (stays a t m u q) = turn-stays e r d′ a t m u q
       go (stands z) = turn-stands e r d′ z

@@ -1,4 +1,4 @@
--- A text that stands at a place, and the places of a node's text by its mark and its words.
+-- A text that stands at a place, and the places of a node's text by its measure and its words.
 use Prim.Native.Nat.{ℕ, suc, zero, _+_, _-_, _^_, _/_, _%_, _<_, _≤_, min}
 use mathlib.Core.Bool.{true, false}
 use mathlib.Core.List.{List, [], _∷_}
@@ -44,49 +44,49 @@ part-end l at len held from more h f m =
     let e : from + more - from ≡ more = omega arith in
     rw (e, m, f, h) (part-cut l at len)
 
-module _ (p d ws marks : List ℕ) (i : ℕ) where
+module _ (p d ws measures : List ℕ) (i : ℕ) where
   -- ---- decoded
 
-  module _ (h : 2 ^ 62 ≤ getD marks i 0) where
-    pub lead-decoded : placed (record { decoded = true; at = getD marks i 0 % 2 ^ 17; len = getD marks i 0 / 2 ^ 17 % 2 ^ 17 }) p d ≡ leadText p d ws marks i
+  module _ (h : 2 ^ 62 ≤ getD measures i 0) where
+    pub lead-decoded : placed (record { decoded = true; at = getD measures i 0 % 2 ^ 17; len = getD measures i 0 / 2 ^ 17 % 2 ^ 17 }) p d ≡ leadText p d ws measures i
     unfolding placed leadText isDecoded placeIn leadIn pick
-    lead-decoded = rw (le-leb (2 ^ 62) (getD marks i 0) h)
+    lead-decoded = rw (le-leb (2 ^ 62) (getD measures i 0) h)
 
-    pub trail-decoded : placed (record { decoded = true; at = getD marks i 0 % 2 ^ 17 + getD marks i 0 / 2 ^ 17 % 2 ^ 17; len = getD marks i 0 / 2 ^ 34 % 2 ^ 17 }) p d ≡ trailText p d ws marks i
+    pub trail-decoded : placed (record { decoded = true; at = getD measures i 0 % 2 ^ 17 + getD measures i 0 / 2 ^ 17 % 2 ^ 17; len = getD measures i 0 / 2 ^ 34 % 2 ^ 17 }) p d ≡ trailText p d ws measures i
     unfolding placed trailText isDecoded placeIn leadIn trailIn pick
-    trail-decoded = rw (le-leb (2 ^ 62) (getD marks i 0) h)
+    trail-decoded = rw (le-leb (2 ^ 62) (getD measures i 0) h)
 
   -- ---- as it stands in the pickle
 
-  module _ (h : getD marks i 0 < 2 ^ 62) where
-    raw-lead : leadText p d ws marks i ≡ rawLead p ws i
+  module _ (h : getD measures i 0 < 2 ^ 62) where
+    raw-lead : leadText p d ws measures i ≡ rawLead p ws i
     unfolding leadText isDecoded
-    raw-lead = rw (lt-leb (2 ^ 62) (getD marks i 0) h)
+    raw-lead = rw (lt-leb (2 ^ 62) (getD measures i 0) h)
 
-    raw-trail : trailText p d ws marks i ≡ rawTrail p ws i
+    raw-trail : trailText p d ws measures i ≡ rawTrail p ws i
     unfolding trailText isDecoded
-    raw-trail = rw (lt-leb (2 ^ 62) (getD marks i 0) h)
+    raw-trail = rw (lt-leb (2 ^ 62) (getD measures i 0) h)
 
-    pub lead-global : kindIn (first ws i) ≡ 11 → within 24 (first ws i / 16) p ≡ leadText p d ws marks i
+    pub lead-global : kindIn (first ws i) ≡ 11 → within 24 (first ws i / 16) p ≡ leadText p d ws measures i
     unfolding rawLead
     lead-global k = rw (raw-lead, k)
 
-    pub lead-object : kindIn (first ws i) ≡ 12 → within 24 (first ws (classIn (first ws i)) / 16) p ≡ leadText p d ws marks i
+    pub lead-object : kindIn (first ws i) ≡ 12 → within 24 (first ws (classIn (first ws i)) / 16) p ≡ leadText p d ws measures i
     unfolding rawLead
     lead-object k = rw (raw-lead, k)
 
-    pub lead-leaf : kindIn (first ws i) ≢ 11 → kindIn (first ws i) ≢ 12 → within 32 (second ws i) p ≡ leadText p d ws marks i
+    pub lead-leaf : kindIn (first ws i) ≢ 11 → kindIn (first ws i) ≢ 12 → within 32 (second ws i) p ≡ leadText p d ws measures i
     unfolding rawLead
     lead-leaf k l = rw (raw-lead, ne-eqb _ _ k, ne-eqb _ _ l)
 
-    pub trail-global : kindIn (first ws i) ≡ 11 → within 32 (second ws i) p ≡ trailText p d ws marks i
+    pub trail-global : kindIn (first ws i) ≡ 11 → within 32 (second ws i) p ≡ trailText p d ws measures i
     unfolding rawTrail
     trail-global k = rw (raw-trail, k)
 
-    pub trail-object : kindIn (first ws i) ≡ 12 → within 32 (second ws (classIn (first ws i))) p ≡ trailText p d ws marks i
+    pub trail-object : kindIn (first ws i) ≡ 12 → within 32 (second ws (classIn (first ws i))) p ≡ trailText p d ws measures i
     unfolding rawTrail
     trail-object k = rw (raw-trail, k)
 
-    pub trail-leaf : kindIn (first ws i) ≢ 11 → kindIn (first ws i) ≢ 12 → placed (record { decoded = false; at = 0; len = 0 }) p d ≡ trailText p d ws marks i
+    pub trail-leaf : kindIn (first ws i) ≢ 11 → kindIn (first ws i) ≢ 12 → placed (record { decoded = false; at = 0; len = 0 }) p d ≡ trailText p d ws measures i
     unfolding placed rawTrail
     trail-leaf k l = rw (raw-trail, ne-eqb _ _ k, ne-eqb _ _ l)

@@ -1,4 +1,4 @@
--- What a call that reads node i's text asks of the rooms: that its words, its mark and its class's words are there.
+-- What a call that reads node i's text asks of the rooms: that its words, its measure and its class's words are there.
 use Prim.Native.Nat.{ℕ, _+_, _*_, _<_}
 use mathlib.Core.List.{List}
 use mathlib.Core.Path.{_≡_}
@@ -11,21 +11,21 @@ use Rattle.steps.specs.NodeWords.{first, classIn}
 use Rattle.resolved.specs.Resolved.{Kids}
 use Rattle.resolved.specs.Shown.{Shown, Spelled, leadText, trailText}
 
-pub record Readable (ws marks : List ℕ) (i : ℕ) : Type 0 where
+pub record Readable (ws measures : List ℕ) (i : ℕ) : Type 0 where
   pub words : 2 * i + 1 < length ws
-  pub marked : i < length marks
+  pub measured : i < length measures
   pub class : kindIn (first ws i) ≡ 12 → 2 * classIn (first ws i) + 1 < length ws
 
 -- rooms that show the nodes have it
-pub shown-readable : (t : List Node) (h : Kids) (P : ℕ → Type 0) (p d ws starts children log marks : List ℕ) (i : ℕ) → Shown t h P p d ws starts children log marks → i < length t → Readable ws marks i
-shown-readable t h P p d ws starts children log marks i s l =
+pub shown-readable : (t : List Node) (h : Kids) (P : ℕ → Type 0) (p d ws starts children log measures : List ℕ) (i : ℕ) → Shown t h P p d ws starts children log measures → i < length t → Readable ws measures i
+shown-readable t h P p d ws starts children log measures i s l =
     record {
       words = omega (arith, s .words-long);
-      marked = omega (arith, s .marks-long);
+      measured = omega (arith, s .measures-long);
       class = λ k. (let c = s .classes i l k .0 in omega (arith, s .words-long));
     }
 
--- a node's text goes by its own mark alone
-pub spelled-mark : (p d ws marks marks′ : List ℕ) (i : ℕ) (l : Label) → getD marks′ i 0 ≡ getD marks i 0 → Spelled p d ws marks i l → Spelled p d ws marks′ i l
+-- a node's text goes by its own measure alone
+pub spelled-measure : (p d ws measures measures′ : List ℕ) (i : ℕ) (l : Label) → getD measures′ i 0 ≡ getD measures i 0 → Spelled p d ws measures i l → Spelled p d ws measures′ i l
 unfolding leadText trailText
-spelled-mark p d ws marks marks′ i l e s = record { lead = rw e (s .lead); trail = rw e (s .trail); inside = rw e (s .inside) }
+spelled-measure p d ws measures measures′ i l e s = record { lead = rw e (s .lead); trail = rw e (s .trail); inside = rw e (s .inside) }

@@ -18,7 +18,7 @@ use Rattle.value.specs.Shape.{kindIn}
 use Rattle.steps.specs.NodeWords.{first, second, within, classIn, moduleOf, nameOf}
 use Rattle.resolved.specs.Shown.{labels, labelOf, leading, trailing, hasText, rawLead, rawTrail}
 use Rattle.texts.specs.declared.Spelling.{Spelling}
-use Rattle.texts.specs.Mark.{markOf}
+use Rattle.texts.specs.Measure.{measureOf}
 
 -- v is put at `at` of the room d
 pub record Puts (v d : List ℕ) (at : ℕ) (d′ : List ℕ) (n : ℕ) : Type 0 where
@@ -30,16 +30,16 @@ pub record TextRoom (lead trail : List ℕ) (used : ℕ) (d : List ℕ) : Type 0
   pub fits : used + length lead + length trail ≤ 65536
   pub room : 65536 ≤ length d
 
--- both stand decoded then, as the mark says
-pub record Stands (lead trail : List ℕ) (used : ℕ) (d : List ℕ) (r : Spelling) (d′ : List ℕ) : Type 0 where
-  pub mark : r .mark ≡ markOf used (length lead) (length trail)
+-- both stand decoded then, as the measure says
+pub record StandsDecoded (lead trail : List ℕ) (used : ℕ) (d : List ℕ) (r : Spelling) (d′ : List ℕ) : Type 0 where
+  pub measure : r .measure ≡ measureOf used (length lead) (length trail)
   pub used-then : r .used ≡ used + length lead + length trail
   pub bytes : d′ ≡ sets d used (lead ++ trail)
 
--- or are what stands in the pickle, and the mark m is left as it is
+-- or are what stands in the pickle, and the measure m is left as it is
 pub data Spells (raw-lead raw-trail lead trail : List ℕ) (m used : ℕ) (d : List ℕ) (r : Spelling) (d′ : List ℕ) : Type 0 where
-  stays : raw-lead ≡ lead → raw-trail ≡ trail → r .mark ≡ m → r .used ≡ used → d′ ≡ d → Spells raw-lead raw-trail lead trail m used d r d′
-  stands : Stands lead trail used d r d′ → Spells raw-lead raw-trail lead trail m used d r d′
+  stays : raw-lead ≡ lead → raw-trail ≡ trail → r .measure ≡ m → r .used ≡ used → d′ ≡ d → Spells raw-lead raw-trail lead trail m used d r d′
+  stands : StandsDecoded lead trail used d r d′ → Spells raw-lead raw-trail lead trail m used d r d′
 
 -- of node i
 abbrev pub SpellsNode : List ℕ → List ℕ → ℕ → ℕ → ℕ → List ℕ → Spelling → List ℕ → Type 0
@@ -69,26 +69,26 @@ module _ (v l ys : List ℕ) (at : ℕ) (h : at + length v ≤ length l) where
 -- ---- one text, or two
 
 module _ (lead : List ℕ) (used : ℕ) (d d′ : List ℕ) (n : ℕ) (x : Puts lead d used d′ n) where
-  pub one-stands : (m : ℕ) → m ≡ markOf used n 0 → Stands lead [] used d (record { mark = m; used = used + n }) d′
+  pub one-stands : (m : ℕ) → m ≡ measureOf used n 0 → StandsDecoded lead [] used d (record { measure = m; used = used + n }) d′
   one-stands m e =
       let c = x .count in
-      record { mark = e ∙ rw c; used-then = omega arith; bytes = rw (append-nil lead) (x .bytes) }
+      record { measure = e ∙ rw c; used-then = omega arith; bytes = rw (append-nil lead) (x .bytes) }
 
   module _ (trail d″ : List ℕ) (k : ℕ) (y : Puts trail d′ (used + n) d″ k) where
-    pub two-stand : (m : ℕ) → m ≡ markOf used n k → Stands lead trail used d (record { mark = m; used = used + n + k }) d″
+    pub two-stand : (m : ℕ) → m ≡ measureOf used n k → StandsDecoded lead trail used d (record { measure = m; used = used + n + k }) d″
     two-stand m e =
         let c = x .count in
         let b = y .count in
         let f = x .bytes in
         let g : d″ ≡ sets (sets d used lead) (used + length lead) trail = rw (← f, ← c) (y .bytes) in
-        record { mark = e ∙ rw (c, b); used-then = omega arith; bytes = g ∙ sets-append lead trail d used }
+        record { measure = e ∙ rw (c, b); used-then = omega arith; bytes = g ∙ sets-append lead trail d used }
 
 -- what is well formed stays
 module _ (s : List ℕ) (m used : ℕ) (d : List ℕ) (v : valid s ≡ true) where
-  pub text-stays : Spells s [] (repair s) [] m used d (record { mark = m; used = used }) d
+  pub text-stays : Spells s [] (repair s) [] m used d (record { measure = m; used = used }) d
   text-stays = stays (sym (repair-valid s v)) refl refl refl refl
 
-  pub names-stay : (t : List ℕ) → valid t ≡ true → Spells s t (repair s) (repair t) m used d (record { mark = m; used = used }) d
+  pub names-stay : (t : List ℕ) → valid t ≡ true → Spells s t (repair s) (repair t) m used d (record { measure = m; used = used }) d
   names-stay t w = stays (sym (repair-valid s v)) (sym (repair-valid t w)) refl refl refl
 
 -- ---- a node's text by its kind
@@ -164,6 +164,6 @@ module _ (p ws : List ℕ) (a b : ℕ) where
   only-bytes (suc (suc (suc (suc (suc (suc (suc (suc (suc (suc (suc (suc (suc (suc zero)))))))))))))) t n m = absurd (m (omega arith) (omega arith))
   only-bytes (suc (suc (suc (suc (suc (suc (suc (suc (suc (suc (suc (suc (suc (suc (suc k))))))))))))))) t n m = absurd (let z : _≡_ {A = ℕ} 0 1 = cc in omega arith)
 
-pub bytes-stay : (p ws : List ℕ) (i m used : ℕ) (d : List ℕ) → hasText (labelOf p ws i) ≡ true → kindIn (first ws i) ≢ 5 → (10 < kindIn (first ws i) → kindIn (first ws i) < 15 → ⊥) → SpellsNode p ws i m used d (record { mark = m; used = used }) d
+pub bytes-stay : (p ws : List ℕ) (i m used : ℕ) (d : List ℕ) → hasText (labelOf p ws i) ≡ true → kindIn (first ws i) ≢ 5 → (10 < kindIn (first ws i) → kindIn (first ws i) < 15 → ⊥) → SpellsNode p ws i m used d (record { measure = m; used = used }) d
 unfolding labelOf
 bytes-stay p ws i m used d t n k = spells-as (texts-bytes p ws i (within 32 (second ws i) p) (second ws i) refl refl (only-bytes p ws (first ws i) (second ws i) (kindIn (first ws i)) t n k)) (stays refl refl refl refl refl)

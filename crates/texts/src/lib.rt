@@ -11,14 +11,14 @@ ghost use Rattle.steps.specs.NodeWords.{within};
 ghost use Rattle.resolved.specs.Shown.{leadText, trailText};
 ghost use Rattle.texts.specs.Readable.{Readable};
 ghost use Rattle.texts.specs.Place.{placed};
-ghost use Rattle.texts.specs.Mark.{markOf};
-ghost use Rattle.texts.specs.Spell.{Puts, TextRoom, Spells, Stands, SpellsNode, Unspelled};
+ghost use Rattle.texts.specs.Measure.{measureOf};
+ghost use Rattle.texts.specs.Spell.{Puts, TextRoom, Spells, StandsDecoded, SpellsNode, Unspelled};
 ghost use Rattle.texts.specs.Due.{textKind, dueWord, Turn, Turns, Decodable, Decodes};
-use decoder::NodeId;
+use store::NodeId;
 use text::Decoded;
 use text::Quoted;
 
-// The mark of a node whose text was decoded: this, its place, 2^17 times the length of what leads, 2^34 times that of what trails.
+// The measure of a node whose text was decoded: this, its place, 2^17 times the length of what leads, 2^34 times that of what trails.
 pub const DECODED: u64 = 0x4000_0000_0000_0000;
 
 // A text by its place and its length, as far as there is any, in the decoded text or in the pickle.
@@ -86,17 +86,17 @@ fn text_place(second: u64) -> Place
     }
 }
 
-fn lead_place(node: NodeId, nodes: &[u64], marks: &[u64]) -> Place
-    requires { ⌜ Readable (now nodes) (now marks) (node .0) ⌝ }
-    ensures { λ r. ⌜ ((p d : List ℕ) → placed r p d ≡ leadText p d (now (nodes .entry)) (now (marks .entry)) (node .0)) ⌝ }
+fn lead_place(node: NodeId, nodes: &[u64], measures: &[u64]) -> Place
+    requires { ⌜ Readable (now nodes) (now measures) (node .0) ⌝ }
+    ensures { λ r. ⌜ ((p d : List ℕ) → placed r p d ≡ leadText p d (now (nodes .entry)) (now (measures .entry)) (node .0)) ⌝ }
 {
     let i = node.0;
-    let mark = marks[i];
-    if DECODED <= mark {
+    let measure = measures[i];
+    if DECODED <= measure {
         return Place {
             decoded: true,
-            at: mark % 0x2_0000,
-            len: mark / 0x2_0000 % 0x2_0000,
+            at: measure % 0x2_0000,
+            len: measure / 0x2_0000 % 0x2_0000,
         };
     }
     let first = nodes[2 * i];
@@ -111,17 +111,17 @@ fn lead_place(node: NodeId, nodes: &[u64], marks: &[u64]) -> Place
     text_place(nodes[2 * i + 1])
 }
 
-fn trail_place(node: NodeId, nodes: &[u64], marks: &[u64]) -> Place
-    requires { ⌜ Readable (now nodes) (now marks) (node .0) ⌝ }
-    ensures { λ r. ⌜ ((p d : List ℕ) → placed r p d ≡ trailText p d (now (nodes .entry)) (now (marks .entry)) (node .0)) ⌝ }
+fn trail_place(node: NodeId, nodes: &[u64], measures: &[u64]) -> Place
+    requires { ⌜ Readable (now nodes) (now measures) (node .0) ⌝ }
+    ensures { λ r. ⌜ ((p d : List ℕ) → placed r p d ≡ trailText p d (now (nodes .entry)) (now (measures .entry)) (node .0)) ⌝ }
 {
     let i = node.0;
-    let mark = marks[i];
-    if DECODED <= mark {
+    let measure = measures[i];
+    if DECODED <= measure {
         return Place {
             decoded: true,
-            at: mark % 0x2_0000 + mark / 0x2_0000 % 0x2_0000,
-            len: mark / 0x4_0000_0000 % 0x2_0000,
+            at: measure % 0x2_0000 + measure / 0x2_0000 % 0x2_0000,
+            len: measure / 0x4_0000_0000 % 0x2_0000,
         };
     }
     let first = nodes[2 * i];
@@ -146,12 +146,12 @@ pub fn lead_part<'a>(
     pickle: &'a [u8],
     decoded: &'a [u8],
     nodes: &[u64],
-    marks: &[u64],
+    measures: &[u64],
 ) -> &'a [u8]
-    requires { ⌜ Readable (now nodes) (now marks) (node .0) ⌝ }
-    ensures { λ r. ⌜ now r ≡ leadText (now (pickle .entry)) (now (decoded .entry)) (now (nodes .entry)) (now (marks .entry)) (node .0) ⌝ }
+    requires { ⌜ Readable (now nodes) (now measures) (node .0) ⌝ }
+    ensures { λ r. ⌜ now r ≡ leadText (now (pickle .entry)) (now (decoded .entry)) (now (nodes .entry)) (now (measures .entry)) (node .0) ⌝ }
 {
-    text_at(pickle, decoded, lead_place(node, nodes, marks))
+    text_at(pickle, decoded, lead_place(node, nodes, measures))
 }
 
 // The name of a Global or of an Object's class.
@@ -160,26 +160,26 @@ pub fn trail_part<'a>(
     pickle: &'a [u8],
     decoded: &'a [u8],
     nodes: &[u64],
-    marks: &[u64],
+    measures: &[u64],
 ) -> &'a [u8]
-    requires { ⌜ Readable (now nodes) (now marks) (node .0) ⌝ }
-    ensures { λ r. ⌜ now r ≡ trailText (now (pickle .entry)) (now (decoded .entry)) (now (nodes .entry)) (now (marks .entry)) (node .0) ⌝ }
+    requires { ⌜ Readable (now nodes) (now measures) (node .0) ⌝ }
+    ensures { λ r. ⌜ now r ≡ trailText (now (pickle .entry)) (now (decoded .entry)) (now (nodes .entry)) (now (measures .entry)) (node .0) ⌝ }
 {
-    text_at(pickle, decoded, trail_place(node, nodes, marks))
+    text_at(pickle, decoded, trail_place(node, nodes, measures))
 }
 
 // ---- the pass
 
-// A node's mark, and how much of the decoded text is used once its text is there.
+// A node's measure, and how much of the decoded text is used once its text is there.
 struct Spelling {
-    mark: u64,
+    measure: u64,
     used: usize,
 }
 
-// The mark of a text that was decoded.
-fn decoded_mark(at: usize, lead: usize, trail: usize) -> u64
+// The measure of a text that was decoded.
+fn decoded_measure(at: usize, lead: usize, trail: usize) -> u64
     requires { ⌜ (at ≤ 65536) × (lead ≤ 65536) × (trail ≤ 65536) ⌝ }
-    ensures { λ r. ⌜ r ≡ markOf at lead trail ⌝ }
+    ensures { λ r. ⌜ r ≡ measureOf at lead trail ⌝ }
 {
     DECODED + at as u64 + 0x2_0000 * lead as u64 + 0x4_0000_0000 * trail as u64
 }
@@ -239,40 +239,40 @@ fn put_unicode(line: &[u8], decoded: &mut [u8], at: usize) -> usize
 }
 
 // A String: it stays in the pickle if it is well formed there.
-fn spell_text(bytes: &[u8], mark: u64, decoded: &mut [u8], used: usize) -> Spelling
+fn spell_text(bytes: &[u8], measure: u64, decoded: &mut [u8], used: usize) -> Spelling
     requires { ⌜ TextRoom (repair (now bytes)) [] used (now decoded) ⌝ }
     ensures { λ r. ⌜
-        Spells (now (bytes .entry)) [] (repair (now (bytes .entry))) [] mark used (now (decoded .entry)) r
+        Spells (now (bytes .entry)) [] (repair (now (bytes .entry))) [] measure used (now (decoded .entry)) r
         (now (decoded .exit))
         ⌝ }
 {
     if utf8::valid(bytes) {
-        return Spelling { mark, used };
+        return Spelling { measure, used };
     }
     let n = put_repaired(bytes, decoded, used);
     Spelling {
-        mark: decoded_mark(used, n, 0),
+        measure: decoded_measure(used, n, 0),
         used: used + n,
     }
 }
 
 // A module and a name: they stay in the pickle if both are well formed there.
-fn spell_names(lead: &[u8], trail: &[u8], mark: u64, decoded: &mut [u8], used: usize) -> Spelling
+fn spell_names(lead: &[u8], trail: &[u8], measure: u64, decoded: &mut [u8], used: usize) -> Spelling
     requires { ⌜ TextRoom (repair (now lead)) (repair (now trail)) used (now decoded) ⌝ }
     ensures { λ r. ⌜
-        Spells (now (lead .entry)) (now (trail .entry)) (repair (now (lead .entry))) (repair (now (trail .entry))) mark used
+        Spells (now (lead .entry)) (now (trail .entry)) (repair (now (lead .entry))) (repair (now (trail .entry))) measure used
         (now (decoded .entry)) r (now (decoded .exit))
         ⌝ }
 {
     if utf8::valid(lead) {
         if utf8::valid(trail) {
-            return Spelling { mark, used };
+            return Spelling { measure, used };
         }
     }
     let m = put_repaired(lead, decoded, used);
     let n = put_repaired(trail, decoded, used + m);
     Spelling {
-        mark: decoded_mark(used, m, n),
+        measure: decoded_measure(used, m, n),
         used: used + m + n,
     }
 }
@@ -280,22 +280,22 @@ fn spell_names(lead: &[u8], trail: &[u8], mark: u64, decoded: &mut [u8], used: u
 // A line of STRING is always decoded, and so is one of UNICODE.
 fn spell_string(line: &[u8], decoded: &mut [u8], used: usize) -> Spelling
     requires { ⌜ TextRoom (bytesOf (unescapeString (now line))) [] used (now decoded) ⌝ }
-    ensures { λ r. ⌜ Stands (bytesOf (unescapeString (now (line .entry)))) [] used (now (decoded .entry)) r (now (decoded .exit)) ⌝ }
+    ensures { λ r. ⌜ StandsDecoded (bytesOf (unescapeString (now (line .entry)))) [] used (now (decoded .entry)) r (now (decoded .exit)) ⌝ }
 {
     let n = put_string(line, decoded, used);
     Spelling {
-        mark: decoded_mark(used, n, 0),
+        measure: decoded_measure(used, n, 0),
         used: used + n,
     }
 }
 
 fn spell_unicode(line: &[u8], decoded: &mut [u8], used: usize) -> Spelling
     requires { ⌜ TextRoom (bytesOf (unescapeUnicode (now line))) [] used (now decoded) ⌝ }
-    ensures { λ r. ⌜ Stands (bytesOf (unescapeUnicode (now (line .entry)))) [] used (now (decoded .entry)) r (now (decoded .exit)) ⌝ }
+    ensures { λ r. ⌜ StandsDecoded (bytesOf (unescapeUnicode (now (line .entry)))) [] used (now (decoded .entry)) r (now (decoded .exit)) ⌝ }
 {
     let n = put_unicode(line, decoded, used);
     Spelling {
-        mark: decoded_mark(used, n, 0),
+        measure: decoded_measure(used, n, 0),
         used: used + n,
     }
 }
@@ -303,7 +303,7 @@ fn spell_unicode(line: &[u8], decoded: &mut [u8], used: usize) -> Spelling
 // The text of a node that has one, behind those that are decoded already unless it can be read straight off the pickle.
 fn spell_node(
     node: NodeId,
-    mark: u64,
+    measure: u64,
     pickle: &[u8],
     nodes: &[u64],
     decoded: &mut [u8],
@@ -311,7 +311,7 @@ fn spell_node(
 ) -> Spelling
     requires { ⌜ Unspelled (now pickle) (now nodes) (node .0) used (now decoded) ⌝ }
     ensures { λ r. ⌜
-        SpellsNode (now (pickle .entry)) (now (nodes .entry)) (node .0) mark used (now (decoded .entry)) r
+        SpellsNode (now (pickle .entry)) (now (nodes .entry)) (node .0) measure used (now (decoded .entry)) r
         (now (decoded .exit))
         ⌝ }
 {
@@ -320,13 +320,13 @@ fn spell_node(
     let second = nodes[2 * i + 1];
     let kind = first % 16;
     if kind == value::STRING {
-        return spell_text(own_text(pickle, second), mark, decoded, used);
+        return spell_text(own_text(pickle, second), measure, decoded, used);
     }
     if kind == value::GLOBAL {
         return spell_names(
             module_text(pickle, first),
             own_text(pickle, second),
-            mark,
+            measure,
             decoded,
             used,
         );
@@ -336,18 +336,18 @@ fn spell_node(
         return spell_names(
             module_text(pickle, nodes[2 * class]),
             own_text(pickle, nodes[2 * class + 1]),
-            mark,
+            measure,
             decoded,
             used,
         );
     }
-    if kind == decoder::KIND_ESCAPED {
+    if kind == store::KIND_ESCAPED {
         return spell_string(own_text(pickle, second), decoded, used);
     }
-    if kind == decoder::KIND_UNICODE {
+    if kind == store::KIND_UNICODE {
         return spell_unicode(own_text(pickle, second), decoded, used);
     }
-    Spelling { mark, used }
+    Spelling { measure, used }
 }
 
 // Whether nodes of a kind have text.
@@ -366,18 +366,18 @@ fn has_text(kind: u64) -> bool
     kind < 15
 }
 
-// Whether a node's text is wanted: the walk reached it, as its mark says.
-fn is_due(first: u64, mark: u64) -> bool
-    ensures { λ r. ⌜ r ≡ dueWord first mark ⌝ }
+// Whether a node's text is wanted: the walk reached it, as its measure says.
+fn is_due(first: u64, measure: u64) -> bool
+    ensures { λ r. ⌜ r ≡ dueWord first measure ⌝ }
 {
     let kind = first % 16;
-    if mark < 128 {
+    if measure < 128 {
         return false;
     }
     if kind == value::OBJECT {
-        return mark < 0x400_0000_0000;
+        return measure < 0x400_0000_0000;
     }
-    if 0x200_0000_0000 <= mark {
+    if 0x200_0000_0000 <= measure {
         return false;
     }
     has_text(kind)
@@ -389,20 +389,20 @@ fn decode_one(
     nodes: &[u64],
     pickle: &[u8],
     decoded: &mut [u8],
-    marks: &mut [u64],
+    measures: &mut [u64],
     used: usize,
 ) -> usize
-    requires { ⌜ Turn (now pickle) (now nodes) (node .0) (now decoded) (now marks) used ⌝ }
+    requires { ⌜ Turn (now pickle) (now nodes) (node .0) (now decoded) (now measures) used ⌝ }
     ensures { λ r. ⌜
-        Turns (now (pickle .entry)) (now (nodes .entry)) (node .0) (now (decoded .entry)) (now (marks .entry)) used
-        (now (decoded .exit)) (now (marks .exit)) r
+        Turns (now (pickle .entry)) (now (nodes .entry)) (node .0) (now (decoded .entry)) (now (measures .entry)) used
+        (now (decoded .exit)) (now (measures .exit)) r
         ⌝ }
 {
     let i = node.0;
-    let mark = marks[i];
-    if is_due(nodes[2 * i], mark) {
-        let spelling = spell_node(node, mark, pickle, nodes, decoded, used);
-        marks[i] = spelling.mark;
+    let measure = measures[i];
+    if is_due(nodes[2 * i], measure) {
+        let spelling = spell_node(node, measure, pickle, nodes, decoded, used);
+        measures[i] = spelling.measure;
         return spelling.used;
     }
     used
@@ -414,18 +414,18 @@ pub fn decode_all(
     count: usize,
     pickle: &[u8],
     decoded: &mut [u8],
-    marks: &mut [u64],
+    measures: &mut [u64],
 ) -> usize
-    requires { ⌜ Decodable (now pickle) (now nodes) count (now decoded) (now marks) ⌝ }
+    requires { ⌜ Decodable (now pickle) (now nodes) count (now decoded) (now measures) ⌝ }
     ensures { λ r. ⌜
-        Decodes (now (pickle .entry)) (now (nodes .entry)) (now (decoded .entry)) (now (marks .entry)) count
-        (now (decoded .exit)) (now (marks .exit)) r
+        Decodes (now (pickle .entry)) (now (nodes .entry)) (now (decoded .entry)) (now (measures .entry)) count
+        (now (decoded .exit)) (now (measures .exit)) r
         ⌝ }
 {
     let mut used = 0;
     let mut i = 0;
     while i < count {
-        used = decode_one(NodeId(i), nodes, pickle, decoded, marks, used);
+        used = decode_one(NodeId(i), nodes, pickle, decoded, measures, used);
         i += 1;
     }
     used

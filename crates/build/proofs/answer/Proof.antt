@@ -5,7 +5,7 @@ use Rattle.build.proofs.answer.Tie as tie
 use Prim.Native.Nat.{_-_, _<_}
 use native.Mathlib.Omega.{arith}
 use mathlib.Core.Path.{_≡_, refl, subst}
-use Rattle.decoder.specs.declared.Counts.{Counts}
+use Rattle.store.specs.declared.Counts.{Counts}
 use Rattle.machine.specs.declared.Outcome.{Outcome}
 use Rattle.machine.specs.declared.Outcome.the-variants.{Stopped}
 use Rattle.build.specs.Given.{RanIn, refused-used, stopped-used, firm, gives-run, gives-empty, ready, gives-built-refused, gives-built}

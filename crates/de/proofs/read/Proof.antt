@@ -6,7 +6,7 @@ use mathlib.Core.Path.{_≡_, refl, _∙_, ap}
 use native.Mathlib.Omega.{arith}
 use lib.Seq.{length-front}
 use Rattle.rooms.specs.Stated.{Slices, roomLengths, AllZero, filled, same, rooms-zero}
-use Rattle.decoder.specs.declared.Counts.{Counts}
+use Rattle.store.specs.declared.Counts.{Counts}
 use Rattle.machine.specs.Ran.{countsOf}
 use Rattle.de.specs.Inner.{reads-long, back-fits, back-again, part-fits, part-cleared, machine-zero, working}
 use Rattle.de.proofs.read.Statement.{statement}

@@ -5,7 +5,7 @@ use mathlib.Core.Path.{_∙_, ap}
 use native.Mathlib.Omega.{arith}
 use lib.ListN.{drop}
 use lib.Seq.{length-front}
-use Rattle.decoder.specs.declared.Counts.{Counts}
+use Rattle.store.specs.declared.Counts.{Counts}
 use Rattle.machine.specs.Ran.{countsOf}
 use Rattle.de.specs.Inner.{Back, Runs, back-fits, back-again, part-fits, begins, runs, keys-back, held-back}
 use Rattle.de.proofs.run_in.Statement.{statement}

@@ -4,7 +4,7 @@ use Rattle.decoder.proofs.append.Statement.{statement}
 use Rattle.decoder.proofs.append.Tie as tie
 use mathlib.Core.Path.{refl}
 use native.Mathlib.Omega.{arith}
-use Rattle.decoder.specs.Effects.{Decides, says-refused}
+use Rattle.store.specs.Effects.{Decides, says-refused}
 use Rattle.decoder.specs.Items.{Adds, lists}
 use Rattle.decoder.specs.StackSteps.{append-underflow, append-adds}
 

@@ -2,20 +2,29 @@
 use borrow.Author.Needs.{needs}
 use Rattle.decoder.proofs.appends.Statement.{statement}
 use Rattle.decoder.proofs.appends.Tie as tie
+use Prim.Native.Nat.{_≤_, _<_}
 use mathlib.Core.Path.{refl}
 use native.Mathlib.Omega.{arith}
-use Rattle.decoder.specs.Effects.{Decides, says-refused}
+use Rattle.store.specs.Effects.{Decides, says-refused}
+use Rattle.decoder.specs.declared.Taken.the-variants.{From}
 use Rattle.decoder.specs.Items.{TakesMark, Adds, lists}
-use Rattle.decoder.specs.StackSteps.{took-below, appends-underflow, appends-adds}
+use Rattle.decoder.specs.StackSteps.{some-less, took-below, appends-underflow, appends-adds}
+
+-- the mark that was found
+abbrev start : tie.After-m → tie.Start
+start c = c .before .before .before .before .before .before
+
+taken : (c : tie.After-m) → let a = start c .args in TakesMark (a .c) (a .marks .now) (From (c .m .given .0 .0))
+taken c = rw (c .m .given .1) at (c .before .before .above-mark .ensures)
+
+below : (c : tie.After-m) → let a = start c .args in (c .m .given .0 .0 ≤ a .c .stack) × (0 < a .c .marks)
+below c = took-below _ _ _ (taken c) (some-less (λ r q. q .2) (start c .pre))
 
 above-mark-requires : tie.Need-above-mark-requires
-above-mark-requires c κs = (record { rooms = c .before .before .before .pre .rooms; sound = c .before .before .before .pre .sound; agrees = c .before .before .before .pre .agrees .2 })
-
-sub-grown : tie.Need-sub-grown
-sub-grown c = omega (arith, took-below _ _ _ (rw (c .before .before .m .given .1) at (c .before .before .before .before .above-mark .ensures)) (record { rooms = c .before .before .before .before .before .before .before .before .pre .rooms; sound = c .before .before .before .before .before .before .before .before .pre .sound; agrees = c .before .before .before .before .before .before .before .before .pre .agrees .2 }) .1)
+above-mark-requires c κs = some-less (λ r q. q .2) (c .before .before .before .pre)
 
 grown-requires : tie.Need-grown-requires
-grown-requires c κs = (record { rooms = c .before .before .before .before .before .before .before .before .pre .rooms; sound = c .before .before .before .before .before .before .before .before .pre .sound; agrees = (c .before .before .before .before .before .before .before .before .pre .agrees .0, c .before .before .before .before .before .before .before .before .pre .agrees .1) }, (took-below _ _ _ (rw (c .before .before .m .given .1) at (c .before .before .before .before .above-mark .ensures)) (record { rooms = c .before .before .before .before .before .before .before .before .pre .rooms; sound = c .before .before .before .before .before .before .before .before .pre .sound; agrees = c .before .before .before .before .before .before .before .before .pre .agrees .2 }) .0, omega arith, lists refl))
+grown-requires c κs = (some-less (λ r q. (q .0, q .1)) (start (c .before .before) .pre), (below (c .before .before) .0, omega arith, lists refl))
 
 returns : tie.Need-returns
 unfolding Decides TakesMark
@@ -23,7 +32,7 @@ returns c = λ r s q. says-refused _ r _ _ (appends-underflow r _ s (rw (c .enum
 
 returns-2 : tie.Need-returns-2
 unfolding Decides Adds TakesMark
-returns-2 c = λ r s q. rw (appends-adds r _ s _ (rw (c .before .before .before .m .given .1) at (c .before .before .before .before .before .above-mark .ensures) r s (q .2))) at (c .grown .ensures r s (q .0) (q .1))
+returns-2 c = λ r s q. rw (appends-adds r _ s _ (taken (c .before .before .before) r s (q .2))) at (c .grown .ensures r s (q .0) (q .1))
 
 pub appends-spec : {M : Type 1} → statement M
-appends-spec = tie.close (tie.spec above-mark-requires (λ c. search needs) (λ c. search needs) sub-grown grown-requires returns returns-2)
+appends-spec = tie.close (tie.spec above-mark-requires (λ c. search needs) (λ c. search needs) (λ c. let b = below (c .before .before) in omega arith) grown-requires returns returns-2)

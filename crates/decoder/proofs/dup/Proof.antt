@@ -4,7 +4,7 @@ use Rattle.decoder.proofs.dup.Statement.{statement}
 use Rattle.decoder.proofs.dup.Tie as tie
 use Prim.Native.Nat.{_-_}
 use native.Mathlib.Omega.{arith}
-use Rattle.decoder.specs.Effects.{Decides, says-refused}
+use Rattle.store.specs.Effects.{Decides, says-refused}
 use Rattle.decoder.specs.StackSteps.{stack-room, dup-underflow, dup-lent}
 
 returns : tie.Need-returns

@@ -3,7 +3,7 @@ use borrow.Author.Needs.{needs}
 use Rattle.decoder.proofs.gather.Statement.{statement}
 use Rattle.decoder.proofs.gather.Tie as tie
 use native.Mathlib.Omega.{arith}
-use Rattle.decoder.specs.Effects.{Decides, says-refused}
+use Rattle.store.specs.Effects.{Decides, says-refused}
 use Rattle.decoder.specs.Items.{TakesMark}
 use Rattle.decoder.specs.StackSteps.{took-below, gathered-underflow, gathered-makes}
 

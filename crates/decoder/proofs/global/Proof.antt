@@ -2,48 +2,51 @@
 use borrow.Author.Needs.{needs}
 use Rattle.decoder.proofs.global.Statement.{statement}
 use Rattle.decoder.proofs.global.Tie as tie
+use Prim.Native.Nat.{_+_, _<_}
 use native.Mathlib.Omega.{arith}
+use lib.ListN.{length}
+use Rattle.decoder.specs.ReadsPickle.{Ends, line-found}
 use mathlib.Core.Path.{refl}
-use Rattle.decoder.specs.ReadsPickle.{at-newline, no-newline, line-inside, lent-size}
-use Rattle.decoder.proofs.LawsPickle.{line-ends-by, global-ends, global-cut, global-push}
+use Rattle.decoder.proofs.LawsPickle.{line-size, global-ends, global-cut, global-push}
 
-add-from : tie.Need-add-from
-add-from c = let e = at-newline _ _ _ _ (c .before .before .before .newline .ensures) (c .before .end .given .1) in let h = line-inside _ _ _ e in let h₀ = h .0 in let h₁ = h .1 in omega arith
+-- where the line ends
+ends : (c : tie.After-end) → let a = c .before .before .before .before .args in Ends (a .pickle .now) (a .c .at) (c .end .given .0 .0)
+ends c = line-found _ _ (c .before .before .newline .ensures) (c .before .before .before .before .pre) (c .end .given .1)
+
+-- where the second line ends
+abbrev first : tie.After-to → tie.After-end
+first c = c .before .before .before .before
+
+last : (c : tie.After-to) → let a = first c .before .before .before .before .args in Ends (a .pickle .now) (first c .end .given .0 .0 + 1) (c .to .given .0 .0)
+last c = line-found _ _ (c .before .before .newline2 .ensures) (first c .before .before .before .before .pre) (c .to .given .1)
+
+-- both lines are read
+abbrev to : tie.After-line2 → tie.After-to
+to c = c .before .before .before
+
+-- what their words hold is small
+small : (c : tie.After-line2) → let e = first (to c) in (e .before .before .before .before .args .c .at < 65536) × (e .end .given .0 .0 + 1 < 65536) × (length (c .before .line .result .now) < 65536) × (length (c .line2 .result .now) < 65536)
+small c =
+    let e = ends (first (to c)) in
+    let f = last (to c) in
+    (omega arith, omega arith, line-size e (c .before .line .ensures), line-size f (c .line2 .ensures))
 
 line-requires : tie.Need-line-requires
-line-requires c κs = let e = at-newline _ _ _ _ (c .before .before .before .before .before .before .before .newline .ensures) (c .before .before .before .before .before .end .given .1) in let h = line-inside _ _ _ e in let h₀ = h .0 in let h₁ = h .1 in h
+line-requires c κs = let e = ends (first (c .before)) in (e .low, e .inside)
 
 line-requires-2 : tie.Need-line-requires-2
-line-requires-2 c κs = line-inside _ _ _ (at-newline _ _ _ _ (c .before .before .before .before .newline2 .ensures) (c .before .before .to .given .1))
-
-add-read-to : tie.Need-add-read-to
-add-read-to c = let e = at-newline _ _ _ _ (c .before .before .before .before .before .before .before .before .before .newline .ensures) (c .before .before .before .before .before .before .before .end .given .1) in let h = line-inside _ _ _ e in let h₀ = h .0 in let h₁ = h .1 in let f = at-newline _ _ _ _ (c .before .before .before .before .before .newline2 .ensures) (c .before .before .before .to .given .1) in let n = line-inside _ _ _ f in let n₀ = n .0 in let n₁ = n .1 in omega arith
-
-mul-t19 : tie.Need-mul-t19
-mul-t19 c = let e = at-newline _ _ _ _ (c .before .before .before .before .before .before .before .before .before .before .newline .ensures) (c .before .before .before .before .before .before .before .before .end .given .1) in let h = line-inside _ _ _ e in let h₀ = h .0 in let h₁ = h .1 in let f = at-newline _ _ _ _ (c .before .before .before .before .before .before .newline2 .ensures) (c .before .before .before .before .to .given .1) in let n = line-inside _ _ _ f in let n₀ = n .0 in let n₁ = n .1 in let z = lent-size _ _ (c .before .before .before .before .before .before .before .before .before .before .before .before .pre) in let x = line-ends-by _ _ _ _ (c .before .before .line .ensures) in let y = line-ends-by _ _ _ _ (c .before .line2 .ensures) in omega arith
-
-add-t21 : tie.Need-add-t21
-add-t21 c = let e = at-newline _ _ _ _ (c .before .before .before .before .before .before .before .before .before .before .newline .ensures) (c .before .before .before .before .before .before .before .before .end .given .1) in let h = line-inside _ _ _ e in let h₀ = h .0 in let h₁ = h .1 in let f = at-newline _ _ _ _ (c .before .before .before .before .before .before .newline2 .ensures) (c .before .before .before .before .to .given .1) in let n = line-inside _ _ _ f in let n₀ = n .0 in let n₁ = n .1 in let z = lent-size _ _ (c .before .before .before .before .before .before .before .before .before .before .before .before .pre) in let x = line-ends-by _ _ _ _ (c .before .before .line .ensures) in let y = line-ends-by _ _ _ _ (c .before .line2 .ensures) in omega arith
-
-mul-t22 : tie.Need-mul-t22
-mul-t22 c = let e = at-newline _ _ _ _ (c .before .before .before .before .before .before .before .before .before .before .newline .ensures) (c .before .before .before .before .before .before .before .before .end .given .1) in let h = line-inside _ _ _ e in let h₀ = h .0 in let h₁ = h .1 in let f = at-newline _ _ _ _ (c .before .before .before .before .before .before .newline2 .ensures) (c .before .before .before .before .to .given .1) in let n = line-inside _ _ _ f in let n₀ = n .0 in let n₁ = n .1 in let z = lent-size _ _ (c .before .before .before .before .before .before .before .before .before .before .before .before .pre) in let x = line-ends-by _ _ _ _ (c .before .before .line .ensures) in let y = line-ends-by _ _ _ _ (c .before .line2 .ensures) in omega arith
-
-add-t23 : tie.Need-add-t23
-add-t23 c = let e = at-newline _ _ _ _ (c .before .before .before .before .before .before .before .before .before .before .newline .ensures) (c .before .before .before .before .before .before .before .before .end .given .1) in let h = line-inside _ _ _ e in let h₀ = h .0 in let h₁ = h .1 in let f = at-newline _ _ _ _ (c .before .before .before .before .before .before .newline2 .ensures) (c .before .before .before .before .to .given .1) in let n = line-inside _ _ _ f in let n₀ = n .0 in let n₁ = n .1 in let z = lent-size _ _ (c .before .before .before .before .before .before .before .before .before .before .before .before .pre) in let x = line-ends-by _ _ _ _ (c .before .before .line .ensures) in let y = line-ends-by _ _ _ _ (c .before .line2 .ensures) in omega arith
-
-text-word-requires : tie.Need-text-word-requires
-text-word-requires c κs = let e = at-newline _ _ _ _ (c .before .before .before .before .before .before .before .before .before .before .newline .ensures) (c .before .before .before .before .before .before .before .before .end .given .1) in let h = line-inside _ _ _ e in let h₀ = h .0 in let h₁ = h .1 in let f = at-newline _ _ _ _ (c .before .before .before .before .before .before .newline2 .ensures) (c .before .before .before .before .to .given .1) in let n = line-inside _ _ _ f in let n₀ = n .0 in let n₁ = n .1 in let z = lent-size _ _ (c .before .before .before .before .before .before .before .before .before .before .before .before .pre) in let x = line-ends-by _ _ _ _ (c .before .before .line .ensures) in let y = line-ends-by _ _ _ _ (c .before .line2 .ensures) in omega arith
+line-requires-2 c κs = let e = last (c .before .before) in (e .low, e .inside)
 
 returns : tie.Need-returns
-returns c = global-ends _ _ (no-newline _ _ _ (c .before .before .newline .ensures) (c .enum-told .given .1))
+returns c = global-ends _ _ (c .before .before .newline .ensures) (c .enum-told .given .1)
 
 returns-2 : tie.Need-returns-2
-returns-2 c = global-cut _ _ _ (at-newline _ _ _ _ (c .before .before .before .before .before .before .newline .ensures) (c .before .before .before .before .end .given .1)) (no-newline _ _ _ (c .before .before .newline2 .ensures) (c .enum-told2 .given .1))
+returns-2 c = global-cut _ _ (ends (c .before .before .before .before)) (c .before .before .newline2 .ensures) (c .enum-told2 .given .1)
 
 returns-3 : tie.Need-returns-3
 returns-3 c =
-    let e = at-newline _ _ _ _ (c .before .before .before .before .before .before .before .before .before .before .before .newline .ensures) (c .before .before .before .before .before .before .before .before .before .end .given .1) in let h = line-inside _ _ _ e in let h₀ = h .0 in let h₁ = h .1 in let f = at-newline _ _ _ _ (c .before .before .before .before .before .before .before .newline2 .ensures) (c .before .before .before .before .before .to .given .1) in let n = line-inside _ _ _ f in let n₀ = n .0 in let n₁ = n .1 in let z = lent-size _ _ (c .before .before .before .before .before .before .before .before .before .before .before .before .before .pre) in let x = line-ends-by _ _ _ _ (c .before .before .before .line .ensures) in let y = line-ends-by _ _ _ _ (c .before .before .line2 .ensures) in
-    global-push _ _ _ e _ f _ _ (c .before .before .before .line .ensures) (c .before .before .line2 .ensures) _ _ _ refl (c .text-word .ensures) (omega arith) (omega arith) (c .before .read-to .ensures)
+    let l = c .before .before in
+    global-push _ _ (ends (first (to l))) (last (to l)) (l .before .line .ensures) (l .line2 .ensures) refl (c .text-word .ensures) (c .before .read-to .ensures)
 
 pub global-spec : {M : Type 1} → statement M
-global-spec = tie.close (tie.spec (λ c κs. search needs) (λ c. search needs) (λ c. search needs) add-from (λ c κs. search needs) (λ c. search needs) (λ c. search needs) line-requires line-requires-2 add-read-to (λ c κs. search needs) mul-t19 add-t21 mul-t22 add-t23 text-word-requires returns returns-2 returns-3)
+global-spec = tie.close (tie.spec (λ c κs. search needs) (λ c. search needs) (λ c. search needs) (λ c. let e = ends (c .before) in omega arith) (λ c κs. search needs) (λ c. search needs) (λ c. search needs) line-requires line-requires-2 (λ c. let e = last (to c) in omega arith) (λ c κs. search needs) (λ c. let s = small (c .before) in omega arith) (λ c. let s = small (c .before) in omega arith) (λ c. let s = small (c .before) in omega arith) (λ c. let s = small (c .before) in omega arith) (λ c κs. let s = small (c .before) in omega arith) returns returns-2 returns-3)

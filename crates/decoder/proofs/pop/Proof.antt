@@ -2,7 +2,7 @@
 use borrow.Author.Needs.{needs}
 use Rattle.decoder.proofs.pop.Statement.{statement}
 use Rattle.decoder.proofs.pop.Tie as tie
-use Rattle.decoder.specs.Effects.{Decides, says-refused}
+use Rattle.store.specs.Effects.{Decides, says-refused}
 use Rattle.decoder.specs.StackSteps.{pop-underflow, pop-goes}
 
 returns : tie.Need-returns

@@ -3,7 +3,7 @@ use borrow.Author.Needs.{needs}
 use Rattle.decoder.proofs.pop_mark.Statement.{statement}
 use Rattle.decoder.proofs.pop_mark.Tie as tie
 use native.Mathlib.Omega.{arith}
-use Rattle.decoder.specs.Effects.{Decides, says-refused}
+use Rattle.store.specs.Effects.{Decides, says-refused}
 use Rattle.decoder.specs.Items.{TakesMark}
 use Rattle.decoder.specs.StackSteps.{took-below, pop-mark-underflow, pop-mark-goes}
 

@@ -3,7 +3,7 @@ use borrow.Author.Needs.{needs}
 use Rattle.decoder.proofs.reduce.Statement.{statement}
 use Rattle.decoder.proofs.reduce.Tie as tie
 use Rattle.steps.specs.Opcodes.{reduce}
-use Rattle.decoder.specs.Effects.{Decides}
+use Rattle.store.specs.Effects.{Decides}
 use Rattle.decoder.proofs.LawsCalls.{call-of, call-refused}
 
 reduced-requires : tie.Need-reduced-requires

@@ -15,6 +15,10 @@ Inv-loop text word at₀ at = (at ≤ length text) × (length text ≡ length wo
 abbrev μ-loop : tie.MeasureT-loop
 μ-loop text word at₀ at = length text - at
 
+-- a turn's begin
+abbrev start : tie.At-loop Inv-loop μ-loop → tie.Start Inv-loop μ-loop
+start c = c .before .before
+
 returns : tie.Need-returns Inv-loop μ-loop
 returns c = same-length (c .before .args .text .now) (c .before .args .word .now) (c .if1 .taken)
 
@@ -22,13 +26,22 @@ loop-holds : tie.Need-loop-holds Inv-loop μ-loop
 loop-holds c = (search needs, search needs, refl)
 
 returns-2 : tie.Need-returns-2 Inv-loop μ-loop
-returns-2 c = same-differs (c .before .before .before .before .before .before .args .text .now) (c .before .before .before .before .before .before .args .word .now) (c .before .before .before .before .loop .at) (omega arith) (c .before .before .before .before .loop .inv .1) (c .if2 .taken) ∙ c .before .before .before .before .loop .inv .2
+returns-2 c =
+    let l = c .before .before .before .before in
+    let a = start l .args in
+    same-differs (a .text .now) (a .word .now) (l .loop .at) (omega arith) (l .loop .inv .1) (c .if2 .taken) ∙ l .loop .inv .2
 
 loop-again : tie.Need-loop-again Inv-loop μ-loop
-loop-again c = (omega arith, c .before .before .before .before .loop .inv .1, same-more (c .before .before .before .before .before .before .args .text .now) (c .before .before .before .before .before .before .args .word .now) (c .before .before .before .before .loop .at) (omega arith) (c .before .before .before .before .loop .inv .1) (c .if2 .left) ∙ c .before .before .before .before .loop .inv .2)
+loop-again c =
+    let l = c .before .before .before .before in
+    let a = start l .args in
+    (omega arith, l .loop .inv .1, same-more (a .text .now) (a .word .now) (l .loop .at) (omega arith) (l .loop .inv .1) (c .if2 .left) ∙ l .loop .inv .2)
 
 returns-3 : tie.Need-returns-3 Inv-loop μ-loop
-returns-3 c = same-end (c .before .before .before .args .text .now) (c .before .before .before .args .word .now) (c .before .loop .at) (omega arith) (c .before .loop .inv .1) ∙ c .before .loop .inv .2
+returns-3 c =
+    let l = c .before in
+    let a = start l .args in
+    same-end (a .text .now) (a .word .now) (l .loop .at) (omega arith) (l .loop .inv .1) ∙ l .loop .inv .2
 
 pub same-text-spec : {M : Type 1} → statement M
 same-text-spec = tie.close (tie.spec Inv-loop μ-loop returns loop-holds (λ c. search needs) (λ c. search needs) returns-2 (λ c. search needs) (λ c. search needs) loop-again returns-3)

@@ -3,7 +3,7 @@ use Rattle.decoder.proofs.setitem.Statement.{statement}
 use Rattle.decoder.proofs.setitem.Tie as tie
 use mathlib.Core.Path.{refl}
 use native.Mathlib.Omega.{arith}
-use Rattle.decoder.specs.Effects.{Decides, says-refused}
+use Rattle.store.specs.Effects.{Decides, says-refused}
 use Rattle.decoder.specs.Items.{Adds, dicts}
 use Rattle.decoder.specs.StackSteps.{setitem-underflow, setitem-adds}
 

@@ -3,38 +3,24 @@ use borrow.Author.Needs.{needs}
 use Rattle.decoder.proofs.short_binstring.Statement.{statement}
 use Rattle.decoder.proofs.short_binstring.Tie as tie
 use native.Mathlib.Omega.{arith}
-use mathlib.Core.Path.{_≡_}
-use Rattle.decoder.specs.ReadsPickle.{counted, counted-is, part-inside, part-ends, part-push, lent-at, lent-size, makes-as, makes-bytes}
+use Rattle.decoder.specs.ReadsPickle.{Text, text-found, text-ends, text-push, lent-at, makes-bytes}
 use Rattle.steps.specs.Opcodes.{shortBinstring}
-use Rattle.steps.specs.State.{State, _>>=_, push}
 use Rattle.value.specs.Value.{BytesL}
 
-by-part : (s : State) → shortBinstring s ≡ (counted 1 s >>= λ q. push (BytesL (q .0)) (q .1))
-unfolding shortBinstring
-by-part s = counted-is 1 s (λ q. push (BytesL (q .0)) (q .1))
+-- the text found
+text : (c : tie.After-at) → let a = c .before .before .before .before .args in Text (a .pickle .now) 1 (a .c .at) (c .at .given .0 .0) (c .at .given .0 .1 .0)
+text c = text-found _ _ _ (c .before .before .prefixed .ensures) (c .before .before .before .before .pre) (c .at .given .1)
 
-counted-requires : tie.Need-counted-requires
-counted-requires c κs = (lent-at _ _ (c .before .pre), omega arith)
-
-add-read-to : tie.Need-add-read-to
-add-read-to c = let x = part-inside _ _ _ _ (c .before .before .before .counted .ensures) _ _ (c .before .at .given .1) .1 in omega arith
-
-text-word-requires : tie.Need-text-word-requires
-text-word-requires c κs =
-    let x = part-inside _ _ _ _ (c .before .before .before .before .counted .ensures) _ _ (c .before .before .at .given .1) .1 in
-    let z = lent-size _ _ (c .before .before .before .before .before .before .pre) in
-    omega arith
+prefixed-requires : tie.Need-prefixed-requires
+prefixed-requires c κs = (lent-at _ _ (c .before .pre), omega arith)
 
 returns : tie.Need-returns
-returns c = part-ends _ _ _ _ (c .before .before .counted .ensures) BytesL shortBinstring by-part (c .enum-told .given .1)
+unfolding shortBinstring
+returns c = text-ends _ _ _ (c .before .before .prefixed .ensures) BytesL (c .enum-told .given .1)
 
 returns-2 : tie.Need-returns-2
-returns-2 c =
-    let h = c .before .before .before .before .before .counted .ensures in
-    let e = c .before .before .before .at .given .1 in
-    let x = part-inside _ _ _ _ h _ _ e .1 in
-    let z = lent-size _ _ (c .before .before .before .before .before .before .before .pre) in
-    part-push _ _ _ _ h BytesL shortBinstring by-part _ _ e _ _ _ (makes-as _ _ _ _ _ (c .text-word .ensures) (makes-bytes _ _ _ (omega arith))) (c .before .read-to .ensures)
+unfolding shortBinstring
+returns-2 c = text-push _ _ _ BytesL (makes-bytes _) (text (c .before .before .before)) (c .text-word .ensures) (c .before .read-to .ensures)
 
 pub short-binstring-spec : {M : Type 1} → statement M
-short-binstring-spec = tie.close (tie.spec counted-requires (λ c. search needs) (λ c. search needs) add-read-to (λ c κs. search needs) text-word-requires returns returns-2)
+short-binstring-spec = tie.close (tie.spec prefixed-requires (λ c. search needs) (λ c. search needs) (λ c. let t = text (c .before) in omega arith) (λ c κs. search needs) (λ c κs. let t = text (c .before .before) in omega arith) returns returns-2)

@@ -2,7 +2,7 @@
 use borrow.Author.Needs.{needs}
 use Rattle.decoder.proofs.small_tuple.Statement.{statement}
 use Rattle.decoder.proofs.small_tuple.Tie as tie
-use Rattle.decoder.specs.Effects.{Decides, says-refused}
+use Rattle.store.specs.Effects.{Decides, says-refused}
 use Rattle.decoder.specs.StackSteps.{tuple-n-underflow, tuple-n-makes}
 
 returns : tie.Need-returns

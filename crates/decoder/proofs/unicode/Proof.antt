@@ -3,35 +3,50 @@ use borrow.Author.Needs.{needs}
 use Rattle.decoder.proofs.unicode.Statement.{statement}
 use Rattle.decoder.proofs.unicode.Tie as tie
 use native.Mathlib.Omega.{arith}
-use Rattle.decoder.specs.ReadsPickle.{at-newline, no-newline, line-inside, line-ends, line-bad, line-push, lent-size}
-use Rattle.refusal.specs.declared.Refusal.the-variants.{InvalidLiteral}
+use Rattle.decoder.specs.ReadsPickle.{Ends, line-found, line-ends, line-bad, line-push}
 use Rattle.text.specs.Text.{unescapeUnicode}
 use Rattle.value.specs.Value.{StringL}
 use Rattle.steps.specs.Opcodes.{unicode}
-use Rattle.decoder.proofs.LawsPickle.{line-ends-by, unicode-some, unicode-bad, makes-line}
+use Rattle.decoder.proofs.LawsPickle.{line-size, unicode-some, unicode-bad, makes-line}
+
+-- where the line ends
+ends : (c : tie.After-end) → let a = c .before .before .before .before .args in Ends (a .pickle .now) (a .c .at) (c .end .given .0 .0)
+ends c = line-found _ _ (c .before .before .newline .ensures) (c .before .before .before .before .pre) (c .end .given .1)
+
+-- the line, whose text has a length
+abbrev line : tie.After-enum-told2 → tie.After-line
+line c = c .before .before .before
+
+abbrev end : tie.After-line → tie.After-end
+end c = c .before .before
 
 line-requires : tie.Need-line-requires
-line-requires c κs = line-inside _ _ _ (at-newline _ _ _ _ (c .before .before .before .newline .ensures) (c .before .end .given .1))
-
-add-read-to : tie.Need-add-read-to
-add-read-to c = let h = line-inside _ _ _ (at-newline _ _ _ _ (c .before .before .before .before .before .before .before .newline .ensures) (c .before .before .before .before .before .end .given .1)) in let x = h .1 in omega arith
+line-requires c κs = let e = ends (c .before) in (e .low, e .inside)
 
 text-word-requires : tie.Need-text-word-requires
-text-word-requires c κs = let m = line-ends-by _ _ _ _ (c .before .before .before .before .line .ensures) in let h = line-inside _ _ _ (at-newline _ _ _ _ (c .before .before .before .before .before .before .before .before .newline .ensures) (c .before .before .before .before .before .before .end .given .1)) in let h₀ = h .0 in let h₁ = h .1 in let z = lent-size _ _ (c .before .before .before .before .before .before .before .before .before .before .pre) in omega arith
+text-word-requires c κs =
+    let l = line (c .before) in
+    let e = ends (end l) in
+    let m = line-size e (l .line .ensures) in
+    omega arith
 
 returns : tie.Need-returns
 unfolding unicode
-returns c = line-ends _ _ unescapeUnicode StringL (no-newline _ _ _ (c .before .before .newline .ensures) (c .enum-told .given .1))
+returns c = line-ends _ _ unescapeUnicode StringL (c .before .before .newline .ensures) (c .enum-told .given .1)
 
 returns-2 : tie.Need-returns-2
 unfolding unicode
 returns-2 c =
-    let m = line-ends-by _ _ _ _ (c .before .before .before .before .before .line .ensures) in let h = line-inside _ _ _ (at-newline _ _ _ _ (c .before .before .before .before .before .before .before .before .before .newline .ensures) (c .before .before .before .before .before .before .before .end .given .1)) in let h₀ = h .0 in let h₁ = h .1 in let z = lent-size _ _ (c .before .before .before .before .before .before .before .before .before .before .before .pre) in
-    line-push _ _ unescapeUnicode StringL _ (at-newline _ _ _ _ (c .before .before .before .before .before .before .before .before .before .newline .ensures) (c .before .before .before .before .before .before .before .end .given .1)) _ (c .before .before .before .before .before .line .ensures) _ _ _ _ (unicode-some _ _ (c .before .before .before .before .unicode-len .ensures) _ (c .before .before .enum-told2 .given .1)) (makes-line _ _ _ _ _ (c .before .before .before .before .before .line .ensures) (c .text-word .ensures) (omega arith)) (c .before .read-to .ensures)
+    let t = c .before .before in
+    let e = ends (end (line t)) in
+    let l = line t .line .ensures in
+    line-push _ _ unescapeUnicode StringL e l (unicode-some _ _ (t .before .before .unicode-len .ensures) _ (t .enum-told2 .given .1)) (makes-line e l (c .text-word .ensures)) (c .before .read-to .ensures)
 
 returns-3 : tie.Need-returns-3
 unfolding unicode
-returns-3 c = line-bad _ _ unescapeUnicode StringL _ (at-newline _ _ _ _ (c .before .before .before .before .before .before .before .newline .ensures) (c .before .before .before .before .before .end .given .1)) _ (c .before .before .before .line .ensures) InvalidLiteral _ (unicode-bad _ _ (c .before .before .unicode-len .ensures) _ (c .enum-told3 .given .1))
+returns-3 c =
+    let r = c .before .before in
+    line-bad _ _ unescapeUnicode StringL (ends (end (r .before))) (r .before .line .ensures) (unicode-bad _ _ (r .unicode-len .ensures) _ (c .enum-told3 .given .1))
 
 pub unicode-spec : {M : Type 1} → statement M
-unicode-spec = tie.close (tie.spec (λ c κs. search needs) (λ c. search needs) (λ c. search needs) line-requires (λ c κs. search needs) (λ c. search needs) add-read-to (λ c κs. search needs) text-word-requires (λ c. search needs) returns returns-2 returns-3)
+unicode-spec = tie.close (tie.spec (λ c κs. search needs) (λ c. search needs) (λ c. search needs) line-requires (λ c κs. search needs) (λ c. search needs) (λ c. let e = ends (end (line c)) in omega arith) (λ c κs. search needs) text-word-requires (λ c. search needs) returns returns-2 returns-3)

@@ -5,20 +5,25 @@ use Rattle.effects.proofs.extend.Tie as tie
 use native.Mathlib.Omega.{arith}
 use Rattle.effects.specs.Containers.{extend-rooms, extend-linkable, extended-lent, extend-full-lent}
 
-sub-if1 : tie.Need-sub-if1
-sub-if1 c = omega (arith, (extend-rooms _ _ _ _ _ _ _ (c .before .before .before .before .before .pre)) .0)
+-- there is room for the links
+abbrev start : tie.Else1 → tie.Start
+start c = c .before .before .before .before .before .before .before
 
-sub-if1-2 : tie.Need-sub-if1-2
-sub-if1-2 c = omega (arith, (extend-rooms _ _ _ _ _ _ _ (c .before .before .before .before .before .before .pre)) .1)
+-- all is linked
+abbrev linked : tie.After-slice-known6 → tie.After-link-all
+linked c = c .before .before .before .before .before .before
 
 returns : tie.Need-returns
-returns c = extend-full-lent _ _ _ _ _ _ _ (c .before .before .before .before .before .before .before .pre) (c .if1 .taken)
+returns c = extend-full-lent (c .before .before .before .before .before .before .before .pre) (c .if1 .taken)
 
 link-all-requires : tie.Need-link-all-requires
-link-all-requires c κs = extend-linkable _ _ _ _ _ _ _ (c .before .before .before .before .before .before .before .before .before .before .pre) (c .before .before .before .if1 .left)
+link-all-requires c κs = let e = c .before .before .before in extend-linkable (start e .pre) (e .if1 .left)
 
 returns-2 : tie.Need-returns-2
-returns-2 c = extended-lent _ _ _ _ _ _ _ (c .before .before .before .before .before .before .before .before .before .before .before .before .before .before .before .before .before .pre) _ _ _ _ (c .before .before .before .before .before .before .before .before .before .before .if1 .left) (c .before .before .before .before .before .before .link-all .ensures .0) (c .before .before .before .before .before .before .link-all .ensures .1)
+returns-2 c =
+    let l = linked c in
+    let e = l .before .before .before .before in
+    extended-lent (start e .pre) _ _ _ _ (e .if1 .left) (l .link-all .ensures .0) (l .link-all .ensures .1)
 
 pub extend-spec : {M : Type 1} → statement M
-extend-spec = tie.close (tie.spec sub-if1 sub-if1-2 returns link-all-requires (λ c. search needs) (λ c. search needs) (λ c. search needs) returns-2)
+extend-spec = tie.close (tie.spec (λ c. let v = extend-rooms (c .before .before .before .before .before .pre) in omega arith) (λ c. let v = extend-rooms (c .before .before .before .before .before .before .pre) in omega arith) returns link-all-requires (λ c. search needs) (λ c. search needs) (λ c. search needs) returns-2)

@@ -20,7 +20,11 @@ slice-write-nodes-2 c = rw length-set (omega (arith, c .before .before .before .
 
 returns-3 : tie.Need-returns-3
 unfolding PushNode
-returns-3 c = λ r h p q f. rw (c .pushed .ensures, ← p, ← q, words-plus (r .nodes) (c .before .before .before .before .before .before .before .before .before .before .args .c .nodes) (c .before .before .before .before .before .before .before .before .before .before .args .a) (c .before .before .before .before .before .before .before .before .before .before .args .b)) (push-node-done r h _ _ _ f (c .before .before .before .before .before .before .if1 .left) (c .before .before .before .before .if2 .left))
+returns-3 c =
+    let e = c .before .before .before .before in
+    let l = e .before .before in
+    let a = l .before .before .before .before .args in
+    λ r h p q f. rw (c .pushed .ensures, ← p, ← q, words-plus (r .nodes) (a .c .nodes) (a .a) (a .b)) (push-node-done r h _ _ _ f (l .if1 .left) (e .if2 .left))
 
 pub push-node-spec : {M : Type 1} → statement M
 push-node-spec =

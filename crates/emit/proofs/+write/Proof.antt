@@ -36,10 +36,10 @@ abbrev below : ℕ → In 8 kinds.ps
 below t = and 8 kinds.ps (falls 8 kinds.ps _<_ μ t) reads.Pre
 
 abbrev Inv-loop : lts.InvT-loop
-Inv-loop node levels to starts children log pickle decoded nodes marks₀ table₀ text₀ range from end at lengths next₀ j₀ marks table text next j = (E : Entered pickle decoded nodes starts children log levels (node .0) to marks₀ table₀ text₀) → Turn (E .walk .ready .t) (E .walk .ready .h) (E .walk .ready .v) (node .0) to from marks₀ table₀ text₀ next j marks table text
+Inv-loop node levels to starts children log pickle decoded nodes measures₀ table₀ text₀ range from end at lengths next₀ j₀ measures table text next j = (E : Entered pickle decoded nodes starts children log levels (node .0) to measures₀ table₀ text₀) → Turn (E .walk .ready .t) (E .walk .ready .h) (E .walk .ready .v) (node .0) to from measures₀ table₀ text₀ next j measures table text
 
 abbrev μ-loop : lts.MeasureT-loop
-μ-loop node levels to starts children log pickle decoded nodes marks₀ table₀ text₀ range from end at lengths next₀ j₀ marks table text next j = end - j
+μ-loop node levels to starts children log pickle decoded nodes measures₀ table₀ text₀ range from end at lengths next₀ j₀ measures table text next j = end - j
 
 -- what is known of the calls
 abbrev calls : ℕ → lts.Claims
@@ -84,13 +84,13 @@ module _ (t : ℕ) where
   -- ---- what is known there
 
   abbrev Opens : Start → Type 0
-  Opens s = let a = s .args in Open (a .pickle .now) (a .decoded .now) (a .nodes .now) (a .starts .now) (a .children .now) (a .log .now) (a .levels) (a .node .0) (a .to) (a .marks .now) (a .table .now) (a .text .now)
+  Opens s = let a = s .args in Open (a .pickle .now) (a .decoded .now) (a .nodes .now) (a .starts .now) (a .children .now) (a .log .now) (a .levels) (a .node .0) (a .to) (a .measures .now) (a .table .now) (a .text .now)
 
   abbrev opens : (s : Start) → Opens s
   opens s = s .pre .1
 
   abbrev Enters : Classed → Type 0
-  Enters c = let a = start (ranged c) .args in Entered (a .pickle .now) (a .decoded .now) (a .nodes .now) (a .starts .now) (a .children .now) (a .log .now) (a .levels) (a .node .0) (a .to) (a .marks .now) (a .table .now) (c .put-class .last .1 .1 .1 .1 .1 .0)
+  Enters c = let a = start (ranged c) .args in Entered (a .pickle .now) (a .decoded .now) (a .nodes .now) (a .starts .now) (a .children .now) (a .log .now) (a .levels) (a .node .0) (a .to) (a .measures .now) (a .table .now) (c .put-class .last .1 .1 .1 .1 .1 .0)
 
   abbrev enters : (c : Classed) → Enters c
   enters c = enter (opens (start (ranged c))) _ _ (c .put-class .ensures)
@@ -100,7 +100,7 @@ module _ (t : ℕ) where
   left c E = turn-left E (c .before .loop .inv E) _ (list (c .before) .range-of .ensures) refl (c .loop-test .taken)
 
   abbrev Ready : Item → Type 0
-  Ready c = let l = head c .loop in let a = start (list (head c)) .args in ReadyNode (a .pickle .now) (a .decoded .now) (a .nodes .now) (a .starts .now) (a .children .now) (a .log .now) (c .item .result) (l .next) (l .marks) (l .table) (l .text)
+  Ready c = let l = head c .loop in let a = start (list (head c)) .args in ReadyNode (a .pickle .now) (a .decoded .now) (a .nodes .now) (a .starts .now) (a .children .now) (a .log .now) (c .item .result) (l .next) (l .measures) (l .table) (l .text)
 
   module _ (c : Item) (E : Enters (classed (head c))) where
     item : c .item .result ≡ getD (E .walk .ready .h (start (list (head c)) .args .node .0)) (head c .loop .inv E .k) 0
@@ -205,20 +205,20 @@ module _ (t : ℕ) where
       let E = enters (classed h) in
       turn-finish E (h .loop .inv E) _ (list h .range-of .ensures) refl _ refl
 
-  mul-marks : lts.Need-mul-marks (calls t) (own t) reads.Post Inv-loop μ-loop
-  mul-marks c =
+  mul-measures : lts.Need-mul-measures (calls t) (own t) reads.Post Inv-loop μ-loop
+  mul-measures c =
       let h = c .before .before .before .before .before in
       let o = opens (start (list h)) in
-      omega (arith, open-small o, h .loop .inv (enters (classed h)) .marks-long, open-listed o .marked)
+      omega (arith, open-small o, h .loop .inv (enters (classed h)) .measures-long, open-listed o .measured)
 
-  slice-write-marks : lts.Need-slice-write-marks (calls t) (own t) reads.Post Inv-loop μ-loop
-  slice-write-marks c =
+  slice-write-measures : lts.Need-slice-write-measures (calls t) (own t) reads.Post Inv-loop μ-loop
+  slice-write-measures c =
       let h = c .before .before .before .before .before in
       let o = opens (start (list h)) in
-      omega (arith, open-small o, h .loop .inv (enters (classed h)) .marks-long, open-listed o .marked)
+      omega (arith, open-small o, h .loop .inv (enters (classed h)) .measures-long, open-listed o .measured)
 
   same-length : lts.Need-same-length (calls t) (own t) reads.Post Inv-loop μ-loop
-  same-length c = let h = c .before .before .before .before .before in simp length-set (h .loop .inv (enters (classed h)) .marks-long)
+  same-length c = let h = c .before .before .before .before .before in simp length-set (h .loop .inv (enters (classed h)) .measures-long)
 
   same-length-2 : lts.Need-same-length-2 (calls t) (own t) reads.Post Inv-loop μ-loop
   same-length-2 c = let h = c .before .before .before .before .before in c .before .before .finish .kept .1 .1 .1 .1 .1 .1 .0 ∙ h .loop .inv (enters (classed h)) .table-long
@@ -240,5 +240,5 @@ pub +write-spec : {M : Type 1} → statement M
     λ t. lts.spec (calls t) (own t) reads.Post Inv-loop μ-loop
     (range-of-requires t) (put-class-requires t) (behind-requires t) (loop-holds t) (item-requires t) (is-below-requires t) (write-atom-requires t)
     (is-below-requires-2 t) (write-text-requires t) (is-open-requires t) (sub-write t) (write-requires t) (write-flat-requires t) (add-j t)
-    (loop-less t) (loop-again t) (sub-finish t) (finish-requires t) (mul-marks t) (slice-write-marks t) (same-length t) (same-length-2 t)
+    (loop-less t) (loop-again t) (sub-finish t) (finish-requires t) (mul-measures t) (slice-write-measures t) (same-length t) (same-length-2 t)
     (same-length-3 t) (returns t)

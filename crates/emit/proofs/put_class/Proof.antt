@@ -12,7 +12,7 @@ put-names-requires c κs = (c .before .before .before .before .before .before .b
 
 returns-2 : tie.Need-returns-2
 unfolding first
-returns-2 c = texts-other (c .before .before .before .before .before .before .before .before .args .pickle .now) (c .before .before .before .before .before .before .before .before .args .decoded .now) (c .before .before .before .before .before .before .before .before .args .nodes .now) (c .before .before .before .before .before .before .before .before .args .marks .now) (c .before .before .before .before .before .before .before .before .args .node .0) (c .before .before .before .before .before .before .before .before .args .text .now) (c .before .before .before .before .before .before .before .before .args .at) (c .before .before .before .before .before .before .before .before .pre .0) (c .before .kind-of .result) (c .before .kind-of .ensures) (rw (c .before .kind-of .ensures) (c .before .before .before .before .before .before .before .before .pre .1)) (c .if1 .left)
+returns-2 c = texts-other (c .before .before .before .before .before .before .before .before .args .pickle .now) (c .before .before .before .before .before .before .before .before .args .decoded .now) (c .before .before .before .before .before .before .before .before .args .nodes .now) (c .before .before .before .before .before .before .before .before .args .measures .now) (c .before .before .before .before .before .before .before .before .args .node .0) (c .before .before .before .before .before .before .before .before .args .text .now) (c .before .before .before .before .before .before .before .before .args .at) (c .before .before .before .before .before .before .before .before .pre .0) (c .before .kind-of .result) (c .before .kind-of .ensures) (rw (c .before .kind-of .ensures) (c .before .before .before .before .before .before .before .before .pre .1)) (c .if1 .left)
 
 pub put-class-spec : {M : Type 1} → statement M
 put-class-spec = tie.close (tie.spec (λ c. search needs) (λ c. search needs) (λ c. search needs) (λ c κs. search needs) put-names-requires (λ c. search needs) (λ c. search needs) returns-2)

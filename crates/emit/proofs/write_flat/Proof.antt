@@ -22,12 +22,12 @@ some c = c .before .before .before
 -- ---- what is known there
 
 abbrev Flats : tie.Start → Type 0
-Flats s = let a = s .args in Flat (a .pickle .now) (a .decoded .now) (a .nodes .now) (a .node .0) (a .to) (a .marks .now) (a .table .now) (a .text .now)
+Flats s = let a = s .args in Flat (a .pickle .now) (a .decoded .now) (a .nodes .now) (a .node .0) (a .to) (a .measures .now) (a .table .now) (a .text .now)
 
 small : (c : tie.Else1) → Flats (start c) → start c .args .node .0 < 4096
 small c f = omega (arith, ready-most (f .ready), c .if1 .left)
 
-inside : (c : tie.Else1) → let a = start c .args in (2 * a .node .0 < length (a .nodes .now)) × (a .node .0 < length (a .marks .now))
+inside : (c : tie.Else1) → let a = start c .args in (2 * a .node .0 < length (a .nodes .now)) × (a .node .0 < length (a .measures .now))
 inside c = ready-inside (start c .pre .ready) (small c (start c .pre))
 
 box : (c : tie.Then2) → let a = start (some (c .before)) .args in boxed (kindOf (first (a .nodes .now) (a .node .0))) ≡ true

@@ -3,14 +3,14 @@ use borrow.Author.Needs.{needs}
 use Rattle.machine.proofs.apply.Statement.{statement}
 use Rattle.machine.proofs.apply.Tie as tie
 use mathlib.Core.Path.{_≡_, refl, subst}
-use Rattle.decoder.specs.declared.Effect.{Effect}
-use Rattle.decoder.specs.Rooms.{Rooms}
-use Rattle.decoder.specs.Effects.{Fits, enacted}
+use Rattle.store.specs.declared.Effect.{Effect}
+use Rattle.store.specs.Rooms.{Rooms}
+use Rattle.store.specs.Effects.{Fits, enacted}
 use Rattle.effects.specs.Push.{PushNode, PushId, PutMark}
 use Rattle.effects.specs.Containers.{MakesNode, Extends}
 use Rattle.effects.specs.Memo.{Remembers}
 use Rattle.effects.specs.Words.{Builds}
-use Rattle.machine.specs.Lent.{roomsOf}
+use Rattle.machine.specs.RoomsOf.{roomsOf}
 use Rattle.machine.specs.Applied.{Applies, push-lengths, share-lengths, mark-lengths, makeable, extendable, rememberable, buildable, goes-on, stops, refuses}
 
 -- from the match back to the beginning

@@ -5,9 +5,9 @@ use Rattle.machine.proofs.run.Tie as tie
 use Prim.Native.Nat.{_-_}
 use mathlib.Core.Path.{_≡_, refl, subst, _∙_}
 use lib.ListN.{length}
-use Rattle.decoder.specs.Rooms.{Rooms}
+use Rattle.store.specs.Rooms.{Rooms}
 use Rattle.effects.specs.declared.Step.{Step}
-use Rattle.machine.specs.Lent.{roomsOf}
+use Rattle.machine.specs.RoomsOf.{roomsOf}
 use Rattle.machine.specs.Ran.{Stepped, AsLong, as-long, Running, running-start, running-next, running-less, ran-stopped, ran-refused}
 
 abbrev Inv-loop : tie.InvT-loop
@@ -61,50 +61,8 @@ loop-again c =
     let s = stepped (c .before .before .before) in
     (running-next _ _ _ _ _ (head s .loop .inv .0) refl _ (took s _ (c .before .t .given .1)), lengths s)
 
-same-length : tie.Need-same-length Inv-loop μ-loop
-same-length c = lengths (stepped (c .before .before .before)) .nodes
-
-same-length-2 : tie.Need-same-length-2 Inv-loop μ-loop
-same-length-2 c = lengths (stepped (c .before .before .before)) .owners
-
-same-length-3 : tie.Need-same-length-3 Inv-loop μ-loop
-same-length-3 c = lengths (stepped (c .before .before .before)) .children
-
-same-length-4 : tie.Need-same-length-4 Inv-loop μ-loop
-same-length-4 c = lengths (stepped (c .before .before .before)) .stack
-
-same-length-5 : tie.Need-same-length-5 Inv-loop μ-loop
-same-length-5 c = lengths (stepped (c .before .before .before)) .marks
-
-same-length-6 : tie.Need-same-length-6 Inv-loop μ-loop
-same-length-6 c = lengths (stepped (c .before .before .before)) .keys
-
-same-length-7 : tie.Need-same-length-7 Inv-loop μ-loop
-same-length-7 c = lengths (stepped (c .before .before .before)) .held
-
 returns : tie.Need-returns Inv-loop μ-loop
 returns c = let s = stepped (c .before .before .before) in ran-stopped _ _ _ _ _ (head s .loop .inv .0) refl _ (took s _ (c .before .t2 .given .1))
-
-same-length-8 : tie.Need-same-length-8 Inv-loop μ-loop
-same-length-8 c = lengths (stepped (c .before .before .before)) .nodes
-
-same-length-9 : tie.Need-same-length-9 Inv-loop μ-loop
-same-length-9 c = lengths (stepped (c .before .before .before)) .owners
-
-same-length-10 : tie.Need-same-length-10 Inv-loop μ-loop
-same-length-10 c = lengths (stepped (c .before .before .before)) .children
-
-same-length-11 : tie.Need-same-length-11 Inv-loop μ-loop
-same-length-11 c = lengths (stepped (c .before .before .before)) .stack
-
-same-length-12 : tie.Need-same-length-12 Inv-loop μ-loop
-same-length-12 c = lengths (stepped (c .before .before .before)) .marks
-
-same-length-13 : tie.Need-same-length-13 Inv-loop μ-loop
-same-length-13 c = lengths (stepped (c .before .before .before)) .keys
-
-same-length-14 : tie.Need-same-length-14 Inv-loop μ-loop
-same-length-14 c = lengths (stepped (c .before .before .before)) .held
 
 returns-2 : tie.Need-returns-2 Inv-loop μ-loop
 returns-2 c = let s = stepped (c .before .before .before) in ran-refused _ _ _ _ _ (head s .loop .inv .0) refl _ _ (took s _ (c .before .t3 .given .1))
@@ -113,6 +71,6 @@ pub run-spec : {M : Type 1} → statement M
 run-spec =
     tie.close
     (tie.spec
-    Inv-loop μ-loop loop-holds take-step-requires (λ c. search needs) loop-less loop-again (λ c. search needs) same-length same-length-2 same-length-3
-    same-length-4 same-length-5 same-length-6 same-length-7 returns (λ c. search needs) same-length-8 same-length-9 same-length-10 same-length-11
-    same-length-12 same-length-13 same-length-14 returns-2)
+    Inv-loop μ-loop loop-holds take-step-requires (λ c. search needs) loop-less loop-again (λ c. search needs) (λ c. lengths (stepped (c .before .before .before)) .nodes) (λ c. lengths (stepped (c .before .before .before)) .owners) (λ c. lengths (stepped (c .before .before .before)) .children)
+    (λ c. lengths (stepped (c .before .before .before)) .stack) (λ c. lengths (stepped (c .before .before .before)) .marks) (λ c. lengths (stepped (c .before .before .before)) .keys) (λ c. lengths (stepped (c .before .before .before)) .held) returns (λ c. search needs) (λ c. lengths (stepped (c .before .before .before)) .nodes) (λ c. lengths (stepped (c .before .before .before)) .owners) (λ c. lengths (stepped (c .before .before .before)) .children) (λ c. lengths (stepped (c .before .before .before)) .stack)
+    (λ c. lengths (stepped (c .before .before .before)) .marks) (λ c. lengths (stepped (c .before .before .before)) .keys) (λ c. lengths (stepped (c .before .before .before)) .held) returns-2)

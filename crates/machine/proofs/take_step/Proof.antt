@@ -3,9 +3,9 @@ use borrow.Author.Needs.{needs}
 use Rattle.machine.proofs.take_step.Statement.{statement}
 use Rattle.machine.proofs.take_step.Tie as tie
 use mathlib.Core.Path.{refl}
-use Rattle.decoder.specs.Rooms.{Rooms}
-use Rattle.decoder.specs.Effects.{Decides}
-use Rattle.machine.specs.Lent.{roomsOf, Agrees}
+use Rattle.store.specs.Rooms.{Rooms}
+use Rattle.store.specs.Effects.{Decides}
+use Rattle.machine.specs.RoomsOf.{roomsOf, Agrees}
 use Rattle.machine.specs.Applied.{Applies}
 
 agrees : (r : Rooms) → Agrees (r .pickle) (r .nodes) (r .children) (r .stack) (r .marks) (r .keys) (r .held) r

@@ -6,10 +6,10 @@ use Prim.Native.Nat.{_-_}
 use mathlib.Core.Path.{_≡_, refl, subst, _∙_}
 use lib.ListN.{length}
 use Rattle.op.specs.declared.Edition.the-variants.{Full}
-use Rattle.decoder.specs.Rooms.{Rooms}
-use Rattle.decoder.specs.Effects.{Sound}
+use Rattle.store.specs.Rooms.{Rooms}
+use Rattle.store.specs.Effects.{Sound}
 use Rattle.effects.specs.declared.Step.{Step}
-use Rattle.machine.specs.Lent.{roomsOf}
+use Rattle.machine.specs.RoomsOf.{roomsOf}
 use Rattle.machine.specs.Ran.{Stepped, AsLong, as-long, step-sound, step-further}
 use Rattle.replay_machine.specs.Shown.{shown}
 

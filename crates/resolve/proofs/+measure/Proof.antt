@@ -25,7 +25,7 @@ use Rattle.resolve.specs.Known.{Learns}
 use Rattle.resolve.specs.declared.Seen.the-variants.{Open as Seen·Open}
 use Rattle.resolve.specs.declared.Answer.{Answer}
 use Rattle.resolve.specs.Loop.{Entered, Midway, mid-start, mid-room}
-use Rattle.resolve.specs.Ends.{Opens, Walks, held-list, open-free, moved, own-len, open-words, open-starts, open-marked, open-owned, enter, ends-blocked, ends-too, ends-done, known-deep, known-word, known-empty, known-open, walk-deep, walk-word, walk-empty, child-at, open-end, open-first, join}
+use Rattle.resolve.specs.Ends.{Opens, Walks, open-free, moved, own-len, open-words, open-starts, open-measured, open-owned, enter, ends-blocked, ends-too, ends-done, known-deep, known-word, known-empty, known-open, walk-deep, walk-word, walk-empty, child-at, open-end, open-first, join}
 
 abbrev μ : Measures 6 kinds.ps ℕ
 μ κs a = a .1 .0
@@ -41,12 +41,12 @@ abbrev calls : ℕ → lts.Claims
 calls t = (blocked-reads.Asked, blocked-reads.Learnt, own-text-reads.Asked, own-text-reads.Learnt, known-reads.Asked, known-reads.Learnt, below t, reads.Post, most-reads.Asked, most-reads.Learnt, note-reads.Asked, note-reads.Learnt, least-reads.Asked, least-reads.Learnt)
 
 abbrev Inv-loop : lts.InvT-loop
-Inv-loop node levels starts children₀ pickle nodes marks₀ dues₀ n kind at end texts₀ deepest₀ values₀ i₀ children marks dues texts deepest values i =
-    (length children ≡ length children₀) × (length dues ≡ length dues₀) × (length marks ≡ length marks₀) × (values ≤ 1 + 4096 * i) × (texts ≤ 131072 * (i + 1)) × (deepest ≤ 127)
-    × ((I : Entered pickle nodes starts marks₀ children₀ dues₀ n) → Midway I (levels - 1) texts₀ marks children dues deepest values texts i)
+Inv-loop node levels starts children₀ pickle nodes measures₀ dues₀ n kind at end texts₀ deepest₀ values₀ i₀ children measures dues texts deepest values i =
+    (length children ≡ length children₀) × (length dues ≡ length dues₀) × (length measures ≡ length measures₀) × (values ≤ 1 + 4096 * i) × (texts ≤ 131072 * (i + 1)) × (deepest ≤ 127)
+    × ((I : Entered pickle nodes starts measures₀ children₀ dues₀ n) → Midway I (levels - 1) texts₀ measures children dues deepest values texts i)
 
 abbrev μ-loop : lts.MeasureT-loop
-μ-loop node levels starts children₀ pickle nodes marks₀ dues₀ n kind at end texts₀ deepest₀ values₀ i₀ children marks dues texts deepest values i = end - i
+μ-loop node levels starts children₀ pickle nodes measures₀ dues₀ n kind at end texts₀ deepest₀ values₀ i₀ children measures dues texts deepest values i = end - i
 
 module _ (t : ℕ) where
   -- ---- the places that the needs look back to
@@ -104,7 +104,7 @@ module _ (t : ℕ) where
   -- ---- what is known there
 
   abbrev Open : Start → Type 0
-  Open s = Opens (s .args .pickle .now) (s .args .nodes .now) (s .args .starts .now) (s .args .marks .now) (s .args .children .now) (s .args .dues .now) (s .args .node .0)
+  Open s = Opens (s .args .pickle .now) (s .args .nodes .now) (s .args .starts .now) (s .args .measures .now) (s .args .children .now) (s .args .dues .now) (s .args .node .0)
 
   abbrev opens : (s : Start) → Open s
   opens s = s .pre .1 .1
@@ -113,21 +113,21 @@ module _ (t : ℕ) where
   abbrev end : Start → ℕ
   end s = getD (s .args .starts .now) (s .args .node .0 + 1) 0
 
-  free : (c : Texted) (o : Open (start (rooms c))) → blocked (o .nodes) (o .state .marks) (start (rooms c) .args .node .0) ≡ false
+  free : (c : Texted) (o : Open (start (rooms c))) → blocked (o .nodes) (o .state .stages) (start (rooms c) .args .node .0) ≡ false
   free c o = open-free o (c .before .before .before .blocked .ensures) (c .before .before .if1 .left)
 
   few : (c : Head) → end (begin c) < 65536
   few c = let a = texted c .before .before .before .before .before .before in omega (arith, a .shared-slice-known6 .given (start (rooms (texted c)) .args .node .0 + 1))
 
-  marks-long : (c : Head) → length (c .loop .marks) ≡ length (begin c .args .marks .now)
-  marks-long c = c .loop .inv .2 ∙ simp length-set (texted c .own-text .kept .1 .1 .1 .1 .0)
+  measures-long : (c : Head) → length (c .loop .measures) ≡ length (begin c .args .measures .now)
+  measures-long c = c .loop .inv .2 ∙ simp length-set (texted c .own-text .kept .1 .1 .1 .1 .0)
 
   -- the child's levels
   levels : (c : Deeper) → (1 ≤ begin (head c) .args .levels - 1) × (begin (head c) .args .levels - 1 ≤ 64)
   levels c = let l = begin (head c) .pre .1 .0 in (omega (arith, l, c .if2 .left), omega (arith, l))
 
   -- the child is open
-  learnt : (c : lts.After-enum-told2 (calls t) (own t) reads.Post Inv-loop μ-loop) → let k = c .before .before .before .before in let h = head (deeper k) in Learns (begin h .args .pickle .now) (begin h .args .nodes .now) (h .loop .marks) (k .known .last .1 .1 .1 .0) (getD (h .loop .children) (h .loop .i) 0) Seen·Open
+  learnt : (c : lts.After-enum-told2 (calls t) (own t) reads.Post Inv-loop μ-loop) → let k = c .before .before .before .before in let h = head (deeper k) in Learns (begin h .args .pickle .now) (begin h .args .nodes .now) (h .loop .measures) (k .known .last .1 .1 .1 .0) (getD (h .loop .children) (h .loop .i) 0) Seen·Open
   learnt c = rw (c .enum-told2 .given .1) at (c .before .before .before .before .known .ensures)
 
   -- what the walk of the child comes to
@@ -170,11 +170,11 @@ module _ (t : ℕ) where
   blocked-requires : lts.Need-blocked-requires (calls t) (own t) reads.Post Inv-loop μ-loop
   blocked-requires c κs = let f = opens (start (c .before .before .before .before .before)) in (open-end f, open-first f)
 
-  mul-marks : lts.Need-mul-marks (calls t) (own t) reads.Post Inv-loop μ-loop
-  mul-marks c = omega (arith, open-marked (opens (start (c .before .before .before .before .before .before .before))))
+  mul-measures : lts.Need-mul-measures (calls t) (own t) reads.Post Inv-loop μ-loop
+  mul-measures c = omega (arith, open-measured (opens (start (c .before .before .before .before .before .before .before))))
 
-  slice-write-marks : lts.Need-slice-write-marks (calls t) (own t) reads.Post Inv-loop μ-loop
-  slice-write-marks c = omega (arith, open-marked (opens (start (c .before .before .before .before .before .before .before))))
+  slice-write-measures : lts.Need-slice-write-measures (calls t) (own t) reads.Post Inv-loop μ-loop
+  slice-write-measures c = omega (arith, open-measured (opens (start (c .before .before .before .before .before .before .before))))
 
   returns : lts.Need-returns (calls t) (own t) reads.Post Inv-loop μ-loop
   unfolding Walks
@@ -183,11 +183,11 @@ module _ (t : ℕ) where
   own-text-requires : lts.Need-own-text-requires (calls t) (own t) reads.Post Inv-loop μ-loop
   own-text-requires c κs = open-owned (opens (start (c .before .before .before .before .before .before .before .before)))
 
-  mul-marks-2 : lts.Need-mul-marks-2 (calls t) (own t) reads.Post Inv-loop μ-loop
-  mul-marks-2 c = omega (arith, open-marked (opens (start (rooms (c .before .before)))), c .before .before .own-text .kept .1 .1 .1 .1 .0)
+  mul-measures-2 : lts.Need-mul-measures-2 (calls t) (own t) reads.Post Inv-loop μ-loop
+  mul-measures-2 c = omega (arith, open-measured (opens (start (rooms (c .before .before)))), c .before .before .own-text .kept .1 .1 .1 .1 .0)
 
-  slice-write-marks-2 : lts.Need-slice-write-marks-2 (calls t) (own t) reads.Post Inv-loop μ-loop
-  slice-write-marks-2 c = omega (arith, open-marked (opens (start (rooms (c .before .before)))), c .before .before .own-text .kept .1 .1 .1 .1 .0)
+  slice-write-measures-2 : lts.Need-slice-write-measures-2 (calls t) (own t) reads.Post Inv-loop μ-loop
+  slice-write-measures-2 c = omega (arith, open-measured (opens (start (rooms (c .before .before)))), c .before .before .own-text .kept .1 .1 .1 .1 .0)
 
   loop-holds : lts.Need-loop-holds (calls t) (own t) reads.Post Inv-loop μ-loop
   loop-holds c =
@@ -198,7 +198,7 @@ module _ (t : ℕ) where
   same-length-3 c = c .before .before .loop .inv .0
 
   same-length-4 : lts.Need-same-length-4 (calls t) (own t) reads.Post Inv-loop μ-loop
-  same-length-4 c = marks-long (c .before .before)
+  same-length-4 c = measures-long (c .before .before)
 
   same-length-5 : lts.Need-same-length-5 (calls t) (own t) reads.Post Inv-loop μ-loop
   same-length-5 c = c .before .before .loop .inv .1
@@ -209,7 +209,7 @@ module _ (t : ℕ) where
       let h = c .before .before in
       let m = moved o _ _ (texted h .own-text .ensures) in
       let T = h .loop .inv .6 (enter m) in
-      ends-too m _ (begin h .pre .1 .0 .0) (free (texted h) o) T _ _ _ (c .before .loop-test .taken) (omega (arith, c .if2 .taken)) (held-list (T .holds))
+      ends-too m _ (begin h .pre .1 .0 .0) (free (texted h) o) T _ _ _ (c .before .loop-test .taken) (omega (arith, c .if2 .taken))
 
   mul-t40 : lts.Need-mul-t40 (calls t) (own t) reads.Post Inv-loop μ-loop
   mul-t40 c = omega (arith, open-end (opens (begin (head c))), c .before .loop-test .taken, head c .loop .inv .0)
@@ -234,7 +234,7 @@ module _ (t : ℕ) where
   same-length-6 c = head (deeper (c .before .before .before .before .before .before)) .loop .inv .0
 
   same-length-7 : lts.Need-same-length-7 (calls t) (own t) reads.Post Inv-loop μ-loop
-  same-length-7 c = let k = c .before .before .before .before .before .before in k .known .kept .1 .1 .1 .0 ∙ marks-long (head (deeper k))
+  same-length-7 c = let k = c .before .before .before .before .before .before in k .known .kept .1 .1 .1 .0 ∙ measures-long (head (deeper k))
 
   same-length-8 : lts.Need-same-length-8 (calls t) (own t) reads.Post Inv-loop μ-loop
   same-length-8 c = head (deeper (c .before .before .before .before .before .before)) .loop .inv .1
@@ -249,7 +249,7 @@ module _ (t : ℕ) where
       let T = h .loop .inv .6 (enter m) in
       let i = d .before .loop-test .taken in
       let w = known-deep (enter m) _ (levels d) T i _ _ (rw (c .before .before .k .given .1) at (k .known .ensures)) in
-      ends-too m _ (begin h .pre .1 .0 .0) (free (texted h) o) T _ _ _ i (omega (arith, w, c .if3 .taken)) (held-list (T .holds))
+      ends-too m _ (begin h .pre .1 .0 .0) (free (texted h) o) T _ _ _ i (omega (arith, w, c .if3 .taken))
 
   mul-children : lts.Need-mul-children (calls t) (own t) reads.Post Inv-loop μ-loop
   mul-children c = let d = deeper (c .before .before .before .before) in let h = head d in omega (arith, open-end (opens (begin h)), d .before .loop-test .taken, h .loop .inv .0, few h)
@@ -273,7 +273,7 @@ module _ (t : ℕ) where
   same-length-9 c = let m = measured (c .before .before) in m .measure .kept .1 .1 .1 .0 ∙ head (deeper (known m)) .loop .inv .0
 
   same-length-10 : lts.Need-same-length-10 (calls t) (own t) reads.Post Inv-loop μ-loop
-  same-length-10 c = let m = measured (c .before .before) in let k = known m in m .measure .kept .1 .1 .1 .1 .1 .1 .0 ∙ k .known .kept .1 .1 .1 .0 ∙ marks-long (head (deeper k))
+  same-length-10 c = let m = measured (c .before .before) in let k = known m in m .measure .kept .1 .1 .1 .1 .1 .1 .0 ∙ k .known .kept .1 .1 .1 .0 ∙ measures-long (head (deeper k))
 
   same-length-11 : lts.Need-same-length-11 (calls t) (own t) reads.Post Inv-loop μ-loop
   same-length-11 c = let m = measured (c .before .before) in m .measure .kept .1 .1 .1 .1 .1 .1 .1 .0 ∙ head (deeper (known m)) .loop .inv .1
@@ -289,7 +289,7 @@ module _ (t : ℕ) where
       let T = h .loop .inv .6 (enter m) in
       let i = d .before .loop-test .taken in
       let w = walk-deep (enter m) _ (levels d) T i _ (learnt (x .before .before .before .before)) _ _ _ (subst (Walked x) (c .enum-told3 .given .1) (x .measure .ensures)) in
-      ends-too m _ (begin h .pre .1 .0 .0) (free (texted h) o) T _ _ _ i (omega (arith, w .0, begin h .pre .1 .0)) (w .1)
+      ends-too m _ (begin h .pre .1 .0 .0) (free (texted h) o) T _ _ _ i (omega (arith, w, begin h .pre .1 .0))
 
   mul-children-2 : lts.Need-mul-children-2 (calls t) (own t) reads.Post Inv-loop μ-loop
   mul-children-2 c =
@@ -325,7 +325,7 @@ module _ (t : ℕ) where
       let h = d .before .loop-test .taken in
       let m = c .before .before .match in
       let kept = n .known .kept .1 .1 .1 .0 in
-      let sizes : (length (m .children) ≡ length (l .children)) × (length (m .dues) ≡ length (l .dues)) × (length (m .marks) ≡ length (l .marks)) =
+      let sizes : (length (m .children) ≡ length (l .children)) × (length (m .dues) ≡ length (l .dues)) × (length (m .measures) ≡ length (l .measures)) =
       ⊎-elim (λ x. (ap length (x .4), ap length (x .6), ap length (x .5) ∙ kept))
       (⊎-elim (λ x. (ap length (x .2) ∙ simp length-set, ap length (x .4), ap length (x .3) ∙ kept))
       (⊎-elim (λ x. (ap length (x .14) ∙ simp length-set (x .5 .kept .1 .1 .1 .0), ap length (x .16) ∙ x .5 .kept .1 .1 .1 .1 .1 .1 .1 .0, ap length (x .15) ∙ (x .5 .kept .1 .1 .1 .1 .1 .1 .0 ∙ kept)))
@@ -368,17 +368,17 @@ module _ (t : ℕ) where
   add-w-3 : lts.Need-add-w-3 (calls t) (own t) reads.Post Inv-loop μ-loop
   add-w-3 c = omega (arith, c .before .least .ensures, c .least2 .ensures, c .before .before .before .before .before .before .before .loop .inv .5)
 
-  mul-marks-3 : lts.Need-mul-marks-3 (calls t) (own t) reads.Post Inv-loop μ-loop
-  mul-marks-3 c = let s = begin (c .before .before .before .before .before .before .before) in omega (arith, open-marked (opens s), marks-long (c .before .before .before .before .before .before .before))
+  mul-measures-3 : lts.Need-mul-measures-3 (calls t) (own t) reads.Post Inv-loop μ-loop
+  mul-measures-3 c = let s = begin (c .before .before .before .before .before .before .before) in omega (arith, open-measured (opens s), measures-long (c .before .before .before .before .before .before .before))
 
-  slice-write-marks-3 : lts.Need-slice-write-marks-3 (calls t) (own t) reads.Post Inv-loop μ-loop
-  slice-write-marks-3 c = let s = begin (c .before .before .before .before .before .before .before) in omega (arith, open-marked (opens s), marks-long (c .before .before .before .before .before .before .before))
+  slice-write-measures-3 : lts.Need-slice-write-measures-3 (calls t) (own t) reads.Post Inv-loop μ-loop
+  slice-write-measures-3 c = let s = begin (c .before .before .before .before .before .before .before) in omega (arith, open-measured (opens s), measures-long (c .before .before .before .before .before .before .before))
 
   same-length-12 : lts.Need-same-length-12 (calls t) (own t) reads.Post Inv-loop μ-loop
   same-length-12 c = c .before .before .before .before .before .before .before .loop .inv .0
 
   same-length-13 : lts.Need-same-length-13 (calls t) (own t) reads.Post Inv-loop μ-loop
-  same-length-13 c = simp length-set (marks-long (c .before .before .before .before .before .before .before))
+  same-length-13 c = simp length-set (measures-long (c .before .before .before .before .before .before .before))
 
   same-length-14 : lts.Need-same-length-14 (calls t) (own t) reads.Post Inv-loop μ-loop
   same-length-14 c = c .before .before .before .before .note .kept .1 .1 .0 ∙ c .before .before .before .before .before .before .before .loop .inv .1
@@ -397,11 +397,11 @@ pub +measure-spec : {M : Type 1} → statement M
     close μ
     λ t. lts.spec (calls t) (own t) reads.Post Inv-loop μ-loop
     (mul-kind t) (mul-kind-2 t) (shared-slice-read-kind t) (mul-at t) (shared-slice-read-at t) (cast-at t) (add-end t) (mul-end t)
-    (shared-slice-read-end t) (cast-end t) (blocked-requires t) (mul-marks t) (slice-write-marks t) (λ c. search needs) (λ c. simp length-set)
-    (returns t) (own-text-requires t) (mul-marks-2 t) (slice-write-marks-2 t) (loop-holds t) (same-length-3 t) (same-length-4 t) (same-length-5 t)
+    (shared-slice-read-end t) (cast-end t) (blocked-requires t) (mul-measures t) (slice-write-measures t) (λ c. search needs) (λ c. simp length-set)
+    (returns t) (own-text-requires t) (mul-measures-2 t) (slice-write-measures-2 t) (loop-holds t) (same-length-3 t) (same-length-4 t) (same-length-5 t)
     (returns-2 t) (mul-t40 t) (slice-read-t42 t) (cast-t43 t) (known-requires t) (λ c. search needs) (same-length-6 t) (same-length-7 t)
     (same-length-8 t) (returns-3 t) (λ c. search needs) (mul-children t) (slice-write-children t) (λ c. search needs) (sub-measure t)
     (measure-requires t) (λ c. search needs) (same-length-9 t) (same-length-10 t) (same-length-11 t) (returns-4 t) (λ c. search needs)
     (mul-children-2 t) (slice-write-children-2 t) (λ c. search needs) (λ c κs. search needs) (add-values t) (add-texts t) (add-i t) (loop-less t)
     (loop-again t) (note-requires t) (add-w t) (λ c κs. search needs) (mul-w t) (add-w-2 t) (λ c κs. search needs) (mul-w-2 t) (add-w-3 t)
-    (mul-marks-3 t) (slice-write-marks-3 t) (same-length-12 t) (same-length-13 t) (same-length-14 t) (returns-5 t)
+    (mul-measures-3 t) (slice-write-measures-3 t) (same-length-12 t) (same-length-13 t) (same-length-14 t) (returns-5 t)

@@ -10,7 +10,7 @@ returns : tie.Need-returns
 returns c =
     let s = c .before .before .before .before in
     let a = s .args in
-    own-none (a .pickle .now) (a .nodes .now) (a .marks .now) (a .node .0) (a .kind) (s .pre) (c .if1 .taken)
+    own-none (a .pickle .now) (a .nodes .now) (a .measures .now) (a .node .0) (a .kind) (s .pre) (c .if1 .taken)
 
 mul-m : tie.Need-mul-m
 mul-m c =
@@ -28,7 +28,7 @@ returns-2 : tie.Need-returns-2
 returns-2 c =
     let s = c .before .before .before .before .before .before .before in
     let a = s .args in
-    own-kept (a .pickle .now) (a .nodes .now) (a .marks .now) (a .node .0) (a .kind) (s .pre) (c .before .before .before .if1 .left) (c .if2 .taken)
+    own-kept (a .pickle .now) (a .nodes .now) (a .measures .now) (a .node .0) (a .kind) (s .pre) (c .before .before .before .if1 .left) (c .if2 .taken)
 
 leaf-word-requires : tie.Need-leaf-word-requires
 leaf-word-requires c κs =
@@ -36,18 +36,18 @@ leaf-word-requires c κs =
     let a = s .args in
     s .pre .class-reads (c .before .before .before .if1 .left)
 
-add-marks : tie.Need-add-marks
+add-measures : tie.Need-add-measures
 unfolding packW
-add-marks c = omega (arith, c .leaf-word .ensures)
+add-measures c = omega (arith, c .leaf-word .ensures)
 
-mul-marks : tie.Need-mul-marks
-mul-marks c =
+mul-measures : tie.Need-mul-measures
+mul-measures c =
     let s = c .before .before .before .before .before .before .before .before in
     let a = s .args in
     omega (arith, s .pre .class-below (c .before .before .before .before .if1 .left))
 
-slice-write-marks : tie.Need-slice-write-marks
-slice-write-marks c =
+slice-write-measures : tie.Need-slice-write-measures
+slice-write-measures c =
     let s = c .before .before .before .before .before .before .before .before in
     let a = s .args in
     s .pre .class-below (c .before .before .before .before .if1 .left)
@@ -56,11 +56,11 @@ returns-3 : tie.Need-returns-3
 returns-3 c =
     let s = c .before .before .before .before .before .before .before .before in
     let a = s .args in
-    own-new (a .pickle .now) (a .nodes .now) (a .marks .now) (a .node .0) (a .kind) (s .pre) _ (c .before .before .before .before .if1 .left) (c .before .if2 .left) (c .leaf-word .ensures)
+    own-new (a .pickle .now) (a .nodes .now) (a .measures .now) (a .node .0) (a .kind) (s .pre) _ (c .before .before .before .before .if1 .left) (c .before .if2 .left) (c .leaf-word .ensures)
 
 pub own-text-spec : {M : Type 1} → statement M
 own-text-spec =
     tie.close
     (tie.spec
-    returns (λ c. search needs) (λ c. search needs) (λ c. search needs) mul-m slice-read-m returns-2 leaf-word-requires add-marks mul-marks
-    slice-write-marks (λ c. search needs) returns-3)
+    returns (λ c. search needs) (λ c. search needs) (λ c. search needs) mul-m slice-read-m returns-2 leaf-word-requires add-measures mul-measures
+    slice-write-measures (λ c. search needs) returns-3)

@@ -7,19 +7,19 @@ use Rattle.value.specs.Shape.{kindIn}
 use Rattle.texts.specs.Due.{due-early, due-object, due-late, due-leaf}
 
 returns : tie.Need-returns
-returns c = due-early (c .before .args .first) (c .before .args .mark) (c .if1 .taken)
+returns c = due-early (c .before .args .first) (c .before .args .measure) (c .if1 .taken)
 
 returns-2 : tie.Need-returns-2
 unfolding kindIn
-returns-2 c = due-object (c .before .before .args .first) (c .before .before .args .mark) (c .before .if1 .left) (c .if2 .taken)
+returns-2 c = due-object (c .before .before .args .first) (c .before .before .args .measure) (c .before .if1 .left) (c .if2 .taken)
 
 returns-3 : tie.Need-returns-3
 unfolding kindIn
-returns-3 c = due-late (c .before .before .before .args .first) (c .before .before .before .args .mark) (c .before .before .if1 .left) (c .before .if2 .left) (c .if3 .taken)
+returns-3 c = due-late (c .before .before .before .args .first) (c .before .before .before .args .measure) (c .before .before .if1 .left) (c .before .if2 .left) (c .if3 .taken)
 
 returns-4 : tie.Need-returns-4
 unfolding kindIn
-returns-4 c = c .has-text .ensures ∙ due-leaf (c .before .before .before .before .args .first) (c .before .before .before .before .args .mark) (c .before .before .before .if1 .left) (c .before .before .if2 .left) (c .before .if3 .left)
+returns-4 c = c .has-text .ensures ∙ due-leaf (c .before .before .before .before .args .first) (c .before .before .before .before .args .measure) (c .before .before .before .if1 .left) (c .before .before .if2 .left) (c .before .if3 .left)
 
 pub is-due-spec : {M : Type 1} → statement M
 is-due-spec = tie.close (tie.spec returns returns-2 returns-3 (λ c κs. search needs) returns-4)

@@ -10,11 +10,11 @@ use Rattle.steps.specs.NodeWords.{first, second, classIn}
 use Rattle.texts.specs.Place.{lead-decoded, lead-global, lead-object, lead-leaf}
 
 returns : tie.Need-returns
-returns c = λ p d. lead-decoded p d (c .before .before .before .before .args .nodes .now) (c .before .before .before .before .args .marks .now) (c .before .before .before .before .args .node .0) (c .if1 .taken)
+returns c = λ p d. lead-decoded p d (c .before .before .before .before .args .nodes .now) (c .before .before .before .before .args .measures .now) (c .before .before .before .before .args .node .0) (c .if1 .taken)
 
 returns-2 : tie.Need-returns-2
 unfolding kindIn first
-returns-2 c = λ p d. c .module-place .ensures p d ∙ lead-global p d (c .before .before .before .before .before .before .before .args .nodes .now) (c .before .before .before .before .before .before .before .args .marks .now) (c .before .before .before .before .before .before .before .args .node .0) (c .before .before .before .if1 .left) (c .before .if2 .taken)
+returns-2 c = λ p d. c .module-place .ensures p d ∙ lead-global p d (c .before .before .before .before .before .before .before .args .nodes .now) (c .before .before .before .before .before .before .before .args .measures .now) (c .before .before .before .before .before .before .before .args .node .0) (c .before .before .before .if1 .left) (c .before .if2 .taken)
 
 mul-module-place : tie.Need-mul-module-place
 unfolding kindIn first classIn
@@ -30,11 +30,11 @@ shared-slice-read-module-place c = omega (arith, c .before .before .before .befo
 
 returns-3 : tie.Need-returns-3
 unfolding kindIn first classIn
-returns-3 c = λ p d. c .module-place2 .ensures p d ∙ lead-object p d (c .before .before .before .before .before .before .before .before .before .args .nodes .now) (c .before .before .before .before .before .before .before .before .before .args .marks .now) (c .before .before .before .before .before .before .before .before .before .args .node .0) (c .before .before .before .before .before .if1 .left) (c .before .before .if3 .taken)
+returns-3 c = λ p d. c .module-place2 .ensures p d ∙ lead-object p d (c .before .before .before .before .before .before .before .before .before .args .nodes .now) (c .before .before .before .before .before .before .before .before .before .args .measures .now) (c .before .before .before .before .before .before .before .before .before .args .node .0) (c .before .before .before .before .before .if1 .left) (c .before .before .if3 .taken)
 
 returns-4 : tie.Need-returns-4
 unfolding kindIn first second
-returns-4 c = λ p d. c .text-place .ensures p d ∙ rw add-one (lead-leaf p d (c .before .before .before .before .before .before .before .before .before .args .nodes .now) (c .before .before .before .before .before .before .before .before .before .args .marks .now) (c .before .before .before .before .before .before .before .before .before .args .node .0) (c .before .before .before .before .before .if1 .left) (c .before .before .before .if2 .left) (c .before .before .if3 .left))
+returns-4 c = λ p d. c .text-place .ensures p d ∙ rw add-one (lead-leaf p d (c .before .before .before .before .before .before .before .before .before .args .nodes .now) (c .before .before .before .before .before .before .before .before .before .args .measures .now) (c .before .before .before .before .before .before .before .before .before .args .node .0) (c .before .before .before .before .before .if1 .left) (c .before .before .before .if2 .left) (c .before .before .if3 .left))
 
 pub lead-place-spec : {M : Type 1} → statement M
 lead-place-spec = tie.close (tie.spec (λ c. search needs) (λ c. search needs) returns (λ c. search needs) (λ c. search needs) (λ c. search needs) (λ c κs. search needs) returns-2 mul-module-place mul-module-place-2 shared-slice-read-module-place (λ c κs. search needs) returns-3 (λ c. search needs) (λ c. search needs) (λ c. search needs) (λ c. search needs) (λ c κs. search needs) returns-4)

@@ -5,7 +5,7 @@ use Rattle.texts.proofs.spell_string.Tie as tie
 use Rattle.texts.specs.Spell.{one-stands}
 
 returns : tie.Need-returns
-returns c = one-stands _ _ _ _ _ (c .before .before .before .put-string .ensures) (c .decoded-mark .result) (c .decoded-mark .ensures)
+returns c = one-stands _ _ _ _ _ (c .before .before .before .put-string .ensures) (c .decoded-measure .result) (c .decoded-measure .ensures)
 
 pub spell-string-spec : {M : Type 1} → statement M
 spell-string-spec = tie.close (tie.spec (λ c κs. search needs) (λ c κs. search needs) (λ c. search needs) (λ c. search needs) returns)

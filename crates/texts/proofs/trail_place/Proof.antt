@@ -10,11 +10,11 @@ use Rattle.steps.specs.NodeWords.{first, second, classIn}
 use Rattle.texts.specs.Place.{trail-decoded, trail-global, trail-object, trail-leaf}
 
 returns : tie.Need-returns
-returns c = λ p d. trail-decoded p d (c .before .before .before .before .args .nodes .now) (c .before .before .before .before .args .marks .now) (c .before .before .before .before .args .node .0) (c .if1 .taken)
+returns c = λ p d. trail-decoded p d (c .before .before .before .before .args .nodes .now) (c .before .before .before .before .args .measures .now) (c .before .before .before .before .args .node .0) (c .if1 .taken)
 
 returns-2 : tie.Need-returns-2
 unfolding kindIn first second
-returns-2 c = λ p d. c .text-place .ensures p d ∙ rw add-one (trail-global p d (c .before .before .before .before .before .before .before .before .args .nodes .now) (c .before .before .before .before .before .before .before .before .args .marks .now) (c .before .before .before .before .before .before .before .before .args .node .0) (c .before .before .before .before .if1 .left) (c .before .before .if2 .taken))
+returns-2 c = λ p d. c .text-place .ensures p d ∙ rw add-one (trail-global p d (c .before .before .before .before .before .before .before .before .args .nodes .now) (c .before .before .before .before .before .before .before .before .args .measures .now) (c .before .before .before .before .before .before .before .before .args .node .0) (c .before .before .before .before .if1 .left) (c .before .before .if2 .taken))
 
 mul-text-place-3 : tie.Need-mul-text-place-3
 unfolding kindIn first classIn
@@ -34,11 +34,11 @@ shared-slice-read-text-place-2 c = omega (arith, c .before .before .before .befo
 
 returns-3 : tie.Need-returns-3
 unfolding kindIn first second classIn
-returns-3 c = λ p d. c .text-place2 .ensures p d ∙ rw add-one (trail-object p d (c .before .before .before .before .before .before .before .before .before .args .nodes .now) (c .before .before .before .before .before .before .before .before .before .args .marks .now) (c .before .before .before .before .before .before .before .before .before .args .node .0) (c .before .before .before .before .before .if1 .left) (c .before .before .if3 .taken))
+returns-3 c = λ p d. c .text-place2 .ensures p d ∙ rw add-one (trail-object p d (c .before .before .before .before .before .before .before .before .before .args .nodes .now) (c .before .before .before .before .before .before .before .before .before .args .measures .now) (c .before .before .before .before .before .before .before .before .before .args .node .0) (c .before .before .before .before .before .if1 .left) (c .before .before .if3 .taken))
 
 returns-4 : tie.Need-returns-4
 unfolding kindIn first
-returns-4 c = λ p d. trail-leaf p d (c .before .before .before .before .before .before .before .args .nodes .now) (c .before .before .before .before .before .before .before .args .marks .now) (c .before .before .before .before .before .before .before .args .node .0) (c .before .before .before .if1 .left) (c .before .if2 .left) (c .if3 .left)
+returns-4 c = λ p d. trail-leaf p d (c .before .before .before .before .before .before .before .args .nodes .now) (c .before .before .before .before .before .before .before .args .measures .now) (c .before .before .before .before .before .before .before .args .node .0) (c .before .before .before .if1 .left) (c .before .if2 .left) (c .if3 .left)
 
 pub trail-place-spec : {M : Type 1} → statement M
 trail-place-spec = tie.close (tie.spec (λ c. search needs) (λ c. search needs) (λ c. search needs) returns (λ c. search needs) (λ c. search needs) (λ c. search needs) (λ c. search needs) (λ c. search needs) (λ c. search needs) (λ c. search needs) (λ c κs. search needs) returns-2 mul-text-place-3 add-text-place-2 mul-text-place-4 shared-slice-read-text-place-2 (λ c κs. search needs) returns-3 returns-4)

@@ -9,7 +9,7 @@ use lib.Dec.{eqb}
 use Rattle.value.specs.Shape.{kindIn}
 use Rattle.steps.specs.State.{Node, State}
 use Rattle.steps.specs.NodeWords.{first, second, classIn, nodeIs, HoldsLinks}
-pub use Rattle.decoder.specs.declared.Counts.{Counts}
+pub use Rattle.store.specs.declared.Counts.{Counts}
 
 -- the rooms: the pickle, two words a node, the log of links (owner, child), stack, marks, the memo (number, node)
 pub record Rooms : Type 0 where

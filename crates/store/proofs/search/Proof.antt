@@ -1,12 +1,12 @@
--- `decoder::search` meets its contract. The loop's invariant: none of the numbers passed is the key. Assumes nothing.
-use Rattle.decoder.proofs.search.Statement.{statement}
-use Rattle.decoder.proofs.search.Tie as tie
+-- `store::search` meets its contract. The loop's invariant: none of the numbers passed is the key. Assumes nothing.
+use Rattle.store.proofs.search.Statement.{statement}
+use Rattle.store.proofs.search.Tie as tie
 use borrow.Author.Needs.{needs}
 use Prim.Native.Nat.{_-_, _≤_}
 use native.Mathlib.Omega.{arith}
 use mathlib.Core.Path.{_≡_}
-use Rattle.decoder.specs.Rooms.{Absent, Passed}
-use Rattle.decoder.proofs.LawsMemo.{passed-join}
+use Rattle.store.specs.Rooms.{Absent, Passed}
+use Rattle.store.specs.RoomMemo.{passed-join}
 
 abbrev Inv-loop : tie.InvT-loop
 Inv-loop keys memo k i₀ i = (i ≤ memo) × Passed keys i memo k

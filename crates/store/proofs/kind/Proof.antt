@@ -1,7 +1,7 @@
 -- A node's kind.
 use borrow.Author.Needs.{needs}
-use Rattle.decoder.proofs.kind.Statement.{statement}
-use Rattle.decoder.proofs.kind.Tie as tie
+use Rattle.store.proofs.kind.Statement.{statement}
+use Rattle.store.proofs.kind.Tie as tie
 use Rattle.value.specs.Shape.{kindIn}
 use Rattle.steps.specs.NodeWords.{first}
 

@@ -9,11 +9,11 @@ use native.Mathlib.Decide.{ℕ-discrete}
 use native.Mathlib.Omega.{arith}
 use Rattle.value.specs.Value.{NoneL}
 use Rattle.value.specs.Shape.{kindIn}
-use Rattle.steps.specs.State.{Node, plain, withInput, withNodes, withStack, withMarks, withMemo, withLinks, nodeAt, extend, insert}
-use Rattle.decoder.specs.RoomLists.{getD-tab, tab-same, tab-set, items-own, items-other, items-new}
+use Rattle.steps.specs.State.{Node, kidless, withInput, withNodes, withStack, withMarks, withMemo, withLinks, nodeAt, extend, insert}
+use Rattle.store.specs.RoomLists.{getD-tab, tab-same, tab-set, items-own, items-other, items-new}
 use Rattle.steps.specs.NodeWords.{first-other, second-other, first-set, second-set, words-second, holds-below, first, second, wordsSet, classIn, nodeIs, HoldsLinks, Built, node-grown, node-count, node-built, node-words, words-other}
-use Rattle.decoder.specs.RoomMemo.{insert-absent, insert-present}
-use Rattle.decoder.specs.Rooms.{Rooms, Counts, tab, kidsOf, nodeOf, nodesOf, stateOf, wordsIn, logIn, stackIn, marksIn, memoIn, atTo, nodesTo, linksTo, stackTo, marksTo, memoTo, Owned, Class, Classed, Absent}
+use Rattle.store.specs.RoomMemo.{insert-absent, insert-present}
+use Rattle.store.specs.Rooms.{Rooms, Counts, tab, kidsOf, nodeOf, nodesOf, stateOf, wordsIn, logIn, stackIn, marksIn, memoIn, atTo, nodesTo, linksTo, stackTo, marksTo, memoTo, Owned, Class, Classed, Absent}
 
 -- ---- the pickle, the stack and the marks
 
@@ -47,7 +47,7 @@ module _ (r : Rooms) (c : Counts) where
   pub link-more : (o k : ℕ) → o < c .nodes → HoldsLinks (first (r .nodes) o) → c .links < length (r .owners) → c .links < length (r .children)
       → stateOf (logIn r (set (r .owners) (c .links) o) (set (r .children) (c .links) k)) (linksTo c (suc (c .links))) ≡ extend o (k ∷ []) (withLinks (stateOf r c) (suc (c .links)))
   unfolding stateOf extend
-  link-more o k h t l l′ = ap (withNodes (withLinks (stateOf r c) (suc (c .links)))) (tab-set (nodeOf r c) (nodeOf r₁ c₁) (c .nodes) o (plain NoneL) h other ∙ ap (set (nodesOf r c) o) own)
+  link-more o k h t l l′ = ap (withNodes (withLinks (stateOf r c) (suc (c .links)))) (tab-set (nodeOf r c) (nodeOf r₁ c₁) (c .nodes) o (kidless NoneL) h other ∙ ap (set (nodesOf r c) o) own)
     where
       r₁ : Rooms
       r₁ = logIn r (set (r .owners) (c .links) o) (set (r .children) (c .links) k)
@@ -61,9 +61,9 @@ module _ (r : Rooms) (c : Counts) where
       other : (i : ℕ) → i < c .nodes → i ≢ o → nodeOf r₁ c₁ i ≡ nodeOf r c i
       other i z d = ap (λ (ks : List ℕ). of ks i) (items-other (r .owners) (r .children) (c .links) o k l l′ i d)
 
-      own : nodeOf r₁ c₁ o ≡ record { label = getD (nodesOf r c) o (plain NoneL) .label; kids = getD (nodesOf r c) o (plain NoneL) .kids ++ (k ∷ []) }
+      own : nodeOf r₁ c₁ o ≡ record { label = getD (nodesOf r c) o (kidless NoneL) .label; kids = getD (nodesOf r c) o (kidless NoneL) .kids ++ (k ∷ []) }
       own =
-          rw (getD-tab (nodeOf r c) (c .nodes) o (plain NoneL) h)
+          rw (getD-tab (nodeOf r c) (c .nodes) o (kidless NoneL) h)
           (ap (λ (ks : List ℕ). of ks o) (items-own (r .owners) (r .children) (c .links) o k l l′)
           ∙ node-grown (r .pickle) (first (r .nodes) o) (second (r .nodes) o) (kidsOf r c o) (r .nodes) k t)
 
@@ -135,7 +135,7 @@ module _ (r : Rooms) (c : Counts) where
   pub build-set : (o a b i : ℕ) → o < c .nodes → suc (2 * o) < length (r .nodes) → Classed (r .nodes) (c .nodes) → kindIn (first (r .nodes) o) ≡ 12 → Built (first (r .nodes) o) (second (r .nodes) o) a b i
       → stateOf (wordsIn r (wordsSet (r .nodes) o a b)) c ≡ withNodes (stateOf r c) (set (stateOf r c .nodes) o (record { label = nodeAt (stateOf r c) o .label; kids = getD (nodeAt (stateOf r c) o .kids) 0 0 ∷ i ∷ [] }))
   unfolding stateOf Classed Class
-  build-set o a b i l h cl t new = ap (withNodes (stateOf r c)) (tab-set (nodeOf r c) (nodeOf r₁ c) (c .nodes) o (plain NoneL) l other ∙ ap (set (nodesOf r c) o) own)
+  build-set o a b i l h cl t new = ap (withNodes (stateOf r c)) (tab-set (nodeOf r c) (nodeOf r₁ c) (c .nodes) o (kidless NoneL) l other ∙ ap (set (nodesOf r c) o) own)
     where
       ws : List ℕ
       ws = wordsSet (r .nodes) o a b
@@ -152,8 +152,8 @@ module _ (r : Rooms) (c : Counts) where
       apart : classIn a ≢ o
       apart = rw (new .class) (class o l t)
 
-      own : nodeOf r₁ c o ≡ record { label = getD (nodesOf r c) o (plain NoneL) .label; kids = getD (getD (nodesOf r c) o (plain NoneL) .kids) 0 0 ∷ i ∷ [] }
+      own : nodeOf r₁ c o ≡ record { label = getD (nodesOf r c) o (kidless NoneL) .label; kids = getD (getD (nodesOf r c) o (kidless NoneL) .kids) 0 0 ∷ i ∷ [] }
       own =
-          rw (getD-tab (nodeOf r c) (c .nodes) o (plain NoneL) l, first-set (r .nodes) o a b h, second-set (r .nodes) o a b h)
+          rw (getD-tab (nodeOf r c) (c .nodes) o (kidless NoneL) l, first-set (r .nodes) o a b h, second-set (r .nodes) o a b h)
           (node-words (r .pickle) a b (kidsOf r c o) (r .nodes) ws (λ k. (first-other (r .nodes) o a b (classIn a) apart, second-other (r .nodes) o a b (classIn a) apart))
           ∙ node-built (r .pickle) (first (r .nodes) o) (second (r .nodes) o) (kidsOf r c o) (r .nodes) a b i t new)

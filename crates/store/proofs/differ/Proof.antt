@@ -1,4 +1,4 @@
--- `decoder::differ` meets its contract: where all eight tests hold, each does. Assumes nothing.
+-- `store::differ` meets its contract: where all eight tests hold, each does. Assumes nothing.
 use Prim.Native.Nat.{_+_, _-_}
 use mathlib.Core.Bool.{not}
 use mathlib.Core.Path.{_≡_}
@@ -9,8 +9,8 @@ use lib.ListN.{getD}
 use borrow.Author.Needs.{needs}
 use borrow.Author.Tests.{eqb-false, not-true}
 use Rattle.utf8.specs.Together.{together, together-each}
-use Rattle.decoder.proofs.differ.Statement.{statement}
-use Rattle.decoder.proofs.differ.Tie as tie
+use Rattle.store.proofs.differ.Statement.{statement}
+use Rattle.store.proofs.differ.Tie as tie
 
 returns : tie.Need-returns
 unfolding together

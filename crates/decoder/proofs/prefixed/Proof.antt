@@ -1,7 +1,7 @@
--- `decoder::counted` meets its contract. Assumes nothing.
+-- `decoder::prefixed` meets its contract. Assumes nothing.
 use borrow.Author.Needs.{needs}
-use Rattle.decoder.proofs.counted.Statement.{statement}
-use Rattle.decoder.proofs.counted.Tie as tie
+use Rattle.decoder.proofs.prefixed.Statement.{statement}
+use Rattle.decoder.proofs.prefixed.Tie as tie
 use native.Mathlib.Omega.{arith}
 use Rattle.decoder.specs.ReadsPickle.{none-counted, count-short, count-got}
 
@@ -14,5 +14,5 @@ returns-2 c = count-short _ _ _ _ (c .before .before .before .before .pre .0) (o
 returns-3 : tie.Need-returns-3
 returns-3 c = count-got _ _ _ _ (c .before .before .before .before .pre .0) (omega arith) (c .before .low-at .ensures .0) (omega arith)
 
-pub counted-spec : {M : Type 1} → statement M
-counted-spec = tie.close (tie.spec (λ c. search needs) returns (λ c κs. search needs) (λ c. search needs) (λ c. search needs) (λ c. search needs) returns-2 returns-3)
+pub prefixed-spec : {M : Type 1} → statement M
+prefixed-spec = tie.close (tie.spec (λ c. search needs) returns (λ c κs. search needs) (λ c. search needs) (λ c. search needs) (λ c. search needs) returns-2 returns-3)

@@ -17,19 +17,19 @@ use Rattle.op.specs.declared.Edition.{Edition}
 use Rattle.op.specs.declared.Objection.the-variants.{Nothing, Outside, Unknown}
 use Rattle.op.specs.declared.Opcode.{Opcode}
 use Rattle.op.specs.declared.Opcode.the-variants.{MARK, STOP, POP, «POP_MARK», DUP, FLOAT, INT, BININT, BININT1, LONG, BININT2, NONE, REDUCE, STRING, BINSTRING, «SHORT_BINSTRING», UNICODE, BINUNICODE, APPEND, BUILD, GLOBAL, DICT, «EMPTY_DICT», APPENDS, GET, BINGET, «LONG_BINGET», LIST, «EMPTY_LIST», PUT, BINPUT, «LONG_BINPUT», SETITEM, TUPLE, «EMPTY_TUPLE», SETITEMS, BINFLOAT, PROTO, NEWOBJ, TUPLE1, TUPLE2, TUPLE3, NEWTRUE, NEWFALSE, LONG1, LONG4}
-use Rattle.decoder.specs.declared.Counts.{Counts}
-use Rattle.decoder.specs.declared.Effect.{Effect}
-use Rattle.decoder.specs.declared.Effect.the-variants.{Push, Mark, Stop}
+use Rattle.store.specs.declared.Counts.{Counts}
+use Rattle.store.specs.declared.Effect.{Effect}
+use Rattle.store.specs.declared.Effect.the-variants.{Push, Mark, Stop}
 use Rattle.value.specs.Value.{Label, NoneL, BoolL, ListL, TupleL, DictL}
 use Rattle.value.specs.Shape.{kindIn}
-use Rattle.steps.specs.State.{State, _>>=_, byte, plain, push}
+use Rattle.steps.specs.State.{State, _>>=_, byte, kidless, push}
 use Rattle.steps.specs.Opcodes.{tupleN}
 use Rattle.steps.specs.Run.{going, does, decide, admit, step}
-use Rattle.decoder.specs.Rooms.{Rooms, stateOf}
+use Rattle.store.specs.Rooms.{Rooms, stateOf}
 use Rattle.steps.specs.NodeWords.{nodeIs, HoldsLinks, aList, aTuple, aDict}
-use Rattle.decoder.specs.RoomKeeps.{class-none}
+use Rattle.store.specs.RoomKeeps.{class-none}
 use Rattle.steps.specs.Pickletools.{decided}
-use Rattle.decoder.specs.Effects.{Sound, Lent, Decides, Fits, enacted, refusing}
+use Rattle.store.specs.Effects.{Sound, SomeRooms, Decides, Fits, enacted, refusing}
 use Rattle.decoder.specs.Reads.{cutTo, bytes-short, bytes-got}
 use Rattle.decoder.specs.ReadsMemo.{sound-read}
 
@@ -66,7 +66,7 @@ module _ (p n d s m k h : List ℕ) (c : Counts) where
     next : (r : Rooms) → Sound r c → Lists r → Sound r c₁
     next r z a = let e : length (r .pickle) ≡ length p = ap length (a .pickle) in sound-read r c (c .at + 1) z (omega arith) (omega arith)
 
-    pub lent : (Q : Rooms → Type 0) → Lent c Lists → ((r : Rooms) → Lists r → Q r) → Lent c₁ Q
+    pub lent : (Q : Rooms → Type 0) → SomeRooms c Lists → ((r : Rooms) → Lists r → Q r) → SomeRooms c₁ Q
     lent Q t f = record { rooms = t .rooms; sound = next (t .rooms) (t .sound) (t .agrees); agrees = f (t .rooms) (t .agrees) }
 
   module _ (ed : Edition) where
@@ -126,7 +126,7 @@ module _ (v : ℕ) (c : Counts) where
   stop r z a = record { enacts = refl; fits = z .firm }
 
   -- a value without contents, of the kind a
-  pushes : (o : Opcode) (l : Label) (a b : ℕ) → ((s : State) → does v o s ≡ going (push l s)) → ((p ws : List ℕ) → nodeIs p ws [] a b ≡ plain l) → kindIn a < 11 → (HoldsLinks a → b ≡ 0) → Decides c (λ r. Unit {0}) (does v o) (Push c a b)
+  pushes : (o : Opcode) (l : Label) (a b : ℕ) → ((s : State) → does v o s ≡ going (push l s)) → ((p ws : List ℕ) → nodeIs p ws [] a b ≡ kidless l) → kindIn a < 11 → (HoldsLinks a → b ≡ 0) → Decides c (λ r. Unit {0}) (does v o) (Push c a b)
   unfolding Decides enacted Fits push
   pushes o l a b e n k t r z x = record {
     enacts = rw (e (stateOf r c), n (r .pickle) (r .nodes));

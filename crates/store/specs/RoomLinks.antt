@@ -5,16 +5,16 @@ use mathlib.Core.Path.{_≡_, _∙_, ap}
 use lib.ListN.{length, length-set, set}
 use lib.Seq.{set-set, set-getD, set-append-seam, getD-append-seam, getD-set-same}
 use Rattle.value.specs.Value.{Label, NoneL}
-use Rattle.steps.specs.State.{Node, State, plain, withNodes, withLinks, nodeAt, extend}
-use Rattle.decoder.specs.Rooms.{Rooms, Counts, stateOf, wordsIn, logIn, linksTo, Classed}
+use Rattle.steps.specs.State.{Node, State, kidless, withNodes, withLinks, nodeAt, extend}
+use Rattle.store.specs.Rooms.{Rooms, Counts, stateOf, wordsIn, logIn, linksTo, Classed}
 use Rattle.steps.specs.NodeWords.{first, HoldsLinks}
-use Rattle.decoder.specs.RoomLaws.{link-more, count-set}
+use Rattle.store.specs.RoomLaws.{link-more, count-set}
 
 -- ---- items one after the other
 
 pub extend-none : (o : ℕ) (s : State) → extend o [] s ≡ s
 unfolding extend
-extend-none o s = rw (append-nil (nodeAt s o .kids)) (ap (withNodes s) (set-getD (s .nodes) o (plain NoneL)))
+extend-none o s = rw (append-nil (nodeAt s o .kids)) (ap (withNodes s) (set-getD (s .nodes) o (kidless NoneL)))
 
 pub extend-more : (o : ℕ) (xs : List ℕ) (k m m′ : ℕ) (s : State) → o < length (s .nodes) → extend o (k ∷ []) (withLinks (extend o xs (withLinks s m)) m′) ≡ extend o (xs ++ (k ∷ [])) (withLinks s m′)
 unfolding extend
@@ -22,12 +22,12 @@ extend-more o xs k m m′ s h =
     let n = nodeAt s o in
     let g : Node = record { label = n .label; kids = n .kids ++ xs } in
     ap (withNodes (withLinks s m′))
-    (rw (getD-set-same (s .nodes) o g (plain NoneL) h, append-assoc (n .kids) xs (k ∷ [])) (set-set (s .nodes) o g (record { label = n .label; kids = n .kids ++ (xs ++ (k ∷ [])) })))
+    (rw (getD-set-same (s .nodes) o g (kidless NoneL) h, append-assoc (n .kids) xs (k ∷ [])) (set-set (s .nodes) o g (record { label = n .label; kids = n .kids ++ (xs ++ (k ∷ [])) })))
 
 -- a node that was just made
-pub extend-new : (xs : List ℕ) (l : Label) (s : State) → extend (length (s .nodes)) xs (withNodes s (s .nodes ++ (plain l ∷ []))) ≡ withNodes s (s .nodes ++ (record { label = l; kids = xs } ∷ []))
+pub extend-new : (xs : List ℕ) (l : Label) (s : State) → extend (length (s .nodes)) xs (withNodes s (s .nodes ++ (kidless l ∷ []))) ≡ withNodes s (s .nodes ++ (record { label = l; kids = xs } ∷ []))
 unfolding extend
-extend-new xs l s = ap (withNodes s) (rw (getD-append-seam (s .nodes) (plain l) [] (plain NoneL)) (set-append-seam (s .nodes) (plain l) [] (record { label = l; kids = xs })))
+extend-new xs l s = ap (withNodes s) (rw (getD-append-seam (s .nodes) (kidless l) [] (kidless NoneL)) (set-append-seam (s .nodes) (kidless l) [] (record { label = l; kids = xs })))
 
 extend-length : (o : ℕ) (xs : List ℕ) (s : State) → length (extend o xs s .nodes) ≡ length (s .nodes)
 unfolding extend

@@ -1,14 +1,14 @@
--- `decoder::passed` meets its contract. The loop's invariant: none of the numbers passed is the key. Assumes nothing.
+-- `store::passed` meets its contract. The loop's invariant: none of the numbers passed is the key. Assumes nothing.
 use Prim.Native.Nat.{_≤_}
 use mathlib.Core.Bool.{_&&_}
 use native.Mathlib.Omega.{arith}
 use borrow.Author.Needs.{needs}
 use borrow.Author.Tests.{not-false}
 use Rattle.utf8.specs.Rows.{and-left, and-right}
-use Rattle.decoder.specs.Rooms.{Passed}
-use Rattle.decoder.proofs.LawsMemo.{passed-join}
-use Rattle.decoder.proofs.passed.Statement.{statement}
-use Rattle.decoder.proofs.passed.Tie as tie
+use Rattle.store.specs.Rooms.{Passed}
+use Rattle.store.specs.RoomMemo.{passed-join}
+use Rattle.store.proofs.passed.Statement.{statement}
+use Rattle.store.proofs.passed.Tie as tie
 
 abbrev Inv-loop : tie.InvT-loop
 Inv-loop keys memo k i₀ i = (i ≤ memo) × Passed keys i memo k

@@ -9,9 +9,9 @@ use lib.Seq.{getD-set-same, getD-set-other, getD-at}
 use native.Mathlib.Decide.{ℕ-discrete}
 use native.Mathlib.Omega.{arith}
 use Rattle.value.specs.Shape.{kindIn}
-use Rattle.decoder.specs.Rooms.{items, Owned, Holding, Class, Classed, Counted, Together, Placed, Kept}
+use Rattle.store.specs.Rooms.{items, Owned, Holding, Class, Classed, Counted, Together, Placed, Kept}
 use Rattle.steps.specs.NodeWords.{first, second, wordsSet, classIn, HoldsLinks, aList, aTuple, aDict, Built, first-other, second-other, first-set, second-set, words-second, holds-below, objectWord, object-made}
-use Rattle.decoder.specs.RoomLists.{items-own, items-other, items-new}
+use Rattle.store.specs.RoomLists.{items-own, items-other, items-new}
 
 -- ---- owners
 

@@ -4,10 +4,10 @@ use mathlib.Core.Path.{_≡_, refl}
 use lib.ListN.{length, take, drop}
 use lib.Seq.{length-take-le}
 use Rattle.value.specs.Value.{NoneL}
-use Rattle.steps.specs.State.{plain, nodeAt}
+use Rattle.steps.specs.State.{kidless, nodeAt}
 use Rattle.steps.specs.Run.{start}
-use Rattle.decoder.specs.Rooms.{Rooms, Counts, tab, entries, nodeOf, memoOf, stateOf}
-use Rattle.decoder.specs.RoomLists.{length-tab, getD-tab}
+use Rattle.store.specs.Rooms.{Rooms, Counts, tab, entries, nodeOf, memoOf, stateOf}
+use Rattle.store.specs.RoomLists.{length-tab, getD-tab}
 
 -- with nothing read yet
 pub start-of : (r : Rooms) → stateOf r (record { at = 0; nodes = 0; links = 0; stack = 0; deepest = 0; marks = 0; most = 0; memo = 0; greatest = 0 }) ≡ start (r .pickle)
@@ -49,4 +49,4 @@ module _ (r : Rooms) (c : Counts) where
 
   pub node-at : (i : ℕ) → i < c .nodes → nodeAt (stateOf r c) i ≡ nodeOf r c i
   unfolding stateOf
-  node-at i h = getD-tab (nodeOf r c) (c .nodes) i (plain NoneL) h
+  node-at i h = getD-tab (nodeOf r c) (c .nodes) i (kidless NoneL) h

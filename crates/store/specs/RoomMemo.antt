@@ -2,18 +2,19 @@
 use Prim.Native.Nat.{ℕ, suc, zero, _+_, _<_, _≤_, max}
 use mathlib.Core.Bool.{Bool, true, false, cond}
 use mathlib.Core.List.{List, [], _∷_, _++_}
+use mathlib.Core.Logic.{_≢_}
 use mathlib.Core.Path.{_≡_, refl, sym, _∙_, ap}
 use lib.ListN.{length, getD, take, set}
 use lib.Seq.{take-set-lt, take-suc-set, length-take-le, getD-take, getD-set-same, getD-set-other}
-use lib.Dec.{eqb}
-use borrow.Author.Tests.{eq-eqb, ne-eqb}
+use lib.Dec.{eqb, ltb}
+use borrow.Author.Tests.{eq-eqb, ne-eqb, ltb-true, ltb-false}
 use native.Mathlib.Decide.{ℕ-discrete}
 use native.Mathlib.Omega.{arith}
 use Rattle.refusal.specs.declared.Refusal.the-variants.{MissingMemo}
 use Rattle.steps.specs.State.{ok, find, has, insert}
 use Rattle.steps.specs.State as state
 use Rattle.steps.specs.Memo.{find-missing}
-use Rattle.decoder.specs.Rooms.{entries, Absent, Numbered}
+use Rattle.store.specs.Rooms.{entries, Absent, Passed, Numbered}
 
 entries-append : (ks hs : List ℕ) (k h : ℕ) → length ks ≡ length hs → entries (ks ++ (k ∷ [])) (hs ++ (h ∷ [])) ≡ entries ks hs ++ ((k, h) ∷ [])
 unfolding entries
@@ -129,3 +130,13 @@ module _ (keys : List ℕ) (n m : ℕ) (numbered : Numbered keys n m) where
         under : (i : ℕ) → i < n + 1 → Dec (i ≡ n) → getD (set keys n k) i 0 < max m (k + 1)
         under i h (yes e) = rw (e, latest) (omega arith)
         under i h (no d) = let l : i < n = omega arith in let x = numbered .below i l in rw (earlier i l) (omega arith)
+
+-- ---- a search
+
+-- none up to m, and none from there on or from before
+pub passed-join : (keys : List ℕ) (i m l n k : ℕ) → Passed keys i m k → Passed keys l n k → l ≤ m → Passed keys i n k
+passed-join keys i m l n k p q h j a b = go (ltb j m) refl
+  where
+    go : (x : Bool) → ltb j m ≡ x → getD keys j 0 ≢ k
+    go true e = p j a (ltb-true j m e)
+    go false e = let z = ltb-false j m e in q j (omega arith) b

@@ -10,7 +10,7 @@ use lib.Dec.{eqb}
 use borrow.Author.Tests.{eq-eqb, ne-eqb}
 use native.Mathlib.Decide.{decLt, ℕ-discrete}
 use native.Mathlib.Omega.{arith}
-use Rattle.decoder.specs.Rooms.{tab, items}
+use Rattle.store.specs.Rooms.{tab, items}
 
 -- ---- tables
 

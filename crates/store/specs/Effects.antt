@@ -10,13 +10,13 @@ use lib.Dec.{ltb}
 use Rattle.refusal.specs.declared.Refusal.{Refusal}
 use Rattle.refusal.specs.declared.Refusal.the-variants.{MemoFull}
 use Rattle.value.specs.Shape.{kindIn}
-use Rattle.decoder.specs.declared.Effect.{Effect}
-use Rattle.decoder.specs.declared.Effect.the-variants.{Push, Share, Mark, Go, Make, Extend, Remember, Build, Stop, Refused}
+use Rattle.store.specs.declared.Effect.{Effect}
+use Rattle.store.specs.declared.Effect.the-variants.{Push, Share, Mark, Go, Make, Extend, Remember, Build, Stop, Refused}
 use Rattle.steps.specs.State.{State, Res, ok, no, _>>=_, need, memoLimit, nodesLimit, linksLimit, stackLimit, marksLimit, withNodes, withMemo, top, pushId, pushNode, link, nodeAt, extend, has, insert, put}
 use Rattle.steps.specs.Opcodes.{mark, made}
 use Rattle.steps.specs.Run.{Next, goes, stops, going}
 use Rattle.steps.specs.Range.{InRange}
-use Rattle.decoder.specs.Rooms.{Rooms, Counts, stateOf, Class, Numbered, Kept}
+use Rattle.store.specs.Rooms.{Rooms, Counts, stateOf, Class, Numbered, Kept}
 use Rattle.steps.specs.NodeWords.{first, nodeIs, HoldsLinks}
 
 -- ---- the parts of a step that follow what it read and took
@@ -76,18 +76,18 @@ pub record Lengths (r : Rooms) : Type 0 where
   pub held : memoLimit ≤ length (r .held)
 
 -- zero from n on
-unfoldable pub Blank : ℕ → List ℕ → Type 0
-Blank n l = (i : ℕ) → n ≤ i → getD l i 0 ≡ 0
+unfoldable pub ZeroFrom : ℕ → List ℕ → Type 0
+ZeroFrom n l = (i : ℕ) → n ≤ i → getD l i 0 ≡ 0
 
 -- nothing but what was used was written
 pub record Clean (r : Rooms) (c : Counts) : Type 0 where
-  pub nodes : Blank (2 * c .nodes) (r .nodes)
-  pub owners : Blank (c .links) (r .owners)
-  pub children : Blank (c .links) (r .children)
-  pub stack : Blank (c .deepest) (r .stack)
-  pub marks : Blank (c .most) (r .marks)
-  pub keys : Blank (c .memo) (r .keys)
-  pub held : Blank (c .memo) (r .held)
+  pub nodes : ZeroFrom (2 * c .nodes) (r .nodes)
+  pub owners : ZeroFrom (c .links) (r .owners)
+  pub children : ZeroFrom (c .links) (r .children)
+  pub stack : ZeroFrom (c .deepest) (r .stack)
+  pub marks : ZeroFrom (c .most) (r .marks)
+  pub keys : ZeroFrom (c .memo) (r .keys)
+  pub held : ZeroFrom (c .memo) (r .held)
 
 pub record Firm (r : Rooms) (c : Counts) : Type 0 where
   pub lengths : Lengths r
@@ -136,7 +136,7 @@ unfolding enacted Fits
 says-refused why r c n e = record { enacts = sym e; fits = tt }
 
 -- some rooms of which P holds, with these counts
-pub record Lent (c : Counts) (P : Rooms → Type 0) : Type 0 where
+pub record SomeRooms (c : Counts) (P : Rooms → Type 0) : Type 0 where
   pub rooms : Rooms
   pub sound : Sound rooms c
   pub agrees : P rooms

@@ -9,10 +9,10 @@ use Rattle.text.specs.Pieces.{bytesOf}
 use Rattle.text.specs.Examples.{evaluates as text-evaluates}
 use Rattle.value.specs.Value.{BytesL, StringL, TupleL, DictL, GlobalL, ObjectL}
 use Rattle.value.specs.Shape.{kindIn, newIn, stateIn}
-use Rattle.steps.specs.State.{ok, plain}
+use Rattle.steps.specs.State.{ok, kidless}
 use Rattle.steps.specs.Run.{run}
 use Rattle.steps.specs.Examples.{shared}
-use Rattle.decoder.specs.Rooms.{Rooms, Counts, tab, items, entries, stateOf}
+use Rattle.store.specs.Rooms.{Rooms, Counts, tab, items, entries, stateOf}
 use Rattle.steps.specs.NodeWords.{first, second, within, classIn, moduleOf, nameOf, partsOf, nodeIs}
 
 -- opens what the examples compute with
@@ -59,7 +59,7 @@ objectCounts = record { at = 32; nodes = 8; links = 0; stack = 5; deepest = 7; m
 pub object-rooms : stateOf objectRooms objectCounts
     ≡ record {
       input = 46 ∷ [];
-      nodes = plain (GlobalL (109 ∷ []) (67 ∷ [])) ∷ plain TupleL ∷ (record { label = ObjectL (109 ∷ []) (67 ∷ []) true; kids = 1 ∷ 3 ∷ [] }) ∷ plain DictL ∷ plain (StringL (0xC3 ∷ 0xA9 ∷ [])) ∷ plain (StringL (0xEF ∷ 0xBF ∷ 0xBD ∷ [])) ∷ plain (BytesL (65 ∷ [])) ∷ plain (BytesL (10 ∷ [])) ∷ [];
+      nodes = kidless (GlobalL (109 ∷ []) (67 ∷ [])) ∷ kidless TupleL ∷ (record { label = ObjectL (109 ∷ []) (67 ∷ []) true; kids = 1 ∷ 3 ∷ [] }) ∷ kidless DictL ∷ kidless (StringL (0xC3 ∷ 0xA9 ∷ [])) ∷ kidless (StringL (0xEF ∷ 0xBF ∷ 0xBD ∷ [])) ∷ kidless (BytesL (65 ∷ [])) ∷ kidless (BytesL (10 ∷ [])) ∷ [];
       stack = 2 ∷ 4 ∷ 5 ∷ 6 ∷ 7 ∷ [];
       marks = [];
       memo = [];

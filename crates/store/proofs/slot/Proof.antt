@@ -1,9 +1,9 @@
--- `decoder::slot` meets its contract: a number is above all, stands where it was guessed, or is searched. Assumes nothing.
+-- `store::slot` meets its contract: a number is above all, stands where it was guessed, or is searched. Assumes nothing.
 use borrow.Author.Needs.{needs}
-use Rattle.decoder.proofs.slot.Statement.{statement}
-use Rattle.decoder.proofs.slot.Tie as tie
+use Rattle.store.proofs.slot.Statement.{statement}
+use Rattle.store.proofs.slot.Tie as tie
 use native.Mathlib.Omega.{arith}
-use Rattle.decoder.specs.RoomMemo.{absent-above, absent-before}
+use Rattle.store.specs.RoomMemo.{absent-above, absent-before}
 
 returns : tie.Need-returns
 returns c = (omega arith, absent-above _ _ _ (c .before .before .pre .2) _ (c .if1 .taken), λ h. absurd (omega arith))

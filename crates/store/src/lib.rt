@@ -1,0 +1,133 @@
+// What the machine keeps in its rooms: nodes and memo numbers, the counts of what is used, and the effect that an opcode decides on. The
+// opcodes read it, effects writes it, the passes behind STOP go on from it. specs/ has what rooms and counts say of the state.
+use refusal::Refusal;
+ghost use mathlib.Core.Bool.{true};
+ghost use mathlib.Core.Path.{_≡_};
+ghost use Prim.Native.Nat.{ℕ, _+_, _*_, _<_, _≤_};
+ghost use lib.ListN.{length, getD};
+ghost use Rattle.value.specs.Shape.{kindIn};
+ghost use Rattle.steps.specs.NodeWords.{first};
+ghost use Rattle.store.specs.Rooms.{Absent, Passed, Numbered};
+
+// A node's place in the node table.
+pub struct NodeId(pub usize);
+
+// A number that a pickle gives an entry of the memo.
+pub struct MemoKey(pub u32);
+
+// The place in the pickle, and how much of each room is used; of stack and marks also how much ever was. `greatest` is above every
+// number in the memo.
+pub struct Counts {
+    pub at: usize,
+    pub nodes: usize,
+    pub links: usize,
+    pub stack: usize,
+    pub deepest: usize,
+    pub marks: usize,
+    pub most: usize,
+    pub memo: usize,
+    pub greatest: usize,
+}
+
+// What an opcode comes to, with the counts after what it read and took.
+pub enum Effect {
+    Push(Counts, u64, u64),
+    Share(Counts, NodeId),
+    Mark(Counts),
+    Go(Counts),
+    Make(Counts, u64),
+    Extend(Counts, NodeId),
+    Remember(Counts, NodeId, u64, MemoKey),
+    Build(Counts, NodeId, NodeId),
+    Stop(Counts),
+    Refused(Counts, u64, u64, Refusal),
+}
+
+// Behind the kinds of a table's record, two more of a node's first word, of which only the line is known before STOP, quotes and all: Bytes
+// of a STRING with an escape, a String of UNICODE.
+pub const KIND_ESCAPED: u64 = 13;
+
+pub const KIND_UNICODE: u64 = 14;
+
+// The kind of a node.
+pub fn kind(nodes: &[u64], id: NodeId) -> u64
+    requires { ⌜ 2 * id .0 < length (now nodes) ⌝ }
+    ensures { λ r. ⌜ r ≡ kindIn (first (now (nodes .entry)) (id .0)) ⌝ }
+{
+    let i = 2 * id.0;
+    nodes[i] % 16
+}
+
+// ---- where a memo number stands
+
+// None of eight memo numbers is `k`: tested together, which is quicker than one by one.
+fn differ(keys: &[u32], from: usize, k: u32) -> bool
+    requires { ⌜ from + 8 ≤ length (now keys) ⌝ }
+    ensures { λ r. ⌜ (r ≡ true → Passed (now (keys .entry)) from (from + 8) k) ⌝ }
+{
+    (keys[from] != k)
+        & (keys[from + 1] != k)
+        & (keys[from + 2] != k)
+        & (keys[from + 3] != k)
+        & (keys[from + 4] != k)
+        & (keys[from + 5] != k)
+        & (keys[from + 6] != k)
+        & (keys[from + 7] != k)
+}
+
+// How far down from `memo` surely none is `k`, by 32 numbers at a time.
+fn passed(keys: &[u32], memo: usize, k: u32) -> usize
+    requires { ⌜ memo ≤ length (now keys) ⌝ }
+    ensures { λ r. ⌜ (r ≤ memo) × Passed (now (keys .entry)) r memo k ⌝ }
+{
+    let mut i = memo;
+    while 32 <= i {
+        let from = i - 32;
+        if !(differ(keys, from, k)
+            & differ(keys, from + 8, k)
+            & differ(keys, from + 16, k)
+            & differ(keys, from + 24, k)) {
+            return i;
+        }
+        i = from;
+    }
+    i
+}
+
+// The place of a memo number among the first `memo`, which are different ones, or `memo`: by a search, newest first.
+fn search(keys: &[u32], memo: usize, key: MemoKey) -> usize
+    requires { ⌜ memo ≤ length (now keys) ⌝ }
+    requires { ⌜ ((i : ℕ) → i < memo → Absent (now keys) i (getD (now keys) i 0)) ⌝ }
+    ensures { λ r. ⌜ (r ≤ memo) × Absent (now (keys .entry)) r (key .0) × (r < memo → getD (now (keys .entry)) r 0 ≡ key .0) ⌝ }
+{
+    let k = key.0;
+    let mut i = passed(keys, memo, k);
+    while 0 < i {
+        i -= 1;
+        if keys[i] == k {
+            return i;
+        }
+    }
+    memo
+}
+
+// The same: at once where no number is so great, or where the numbers were put in order.
+pub fn slot(keys: &[u32], memo: usize, greatest: usize, key: MemoKey) -> usize
+    requires { ⌜ (memo ≤ length (now keys)) × (0 < length (now keys)) × Numbered (now keys) memo greatest ⌝ }
+    ensures { λ r. ⌜ (r ≤ memo) × Absent (now (keys .entry)) r (key .0) × (r < memo → getD (now (keys .entry)) r 0 ≡ key .0) ⌝ }
+{
+    let k = key.0;
+    if greatest <= k as usize {
+        return memo;
+    }
+    let first = keys[0];
+    if first <= k {
+        let guess = (k - first) as usize;
+        if guess < memo {
+            if keys[guess] == k {
+                return guess;
+            }
+        }
+    }
+    search(keys, memo, key)
+}
