@@ -63,7 +63,7 @@ Builds p ws owners log count links root left b o q o′ q′ = (r : Rooms) (c : 
 
 -- of whatever nodes the rooms say, once the children of each stand side by side
 unfoldable pub BuildsLaid : List ℕ → List ℕ → List ℕ → List ℕ → List ℕ → List ℕ → ℕ → Bool → Built → List ℕ → List ℕ → List ℕ → List ℕ → Type 0
-BuildsLaid p ws starts children measures dues root left b o q o′ q′ = (k : Begins p ws starts children measures dues root) → Comes left (one (tree (k .nodes) root)) b o q o′ q′
+BuildsLaid p ws starts sorted measures dues root left b o q o′ q′ = (k : Begins p ws starts sorted measures dues root) → Comes left (one (tree (k .nodes) root)) b o q o′ q′
 
 -- ---- at STOP
 

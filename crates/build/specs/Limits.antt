@@ -25,7 +25,7 @@ said (due.Refused why) = no why
 -- whatever tree the answer is of
 unfoldable pub Tells : Answer → Bool → Due → Type 0
 Tells a left d =
-    (t : List Node) (beyond : length t ≤ 4096) (starts lent measures children room : List ℕ) (root : ℕ) → Rooted t beyond starts lent measures children room root a
+    (t : List Node) (beyond : length t ≤ 4096) (starts lent measures sorted room : List ℕ) (root : ℕ) → Rooted t beyond starts lent measures sorted room root a
     → dueOf left (one (tree t root)) ≡ said d
 
 -- ---- a tree's word
@@ -52,27 +52,27 @@ module _ {v : Value} {w : ℕ} (m : Measured v w) where
 module _ (left : Bool) where
   pub tells-deep : Tells answer.TooDeep left (due.Refused TooDeep)
   unfolding Tells said dueOf _>>=_
-  tells-deep t beyond starts lent measures children room root (r-deep h) = rw (too-deep (one (tree t root)) h)
+  tells-deep t beyond starts lent measures sorted room root (r-deep h) = rw (too-deep (one (tree t root)) h)
 
   -- the root is never None
   pub tells-empty : (d : Due) → Tells answer.Empty left d
   unfolding Tells
-  tells-empty d t beyond starts lent measures children room root r = elim r [ ]
+  tells-empty d t beyond starts lent measures sorted room root r = elim r [ ]
 
   module _ (w : ℕ) where
     pub tells-values : 2048 < valuesW w → Tells (answer.Word w) left (due.Refused TooManyValues)
     unfolding Tells said dueOf _>>=_
-    tells-values h t beyond starts lent measures children room root (r-word w m s x) = rw (over-values m h)
+    tells-values h t beyond starts lent measures sorted room root (r-word w m s x) = rw (over-values m h)
 
     pub tells-text : valuesW w ≤ 2048 → 65536 < textsW w → Tells (answer.Word w) left (due.Refused TextFull)
     unfolding Tells said dueOf _>>=_
-    tells-text k h t beyond starts lent measures children room root (r-word w m s x) = rw (over-text m k h)
+    tells-text k h t beyond starts lent measures sorted room root (r-word w m s x) = rw (over-text m k h)
 
     module _ (k : valuesW w ≤ 2048) (h : textsW w ≤ 65536) where
       pub tells-left : left ≡ true → Tells (answer.Word w) left (due.Refused TrailingData)
       unfolding Tells said dueOf _>>=_ need
-      tells-left e t beyond starts lent measures children room root (r-word w m s x) = rw (within m k h, e)
+      tells-left e t beyond starts lent measures sorted room root (r-word w m s x) = rw (within m k h, e)
 
       pub tells-nothing : left ≡ false → Tells (answer.Word w) left due.Nothing
       unfolding Tells said dueOf _>>=_ need
-      tells-nothing e t beyond starts lent measures children room root (r-word w m s x) = rw (within m k h, e)
+      tells-nothing e t beyond starts lent measures sorted room root (r-word w m s x) = rw (within m k h, e)

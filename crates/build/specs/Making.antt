@@ -53,9 +53,9 @@ is-object DictL e = absurd (omega arith)
 is-object (GlobalL m n) e = absurd (omega arith)
 is-object (ObjectL m n b) e = refl
 
-module _ {p ws starts children measures dues : List ℕ} {root : ℕ} (k : Begins p ws starts children measures dues root) where
+module _ {p ws starts sorted measures dues : List ℕ} {root : ℕ} (k : Begins p ws starts sorted measures dues root) where
   facts-are : Facts p ws starts (k .nodes)
-  facts-are = facts p ws (k .nodes) starts children (k .stands) (k .graph) (k .beyond)
+  facts-are = facts p ws (k .nodes) starts sorted (k .stands) (k .graph) (k .beyond)
 
   classes-are : (i : ℕ) → i < length (k .nodes) → kindIn (first ws i) ≡ 12 → (classIn (first ws i) < length (k .nodes)) × (kindIn (first ws (classIn (first ws i))) ≡ 11)
   unfolding kindIn first classIn
@@ -91,40 +91,40 @@ due-within left f e = go (measured f) refl e
     go (ok u) q e = q
     go (no why) q e = absurd (let z : _≡_ {A = ℕ} 0 1 = cc in omega arith)
 
-module _ (p ws starts children measures dues children′ measures′ dues′ : List ℕ) (root : ℕ) (a : Answer) (R : Roots p ws starts children measures dues children′ measures′ dues′ root a) (left : Bool) (d : Due) (T : Tells a left d) where
-  told : (k : Begins p ws starts children measures dues root) → dueOf left (one (tree (k .nodes) root)) ≡ said d
+module _ (p ws starts sorted measures dues sorted′ measures′ dues′ : List ℕ) (root : ℕ) (a : Answer) (R : Roots p ws starts sorted measures dues sorted′ measures′ dues′ root a) (left : Bool) (d : Due) (T : Tells a left d) where
+  told : (k : Begins p ws starts sorted measures dues root) → dueOf left (one (tree (k .nodes) root)) ≡ said d
   unfolding Roots Tells
-  told k = T (k .nodes) (k .beyond) starts dues measures′ children′ dues′ root (R k)
+  told k = T (k .nodes) (k .beyond) starts dues measures′ sorted′ dues′ root (R k)
 
   -- a refusal
-  pub make-refused : (why : Refusal) → d ≡ due.Refused why → (o q : List ℕ) → BuildsLaid p ws starts children measures dues root left (built.Refused why) o q o q
+  pub make-refused : (why : Refusal) → d ≡ due.Refused why → (o q : List ℕ) → BuildsLaid p ws starts sorted measures dues root left (built.Refused why) o q o q
   unfolding BuildsLaid Comes said
   make-refused why e o q k = (told k ∙ ap said e, refl, refl)
 
   -- nothing
   module _ (e : d ≡ due.Nothing) where
-    free : (k : Begins p ws starts children measures dues root) → dueOf left (one (tree (k .nodes) root)) ≡ ok tt
+    free : (k : Begins p ws starts sorted measures dues root) → dueOf left (one (tree (k .nodes) root)) ≡ ok tt
     unfolding said
     free k = told k ∙ ap said e
 
-    measured-as : (k : Begins p ws starts children measures dues root) → MeasuredAs p ws starts children′ dues′ measures′ (k .nodes) root
+    measured-as : (k : Begins p ws starts sorted measures dues root) → MeasuredAs p ws starts sorted′ dues′ measures′ (k .nodes) root
     unfolding Roots
     measured-as k = go a (R k)
       where
         within : (depth (one (tree (k .nodes) root)) ≤ 64) × (size (one (tree (k .nodes) root)) ≤ 2048) × (length (text (one (tree (k .nodes) root))) ≤ 65536)
         within = measured-within (one (tree (k .nodes) root)) (due-within left (one (tree (k .nodes) root)) (free k))
 
-        go : (a : Answer) → Rooted (k .nodes) (k .beyond) starts dues measures′ children′ dues′ root a → MeasuredAs p ws starts children′ dues′ measures′ (k .nodes) root
+        go : (a : Answer) → Rooted (k .nodes) (k .beyond) starts dues measures′ sorted′ dues′ root a → MeasuredAs p ws starts sorted′ dues′ measures′ (k .nodes) root
         go _ (r-deep h) = absurd (omega (arith, within .0))
         go _ (r-word w m x h) = record {
-          limited = record { worded = worded k; before = children; graph = k .graph; below = k .below; deep = within .0; records = within .1; texts = within .2 };
+          limited = record { worded = worded k; before = sorted; graph = k .graph; below = k .below; deep = within .0; records = within .1; texts = within .2 };
           lent = dues;
           holds = h;
         }
 
-    pub make-measured : Begins p ws starts children measures dues root → Measured p ws starts children′ dues′ measures′ root
+    pub make-measured : Begins p ws starts sorted measures dues root → Measured p ws starts sorted′ dues′ measures′ root
     make-measured k = record { nodes = k .nodes; are = measured-as k }
 
-    pub make-made : (o q o′ q′ : List ℕ) (n : ℕ) → Produces p ws starts children′ dues′ measures′ root o q o′ q′ n → BuildsLaid p ws starts children measures dues root left (built.Made n) o q o′ q′
+    pub make-made : (o q o′ q′ : List ℕ) (n : ℕ) → Produces p ws starts sorted′ dues′ measures′ root o q o′ q′ n → BuildsLaid p ws starts sorted measures dues root left (built.Made n) o q o′ q′
     unfolding BuildsLaid Comes
     make-made o q o′ q′ n P k = let x = P (k .nodes) (measured-as k) in (free k, x .counted, x .table-is, x .text-is)

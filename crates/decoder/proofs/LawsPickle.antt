@@ -47,7 +47,7 @@ use Rattle.store.specs.declared.Counts.{Counts}
 use Rattle.store.specs.Rooms.{Rooms, stateOf, atTo}
 use Rattle.store.specs.Effects.{Sound, Decides, refusing}
 use Rattle.decoder.specs.Reads.{cutTo, bytes-short, bytes-got, line-none, line-got}
-use Rattle.decoder.specs.ReadsPickle.{ReadsPart, prefixed, ReadsLong, long-got, long-large, Makes, refused-going, says-go, pushed-step, short, enough, ended, lined, first-byte, line-part, Ends, no-newline, makes-as, makes-bytes, makes-escaped, makes-unicode, makes-global}
+use Rattle.decoder.specs.ReadsPickle.{ReadsPart, prefixed, ReadsLong, long-got, long-large, Makes, refused-going, says-go, pushed-step, short, enough, ended, lined, first-byte, line-part, LineAt, no-newline, makes-as, makes-bytes, makes-escaped, makes-unicode, makes-global}
 
 -- ---- PROTO, with v as the highest protocol
 
@@ -153,7 +153,7 @@ module _ (p : List ℕ) (n at : ℕ) (t : Part) (h : ReadsPart at p (prefixed n)
 pub line-own : (p : List ℕ) (at i : ℕ) (l : List ℕ) → l ≡ lineOf p at i → take (length l) (drop at p) ≡ l
 line-own p at i l d = rw d (sym (line-part p at i))
 
-pub line-size : {p : List ℕ} {at i : ℕ} {l : List ℕ} → Ends p at i → l ≡ lineOf p at i → length l < 65536
+pub line-size : {p : List ℕ} {at i : ℕ} {l : List ℕ} → LineAt p at i → l ≡ lineOf p at i → length l < 65536
 line-size {p = p} {at = at} {i = i} e d = rw d (let h = line-length p at i in omega arith)
 
 -- ---- UNICODE
@@ -168,7 +168,7 @@ module _ (l : List ℕ) (x : Decoded) (e : decodedSays x ≡ lengthOf (unescapeU
   unicode-bad j d = ap (turned StringL) (decoded-bad (unescapeUnicode l) j (rw d at e))
 
 -- a node that keeps its line
-module _ {p : List ℕ} {at i w : ℕ} {l : List ℕ} (n : Ends p at i) (d : l ≡ lineOf p at i) (e : w ≡ length l * 2 ^ 32 + at) where
+module _ {p : List ℕ} {at i w : ℕ} {l : List ℕ} (n : LineAt p at i) (d : l ≡ lineOf p at i) (e : w ≡ length l * 2 ^ 32 + at) where
   pub makes-line : Makes p 14 w (StringL (bytesOf (unescapeUnicode l)))
   makes-line =
       makes-as p 14 w (length l * 2 ^ 32 + at) _ e (subst (λ (t : List ℕ). Makes p 14 (length l * 2 ^ 32 + at) (StringL (bytesOf (unescapeUnicode t)))) (line-own p at i l d) (makes-unicode p at (length l) (omega arith)))
@@ -204,7 +204,7 @@ pub plain-label : (l : List ℕ) → unescapeString l ≡ got (inner l) → turn
 unfolding turned
 plain-label l e = ap (turned BytesL) e
 
-pub makes-inner : {p : List ℕ} {at i w : ℕ} {l : List ℕ} → Ends p at i → l ≡ lineOf p at i → 2 ≤ length l → w ≡ (length l - 2) * 2 ^ 32 + (at + 1) → Makes p 4 w (BytesL (inner l))
+pub makes-inner : {p : List ℕ} {at i w : ℕ} {l : List ℕ} → LineAt p at i → l ≡ lineOf p at i → 2 ≤ length l → w ≡ (length l - 2) * 2 ^ 32 + (at + 1) → Makes p 4 w (BytesL (inner l))
 makes-inner {p = p} {at = at} {i = i} {w = w} {l = l} n d k e =
     let y : suc (length l - 1) ≡ length l = omega arith in
     let x : suc (length l - 1) - 2 ≡ length l - 2 = omega arith in
@@ -264,12 +264,12 @@ module _ (c : Counts) (p : List ℕ) where
   unfolding Decides global _>>=_
   global-ends e d r s q = refused-going r c s EndOfInput (global (stateOf r c)) (rw (ended c p (no-newline p (c .at) e d) r s q))
 
-  module _ {i : ℕ} (e : Ends p (c .at) i) where
+  module _ {i : ℕ} (e : LineAt p (c .at) i) where
     pub global-cut : {x : LineEnd} → lineEnd x ≡ newlineOf p (i + 1) → x ≡ ends.End → Decides c (λ r. r .pickle ≡ p) (λ s. going (global s)) (refusing c EndOfInput)
     unfolding Decides global _>>=_
     global-cut f d r s q = refused-going r c s EndOfInput (global (stateOf r c)) (rw (lined c p i (e .found) r s q, line-none r (atTo c (i + 1)) (rw q (no-newline p (i + 1) f d))))
 
-    module _ {j : ℕ} (f : Ends p (i + 1) j) {l m : List ℕ} (d : l ≡ lineOf p (c .at) i) (g : m ≡ lineOf p (i + 1) j) where
+    module _ {j : ℕ} (f : LineAt p (i + 1) j) {l m : List ℕ} (d : l ≡ lineOf p (c .at) i) (g : m ≡ lineOf p (i + 1) j) where
       both : (r : Rooms) → Sound r c → r .pickle ≡ p → global (stateOf r c) ≡ push (GlobalL (repair l) (repair m)) (stateOf r (atTo c (j + 1)))
       unfolding global _>>=_
       both r s q = rw (lined c p i (e .found) r s q, line-got r (atTo c (i + 1)) j (rw q (f .found)), q, d, g)

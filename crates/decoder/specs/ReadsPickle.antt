@@ -93,11 +93,11 @@ literal read label s = line s >>= λ q. leaf (read (q .0)) >>= λ v. push (label
 abbrev pub fixed : ℕ → (List ℕ → Label) → State → Res State
 fixed n label s = bytes n s >>= λ q. push (label (q .0)) (q .1)
 
--- a length of n bytes, and so many bytes
+-- a length of n bytes, and of so many bytes a value
 abbrev pub texted : ℕ → (List ℕ → Label) → State → Res State
 texted n label s = lowBytes n s >>= λ q. bytes (q .0) (q .1) >>= λ b. push (label (b .0)) (b .1)
 
--- the same as an integer, low byte first
+-- n bytes as an integer, low byte first
 abbrev pub unsigned : ℕ → State → Res State
 unsigned n s = lowBytes n s >>= λ q. push (I64L (q .0)) (q .1)
 
@@ -141,14 +141,14 @@ module _ (r : Rooms) (c : Counts) (s : Sound r c) where
 -- ---- what the code knows of the pickle
 
 -- the line at `at` ends at i
-pub record Ends (p : List ℕ) (at i : ℕ) : Type 0 where
+pub record LineAt (p : List ℕ) (at i : ℕ) : Type 0 where
   pub found : newlineOf p at ≡ got i
   pub low : at ≤ i
   pub inside : i < length p
   pub size : length p ≤ 65536
 
 -- m bytes at a, behind a length of n bytes at `at`
-pub record Text (p : List ℕ) (n at a m : ℕ) : Type 0 where
+pub record TextAt (p : List ℕ) (n at a m : ℕ) : Type 0 where
   pub reads : ReadsPart at p (prefixed n) (At a m)
   pub inside : a + m ≤ length p
   pub size : length p ≤ 65536
@@ -158,7 +158,7 @@ module _ (p : List ℕ) (at : ℕ) {x : LineEnd} (e : lineEnd x ≡ newlineOf p 
   unfolding lineEnd
   no-newline d = sym e ∙ ap lineEnd d
 
-  pub line-found : {i : ℕ} {c : Counts} → SomeRooms c (λ r. r .pickle ≡ p) → x ≡ ends.At i → Ends p at i
+  pub line-found : {i : ℕ} {c : Counts} → SomeRooms c (λ r. r .pickle ≡ p) → x ≡ ends.At i → LineAt p at i
   unfolding lineEnd
   line-found {i = i} l d =
       let g = sym e ∙ ap lineEnd d in
@@ -194,7 +194,7 @@ module _ (c : Counts) (p : List ℕ) where
   unfolding Decides _>>=_
   refused-step m f why h r s q = refused-going r c s why (m (stateOf r c) >>= f) (rw (h r s q))
 
-  -- a step that reads to a, and has a kidless node
+  -- a step that reads to a, and has a node of no children
   pub pushed-step : (m : State → Res State) (a k b : ℕ) (l : Label) (c₁ : Counts) → ((r : Rooms) → Sound r c → r .pickle ≡ p → m (stateOf r c) ≡ push l (stateOf r (atTo c a)))
       → Makes p k b l → c .at ≤ a → a ≤ length p → c₁ ≡ cutTo c a (c .stack) (c .marks) → Decides c (λ r. r .pickle ≡ p) (λ s. going (m s)) (Push c₁ k b)
   unfolding Decides
@@ -213,7 +213,7 @@ module _ (c : Counts) (p : List ℕ) where
     line-ends e d = refused-step line (λ q. leaf (read (q .0)) >>= λ v. push (label v) (q .1)) EndOfInput (ended (no-newline p (c .at) e d))
 
     -- l is the line to the newline at i
-    module _ {i : ℕ} (e : Ends p (c .at) i) {l : List ℕ} (d : l ≡ lineOf p (c .at) i) where
+    module _ {i : ℕ} (e : LineAt p (c .at) i) {l : List ℕ} (d : l ≡ lineOf p (c .at) i) where
       pub line-bad : {why : Refusal} {j : ℕ} → turned label (read l) ≡ refused why j → Decides c (λ r. r .pickle ≡ p) (λ s. going (literal read label s)) (refusing c why)
       unfolding Decides _>>=_
       line-bad {why = why} {j = j} f r s q =
@@ -254,9 +254,9 @@ pub low-is : {A : Type 0} (n : ℕ) (s : State) (f : ℕ × State → Res A) →
 unfolding lowBytes _>>=_
 low-is n s f = bind-assoc (bytes n s) (λ q. ok (lowFirst (q .0), q .1)) f
 
-pub counted-is : {A : Type 0} (n : ℕ) (s : State) (f : List ℕ × State → Res A) → (lowBytes n s >>= λ q. bytes (q .0) (q .1) >>= f) ≡ (prefixed n s >>= f)
+pub prefixed-is : {A : Type 0} (n : ℕ) (s : State) (f : List ℕ × State → Res A) → (lowBytes n s >>= λ q. bytes (q .0) (q .1) >>= f) ≡ (prefixed n s >>= f)
 unfolding prefixed
-counted-is n s f = sym (bind-assoc (lowBytes n s) (λ q. bytes (q .0) (q .1)) f)
+prefixed-is n s f = sym (bind-assoc (lowBytes n s) (λ q. bytes (q .0) (q .1)) f)
 
 module _ (p : List ℕ) (n : ℕ) where
   -- z is the number of the n bytes at the counts' place
@@ -267,23 +267,23 @@ module _ (p : List ℕ) (n : ℕ) where
 
   -- likewise at any place
   module _ (at z : ℕ) (l : at ≤ length p) (h : n ≤ length p - at) (e : z ≡ lowFirst (take n (drop at p))) where
-    pub count-short : length p - at - n < z → ReadsPart at p (prefixed n) Short
+    pub prefixed-short : length p - at - n < z → ReadsPart at p (prefixed n) Short
     unfolding Behind Is
-    count-short k = record {
+    prefixed-short k = record {
       behind = tt;
       is = λ c d r s q. behind-length c z (rw d h) (rw d e) r s q ∙ bytes-short r (atTo c (c .at + n)) z (rw (q, d) (omega arith)) (rw (q, d) (omega arith));
     }
 
-    pub count-got : z ≤ length p - at - n → ReadsPart at p (prefixed n) (At (at + n) z)
+    pub prefixed-got : z ≤ length p - at - n → ReadsPart at p (prefixed n) (At (at + n) z)
     unfolding Behind Is
-    count-got k = record {
+    prefixed-got k = record {
       behind = (omega arith, omega arith);
       is = λ c d r s q. rw (← d) (behind-length c z (rw d h) (rw d e) r s q ∙ bytes-got r (atTo c (c .at + n)) z (rw (q, d) (omega arith)) (rw (q, d) (omega arith)));
     }
 
-  pub none-counted : (at : ℕ) → length p - at < n → ReadsPart at p (prefixed n) Short
+  pub none-prefixed : (at : ℕ) → length p - at < n → ReadsPart at p (prefixed n) Short
   unfolding Behind Is prefixed _>>=_
-  none-counted at h = record {
+  none-prefixed at h = record {
     behind = tt;
     is = λ c d r s q. low-is n (stateOf r c) (λ x. bytes (x .0) (x .1)) ∙ rw (short c p n (rw d h) r s q);
   }
@@ -307,17 +307,17 @@ module _ (p : List ℕ) (n at : ℕ) (t : Part) (h : ReadsPart at p (prefixed n)
 -- a step that makes a value of the part: `label` of it
 module _ (c : Counts) (p : List ℕ) (n : ℕ) where
   text-is : (label : List ℕ → Label) (s : State) → texted n label s ≡ (prefixed n s >>= λ q. push (label (q .0)) (q .1))
-  text-is label s = counted-is n s (λ q. push (label (q .0)) (q .1))
+  text-is label s = prefixed-is n s (λ q. push (label (q .0)) (q .1))
 
   module _ {t : Part} (h : ReadsPart (c .at) p (prefixed n) t) where
     pub text-ends : (label : List ℕ → Label) → t ≡ Short → Decides c (λ r. r .pickle ≡ p) (λ s. going (texted n label s)) (refusing c EndOfInput)
     text-ends label e = same-step c (λ r. r .pickle ≡ p) (texted n label) (λ s. prefixed n s >>= λ q. push (label (q .0)) (q .1)) (refusing c EndOfInput) (text-is label) (refused-step c p (prefixed n) (λ q. push (label (q .0)) (q .1)) EndOfInput (none-found p n (c .at) t h e c refl))
 
-    pub text-found : {a m : ℕ} → SomeRooms c (λ r. r .pickle ≡ p) → t ≡ At a m → Text p n (c .at) a m
+    pub text-found : {a m : ℕ} → SomeRooms c (λ r. r .pickle ≡ p) → t ≡ At a m → TextAt p n (c .at) a m
     text-found {a = a} {m = m} l e = record { reads = rw e at h; inside = part-inside p n (c .at) t h a m e .1; size = lent-size c p l }
 
   -- its words: the kind k, and its length and place
-  pub text-push : {a m w k : ℕ} {c₁ : Counts} (label : List ℕ → Label) → ((a m : ℕ) → a < 2 ^ 32 → Makes p k (m * 2 ^ 32 + a) (label (take m (drop a p)))) → Text p n (c .at) a m → w ≡ m * 2 ^ 32 + a → c₁ ≡ cutTo c (a + m) (c .stack) (c .marks)
+  pub text-push : {a m w k : ℕ} {c₁ : Counts} (label : List ℕ → Label) → ((a m : ℕ) → a < 2 ^ 32 → Makes p k (m * 2 ^ 32 + a) (label (take m (drop a p)))) → TextAt p n (c .at) a m → w ≡ m * 2 ^ 32 + a → c₁ ≡ cutTo c (a + m) (c .stack) (c .marks)
       → Decides c (λ r. r .pickle ≡ p) (λ s. going (texted n label s)) (Push c₁ k w)
   unfolding _>>=_
   text-push {a = a} {m = m} {w = w} {k = k} {c₁ = c₁} label makes t e =
@@ -395,7 +395,7 @@ module _ (p : List ℕ) (n at : ℕ) (t : Part) (h : ReadsPart at p (prefixed n)
 -- and what its opcode does with it
 long-is : (n : ℕ) (s : State) → longN n s ≡ (longRead n s >>= λ (x : ℕ × State). push (I64L (x .0)) (x .1))
 unfolding longN longRead _>>=_
-long-is n s = counted-is n s (λ q. leaf (longOf (q .0)) >>= λ v. push (I64L v) (q .1)) ∙ go (prefixed n s)
+long-is n s = prefixed-is n s (λ q. leaf (longOf (q .0)) >>= λ v. push (I64L v) (q .1)) ∙ go (prefixed n s)
   where
     integer : (q : List ℕ × State) → Res (ℕ × State)
     integer q = leaf (longOf (q .0)) >>= λ (v : ℕ). ok (v, q .1)

@@ -1,5 +1,5 @@
 // The opcodes of de.rs's `Decoder`, each as a function of its own: it reads the pickle and the rooms, changes nothing, and answers the
-// effect that its step has. specs/ has the state, each opcode's definition, and what the rooms and an effect mean.
+// effect that its step has. specs/ has what each answers; steps has the state and the opcodes' definitions, store what the rooms and an effect mean.
 use float::F64Literal;
 use float::parse_f64;
 use input::Integer;

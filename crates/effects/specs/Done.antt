@@ -44,10 +44,6 @@ pushedTo c n l = record { at = c .at; nodes = n; links = l; stack = c .stack + 1
 -- ---- zero from a number on
 
 module _ (n m : ℕ) (l : List ℕ) (h : ZeroFrom n l) (k : n ≤ m) where
-  pub blank-more : ZeroFrom m l
-  unfolding ZeroFrom
-  blank-more i j = h i (omega arith)
-
   pub blank-set : (p x : ℕ) → p < m → ZeroFrom m (set l p x)
   unfolding ZeroFrom
   blank-set p x q i j = getD-set-other l p i x 0 (λ e. omega arith) ∙ h i (omega arith)

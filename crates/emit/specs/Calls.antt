@@ -30,8 +30,8 @@ use Rattle.emit.specs.Since.{Stored, Since, since-leaf, since-stored}
 -- ---- given
 
 -- the nodes t and the graph h as the rooms show them, with the measures m from before anything was written
-pub record Begun (t : List Node) (h : Kids) (done m p d ws starts children log : List ℕ) : Type 0 where
-  pub shown : Shown t h (Final 4096 done) p d ws starts children log m
+pub record Begun (t : List Node) (h : Kids) (done m p d ws starts sorted log : List ℕ) : Type 0 where
+  pub shown : Shown t h (Final 4096 done) p d ws starts sorted log m
   -- an Object has its arguments and any state
   pub few : (i : ℕ) → Final 4096 done i → kind (at t i .label) ≡ 12 → length (h i) ≤ 2
   pub unwritten : (j : ℕ) → getD m j 0 < 2 ^ 63
@@ -44,13 +44,13 @@ pub record HasRoom (v : Value) (to : ℕ) (table bytes : List ℕ) : Type 0 wher
   pub text-long : 65536 ≤ length bytes
 
 -- node i stands for the value v
-pub record ReadyNode (p d ws starts children log : List ℕ) (i to : ℕ) (measures table bytes : List ℕ) : Type 0 where
+pub record ReadyNode (p d ws starts sorted log : List ℕ) (i to : ℕ) (measures table bytes : List ℕ) : Type 0 where
   pub t : List Node
   pub h : Kids
   pub done : List ℕ
   pub m : List ℕ
   pub v : Value
-  pub begun : Begun t h done m p d ws starts children log
+  pub begun : Begun t h done m p d ws starts sorted log
   pub known : Final 4096 done i
   pub stands : StandsFor t h i v
   pub fits : HasRoom v to table bytes
@@ -60,14 +60,14 @@ pub record ReadyNode (p d ws starts children log : List ℕ) (i to : ℕ) (measu
 -- it needs no walk
 pub record Flat (p d ws : List ℕ) (i to : ℕ) (measures table bytes : List ℕ) : Type 0 where
   pub starts : List ℕ
-  pub children : List ℕ
+  pub sorted : List ℕ
   pub log : List ℕ
-  pub ready : ReadyNode p d ws starts children log i to measures table bytes
+  pub ready : ReadyNode p d ws starts sorted log i to measures table bytes
   pub closed : opened ws measures i ≡ false
 
 -- it is to be walked, with so many levels left
-pub record Open (p d ws starts children log : List ℕ) (levels i to : ℕ) (measures table bytes : List ℕ) : Type 0 where
-  pub ready : ReadyNode p d ws starts children log i to measures table bytes
+pub record Open (p d ws starts sorted log : List ℕ) (levels i to : ℕ) (measures table bytes : List ℕ) : Type 0 where
+  pub ready : ReadyNode p d ws starts sorted log i to measures table bytes
   pub unclosed : opened ws measures i ≡ true
   pub deep : depth (one (ready .v)) ≤ levels
 
@@ -103,7 +103,7 @@ no-node (x ∷ t) (suc i) h = no-node t i (omega arith)
 
 -- ---- what is there
 
-module _ {p d ws starts children log : List ℕ} {i to : ℕ} {measures table bytes : List ℕ} (R : ReadyNode p d ws starts children log i to measures table bytes) where
+module _ {p d ws starts sorted log : List ℕ} {i to : ℕ} {measures table bytes : List ℕ} (R : ReadyNode p d ws starts sorted log i to measures table bytes) where
   ready-nodes : (i ≡ 4096) ⊎ (i < length (R .t))
   ready-nodes = R .begun .shown .nodes i (R .known)
 
@@ -126,7 +126,7 @@ module _ {p d ws starts children log : List ℕ} {i to : ℕ} {measures table by
 
   pub ready-readable : i < 4096 → Readable ws measures i
   ready-readable h =
-      let r = shown-readable (R .t) (R .h) (Final 4096 (R .done)) p d ws starts children log (R .m) i (R .begun .shown) (ready-below h) in
+      let r = shown-readable (R .t) (R .h) (Final 4096 (R .done)) p d ws starts sorted log (R .m) i (R .begun .shown) (ready-below h) in
       record { words = r .words; measured = rw (R .measures-long) (r .measured); class = r .class }
 
   pub ready-label : i < 4096 → at (R .t) i .label ≡ labelOf p ws i
@@ -314,7 +314,7 @@ module _ {p d ws : List ℕ} {i to : ℕ} {measures table bytes : List ℕ} (F :
 
 -- ---- a node of a kind before the containers', with its text if it has any
 
-module _ {p d ws starts children log : List ℕ} {i to : ℕ} {measures table bytes : List ℕ} (R : ReadyNode p d ws starts children log i to measures table bytes) (n : ℕ) (few : n ≤ 6) (e : kindBelow n ws i ≡ true) where
+module _ {p d ws starts sorted log : List ℕ} {i to : ℕ} {measures table bytes : List ℕ} (R : ReadyNode p d ws starts sorted log i to measures table bytes) (n : ℕ) (few : n ≤ 6) (e : kindBelow n ws i ≡ true) where
   below-small : i < 4096
   unfolding kindBelow
   below-small = go (ℕ-discrete i 4096)
@@ -346,7 +346,7 @@ module _ {p d ws starts children log : List ℕ} {i to : ℕ} {measures table by
   below-closed = rw (ne-eqb i 4096 (λ q. omega (arith, below-small)), below-unboxed)
 
   below-flat : Flat p d ws i to measures table bytes
-  below-flat = record { starts = starts; children = children; log = log; ready = R; closed = below-closed }
+  below-flat = record { starts = starts; sorted = sorted; log = log; ready = R; closed = below-closed }
 
   pub below-ready : LeafReady p d ws measures i to table bytes
   below-ready = flat-leaf-ready below-flat below-small below-unboxed

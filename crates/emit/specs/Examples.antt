@@ -36,8 +36,8 @@ words = 6 ∷ 2 ∷ 6 ∷ 0 ∷ []
 starts : List ℕ
 starts = 0 ∷ 2 ∷ 2 ∷ []
 
-children : List ℕ
-children = 1 ∷ 1 ∷ []
+sorted : List ℕ
+sorted = 1 ∷ 1 ∷ []
 
 measures : List ℕ
 measures = 386 ∷ 129 ∷ []
@@ -69,8 +69,8 @@ is-node i (inr (there (there m))) = elim m [ ]
 never : {A : Type 0} → true ≡ false → A
 never e = absurd (let z : _≡_ {A = ℕ} 0 1 = cc in omega arith)
 
-shown : Shown nodes graph (Final 4096 done) [] [] words starts children [] measures
-unfolding nodes graph words starts children measures labelOf first second kindIn Inside fromIn manyIn roomOf listOf isSorted
+shown : Shown nodes graph (Final 4096 done) [] [] words starts sorted [] measures
+unfolding nodes graph words starts sorted measures labelOf first second kindIn Inside fromIn manyIn roomOf listOf isSorted
 shown = record {
   beyond = omega arith;
   short = omega arith;
@@ -84,8 +84,8 @@ shown = record {
   closed = λ i k j m. in-graph j i m;
   none = refl;
   leaves = λ i k. two (λ i. isContainer (at nodes i .label) ≡ false → graph i ≡ []) never never i;
-  inside = λ i k. two (λ i. isContainer (at nodes i .label) ≡ true → Inside words starts children [] measures i) (λ e. omega arith) (λ e. omega arith) i;
-  lists = λ i k. two (λ i. isContainer (at nodes i .label) ≡ true → listOf words starts children [] measures i ≡ graph i) (λ e. refl) (λ e. refl) i;
+  inside = λ i k. two (λ i. isContainer (at nodes i .label) ≡ true → Inside words starts sorted [] measures i) (λ e. omega arith) (λ e. omega arith) i;
+  lists = λ i k. two (λ i. isContainer (at nodes i .label) ≡ true → listOf words starts sorted [] measures i ≡ graph i) (λ e. refl) (λ e. refl) i;
   spelled = λ i k. two (λ i. hasText (at nodes i .label) ≡ true → Spelled [] [] words measures i (at nodes i .label)) (λ e. never (sym e)) (λ e. never (sym e)) i;
 }
 
@@ -100,7 +100,7 @@ low zero = omega arith
 low (suc zero) = omega arith
 low (suc (suc j)) = omega arith
 
-rooted : Rooted [] [] words starts children [] 0 measures (replicate 8192 0) (replicate 65536 0)
+rooted : Rooted [] [] words starts sorted [] 0 measures (replicate 8192 0) (replicate 65536 0)
 unfolding nodes graph done value size text depth
 rooted = record {
   t = nodes;

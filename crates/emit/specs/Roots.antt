@@ -15,12 +15,12 @@ use Rattle.emit.specs.Leaves.{opened}
 use Rattle.emit.specs.Calls.{Begun, ReadyNode, Flat, Open, Made, Wrote}
 
 -- the rooms show nodes and a graph in which the root stands for a value within the limits, and nothing is written yet
-pub record Rooted (p d ws starts children log : List ℕ) (root : ℕ) (measures table bytes : List ℕ) : Type 0 where
+pub record Rooted (p d ws starts sorted log : List ℕ) (root : ℕ) (measures table bytes : List ℕ) : Type 0 where
   pub t : List Node
   pub h : Kids
   pub done : List ℕ
   pub v : Value
-  pub begun : Begun t h done measures p d ws starts children log
+  pub begun : Begun t h done measures p d ws starts sorted log
   pub known : Final 4096 done root
   pub stands : StandsFor t h root v
   pub deep : depth (one v) ≤ 64
@@ -35,11 +35,11 @@ pub record Emitted (v : Value) (table bytes table′ bytes′ : List ℕ) (r : �
   pub table-is : table′ ≡ tableOf (one v) 0 ++ drop (4 * size (one v)) table
   pub text-is : bytes′ ≡ text (one v) ++ drop (length (text (one v))) bytes
 
-abbrev pub Emits : (p d ws starts children log : List ℕ) (root : ℕ) (measures table bytes table′ bytes′ : List ℕ) (r : ℕ) → Type 0
-Emits p d ws starts children log root measures table bytes table′ bytes′ r = (G : Rooted p d ws starts children log root measures table bytes) → Emitted (G .v) table bytes table′ bytes′ r
+abbrev pub Emits : (p d ws starts sorted log : List ℕ) (root : ℕ) (measures table bytes table′ bytes′ : List ℕ) (r : ℕ) → Type 0
+Emits p d ws starts sorted log root measures table bytes table′ bytes′ r = (G : Rooted p d ws starts sorted log root measures table bytes) → Emitted (G .v) table bytes table′ bytes′ r
 
-module _ {p d ws starts children log : List ℕ} {root : ℕ} {measures table bytes : List ℕ} (G : Rooted p d ws starts children log root measures table bytes) where
-  pub root-ready : ReadyNode p d ws starts children log root 0 measures table bytes
+module _ {p d ws starts sorted log : List ℕ} {root : ℕ} {measures table bytes : List ℕ} (G : Rooted p d ws starts sorted log root measures table bytes) where
+  pub root-ready : ReadyNode p d ws starts sorted log root 0 measures table bytes
   root-ready = record {
     t = G .t;
     h = G .h;
@@ -54,12 +54,12 @@ module _ {p d ws starts children log : List ℕ} {root : ℕ} {measures table by
     since = λ j. inl refl;
   }
 
-  pub root-open : opened ws measures root ≡ true → Open p d ws starts children log 64 root 0 measures table bytes
+  pub root-open : opened ws measures root ≡ true → Open p d ws starts sorted log 64 root 0 measures table bytes
   unfolding root-ready
   root-open o = record { ready = root-ready; unclosed = o; deep = G .deep }
 
   pub root-flat : opened ws measures root ≡ false → Flat p d ws root 0 measures table bytes
-  root-flat o = record { starts = starts; children = children; log = log; ready = root-ready; closed = o }
+  root-flat o = record { starts = starts; sorted = sorted; log = log; ready = root-ready; closed = o }
 
   front : (x y l : List ℕ) (n : ℕ) → take (length l) x ≡ l → length l ≡ n → drop n x ≡ drop n y → x ≡ l ++ drop n y
   front x y l n a b c = sym (take-append-drop n x) ∙ (ap (λ (s : List ℕ). take n x ++ s) c ∙ ap (λ (s : List ℕ). s ++ drop n y) (rw b at a))

@@ -33,7 +33,7 @@ use Rattle.emit.specs.Calls.{ReadyNode, Flat, Open, Made, Wrote, size-on
 
 -- ---- a container that is to be walked
 
-module _ {p d ws starts children log : List ℕ} {levels i to : ℕ} {measures table bytes : List ℕ} (O : Open p d ws starts children log levels i to measures table bytes) where
+module _ {p d ws starts sorted log : List ℕ} {levels i to : ℕ} {measures table bytes : List ℕ} (O : Open p d ws starts sorted log levels i to measures table bytes) where
   pub open-small : i < 4096
   unfolding opened
   open-small = go (ℕ-discrete i 4096)
@@ -89,7 +89,7 @@ module _ {p d ws starts children log : List ℕ} {levels i to : ℕ} {measures t
   pub open-listed : Listed ws starts measures i
   open-listed =
       let R = O .ready in
-      let x = shown-listed (R .t) (R .h) (Final 4096 (R .done)) p d ws starts children log (R .m) i (R .begun .shown) open-below in
+      let x = shown-listed (R .t) (R .h) (Final 4096 (R .done)) p d ws starts sorted log (R .m) i (R .begun .shown) open-below in
       record { words = x .words; measured = rw (R .measures-long) (x .measured); ended = x .ended; rising = x .rising }
 
   pub open-record : 4 * recordIn to + 4 ≤ length table
@@ -105,35 +105,35 @@ module _ {p d ws starts children log : List ℕ} {levels i to : ℕ} {measures t
     unfolding manyIn
     many-same = let e = open-fresh in rw (← e) (g .many)
 
-    inside-list : Inside ws starts children log (O .ready .m) i
+    inside-list : Inside ws starts sorted log (O .ready .m) i
     inside-list = let R = O .ready in R .begun .shown .inside i (R .known) open-below open-container
 
-    is-list : listOf ws starts children log (O .ready .m) i ≡ O .ready .h i
+    is-list : listOf ws starts sorted log (O .ready .m) i ≡ O .ready .h i
     is-list = let R = O .ready in R .begun .shown .lists i (R .known) open-below open-container
 
     list-many : length (O .ready .h i) ≡ manyIn ws starts (O .ready .m) i
-    list-many = rw (← is-list) (list-length ws starts children log (O .ready .m) i inside-list)
+    list-many = rw (← is-list) (list-length ws starts sorted log (O .ready .m) i inside-list)
 
     pub list-end : r .end ≡ r .at + length (O .ready .h i)
     list-end = rw list-many many-same
 
-    pub list-room : r .end ≤ length (cond (r .log) log children)
+    pub list-room : r .end ≤ length (cond (r .log) log sorted)
     unfolding Inside
-    list-room = rw (g .room children log, many-same, from-same) inside-list
+    list-room = rw (g .room sorted log, many-same, from-same) inside-list
 
-    pub list-item : (k : ℕ) → k < length (O .ready .h i) → getD (cond (r .log) log children) (r .at + k) 0 ≡ getD (O .ready .h i) k 0
-    list-item k l = rw (g .room children log, from-same, ← is-list) (sym (list-at ws starts children log (O .ready .m) i inside-list k (rw list-many at l)))
+    pub list-item : (k : ℕ) → k < length (O .ready .h i) → getD (cond (r .log) log sorted) (r .at + k) 0 ≡ getD (O .ready .h i) k 0
+    list-item k l = rw (g .room sorted log, from-same, ← is-list) (sym (list-at ws starts sorted log (O .ready .m) i inside-list k (rw list-many at l)))
 
   pub open-few : kindOf (first ws i) ≡ 12 → length (O .ready .h i) ≤ 2
   open-few e = let R = O .ready in R .begun .few i (R .known) (ap kind (ready-label R open-small) ∙ (kind-is p ws i ∙ e))
 
 -- its text is written
-pub record Entered (p d ws starts children log : List ℕ) (levels i to : ℕ) (measures table bytes : List ℕ) : Type 0 where
-  pub walk : Open p d ws starts children log levels i to measures table bytes
+pub record Entered (p d ws starts sorted log : List ℕ) (levels i to : ℕ) (measures table bytes : List ℕ) : Type 0 where
+  pub walk : Open p d ws starts sorted log levels i to measures table bytes
   pub own : Part bytes (textIn to) (textOf (walk .ready .v .label))
 
-pub enter : {p d ws starts children log : List ℕ} {levels i to : ℕ} {measures table bytes : List ℕ} (O : Open p d ws starts children log levels i to measures table bytes) (bytes₁ : List ℕ) (w : ℕ) → TextPut p ws i bytes (textIn to) bytes₁ w
-    → Entered p d ws starts children log levels i to measures table bytes₁
+pub enter : {p d ws starts sorted log : List ℕ} {levels i to : ℕ} {measures table bytes : List ℕ} (O : Open p d ws starts sorted log levels i to measures table bytes) (bytes₁ : List ℕ) (w : ℕ) → TextPut p ws i bytes (textIn to) bytes₁ w
+    → Entered p d ws starts sorted log levels i to measures table bytes₁
 enter {p} {ws = ws} {i = i} {to = to} {measures = measures} {table = table} {bytes = bytes} O bytes₁ w L =
     let R = O .ready in
     let l = open-label O in
@@ -218,7 +218,7 @@ pub record Child (t : List Node) (h : Kids) (js : List ℕ) (g : Forest) (c : �
 pub child : {t : List Node} {h : Kids} {c : ℕ} {js : List ℕ} {g : Forest} → Stand t h (c ∷ js) g → Child t h js g c
 child {t = t} {c = c} (sNode {c = f} {r = r} a b) = record { value = record { label = at t c .label; contents = f }; rest = r; split = refl; stands = sNode a sNil; behind = b }
 
-module _ {p d ws starts children log : List ℕ} {levels i to from : ℕ} {measures₀ table₀ bytes₀ : List ℕ} (E : Entered p d ws starts children log levels i to measures₀ table₀ bytes₀) where
+module _ {p d ws starts sorted log : List ℕ} {levels i to from : ℕ} {measures₀ table₀ bytes₀ : List ℕ} (E : Entered p d ws starts sorted log levels i to measures₀ table₀ bytes₀) where
   pub turn-start : (w next : ℕ) → w ≡ lengthsOf (labelOf p ws i) → next ≡ place (recordIn to + 1) (textIn to + (w / 2 ^ 32 + w % 2 ^ 32))
       → Turn (E .walk .ready .t) (E .walk .ready .h) (E .walk .ready .v) i to from measures₀ table₀ bytes₀ next from measures₀ table₀ bytes₀
   unfolding size text _⊕_
@@ -272,8 +272,8 @@ module _ {p d ws starts children log : List ℕ} {levels i to from : ℕ} {measu
       pub turn-over : r .end ≤ j → length (E .walk .ready .h i) ≤ T .k
       turn-over x = omega (arith, T .index, list-end (E .walk) r g)
 
-      pub turn-item : T .k < length (E .walk .ready .h i) → (c : ℕ) → c ≡ getD (cond (r .log) log children) j 0 → c ≡ getD (E .walk .ready .h i) (T .k) 0
-      turn-item l c e = let n : j ≡ r .at + T .k = omega (arith, T .index) in e ∙ (ap (λ (x : ℕ). getD (cond (r .log) log children) x 0) n ∙ list-item (E .walk) r g (T .k) l)
+      pub turn-item : T .k < length (E .walk .ready .h i) → (c : ℕ) → c ≡ getD (cond (r .log) log sorted) j 0 → c ≡ getD (E .walk .ready .h i) (T .k) 0
+      turn-item l c e = let n : j ≡ r .at + T .k = omega (arith, T .index) in e ∙ (ap (λ (x : ℕ). getD (cond (r .log) log sorted) x 0) n ∙ list-item (E .walk) r g (T .k) l)
 
       pub turn-finish : (n : ℕ) → n ≡ r .end - from → FinishReady ws i to next n table
       unfolding first
@@ -300,7 +300,7 @@ module _ {p d ws starts children log : List ℕ} {levels i to from : ℕ} {measu
       split-depth : depth (one (turn-child .value)) ≤ depth (T .g)
       split-depth = before-depth (T .g) (turn-child .value) (turn-child .rest) (turn-child .split)
 
-      pub turn-ready : ReadyNode p d ws starts children log c next measures table bytes
+      pub turn-ready : ReadyNode p d ws starts sorted log c next measures table bytes
       turn-ready =
           let R = E .walk .ready in
           let C = turn-child in
@@ -335,12 +335,12 @@ module _ {p d ws starts children log : List ℕ} {levels i to from : ℕ} {measu
           omega (arith, split-depth)
 
       -- it is to be walked, or not
-      pub child-open : opened ws measures c ≡ true → Open p d ws starts children log (levels - 1) c next measures table bytes
+      pub child-open : opened ws measures c ≡ true → Open p d ws starts sorted log (levels - 1) c next measures table bytes
       unfolding turn-ready
       child-open o = record { ready = turn-ready; unclosed = o; deep = turn-deep }
 
       pub child-flat : opened ws measures c ≡ false → Flat p d ws c next measures table bytes
-      child-flat o = record { starts = starts; children = children; log = log; ready = turn-ready; closed = o }
+      child-flat o = record { starts = starts; sorted = sorted; log = log; ready = turn-ready; closed = o }
 
       -- the child is written
       turn-next : (next′ : ℕ) (measures′ table′ bytes′ : List ℕ) → length measures′ ≡ length measures → length table′ ≡ length table → length bytes′ ≡ length bytes
@@ -508,7 +508,7 @@ wrote-all t h v i to measures table bytes bytes₁ measures′ table′ bytes′
     }
 
 -- the container is written
-pub open-done : {p d ws starts children log : List ℕ} {levels i to : ℕ} {measures table bytes : List ℕ} (O : Open p d ws starts children log levels i to measures table bytes) (bytes₁ : List ℕ) (x : ℕ) (L : TextPut p ws i bytes (textIn to) bytes₁ x)
+pub open-done : {p d ws starts sorted log : List ℕ} {levels i to : ℕ} {measures table bytes : List ℕ} (O : Open p d ws starts sorted log levels i to measures table bytes) (bytes₁ : List ℕ) (x : ℕ) (L : TextPut p ws i bytes (textIn to) bytes₁ x)
     {from next j : ℕ} {measures′ table₁ bytes′ : List ℕ} (T : Turn (enter O bytes₁ x L .walk .ready .t) (enter O bytes₁ x L .walk .ready .h) (enter O bytes₁ x L .walk .ready .v) i to from measures table bytes₁ next j measures′ table₁ bytes′)
     → length (enter O bytes₁ x L .walk .ready .h i) ≤ T .k → (n : ℕ) (table′ : List ℕ) (w : ℕ) → n ≡ length (O .ready .h i) → FinishPut ws i to next x n table₁ table′ w
     → Wrote (O .ready .t) (O .ready .h) (O .ready .v) i to measures table bytes (set measures′ i w) table′ bytes′ next
@@ -519,6 +519,6 @@ open-done {p} {ws = ws} {i = i} {to = to} {measures = measures} {table = table} 
     (turn-done (enter O bytes₁ x L) T l table′ _ n (recordIn next - recordIn to) w (record-at p ws i x (textIn to) n (recordIn next - recordIn to) (L .lengths)) e refl (F .table-is) (F .measure))
 
 -- what `write` promises
-abbrev pub Writes : (p d ws starts children log : List ℕ) (levels i to : ℕ) (measures table bytes measures′ table′ bytes′ : List ℕ) (r : ℕ) → Type 0
-Writes p d ws starts children log levels i to measures table bytes measures′ table′ bytes′ r =
-    (O : Open p d ws starts children log levels i to measures table bytes) → Wrote (O .ready .t) (O .ready .h) (O .ready .v) i to measures table bytes measures′ table′ bytes′ r
+abbrev pub Writes : (p d ws starts sorted log : List ℕ) (levels i to : ℕ) (measures table bytes measures′ table′ bytes′ : List ℕ) (r : ℕ) → Type 0
+Writes p d ws starts sorted log levels i to measures table bytes measures′ table′ bytes′ r =
+    (O : Open p d ws starts sorted log levels i to measures table bytes) → Wrote (O .ready .t) (O .ready .h) (O .ready .v) i to measures table bytes measures′ table′ bytes′ r

@@ -428,7 +428,7 @@ fn write<'a>(
     levels: u64,
     to: u64,
     starts: &[u16],
-    children: &[u16],
+    sorted: &[u16],
     log: &[u16],
     pickle: &'a [u8],
     decoded: &'a [u8],
@@ -438,11 +438,11 @@ fn write<'a>(
     text: &mut [u8],
 ) -> u64
     requires { ⌜ Open
-        (now pickle) (now decoded) (now nodes) (now starts) (now children) (now log) levels (node .0) to
+        (now pickle) (now decoded) (now nodes) (now starts) (now sorted) (now log) levels (node .0) to
         (now measures) (now table) (now text) ⌝ }
     ensures { λ r. ⌜ Writes
         (now (pickle .entry)) (now (decoded .entry)) (now (nodes .entry)) (now (starts .entry))
-        (now (children .entry)) (now (log .entry)) levels (node .0) to (now (measures .entry))
+        (now (sorted .entry)) (now (log .entry)) levels (node .0) to (now (measures .entry))
         (now (table .entry)) (now (text .entry)) (now (measures .exit)) (now (table .exit)) (now (text .exit))
         r ⌝ }
 {
@@ -454,7 +454,7 @@ fn write<'a>(
     let mut next = behind(to, lengths);
     let mut j = from;
     while j < end {
-        let child = NodeId(lists::item(range.log, j, children, log));
+        let child = NodeId(lists::item(range.log, j, sorted, log));
         if is_below(child, value::BYTES, nodes) {
             next = write_atom(child, next, nodes, table); // most are: no call that lends the texts
         } else if is_below(child, value::LIST, nodes) {
@@ -465,7 +465,7 @@ fn write<'a>(
                 levels - 1,
                 next,
                 starts,
-                children,
+                sorted,
                 log,
                 pickle,
                 decoded,
@@ -489,7 +489,7 @@ fn write<'a>(
 pub fn write_root<'a>(
     root: NodeId,
     starts: &[u16],
-    children: &[u16],
+    sorted: &[u16],
     log: &[u16],
     pickle: &'a [u8],
     decoded: &'a [u8],
@@ -499,11 +499,11 @@ pub fn write_root<'a>(
     text: &mut [u8],
 ) -> u64
     requires { ⌜ Rooted
-        (now pickle) (now decoded) (now nodes) (now starts) (now children) (now log) (root .0) (now measures)
+        (now pickle) (now decoded) (now nodes) (now starts) (now sorted) (now log) (root .0) (now measures)
         (now table) (now text) ⌝ }
     ensures { λ r. ⌜ Emits
         (now (pickle .entry)) (now (decoded .entry)) (now (nodes .entry))
-        (now (starts .entry)) (now (children .entry)) (now (log .entry))
+        (now (starts .entry)) (now (sorted .entry)) (now (log .entry))
         (root .0)
         (now (measures .entry)) (now (table .entry)) (now (text .entry))
         (now (table .exit)) (now (text .exit)) r ⌝ }
@@ -514,7 +514,7 @@ pub fn write_root<'a>(
             64,
             0,
             starts,
-            children,
+            sorted,
             log,
             pickle,
             decoded,

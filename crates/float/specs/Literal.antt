@@ -3,12 +3,11 @@ use Prim.Native.Nat.{ℕ, _+_, _-_, _*_, _^_, _≤_, _<_}
 use mathlib.Core.Bool.{Bool, true, false, cond, _&&_}
 use mathlib.Core.List.{List}
 use mathlib.Core.Path.{_≡_, refl, sym}
-use mathlib.Core.Logic.{_⊎_, inl, inr}
-use native.Mathlib.Nat.{mul-one, lt-of-not-le, eq-zero-or-pos}
+use native.Mathlib.Nat.{mul-one, lt-of-not-le}
 use native.Mathlib.Omega.{arith}
 use native.Mathlib.Decide.{decLe}
-use borrow.Author.Tests.{leb-true, eq-eqb, ne-eqb}
-use lib.Dec.{leb, eqb, lit<}
+use borrow.Author.Tests.{leb-true, ne-eqb}
+use lib.Dec.{leb, eqb}
 use lib.Ieee.{binary64, round, toBits}
 use Rattle.refusal.specs.Read.{Read, got, refused}
 use Rattle.refusal.specs.declared.Refusal.{Refusal}
@@ -127,23 +126,6 @@ value-nearest m w up down bits p a =
     go true true false ex ey ez q = never q
     go true false z ex ey ez q = never q
     go false y z ex ey ez q = never q
-
-value-bits : (m : Bool) (n : Number) (bits : ℕ) → value m n ≡ got bits → bits < 2 ^ 64
-unfolding value valued signed
-value-bits m formless bits a = never a
-value-bits m (number w up down) bits a = go (eq-zero-or-pos w)
-  where
-    signs : (x : Bool) (b : ℕ) → b < 2 ^ 63 → signed x b < 2 ^ 64
-    signs true b h = omega arith
-    signs false b h = omega arith
-
-    go : (w ≡ 0) ⊎ (0 < w) → bits < 2 ^ 64
-    go (inl e) =
-        let b : signed m 0 ≡ bits = (let q : valued true m w up down ≡ got bits = rw (eq-eqb w 0 e) at a in cc) in
-        rw (← b) (signs m 0 (lit< tt))
-    go (inr p) =
-        let d = value-nearest m w up down bits p a in
-        rw (d .sign) (signs m (d .size) (d .below))
 
 literal-value : (s : List ℕ) (bits : ℕ) → floatLiteral s ≡ got bits → value (minus s) (written (behindSign s)) ≡ got bits
 unfolding floatLiteral

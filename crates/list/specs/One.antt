@@ -14,13 +14,13 @@ use Rattle.list.specs.Listing.{line, listing}
 use Rattle.list.specs.Back.{words-left, words-right, bytes-left, bytes-right, Readable, line-one}
 
 -- values whose table, with the texts from p on, is of words, and whose text is of bytes
-record Tabled (f : Forest) (p : ℕ) : Type 0 where
+record InTable (f : Forest) (p : ℕ) : Type 0 where
   pub shape : T (shaped f)
   pub words : Words (table f p)
   pub bytes : Bytes (text f)
   pub few : size f < 10 ^ 20
 
-module _ (l : Label) (c r : Forest) (p : ℕ) (a : Tabled (node l c r) p) where
+module _ (l : Label) (c r : Forest) (p : ℕ) (a : InTable (node l c r) p) where
   abbrev q : ℕ
   q = p + length (textOf l)
 
@@ -61,8 +61,8 @@ module _ (l : Label) (c r : Forest) (p : ℕ) (a : Tabled (node l c r) p) where
         few = omega (arith, count-size c, all-few);
       }
 
-  contents-lent : Tabled c q
-  contents-lent =
+  contents-in : InTable c q
+  contents-in =
       record {
         shape = all-shaped .1;
         words = words-left (table c q) _ (words-right record₀ _ all-words);
@@ -70,8 +70,8 @@ module _ (l : Label) (c r : Forest) (p : ℕ) (a : Tabled (node l c r) p) where
         few = omega (arith, all-few);
       }
 
-  after-lent : Tabled r u
-  after-lent =
+  after-in : InTable r u
+  after-in =
       record {
         shape = all-shaped .2;
         words = words-right (table c q) _ (words-right record₀ _ all-words);
@@ -84,7 +84,7 @@ unfolding listing
 listing-apart d l c r x = rw (append-assoc (line d l (count c)), append-assoc (listing (suc d) c))
 
 -- as many values, listed alike, are the same values, and what stands behind the listings is the same
-forest-one : (f g : Forest) (d p q : ℕ) (x y : List ℕ) → Tabled f p → Tabled g q → count f ≡ count g → listing d f ++ x ≡ listing d g ++ y → (f ≡ g) × (x ≡ y)
+forest-one : (f g : Forest) (d p q : ℕ) (x y : List ℕ) → InTable f p → InTable g q → count f ≡ count g → listing d f ++ x ≡ listing d g ++ y → (f ≡ g) × (x ≡ y)
 unfolding count listing
 forest-one nil nil d p q x y a b n e = (refl, e)
 forest-one nil (node m c′ r′) d p q x y a b n e = absurd (omega arith)
@@ -92,12 +92,12 @@ forest-one (node l c r) nil d p q x y a b n e = absurd (omega arith)
 forest-one (node l c r) (node m c′ r′) d p q x y a b n e =
     let e₀ = sym (listing-apart d l c r x) ∙ e ∙ listing-apart d m c′ r′ y in
     let h = line-one d l m (count c) (count c′) _ _ (first-readable l c r p a) (first-readable m c′ r′ q b) e₀ in
-    let i = forest-one c c′ (suc d) _ _ _ _ (contents-lent l c r p a) (contents-lent m c′ r′ q b) (h .1) (h .2) in
-    let j = forest-one r r′ d _ _ x y (after-lent l c r p a) (after-lent m c′ r′ q b) (omega arith) (i .1) in
+    let i = forest-one c c′ (suc d) _ _ _ _ (contents-in l c r p a) (contents-in m c′ r′ q b) (h .1) (h .2) in
+    let j = forest-one r r′ d _ _ x y (after-in l c r p a) (after-in m c′ r′ q b) (omega arith) (i .1) in
     (cc (h .0, i .0, j .0), j .1)
 
-well-formed-lent : (w : List ℕ) (n : ℕ) (t : List ℕ) (f : WellFormed w n t) → Words w → Bytes t → Tabled (one (f .value)) 0
-well-formed-lent w n t f W B =
+well-formed-in : (w : List ℕ) (n : ℕ) (t : List ℕ) (f : WellFormed w n t) → Words w → Bytes t → InTable (one (f .value)) 0
+well-formed-in w n t f W B =
     let v = one (f .value) in
     let rest = drop (4 * n) w in
     let e : w ≡ table v 0 ++ rest = sym (take-append-drop (4 * n) w) ∙ ap (λ (x : List ℕ). x ++ rest) (f .records) in
@@ -116,7 +116,7 @@ listing-one w n t w′ n′ t′ f g W B W′ B′ e =
     let v = one (f .value) in
     let v′ = one (g .value) in
     let e₀ : listing 0 v ++ [] ≡ listing 0 v′ ++ [] = ap (λ (s : List ℕ). s ++ []) e in
-    let h : v ≡ v′ = forest-one v v′ 0 0 0 [] [] (well-formed-lent w n t f W B) (well-formed-lent w′ n′ t′ g W′ B′) refl e₀ .0 in (
+    let h : v ≡ v′ = forest-one v v′ 0 0 0 [] [] (well-formed-in w n t f W B) (well-formed-in w′ n′ t′ g W′ B′) refl e₀ .0 in (
       h,
       record {
         counts = sym (f .counted) ∙ ap size h ∙ g .counted;

@@ -24,8 +24,8 @@ pub record Listed (ws starts measures : List ℕ) (i : ℕ) : Type 0 where
   pub rising : getD starts i 0 ≤ getD starts (suc i) 0
 
 -- rooms that show the nodes have it
-pub shown-listed : (t : List Node) (h : Kids) (P : ℕ → Type 0) (p d ws starts children log measures : List ℕ) (i : ℕ) → Shown t h P p d ws starts children log measures → i < length t → Listed ws starts measures i
-shown-listed t h P p d ws starts children log measures i s l =
+pub shown-listed : (t : List Node) (h : Kids) (P : ℕ → Type 0) (p d ws starts sorted log measures : List ℕ) (i : ℕ) → Shown t h P p d ws starts sorted log measures → i < length t → Listed ws starts measures i
+shown-listed t h P p d ws starts sorted log measures i s l =
     record {
       words = omega (arith, s .words-long);
       measured = omega (arith, s .measures-long);
@@ -37,7 +37,7 @@ shown-listed t h P p d ws starts children log measures i s l =
 pub record Ranges (ws starts measures : List ℕ) (i : ℕ) (r : Range) : Type 0 where
   pub from : r .at ≡ fromIn ws starts measures i
   pub many : r .end ≡ r .at + manyIn ws starts measures i
-  pub room : (children log : List ℕ) → cond (r .log) log children ≡ roomOf ws children log i
+  pub room : (sorted log : List ℕ) → cond (r .log) log sorted ≡ roomOf ws sorted log i
 
 -- ---- the kinds whose lists are put in order
 
@@ -82,19 +82,19 @@ not-in-log k s = go (eqb k 8) (eqb k 9) (eqb k 10) s
 module _ (ws starts measures : List ℕ) (i : ℕ) where
   pub sorted-ranges : isSorted (kindIn (first ws i)) ≡ true → Ranges ws starts measures i (record { log = ltb (kindIn (first ws i)) 10; at = getD measures i 0 % 2 ^ 16; end = getD measures i 0 % 2 ^ 16 + getD measures i 0 / 2 ^ 16 % 2 ^ 16 })
   unfolding fromIn manyIn roomOf
-  sorted-ranges e = let f = in-log (kindIn (first ws i)) e in record { from = rw e; many = rw e; room = λ children log. rw f }
+  sorted-ranges e = let f = in-log (kindIn (first ws i)) e in record { from = rw e; many = rw e; room = λ sorted log. rw f }
 
   pub plain-ranges : isSorted (kindIn (first ws i)) ≡ false → getD starts i 0 ≤ getD starts (suc i) 0 → Ranges ws starts measures i (record { log = false; at = getD starts i 0; end = getD starts (suc i) 0 })
   unfolding fromIn manyIn roomOf
-  plain-ranges e r = let f = not-in-log (kindIn (first ws i)) e in record { from = rw e; many = rw e (omega arith); room = λ children log. rw f }
+  plain-ranges e r = let f = not-in-log (kindIn (first ws i)) e in record { from = rw e; many = rw e (omega arith); room = λ sorted log. rw f }
 
 -- ---- the list itself
 
-module _ (ws starts children log measures : List ℕ) (i : ℕ) (h : Inside ws starts children log measures i) where
-  pub list-length : length (listOf ws starts children log measures i) ≡ manyIn ws starts measures i
+module _ (ws starts sorted log measures : List ℕ) (i : ℕ) (h : Inside ws starts sorted log measures i) where
+  pub list-length : length (listOf ws starts sorted log measures i) ≡ manyIn ws starts measures i
   unfolding listOf Inside
   list-length = simp (length-take, length-drop) (omega (arith, h))
 
-  pub list-at : (k : ℕ) → k < manyIn ws starts measures i → getD (listOf ws starts children log measures i) k 0 ≡ getD (roomOf ws children log i) (fromIn ws starts measures i + k) 0
+  pub list-at : (k : ℕ) → k < manyIn ws starts measures i → getD (listOf ws starts sorted log measures i) k 0 ≡ getD (roomOf ws sorted log i) (fromIn ws starts measures i + k) 0
   unfolding listOf
-  list-at k l = getD-take (manyIn ws starts measures i) (drop (fromIn ws starts measures i) (roomOf ws children log i)) k 0 l ∙ getD-drop (fromIn ws starts measures i) (roomOf ws children log i) k 0
+  list-at k l = getD-take (manyIn ws starts measures i) (drop (fromIn ws starts measures i) (roomOf ws sorted log i)) k 0 l ∙ getD-drop (fromIn ws starts measures i) (roomOf ws sorted log i) k 0

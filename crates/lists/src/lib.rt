@@ -48,13 +48,13 @@ pub fn range_of(node: NodeId, nodes: &[u64], starts: &[u16], measures: &[u64]) -
 }
 
 // The number at a place of the log or of the children.
-pub fn item(in_log: bool, at: usize, children: &[u16], log: &[u16]) -> usize
-    requires { ⌜ at < length (cond «in_log» (now log) (now children)) ⌝ }
-    ensures { λ r. ⌜ r ≡ getD (cond «in_log» (now (log .entry)) (now (children .entry))) at 0 ⌝ }
+pub fn item(in_log: bool, at: usize, sorted: &[u16], log: &[u16]) -> usize
+    requires { ⌜ at < length (cond «in_log» (now log) (now sorted)) ⌝ }
+    ensures { λ r. ⌜ r ≡ getD (cond «in_log» (now (log .entry)) (now (sorted .entry))) at 0 ⌝ }
 {
     if in_log {
         log[at] as usize
     } else {
-        children[at] as usize
+        sorted[at] as usize
     }
 }

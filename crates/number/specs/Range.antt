@@ -1,13 +1,12 @@
 -- The range of what is read, and of its bits. Assumes nothing.
 use Prim.Native.Nat.{_^_, _<_, _-_}
 use mathlib.Core.Bool.{Bool, true, false, cond, and-true}
-use mathlib.Core.Path.{_≡_, refl, ap, _∙_}
+use mathlib.Core.Path.{_≡_, refl}
 use native.Mathlib.Omega.{arith}
 use borrow.Author.Tests.{ltb-true, leb-true}
 use lib.IntN.{ℤ, pos, negsuc}
 use mir.Syntax.{w64}
-use mir.Val.{ofZ, toZ, SFits}
-use mir.ValLaws.{toZ-ofZ}
+use mir.Val.{SFits}
 use Rattle.refusal.specs.Read.{Read, got, refused}
 use Rattle.number.specs.Number.{invalid, only}
 use Rattle.input.specs.Long.{inI64, bits64}
@@ -22,24 +21,10 @@ only-got p (got b) a e = go (p b) refl e
     go false h q = cc
 only-got p (refused why at) a e = cc
 
-when-got : {A : Type 0} (v : Bool) (x : Read A) (a : A) → got a ≡ cond v x invalid → got a ≡ x
-unfolding invalid
-when-got true x a e = e
-when-got false x a e = cc
-
 fits : (z : ℤ) → inI64 z ≡ true → SFits w64 z
 unfolding inI64
 fits (pos n) h = record { sfits = ltb-true n (2 ^ 63) h }
 fits (negsuc n) h = let k = leb-true n (2 ^ 63 - 1) (rw and-true at h) in record { sfits = omega arith }
-
--- the bits are those of the kit's own i64, and say which integer it is
-pub bits64-is : (z : ℤ) → bits64 z ≡ ofZ w64 z
-unfolding bits64
-bits64-is (pos n) = refl
-bits64-is (negsuc n) = refl
-
-pub bits64-back : (z : ℤ) → inI64 z ≡ true → toZ w64 (bits64 z) ≡ z
-bits64-back z h = ap (toZ w64) (bits64-is z) ∙ toZ-ofZ w64 z (fits z h)
 
 pub bits64-fits : (z : ℤ) → inI64 z ≡ true → bits64 z < 2 ^ 64
 unfolding bits64 inI64

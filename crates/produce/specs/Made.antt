@@ -28,20 +28,20 @@ use Rattle.produce.specs.Ready.{Spelt, inside}
 
 -- ---- the Sets and Dicts in order, with nothing said of the list, which is zero again
 
-pub record Arranged (t : List Node) (s : State) (p d ws starts log measures children′ log′ measures′ : List ℕ) (used : ℕ) : Type 0 where
-  pub shown : Shown t (graph t s (dues t (s .done))) (Final 4096 (s .done)) p d ws starts children′ log′ measures′
-  pub sorted : (i : ℕ) → In i (dues t (s .done)) → getD measures′ i 0 < 2 ^ 62
+pub record Arranged (t : List Node) (s : State) (p d ws starts log measures sorted′ log′ measures′ : List ℕ) (used : ℕ) : Type 0 where
+  pub shown : Shown t (graph t s (dues t (s .done))) (Final 4096 (s .done)) p d ws starts sorted′ log′ measures′
+  pub in-order : (i : ℕ) → In i (dues t (s .done)) → getD measures′ i 0 < 2 ^ 62
   pub others : (i : ℕ) → ¬ In i (dues t (s .done)) → getD measures′ i 0 ≡ getD measures i 0
   pub behind : drop used log′ ≡ drop used log
   pub within : used ≤ length log
 
-abbrev pub Arranges : (noted p d ws starts children log measures list children′ log′ measures′ : List ℕ) (used : ℕ) → Type 0
-Arranges noted p d ws starts children log measures list children′ log′ measures′ used =
-    (t : List Node) (s : State) (lent : List ℕ) → ReadyToSettle t s lent noted p d ws starts children log measures list → Arranged t s p d ws starts log measures children′ log′ measures′ used
+abbrev pub Arranges : (noted p d ws starts sorted log measures list sorted′ log′ measures′ : List ℕ) (used : ℕ) → Type 0
+Arranges noted p d ws starts sorted log measures list sorted′ log′ measures′ used =
+    (t : List Node) (s : State) (lent : List ℕ) → ReadyToSettle t s lent noted p d ws starts sorted log measures list → Arranged t s p d ws starts log measures sorted′ log′ measures′ used
 
-pub settles-arranged : {t : List Node} {s : State} {p d ws starts log measures list children′ log′ measures′ list′ : List ℕ} {used most : ℕ} → Settles t s p d ws starts log measures list children′ log′ measures′ list′ used most
-    → Arranged t s p d ws starts log measures children′ log′ measures′ used
-settles-arranged x = record { shown = x .shown; sorted = λ i m. x .sorted i m .1; others = x .others; behind = x .kept .behind; within = x .used-within }
+pub settles-arranged : {t : List Node} {s : State} {p d ws starts log measures list sorted′ log′ measures′ list′ : List ℕ} {used most : ℕ} → Settles t s p d ws starts log measures list sorted′ log′ measures′ list′ used most
+    → Arranged t s p d ws starts log measures sorted′ log′ measures′ used
+settles-arranged x = record { shown = x .shown; in-order = λ i m. x .in-order i m .1; others = x .others; behind = x .kept .behind; within = x .used-within }
 
 -- ---- the value that the root stands for
 
@@ -64,7 +64,7 @@ object-kept DictL e = absurd (omega arith)
 object-kept (GlobalL m n) e = refl
 object-kept (ObjectL m n b) e = refl
 
-module _ {p d ws starts sorted noted measures log list : List ℕ} {t : List Node} {root : ℕ} (x : Spelt p d ws starts sorted noted measures log list t root) {children′ log′ measures′ : List ℕ} {used : ℕ} (a : Arranged t (walked t 4096 64 root .after) p d ws starts log measures children′ log′ measures′ used) where
+module _ {p d ws starts sorted noted measures log list : List ℕ} {t : List Node} {root : ℕ} (x : Spelt p d ws starts sorted noted measures log list t root) {sorted′ log′ measures′ : List ℕ} {used : ℕ} (a : Arranged t (walked t 4096 64 root .after) p d ws starts log measures sorted′ log′ measures′ used) where
   abbrev after : State
   after = walked t 4096 64 root .after
 
@@ -83,7 +83,7 @@ module _ {p d ws starts sorted noted measures log list : List ℕ} {t : List Nod
       go : Dec (getD measures′ j 0 < 2 ^ 63) → getD measures′ j 0 < 2 ^ 63
       go (yes l) = l
       go (no l) =
-          let n : ¬ In j (dues t (after .done)) = λ q. let u = a .sorted j q in omega arith in
+          let n : ¬ In j (dues t (after .done)) = λ q. let u = a .in-order j q in omega arith in
           let e = a .others j n in
           let f = x .low j in
           absurd (omega arith)
@@ -105,7 +105,7 @@ module _ {p d ws starts sorted noted measures log list : List ℕ} {t : List Nod
   texts = omega (arith, settle-smaller (one (tree t root)) .texts, x .limited .texts)
 
   module _ {table bytes : List ℕ} (table-long : 8192 ≤ length table) (text-long : 65536 ≤ length bytes) where
-    pub rooted : Rooted p d ws starts children′ log′ root measures′ table bytes
+    pub rooted : Rooted p d ws starts sorted′ log′ root measures′ table bytes
     rooted = record {
       t = t;
       h = graph t after (dues t (after .done));
@@ -121,7 +121,7 @@ module _ {p d ws starts sorted noted measures log list : List ℕ} {t : List Nod
       text-long = text-long;
     }
 
-    pub produced : {table′ bytes′ : List ℕ} {r : ℕ} → Emits p d ws starts children′ log′ root measures′ table bytes table′ bytes′ r
+    pub produced : {table′ bytes′ : List ℕ} {r : ℕ} → Emits p d ws starts sorted′ log′ root measures′ table bytes table′ bytes′ r
         → Produced (settle (one (tree t root))) table bytes table′ bytes′ (r % 4096)
     unfolding rooted settle
     produced e = let y = e rooted in record { counted = omega (arith, y .lengths, records); table-is = y .table-is; text-is = y .text-is }

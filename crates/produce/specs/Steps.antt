@@ -16,11 +16,11 @@ use Rattle.produce.specs.Made.{Arranges, settles-arranged, rooted, produ
 
 -- ---- after the settling
 
-module _ {noted p d ws starts children log measures list children′ log′ measures′ list′ : List ℕ} {used most : ℕ} (u : Unsettled noted p d ws starts children log measures list) (x : SettlesAll noted p d ws starts children log measures list children′ log′ measures′ list′ used most) where
-  settles : Settles (u .t) (u .s) p d ws starts log measures list children′ log′ measures′ list′ used most
+module _ {noted p d ws starts sorted log measures list sorted′ log′ measures′ list′ : List ℕ} {used most : ℕ} (u : Unsettled noted p d ws starts sorted log measures list) (x : SettlesAll noted p d ws starts sorted log measures list sorted′ log′ measures′ list′ used most) where
+  settles : Settles (u .t) (u .s) p d ws starts log measures list sorted′ log′ measures′ list′ used most
   settles = x (u .t) (u .s) (u .lent) (u .ready)
 
-  pub arranges : Arranges noted p d ws starts children log measures list children′ log′ measures′ used
+  pub arranges : Arranges noted p d ws starts sorted log measures list sorted′ log′ measures′ used
   arranges t s lent r = settles-arranged (x t s lent r)
 
   module _ (z : list ≡ replicate 2048 0) where
@@ -40,8 +40,8 @@ module _ {noted p d ws starts children log measures list children′ log′ meas
 
 -- ---- after it and the writing
 
-module _ {p d ws starts sorted noted measures log list : List ℕ} {root : ℕ} {table bytes children′ log′ measures′ : List ℕ} {used : ℕ} (u : Unwritten p d ws starts sorted noted measures log list root) (x : Arranges noted p d ws starts sorted log measures list children′ log′ measures′ used) (o : Outputs log list table bytes) where
-  pub root-ready : Rooted p d ws starts children′ log′ root measures′ table bytes
+module _ {p d ws starts sorted noted measures log list : List ℕ} {root : ℕ} {table bytes sorted′ log′ measures′ : List ℕ} {used : ℕ} (u : Unwritten p d ws starts sorted noted measures log list root) (x : Arranges noted p d ws starts sorted log measures list sorted′ log′ measures′ used) (o : Outputs log list table bytes) where
+  pub root-ready : Rooted p d ws starts sorted′ log′ root measures′ table bytes
   root-ready = rooted (u .are) (x (u .nodes) _ (u .are .lent) (u .are .ready)) (o .table-long) (o .text-long)
 
   used-within : used ≤ length log
@@ -55,7 +55,7 @@ module _ {p d ws starts sorted noted measures log list : List ℕ} {root : ℕ} 
       let e : length log ≡ 8192 = ap length (o .log-zero) ∙ length-replicate {A = ℕ} 8192 0 in
       front-cleared 8192 used log log′ (zeros-whole (o .log-zero)) (omega (arith, used-within)) (x (u .nodes) _ (u .are .lent) (u .are .ready) .behind)
 
-  pub writes : {table′ bytes′ : List ℕ} {r : ℕ} → Emits p d ws starts children′ log′ root measures′ table bytes table′ bytes′ r → Writes p d ws starts sorted noted measures log list root table bytes table′ bytes′ (r % 4096)
+  pub writes : {table′ bytes′ : List ℕ} {r : ℕ} → Emits p d ws starts sorted′ log′ root measures′ table bytes table′ bytes′ r → Writes p d ws starts sorted noted measures log list root table bytes table′ bytes′ (r % 4096)
   writes e t y = produced y (x t _ (y .lent) (y .ready)) (o .table-long) (o .text-long) e
 
 -- ---- after the decoding

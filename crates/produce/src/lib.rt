@@ -18,7 +18,7 @@ ghost use Rattle.produce.specs.Made.{Arranges, Outputs, Writes};
 fn settle_all<'a>(
     dues: &[u16],
     starts: &[u16],
-    children: &mut [u16],
+    sorted: &mut [u16],
     log: &mut [u16],
     pickle: &'a [u8],
     decoded: &'a [u8],
@@ -26,18 +26,18 @@ fn settle_all<'a>(
     measures: &mut [u64],
     list: &mut [u32],
 ) -> usize
-    requires { ⌜ Unsettled (now dues) (now pickle) (now decoded) (now nodes) (now starts) (now children) (now log)
+    requires { ⌜ Unsettled (now dues) (now pickle) (now decoded) (now nodes) (now starts) (now sorted) (now log)
         (now measures) (now list) ⌝ }
     requires { ⌜ now list ≡ replicate 2048 0 ⌝ }
     ensures { λ r. ⌜ Arranges (now (dues .entry)) (now (pickle .entry)) (now (decoded .entry)) (now (nodes .entry))
-        (now (starts .entry)) (now (children .entry)) (now (log .entry)) (now (measures .entry)) (now (list .entry))
-        (now (children .exit)) (now (log .exit)) (now (measures .exit)) r ⌝ }
+        (now (starts .entry)) (now (sorted .entry)) (now (log .entry)) (now (measures .entry)) (now (list .entry))
+        (now (sorted .exit)) (now (log .exit)) (now (measures .exit)) r ⌝ }
     ensures { λ _. ⌜ now (list .exit) ≡ now (list .entry) ⌝ }
 {
     let settled = settle(
         dues,
         starts,
-        children,
+        sorted,
         log,
         pickle,
         decoded,
@@ -54,7 +54,7 @@ fn settle_all<'a>(
 fn write_all<'a>(
     root: NodeId,
     starts: &[u16],
-    children: &mut [u16],
+    sorted: &mut [u16],
     dues: &[u16],
     pickle: &'a [u8],
     decoded: &'a [u8],
@@ -65,18 +65,18 @@ fn write_all<'a>(
     table: &mut [u64],
     text: &mut [u8],
 ) -> usize
-    requires { ⌜ Unwritten (now pickle) (now decoded) (now nodes) (now starts) (now children) (now dues) (now measures)
+    requires { ⌜ Unwritten (now pickle) (now decoded) (now nodes) (now starts) (now sorted) (now dues) (now measures)
         (now log) (now list) (root .0) ⌝ }
     requires { ⌜ Outputs (now log) (now list) (now table) (now text) ⌝ }
     ensures { λ r. ⌜ Writes (now (pickle .entry)) (now (decoded .entry)) (now (nodes .entry)) (now (starts .entry))
-        (now (children .entry)) (now (dues .entry)) (now (measures .entry)) (now (log .entry)) (now (list .entry)) (root .0)
+        (now (sorted .entry)) (now (dues .entry)) (now (measures .entry)) (now (log .entry)) (now (list .entry)) (root .0)
         (now (table .entry)) (now (text .entry)) (now (table .exit)) (now (text .exit)) r ⌝ }
     ensures { λ _. ⌜ (now (log .exit) ≡ now (log .entry)) × (now (list .exit) ≡ now (list .entry)) ⌝ }
 {
     let items = settle_all(
         dues,
         starts,
-        children,
+        sorted,
         log,
         pickle,
         decoded,
@@ -87,7 +87,7 @@ fn write_all<'a>(
     let made = write_root(
         root,
         starts,
-        children,
+        sorted,
         log,
         pickle,
         decoded,

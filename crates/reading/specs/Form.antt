@@ -79,16 +79,16 @@ module _
         let n = b .less in
         record { formed = (a .formed .0, a .formed .1, b .formed); counted = ap suc (b .counted); first = λ z u v. a .tuple u v; sound = b .sound; less = omega arith }
 
-    stageed-sound : (i : ℕ) (m : Stage) (d : Stages) → ((v : Value) → m ≡ kept v → All P (one v) × (T (isTuple (at t i .label)) → T (isTuple (v .label)))) → Sound d → Sound (stage i m d)
+    staged-sound : (i : ℕ) (m : Stage) (d : Stages) → ((v : Value) → m ≡ kept v → All P (one v) × (T (isTuple (at t i .label)) → T (isTuple (v .label)))) → Sound d → Sound (stage i m d)
     unfolding Sound
-    stageed-sound i m d h s j v e = go (staged i m d j)
+    staged-sound i m d h s j v e = go (staged i m d j)
       where
         go : Staged i m d j → All P (one v) × (T (isTuple (at t j .label)) → T (isTuple (v .label)))
         go (same p q) = let u = h v (sym q ∙ e) in (u .0, λ x. u .1 (rw p at x))
         go (other p q) = s j v (sym q ∙ e)
 
     taken-sound : (i : ℕ) (d : Stages) → Sound d → Sound (stage i taken d)
-    taken-sound i d s = stageed-sound i taken d (λ v e. absurd (let z : _≡_ {A = ℕ} 0 1 = cc in omega arith)) s
+    taken-sound i d s = staged-sound i taken d (λ v e. absurd (let z : _≡_ {A = ℕ} 0 1 = cc in omega arith)) s
 
     none-formed : All P (one none)
     unfolding All
@@ -118,7 +118,7 @@ module _
         record {
           formed = f;
           tuple = λ u h. h;
-          sound = stageed-sound i (kept v) (p .1) (λ w e. let q : v ≡ w = cc in rw (← q) (f, λ h. h)) (m .sound);
+          sound = staged-sound i (kept v) (p .1) (λ w e. let q : v ≡ w = cc in rw (← q) (f, λ h. h)) (m .sound);
           less = omega (arith, m .less, left-stage (p .1) i (kept v) (length t) refl, left-stage d i taken (length t) refl);
         }
 
@@ -130,7 +130,7 @@ module _
         go : View t i d → ((j : ℕ) (c : Stages) → left c (length t) < k → Sound c → Built j c (build t k j c .0) (build t k j c .1)) → Built i d (build t (suc k) i d .0) (build t (suc k) i d .1)
         go (copied v e f) ih = rw (f k) (record { formed = s i v e .0; tuple = λ u. s i v e .1; sound = s; less = omega arith })
         go (inside e f) ih = rw (f k) (record { formed = none-formed; tuple = λ u. absurd (let w : isTaken taken ≡ false = rw e at u in let z : _≡_ {A = ℕ} 0 1 = cc in omega arith); sound = s; less = omega arith })
-        go (stuck e b f) ih = rw (f k) (record { formed = none-formed; tuple = λ u. no-tuple; sound = stageed-sound i (kept none) d (λ v q. let r : none ≡ v = cc in rw (← r) (none-formed, no-tuple)) s; less = left-stage d i (kept none) (length t) refl })
+        go (stuck e b f) ih = rw (f k) (record { formed = none-formed; tuple = λ u. no-tuple; sound = staged-sound i (kept none) d (λ v q. let r : none ≡ v = cc in rw (← r) (none-formed, no-tuple)) s; less = left-stage d i (kept none) (length t) refl })
           where
             no-tuple : T (isTuple (at t i .label)) → T (isTuple NoneL)
             no-tuple h = tuple-object (at t i .label) h (and-left (isObject (at t i .label)) (firstTaken d (at t i .kids)) b)

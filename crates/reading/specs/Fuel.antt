@@ -89,15 +89,3 @@ build-fuel t (suc k) (suc k′) i d l l′ = go (view t i d) (build-fuel t k k�
 -- `build` with no fuel in it, and its equation for a fresh node that is not blocked; the other three cases are `view`'s
 unfoldable pub builds : List Node → ℕ → Stages → Value × Stages
 builds t i d = build t (suc (left d (length t))) i d
-
-pub builds-new : (t : List Node) (i : ℕ) (d : Stages) → d i ≡ fresh → blocked t d i ≡ false → builds t i d ≡ finish t i (each (builds t) (at t i .kids) (stage i taken d))
-unfolding builds
-builds-new t i d e b = go (view t i d)
-  where
-    go : View t i d → build t (suc (left d (length t))) i d ≡ finish t i (each (builds t) (at t i .kids) (stage i taken d))
-    go (copied v e′ f) = cc
-    go (inside e′ f) = cc
-    go (stuck e′ b′ f) = cc
-    go (entered e′ b′ f) =
-        let n = left d (length t) in
-        rw (f n, kids-same t (build t n) (builds t) i d (build-left t (length t) n) e (λ j c m. build-fuel t n (suc (left c (length t))) j c (omega arith) (omega arith)))

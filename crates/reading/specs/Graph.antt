@@ -8,8 +8,8 @@ use Rattle.steps.specs.State.{Node}
 use Rattle.reading.specs.Build.{at}
 
 -- the children of node i stand from the i-th number of `starts` to the next
-pub record Graph (t : List Node) (starts children : List ℕ) : Type 0 where
-  pub bounds : (i : ℕ) → i < length t → (getD starts i 0 ≤ getD starts (suc i) 0) × (getD starts (suc i) 0 ≤ length children)
-  pub kids : (i : ℕ) → i < length t → slice (getD starts i 0) (getD starts (suc i) 0) children ≡ at t i .kids
-  pub inside : (k : ℕ) → k < length children → getD children k 0 < length t
+pub record Graph (t : List Node) (starts sorted : List ℕ) : Type 0 where
+  pub bounds : (i : ℕ) → i < length t → (getD starts i 0 ≤ getD starts (suc i) 0) × (getD starts (suc i) 0 ≤ length sorted)
+  pub kids : (i : ℕ) → i < length t → slice (getD starts i 0) (getD starts (suc i) 0) sorted ≡ at t i .kids
+  pub inside : (k : ℕ) → k < length sorted → getD sorted k 0 < length t
   pub room : length t < length starts

@@ -199,7 +199,7 @@ module _
         go true q = rw q (first (rw q tt) (at t i .kids) refl)
         go false q = rw q
 
-    -- after a stage that is not fresh, at i, which was to be visited
+    -- after i gets a stage that is not fresh, which was to be visited
     once-stage : (i : ℕ) (rest : List ℕ) (d : Stages) (m : Stage) → freshness m ≡ 0 → d i ≡ fresh → reached i ≡ true → Once d (i ∷ rest) → Once (stage i m d) (at t i .kids ++ rest)
     unfolding Once freshness
     once-stage i rest d m z f r o j k = go (staged i m d j)
@@ -224,7 +224,7 @@ module _
     like-taken j m n e (moved v k) = refl
     like-taken j m n e (void o) = refl
 
-    -- a stage at a fresh node leaves what is taken out
+    -- a new stage of a fresh node leaves what is taken out
     stage-stays : (i : ℕ) (m : Stage) (d c : Stages) (j : ℕ) → d i ≡ fresh → d j ≡ taken → c j ≡ taken → stage i m c j ≡ taken
     stage-stays i m d c j f x y = go (staged i m c j)
       where

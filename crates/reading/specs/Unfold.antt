@@ -14,7 +14,7 @@ use Rattle.steps.specs.State.{Node, kidless}
 use Rattle.steps.specs.Opcodes.{isObject}
 use Rattle.reading.specs.Build.{Stage, Stages, fresh, taken, kept, unbuilt, stage, isTaken, at, firstTaken, blocked, finish, each, build, tree}
 
--- The kidless write-out of nodes one after the other: for each its label over the write-out of its children, whatever has been written
+-- The plain write-out of nodes one after the other: for each its label over the write-out of its children, whatever has been written
 -- before. A Set's child is its argument, a Dict's are all its keys and values, an Object's its arguments and its last state.
 pub data WritesOut (t : List Node) : List ℕ → Forest → Type 0 where
   nothing : WritesOut t [] nil
@@ -231,15 +231,15 @@ tree-writes-out t root h =
     into i j (inl q) m = inr (rw (← q) (direct m))
     into i j (inr c) m = inr (contains-in c m)
 
--- nodes have one kidless write-out at most
+-- nodes have one plain write-out at most
 pub write-out-unique : {t : List Node} {is : List ℕ} {f g : Forest} → WritesOut t is f → WritesOut t is g → f ≡ g
 write-out-unique nothing nothing = refl
 write-out-unique (afresh a b) (afresh c d) = let p = write-out-unique a c in let q = write-out-unique b d in cc
 
--- so the tree is the kidless write-out
+-- so the tree is the plain write-out
 pub tree-is-write-out : (t : List Node) (root : ℕ) (f : Forest) → NothingContainsItself t root → WritesOut t (root ∷ []) f → one (tree t root) ≡ f
 tree-is-write-out t root f h w = write-out-unique (tree-writes-out t root h) w
 
--- a kidless write-out there is, and one alone
+-- a plain write-out there is, and one alone
 pub write-out : (t : List Node) (root : ℕ) → NothingContainsItself t root → (f : Forest) × WritesOut t (root ∷ []) f × ((g : Forest) → WritesOut t (root ∷ []) g → g ≡ f)
 write-out t root h = (one (tree t root), tree-writes-out t root h, λ g w. write-out-unique w (tree-writes-out t root h))

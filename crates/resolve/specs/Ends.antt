@@ -36,30 +36,30 @@ use Rattle.resolve.specs.declared.Seen.{Seen}
 use Rattle.resolve.specs.declared.Seen.the-variants.{Open, Empty, Word}
 
 -- the rooms hold some state of a walk over some nodes, and node n is a container that is fresh in it
-pub record Opens (p ws starts measures children room : List ℕ) (n : ℕ) : Type 0 where
+pub record Opens (p ws starts measures sorted room : List ℕ) (n : ℕ) : Type 0 where
   pub nodes : List Node
   pub facts : Facts p ws starts nodes
   pub state : State
   pub lent : List ℕ
   pub roomy : length nodes < length lent
-  pub holds : HoldsWalk nodes (facts .beyond) starts lent measures children room state
+  pub holds : HoldsWalk nodes (facts .beyond) starts lent measures sorted room state
   pub below : n < length nodes
   pub container : isContainer (at nodes n .label) ≡ true
   pub fresh-is : state .stages n ≡ fresh
 
 -- what an answer says of m, which the walk makes of n, and of the rooms after
-pub data Ends (t : List Node) (beyond : length t ≤ 4096) (starts lent : List ℕ) (levels n : ℕ) (m : Made) (measures children room : List ℕ) : Answer → Type 0 where
-  ends-deep : levels < value (m .value) .deep → Ends t beyond starts lent levels n m measures children room answer.TooDeep
-  ends-empty : m .slot ≡ 4096 → m .value ≡ none → HoldsWalk t beyond starts lent measures children room (m .after)
-      → Ends t beyond starts lent levels n m measures children room answer.Empty
+pub data Ends (t : List Node) (beyond : length t ≤ 4096) (starts lent : List ℕ) (levels n : ℕ) (m : Made) (measures sorted room : List ℕ) : Answer → Type 0 where
+  ends-deep : levels < value (m .value) .deep → Ends t beyond starts lent levels n m measures sorted room answer.TooDeep
+  ends-empty : m .slot ≡ 4096 → m .value ≡ none → HoldsWalk t beyond starts lent measures sorted room (m .after)
+      → Ends t beyond starts lent levels n m measures sorted room answer.Empty
   ends-word : (w : ℕ) → m .slot ≡ n → w ≡ wordOf (m .value) → value (m .value) .deep ≤ levels
-      → HoldsWalk t beyond starts lent measures children room (m .after)
-      → Ends t beyond starts lent levels n m measures children room (answer.Word w)
+      → HoldsWalk t beyond starts lent measures sorted room (m .after)
+      → Ends t beyond starts lent levels n m measures sorted room (answer.Word w)
 
 -- whatever nodes and state they are
 unfoldable pub Walks : List ℕ → List ℕ → List ℕ → ℕ → ℕ → List ℕ → List ℕ → List ℕ → List ℕ → List ℕ → List ℕ → Answer → Type 0
-Walks p ws starts levels n measures children room measures′ children′ room′ r =
-    (o : Opens p ws starts measures children room n) → Ends (o .nodes) (o .facts .beyond) starts (o .lent) levels n (walk (o .nodes) 4096 levels n (o .state)) measures′ children′ room′ r
+Walks p ws starts levels n measures sorted room measures′ sorted′ room′ r =
+    (o : Opens p ws starts measures sorted room n) → Ends (o .nodes) (o .facts .beyond) starts (o .lent) levels n (walk (o .nodes) 4096 levels n (o .state)) measures′ sorted′ room′ r
 
 -- ---- an Object's first child
 
@@ -91,11 +91,11 @@ head-taken t measures s (x ∷ l) n b = go (isContainer (at t x .label)) refl
 
 -- ---- the returns
 
-module _ {p ws starts measures children room : List ℕ} {n : ℕ} (o : Opens p ws starts measures children room n) where
-  kids-at : slice (getD starts n 0) (getD starts (suc n) 0) children ≡ at (o .nodes) n .kids
+module _ {p ws starts measures sorted room : List ℕ} {n : ℕ} (o : Opens p ws starts measures sorted room n) where
+  kids-at : slice (getD starts n 0) (getD starts (suc n) 0) sorted ≡ at (o .nodes) n .kids
   kids-at = o .holds .fits .lies .lists n (o .below) ∙ o .holds .fits .resolves .fresh-is n (o .fresh-is)
 
-  held-is : held (kindAt ws n) (slice (getD starts n 0) (getD starts (n + 1) 0) children) measures ≡ blocked (o .nodes) (o .state .stages) n
+  held-is : held (kindAt ws n) (slice (getD starts n 0) (getD starts (n + 1) 0) sorted) measures ≡ blocked (o .nodes) (o .state .stages) n
   unfolding held blocked
   held-is =
       let e = kids-at in
@@ -104,12 +104,12 @@ module _ {p ws starts measures children room : List ℕ} {n : ℕ} (o : Opens p 
       rw (add-one, e, f, h)
 
   -- the code's test was false
-  pub open-free : {r : Bool} → r ≡ held (kindAt ws n) (slice (getD starts n 0) (getD starts (n + 1) 0) children) measures → r ≡ false
+  pub open-free : {r : Bool} → r ≡ held (kindAt ws n) (slice (getD starts n 0) (getD starts (n + 1) 0) sorted) measures → r ≡ false
       → blocked (o .nodes) (o .state .stages) n ≡ false
   open-free e h = sym held-is ∙ (sym e ∙ h)
 
   -- measures[n] = 1
-  abbrev pub enter : Entered p ws starts (set measures n 1) children room n
+  abbrev pub enter : Entered p ws starts (set measures n 1) sorted room n
   enter = record {
     nodes = o .nodes;
     facts = o .facts;
@@ -117,7 +117,7 @@ module _ {p ws starts measures children room : List ℕ} {n : ℕ} (o : Opens p 
     lent = o .lent;
     roomy = o .roomy;
     holds = record {
-      fits = fits-take (o .nodes) 4096 (o .facts .beyond) wordOf starts measures children (o .state) (o .holds .fits) n (o .below) (o .container) (o .fresh-is);
+      fits = fits-take (o .nodes) 4096 (o .facts .beyond) wordOf starts measures sorted (o .state) (o .holds .fits) n (o .below) (o .container) (o .fresh-is);
       small = λ j v x. small-taken j v x (staged n taken (o .state .stages) j);
       within = o .holds .within;
       listed = o .holds .listed;
@@ -154,12 +154,12 @@ module _ {p ws starts measures children room : List ℕ} {n : ℕ} (o : Opens p 
         go (suc k) q = let e = o .fresh-is in rw (e, b, walk, sub-one)
 
     -- measures[n] = 3
-    pub ends-blocked : {r : Bool} → r ≡ held (kindAt ws n) (slice (getD starts n 0) (getD starts (n + 1) 0) children) measures → r ≡ true
-        → Ends (o .nodes) (o .facts .beyond) starts (o .lent) levels n (walk (o .nodes) 4096 levels n (o .state)) (set measures n 3) children room answer.Empty
+    pub ends-blocked : {r : Bool} → r ≡ held (kindAt ws n) (slice (getD starts n 0) (getD starts (n + 1) 0) sorted) measures → r ≡ true
+        → Ends (o .nodes) (o .facts .beyond) starts (o .lent) levels n (walk (o .nodes) 4096 levels n (o .state)) (set measures n 3) sorted room answer.Empty
     unfolding blocked measure
     ends-blocked e h =
         let b : blocked (o .nodes) (o .state .stages) n ≡ true = sym held-is ∙ (sym e ∙ h) in
-        let f = fits-block (o .nodes) 4096 (o .facts .beyond) wordOf starts measures children (o .state) (o .holds .fits) n (o .below) (o .container) (o .fresh-is) (left _ _ b) in
+        let f = fits-block (o .nodes) 4096 (o .facts .beyond) wordOf starts measures sorted (o .state) (o .holds .fits) n (o .below) (o .container) (o .fresh-is) (left _ _ b) in
         rw (walk-stuck b) (ends-empty refl refl (record { fits = f; small = small-none; within = o .holds .within; listed = o .holds .listed }))
       where
         left : (b c : Bool) → (b && c) ≡ true → b ≡ true
@@ -173,12 +173,12 @@ module _ {p ws starts measures children room : List ℕ} {n : ℕ} (o : Opens p 
             pick (same a d) = let y : none ≡ v = cc in rw (← y) (omega arith)
             pick (other a d) = o .holds .small j v (sym d ∙ x)
 
-    module _ (h : blocked (o .nodes) (o .state .stages) n ≡ false) {len : ℕ} {measures′ children′ room′ : List ℕ} {deepest values texts i : ℕ} (T : Midway enter (levels - 1) len measures′ children′ room′ deepest values texts i) where
+    module _ (h : blocked (o .nodes) (o .state .stages) n ≡ false) {len : ℕ} {measures′ sorted′ room′ : List ℕ} {deepest values texts i : ℕ} (T : Midway enter (levels - 1) len measures′ sorted′ room′ deepest values texts i) where
       -- a child is too deep
-      pub ends-too : (measures″ children″ room″ : List ℕ) → i < getD starts (n + 1) 0 → levels ≤ value (called enter (levels - 1) T .value) .deep
-          → Ends (o .nodes) (o .facts .beyond) starts (o .lent) levels n (walk (o .nodes) 4096 levels n (o .state)) measures″ children″ room″ answer.TooDeep
+      pub ends-too : (measures″ sorted″ room″ : List ℕ) → i < getD starts (n + 1) 0 → levels ≤ value (called enter (levels - 1) T .value) .deep
+          → Ends (o .nodes) (o .facts .beyond) starts (o .lent) levels n (walk (o .nodes) 4096 levels n (o .state)) measures″ sorted″ room″ answer.TooDeep
       unfolding finishR
-      ends-too measures″ children″ room″ m q =
+      ends-too measures″ sorted″ room″ m q =
           let m′ : i < getD starts (suc n) 0 = rw add-one at m in
           let d = too-deep enter (levels - 1) T m′ in
           rw (walk-entered h) (ends-deep (omega arith))
@@ -187,7 +187,7 @@ module _ {p ws starts measures children room : List ℕ} {n : ℕ} (o : Opens p 
       pub ends-done : (w : ℕ) (room″ : List ℕ) → levels ≤ 64 → getD starts (n + 1) 0 ≤ i → Notes (kindAt ws n) n room′ room″
           → len ≡ min (length (textOf (at (o .nodes) n .label))) 65537
           → w ≡ deepest + 1 + 128 * min values 2049 + 524288 * min texts 65537
-          → Ends (o .nodes) (o .facts .beyond) starts (o .lent) levels n (walk (o .nodes) 4096 levels n (o .state)) (set measures′ n w) children′ room″ (answer.Word w)
+          → Ends (o .nodes) (o .facts .beyond) starts (o .lent) levels n (walk (o .nodes) 4096 levels n (o .state)) (set measures′ n w) sorted′ room″ (answer.Word w)
       unfolding finishR
       ends-done w room″ b m x q e =
           let m′ : getD starts (suc n) 0 ≤ i = rw add-one at m in
@@ -200,36 +200,36 @@ module _ {p ws starts measures children room : List ℕ} {n : ℕ} (o : Opens p 
 
 -- ---- a turn, by the answers
 
-module _ {p ws starts measures₀ children₀ room₀ : List ℕ} {n : ℕ} (I : Entered p ws starts measures₀ children₀ room₀ n) (k : ℕ) (small : (1 ≤ k) × (k ≤ 64)) {len : ℕ} {measures children room : List ℕ} {deepest values texts i : ℕ}
-    (T : Midway I k len measures children room deepest values texts i) (h : i < getD starts (n + 1) 0) (measures′ : List ℕ) where
+module _ {p ws starts measures₀ sorted₀ room₀ : List ℕ} {n : ℕ} (I : Entered p ws starts measures₀ sorted₀ room₀ n) (k : ℕ) (small : (1 ≤ k) × (k ≤ 64)) {len : ℕ} {measures sorted room : List ℕ} {deepest values texts i : ℕ}
+    (T : Midway I k len measures sorted room deepest values texts i) (h : i < getD starts (n + 1) 0) (measures′ : List ℕ) where
   h′ : i < getD starts (suc n) 0
   h′ = rw add-one at h
 
-  learns : (r : Seen) → Learns p ws measures measures′ (getD children i 0) r → Knows (I .nodes) measures measures′ (T .state) (getD children i 0) r
+  learns : (r : Seen) → Learns p ws measures measures′ (getD sorted i 0) r → Knows (I .nodes) measures measures′ (T .state) (getD sorted i 0) r
   unfolding Learns
   learns r a = a starts (I .nodes) (T .state) (I .facts) (T .holds .fits .resolves) (T .holds .fits .noted) (T .holds .small) (child-below I k T h′)
 
-  yields : (slot w : ℕ) → ((j : ℕ) → Yields (I .nodes) measures′ (T .state) (walk (I .nodes) 4096 (suc j) (getD children i 0) (T .state)) slot w)
+  yields : (slot w : ℕ) → ((j : ℕ) → Yields (I .nodes) measures′ (T .state) (walk (I .nodes) 4096 (suc j) (getD sorted i 0) (T .state)) slot w)
       → Yields (I .nodes) measures′ (T .state) (called I k T) slot w
   yields slot w b = go k (small .0)
     where
-      go : (m : ℕ) → 1 ≤ m → Yields (I .nodes) measures′ (T .state) (walk (I .nodes) 4096 m (getD children i 0) (T .state)) slot w
+      go : (m : ℕ) → 1 ≤ m → Yields (I .nodes) measures′ (T .state) (walk (I .nodes) 4096 m (getD sorted i 0) (T .state)) slot w
       go zero q = absurd (omega arith)
       go (suc m) q = b m
 
   yields-back : (slot w : ℕ) → Yields (I .nodes) measures′ (T .state) (called I k T) slot w → value (called I k T .value) .deep ≤ k
-      → Back (I .nodes) (I .facts .beyond) starts (I .lent) k (called I k T) w measures′ children room
+      → Back (I .nodes) (I .facts .beyond) starts (I .lent) k (called I k T) w measures′ sorted room
   yields-back slot w b d =
       let e = b .kids in
       let f = b .dues-stay in
-      let y : Lies starts (length (I .nodes)) children (called I k T .after .kids) = rw e (T .holds .fits .lies) in
+      let y : Lies starts (length (I .nodes)) sorted (called I k T .after .kids) = rw e (T .holds .fits .lies) in
       record {
         is = b .is;
         shallow = d;
         holds = record {
-          fits = record { resolves = walk-resolves (I .nodes) 4096 (I .facts .beyond) k (getD children i 0) (T .state) (T .holds .fits .resolves) .resolves; noted = b .noted-still; lies = y };
+          fits = record { resolves = walk-resolves (I .nodes) 4096 (I .facts .beyond) k (getD sorted i 0) (T .state) (T .holds .fits .resolves) .resolves; noted = b .noted-still; lies = y };
           small = b .small;
-          within = walk-within (I .nodes) (I .facts .inside) 4096 k (getD children i 0) (T .state) (child-below I k T h′) (T .holds .within);
+          within = walk-within (I .nodes) (I .facts .inside) 4096 k (getD sorted i 0) (T .state) (child-below I k T h′) (T .holds .within);
           listed = rw f (T .holds .listed);
         };
       }
@@ -238,89 +238,89 @@ module _ {p ws starts measures₀ children₀ room₀ : List ℕ} {n : ℕ} (I :
   yields-deep slot w b = let v = value (called I k T .value) in ap deepW (b .is) ∙ deep-pack (v .deep) (v .values) (v .texts) (omega (arith, b .deep))
 
   -- a word that is known
-  pub known-deep : (w : ℕ) → Learns p ws measures measures′ (getD children i 0) (Word w) → deepW w ≡ value (called I k T .value) .deep
+  pub known-deep : (w : ℕ) → Learns p ws measures measures′ (getD sorted i 0) (Word w) → deepW w ≡ value (called I k T .value) .deep
   known-deep w a = go (learns (Word w) a)
     where
-      go : Knows (I .nodes) measures measures′ (T .state) (getD children i 0) (Word w) → deepW w ≡ value (called I k T .value) .deep
-      go (k-word w b) = yields-deep (getD children i 0) w (yields (getD children i 0) w b)
+      go : Knows (I .nodes) measures measures′ (T .state) (getD sorted i 0) (Word w) → deepW w ≡ value (called I k T .value) .deep
+      go (k-word w b) = yields-deep (getD sorted i 0) w (yields (getD sorted i 0) w b)
 
-  pub known-word : (w : ℕ) → Learns p ws measures measures′ (getD children i 0) (Word w) → deepW w ≤ k
-      → Midway I k len measures′ children room (max deepest (deepW w)) (values + valuesW w) (texts + textsW w) (i + 1)
+  pub known-word : (w : ℕ) → Learns p ws measures measures′ (getD sorted i 0) (Word w) → deepW w ≤ k
+      → Midway I k len measures′ sorted room (max deepest (deepW w)) (values + valuesW w) (texts + textsW w) (i + 1)
   known-word w a d = go (learns (Word w) a) (known-deep w a)
     where
-      go : Knows (I .nodes) measures measures′ (T .state) (getD children i 0) (Word w) → deepW w ≡ value (called I k T .value) .deep
-          → Midway I k len measures′ children room (max deepest (deepW w)) (values + valuesW w) (texts + textsW w) (i + 1)
-      go (k-word w b) e = let c = yields (getD children i 0) w b in mid-same I k T h′ (small .1) w measures′ children room (yields-back (getD children i 0) w c (omega arith)) (c .slot-is)
+      go : Knows (I .nodes) measures measures′ (T .state) (getD sorted i 0) (Word w) → deepW w ≡ value (called I k T .value) .deep
+          → Midway I k len measures′ sorted room (max deepest (deepW w)) (values + valuesW w) (texts + textsW w) (i + 1)
+      go (k-word w b) e = let c = yields (getD sorted i 0) w b in mid-same I k T h′ (small .1) w measures′ sorted room (yields-back (getD sorted i 0) w c (omega arith)) (c .slot-is)
 
-  pub known-empty : Learns p ws measures measures′ (getD children i 0) Empty
-      → Midway I k len measures′ (set children i 4096) room (max deepest (deepW 129)) (values + valuesW 129) (texts + textsW 129) (i + 1)
+  pub known-empty : Learns p ws measures measures′ (getD sorted i 0) Empty
+      → Midway I k len measures′ (set sorted i 4096) room (max deepest (deepW 129)) (values + valuesW 129) (texts + textsW 129) (i + 1)
   known-empty a = go (learns Empty a)
     where
-      go : Knows (I .nodes) measures measures′ (T .state) (getD children i 0) Empty
-          → Midway I k len measures′ (set children i 4096) room (max deepest (deepW 129)) (values + valuesW 129) (texts + textsW 129) (i + 1)
-      go (k-empty b) = let c = yields 4096 129 b in let e = yields-deep 4096 129 c in mid-none I k T h′ (small .1) 129 measures′ children room (yields-back 4096 129 c (omega (arith, small .0))) (c .slot-is)
+      go : Knows (I .nodes) measures measures′ (T .state) (getD sorted i 0) Empty
+          → Midway I k len measures′ (set sorted i 4096) room (max deepest (deepW 129)) (values + valuesW 129) (texts + textsW 129) (i + 1)
+      go (k-empty b) = let c = yields 4096 129 b in let e = yields-deep 4096 129 c in mid-none I k T h′ (small .1) 129 measures′ sorted room (yields-back 4096 129 c (omega (arith, small .0))) (c .slot-is)
 
   -- a fresh container is walked
-  same-holds : (m : List ℕ) → m ≡ measures → HoldsWalk (I .nodes) (I .facts .beyond) starts (I .lent) m children room (T .state)
+  same-holds : (m : List ℕ) → m ≡ measures → HoldsWalk (I .nodes) (I .facts .beyond) starts (I .lent) m sorted room (T .state)
   same-holds m e = rw e (T .holds)
 
-  module _ (a : Learns p ws measures measures′ (getD children i 0) Open) where
-    opened : Knows (I .nodes) measures measures′ (T .state) (getD children i 0) Open → Opens p ws starts measures′ children room (getD children i 0)
+  module _ (a : Learns p ws measures measures′ (getD sorted i 0) Open) where
+    opened : Knows (I .nodes) measures measures′ (T .state) (getD sorted i 0) Open → Opens p ws starts measures′ sorted room (getD sorted i 0)
     opened (k-open c f e) =
         record { nodes = I .nodes; facts = I .facts; state = T .state; lent = I .lent; roomy = I .roomy; holds = same-holds measures′ e; below = child-below I k T h′; container = c; fresh-is = f }
 
-    pub known-open : Opens p ws starts measures′ children room (getD children i 0)
+    pub known-open : Opens p ws starts measures′ sorted room (getD sorted i 0)
     known-open = opened (learns Open a)
 
-    module _ (measures″ children″ room″ : List ℕ) where
-      walks : (r : Answer) → Walks p ws starts k (getD children i 0) measures′ children room measures″ children″ room″ r
-          → Ends (I .nodes) (I .facts .beyond) starts (I .lent) k (getD children i 0) (called I k T) measures″ children″ room″ r
+    module _ (measures″ sorted″ room″ : List ℕ) where
+      walks : (r : Answer) → Walks p ws starts k (getD sorted i 0) measures′ sorted room measures″ sorted″ room″ r
+          → Ends (I .nodes) (I .facts .beyond) starts (I .lent) k (getD sorted i 0) (called I k T) measures″ sorted″ room″ r
       unfolding Walks opened
       walks r b = go (learns Open a)
         where
-          go : Knows (I .nodes) measures measures′ (T .state) (getD children i 0) Open
-              → Ends (I .nodes) (I .facts .beyond) starts (I .lent) k (getD children i 0) (called I k T) measures″ children″ room″ r
+          go : Knows (I .nodes) measures measures′ (T .state) (getD sorted i 0) Open
+              → Ends (I .nodes) (I .facts .beyond) starts (I .lent) k (getD sorted i 0) (called I k T) measures″ sorted″ room″ r
           go (k-open c f e) = b (opened (k-open c f e))
 
-      pub walk-deep : Walks p ws starts k (getD children i 0) measures′ children room measures″ children″ room″ answer.TooDeep
+      pub walk-deep : Walks p ws starts k (getD sorted i 0) measures′ sorted room measures″ sorted″ room″ answer.TooDeep
           → k < value (called I k T .value) .deep
       walk-deep b = go (walks answer.TooDeep b)
         where
-          go : Ends (I .nodes) (I .facts .beyond) starts (I .lent) k (getD children i 0) (called I k T) measures″ children″ room″ answer.TooDeep
+          go : Ends (I .nodes) (I .facts .beyond) starts (I .lent) k (getD sorted i 0) (called I k T) measures″ sorted″ room″ answer.TooDeep
               → k < value (called I k T .value) .deep
           go (ends-deep d) = d
 
-      pub walk-word : (w : ℕ) → Walks p ws starts k (getD children i 0) measures′ children room measures″ children″ room″ (answer.Word w)
-          → Midway I k len measures″ children″ room″ (max deepest (deepW w)) (values + valuesW w) (texts + textsW w) (i + 1)
+      pub walk-word : (w : ℕ) → Walks p ws starts k (getD sorted i 0) measures′ sorted room measures″ sorted″ room″ (answer.Word w)
+          → Midway I k len measures″ sorted″ room″ (max deepest (deepW w)) (values + valuesW w) (texts + textsW w) (i + 1)
       walk-word w b = go (walks (answer.Word w) b)
         where
-          go : Ends (I .nodes) (I .facts .beyond) starts (I .lent) k (getD children i 0) (called I k T) measures″ children″ room″ (answer.Word w)
-              → Midway I k len measures″ children″ room″ (max deepest (deepW w)) (values + valuesW w) (texts + textsW w) (i + 1)
-          go (ends-word w e q d f) = mid-same I k T h′ (small .1) w measures″ children″ room″ (record { is = q; shallow = d; holds = f }) e
+          go : Ends (I .nodes) (I .facts .beyond) starts (I .lent) k (getD sorted i 0) (called I k T) measures″ sorted″ room″ (answer.Word w)
+              → Midway I k len measures″ sorted″ room″ (max deepest (deepW w)) (values + valuesW w) (texts + textsW w) (i + 1)
+          go (ends-word w e q d f) = mid-same I k T h′ (small .1) w measures″ sorted″ room″ (record { is = q; shallow = d; holds = f }) e
 
-      pub walk-empty : Walks p ws starts k (getD children i 0) measures′ children room measures″ children″ room″ answer.Empty
-          → Midway I k len measures″ (set children″ i 4096) room″ (max deepest (deepW 129)) (values + valuesW 129) (texts + textsW 129) (i + 1)
+      pub walk-empty : Walks p ws starts k (getD sorted i 0) measures′ sorted room measures″ sorted″ room″ answer.Empty
+          → Midway I k len measures″ (set sorted″ i 4096) room″ (max deepest (deepW 129)) (values + valuesW 129) (texts + textsW 129) (i + 1)
       unfolding measure packW
       walk-empty b = go (walks answer.Empty b)
         where
-          go : Ends (I .nodes) (I .facts .beyond) starts (I .lent) k (getD children i 0) (called I k T) measures″ children″ room″ answer.Empty
-              → Midway I k len measures″ (set children″ i 4096) room″ (max deepest (deepW 129)) (values + valuesW 129) (texts + textsW 129) (i + 1)
-          go (ends-empty e q f) = mid-none I k T h′ (small .1) 129 measures″ children″ room″ (record { is = rw q; shallow = rw q (omega (arith, small .0)); holds = f }) e
+          go : Ends (I .nodes) (I .facts .beyond) starts (I .lent) k (getD sorted i 0) (called I k T) measures″ sorted″ room″ answer.Empty
+              → Midway I k len measures″ (set sorted″ i 4096) room″ (max deepest (deepW 129)) (values + valuesW 129) (texts + textsW 129) (i + 1)
+          go (ends-empty e q f) = mid-none I k T h′ (small .1) 129 measures″ sorted″ room″ (record { is = rw q; shallow = rw q (omega (arith, small .0)); holds = f }) e
 
 -- where the arms of a turn meet
-pub join : {p ws starts measures₀ children₀ room₀ : List ℕ} {n : ℕ} (I : Entered p ws starts measures₀ children₀ room₀ n) (k len : ℕ) (measures children room measures′ children′ room′ : List ℕ) (deepest values texts i w w′ r : ℕ)
-    → measures′ ≡ measures → children′ ≡ children → room′ ≡ room → w′ ≡ w → r ≡ max deepest (deepW w′)
-    → Midway I k len measures children room (max deepest (deepW w)) (values + valuesW w) (texts + textsW w) (i + 1)
-    → Midway I k len measures′ children′ room′ r (values + valuesW w′) (texts + textsW w′) (i + 1)
-join I k len measures children room measures′ children′ room′ deepest values texts i w w′ r e f d g h t = rw (h, e, f, d, g) t
+pub join : {p ws starts measures₀ sorted₀ room₀ : List ℕ} {n : ℕ} (I : Entered p ws starts measures₀ sorted₀ room₀ n) (k len : ℕ) (measures sorted room measures′ sorted′ room′ : List ℕ) (deepest values texts i w w′ r : ℕ)
+    → measures′ ≡ measures → sorted′ ≡ sorted → room′ ≡ room → w′ ≡ w → r ≡ max deepest (deepW w′)
+    → Midway I k len measures sorted room (max deepest (deepW w)) (values + valuesW w) (texts + textsW w) (i + 1)
+    → Midway I k len measures′ sorted′ room′ r (values + valuesW w′) (texts + textsW w′) (i + 1)
+join I k len measures sorted room measures′ sorted′ room′ deepest values texts i w w′ r e f d g h t = rw (h, e, f, d, g) t
 
 -- ---- what the code reads and writes
 
-pub child-at : {p ws starts measures₀ children₀ room₀ : List ℕ} {n : ℕ} (I : Entered p ws starts measures₀ children₀ room₀ n) (k : ℕ) {len : ℕ} {measures children room : List ℕ} {deepest values texts i : ℕ}
-    (T : Midway I k len measures children room deepest values texts i) → i < getD starts (n + 1) 0 → getD children i 0 < length (I .nodes)
+pub child-at : {p ws starts measures₀ sorted₀ room₀ : List ℕ} {n : ℕ} (I : Entered p ws starts measures₀ sorted₀ room₀ n) (k : ℕ) {len : ℕ} {measures sorted room : List ℕ} {deepest values texts i : ℕ}
+    (T : Midway I k len measures sorted room deepest values texts i) → i < getD starts (n + 1) 0 → getD sorted i 0 < length (I .nodes)
 child-at {n = n} I k T h = child-below I k T (rw add-one at h)
 
-module _ {p ws starts measures children room : List ℕ} {n : ℕ} (o : Opens p ws starts measures children room n) where
+module _ {p ws starts measures sorted room : List ℕ} {n : ℕ} (o : Opens p ws starts measures sorted room n) where
   pub open-words : 2 * n < length ws
   open-words = omega (arith, o .below, o .facts .words-long)
 
@@ -330,10 +330,10 @@ module _ {p ws starts measures children room : List ℕ} {n : ℕ} (o : Opens p 
   pub open-measured : n < length measures
   open-measured = omega (arith, o .below, o .holds .fits .noted .long)
 
-  pub open-end : getD starts (n + 1) 0 ≤ length children
+  pub open-end : getD starts (n + 1) 0 ≤ length sorted
   open-end = rw add-one (o .holds .fits .lies .bounds n (o .below) .1)
 
-  pub open-first : getD starts n 0 < getD starts (n + 1) 0 → getD children (getD starts n 0) 0 < length measures
+  pub open-first : getD starts n 0 < getD starts (n + 1) 0 → getD sorted (getD starts n 0) 0 < length measures
   open-first h = let a = child-at (enter o) 0 (mid-start (enter o) 0 0) h in let b = o .holds .fits .noted .long in omega arith
 
   pub open-owned : Owned p ws measures n (kindAt ws n)
@@ -354,7 +354,7 @@ module _ {p ws starts measures children room : List ℕ} {n : ℕ} (o : Opens p 
   own-noted measures′ r w = w starts (o .nodes) (o .state) (o .facts) (o .holds .fits .noted) (o .below)
 
   module _ (measures′ : List ℕ) (r : ℕ) (w : Owns p ws measures measures′ n r) where
-    abbrev pub moved : Opens p ws starts measures′ children room n
+    abbrev pub moved : Opens p ws starts measures′ sorted room n
     moved = record {
       nodes = o .nodes;
       facts = o .facts;

@@ -66,8 +66,8 @@ abbrev pub Shallow : State → Type 0
 Shallow s = (j : ℕ) (v : Value) → s .stages j ≡ kept v → value v .deep ≤ 64
 
 -- measures, children and dues hold the state s of a walk, the room of dues being `lent` at its beginning
-pub record HoldsWalk (t : List Node) (beyond : length t ≤ 4096) (starts lent measures children room : List ℕ) (s : State) : Type 0 where
-  pub fits : FitsState t 4096 beyond wordOf starts measures children s
+pub record HoldsWalk (t : List Node) (beyond : length t ≤ 4096) (starts lent measures sorted room : List ℕ) (s : State) : Type 0 where
+  pub fits : FitsState t 4096 beyond wordOf starts measures sorted s
   pub small : Shallow s
   pub within : Within t s
   pub listed : Lists lent room (dues t (s .done))
@@ -81,7 +81,7 @@ dues-short t (i ∷ l) = go (isDue (at t i .label)) (dues-short t l)
     go true h = omega arith
     go false h = omega arith
 
-module _ {t : List Node} {beyond : length t ≤ 4096} {starts lent measures children room : List ℕ} {s : State} (h : HoldsWalk t beyond starts lent measures children room s) (n : ℕ) (l : n < length t) (e : s .stages n ≡ taken) where
+module _ {t : List Node} {beyond : length t ≤ 4096} {starts lent measures sorted room : List ℕ} {s : State} (h : HoldsWalk t beyond starts lent measures sorted room s) (n : ℕ) (l : n < length t) (e : s .stages n ≡ taken) where
   -- finished nodes are different nodes, and the one that is taken is none of them: another may be noted
   pub one-more : length (dues t (s .done)) < length t
   one-more =

@@ -23,23 +23,23 @@ use Rattle.resolve.specs.Facts.{wordOf, kindAt, Facts, Shallow, HoldsWal
 use Rattle.resolve.specs.Noting.{Notes}
 
 -- what the rooms say where the loop begins: node n is taken, its children are as they were, and the room of dues, lent as it was, has room
-pub record Entered (p ws starts measures children room : List ℕ) (n : ℕ) : Type 0 where
+pub record Entered (p ws starts measures sorted room : List ℕ) (n : ℕ) : Type 0 where
   pub nodes : List Node
   pub facts : Facts p ws starts nodes
   pub state : State
   pub lent : List ℕ
   pub roomy : length nodes < length lent
-  pub holds : HoldsWalk nodes (facts .beyond) starts lent measures children room state
+  pub holds : HoldsWalk nodes (facts .beyond) starts lent measures sorted room state
   pub below : n < length nodes
   pub container : isContainer (at nodes n .label) ≡ true
   pub taken-is : state .stages n ≡ taken
   pub kids-are : state .kids n ≡ at nodes n .kids
 
 -- a child is done: w is the word of what the walk made of it, and the rooms hold the state after
-pub record Back (t : List Node) (beyond : length t ≤ 4096) (starts lent : List ℕ) (k : ℕ) (m : Made) (w : ℕ) (measures children room : List ℕ) : Type 0 where
+pub record Back (t : List Node) (beyond : length t ≤ 4096) (starts lent : List ℕ) (k : ℕ) (m : Made) (w : ℕ) (measures sorted room : List ℕ) : Type 0 where
   pub is : w ≡ wordOf (m .value)
   pub shallow : value (m .value) .deep ≤ k
-  pub holds : HoldsWalk t beyond starts lent measures children room (m .after)
+  pub holds : HoldsWalk t beyond starts lent measures sorted room (m .after)
 
 -- ---- the child to come: what is left of a list
 
@@ -64,21 +64,21 @@ over f e l is (x ∷ js) h b g c =
     let y : length (slice f e l) ≡ length is + suc (length js) = ap length h ∙ length-append is (x ∷ js) in
     absurd (omega arith)
 
-put-there : (t : List Node) (beyond : length t ≤ 4096) (starts measures children : List ℕ) (n : ℕ) (is js : List ℕ) (s : State) (i x place : ℕ)
+put-there : (t : List Node) (beyond : length t ≤ 4096) (starts measures sorted : List ℕ) (n : ℕ) (is js : List ℕ) (s : State) (i x place : ℕ)
     → i ≡ place → x ≡ 4096
-    → FitsState t 4096 beyond wordOf starts measures (set children place 4096) (overwrite n (is ++ (4096 ∷ js)) s)
-    → FitsState t 4096 beyond wordOf starts measures (set children i 4096) (overwrite n (is ++ (x ∷ js)) s)
-put-there t beyond starts measures children n is js s i x place e f h = rw (e, f) h
+    → FitsState t 4096 beyond wordOf starts measures (set sorted place 4096) (overwrite n (is ++ (4096 ∷ js)) s)
+    → FitsState t 4096 beyond wordOf starts measures (set sorted i 4096) (overwrite n (is ++ (x ∷ js)) s)
+put-there t beyond starts measures sorted n is js s i x place e f h = rw (e, f) h
 
-module _ {p ws starts measures₀ children₀ room₀ : List ℕ} {n : ℕ} (I : Entered p ws starts measures₀ children₀ room₀ n) (k : ℕ) where
+module _ {p ws starts measures₀ sorted₀ room₀ : List ℕ} {n : ℕ} (I : Entered p ws starts measures₀ sorted₀ room₀ n) (k : ℕ) where
   -- Before a turn: `done` children and those `todo`, the state, the sums so far beside what they measure, and the place of the next child.
-  pub record Midway (len : ℕ) (measures children room : List ℕ) (deepest values texts i : ℕ) : Type 0 where
+  pub record Midway (len : ℕ) (measures sorted room : List ℕ) (deepest values texts i : ℕ) : Type 0 where
     pub done : List ℕ
     pub todo : List ℕ
     pub state : State
     pub sum : Measure
     pub turn : Turn (I .nodes) 4096 (I .facts .beyond) (walk (I .nodes) 4096 k) n (I .state) done todo state sum
-    pub holds : HoldsWalk (I .nodes) (I .facts .beyond) starts (I .lent) measures children room state
+    pub holds : HoldsWalk (I .nodes) (I .facts .beyond) starts (I .lent) measures sorted room state
     pub place : i ≡ getD starts n 0 + length done
     pub below : (j : ℕ) → In j todo → j < length (I .nodes)
     pub deep-is : deepest ≡ sum .deep
@@ -86,7 +86,7 @@ module _ {p ws starts measures₀ children₀ room₀ : List ℕ} {n : ℕ} (I :
     pub values-are : min values 2049 ≡ min (suc (sum .values)) 2049
     pub texts-are : min texts 65537 ≡ min (len + sum .texts) 65537
 
-  pub mid-start : (len : ℕ) → Midway len measures₀ children₀ room₀ 0 1 len (getD starts n 0)
+  pub mid-start : (len : ℕ) → Midway len measures₀ sorted₀ room₀ 0 1 len (getD starts n 0)
   mid-start len =
       record {
         done = [];
@@ -103,50 +103,50 @@ module _ {p ws starts measures₀ children₀ room₀ : List ℕ} {n : ℕ} (I :
         texts-are = omega arith;
       }
 
-  module _ {len : ℕ} {measures children room : List ℕ} {deepest values texts i : ℕ} (T : Midway len measures children room deepest values texts i) where
-    lists : slice (getD starts n 0) (getD starts (suc n) 0) children ≡ T .done ++ T .todo
+  module _ {len : ℕ} {measures sorted room : List ℕ} {deepest values texts i : ℕ} (T : Midway len measures sorted room deepest values texts i) where
+    lists : slice (getD starts n 0) (getD starts (suc n) 0) sorted ≡ T .done ++ T .todo
     lists = T .holds .fits .lies .lists n (I .below) ∙ T .turn .held
 
-    pub next : i < getD starts (suc n) 0 → Headed (T .todo) (getD children i 0)
+    pub next : i < getD starts (suc n) 0 → Headed (T .todo) (getD sorted i 0)
     next h =
         let e = T .place in
         let b = T .holds .fits .lies .bounds n (I .below) in
-        rw e (headed (getD starts n 0) (getD starts (suc n) 0) children (T .done) (T .todo) lists (b .1) (omega arith))
+        rw e (headed (getD starts n 0) (getD starts (suc n) 0) sorted (T .done) (T .todo) lists (b .1) (omega arith))
 
     pub none-left : getD starts (suc n) 0 ≤ i → T .todo ≡ []
     none-left h =
         let e = T .place in
         let b = T .holds .fits .lies .bounds n (I .below) in
-        over (getD starts n 0) (getD starts (suc n) 0) children (T .done) (T .todo) lists (b .1) (b .0) (omega arith)
+        over (getD starts n 0) (getD starts (suc n) 0) sorted (T .done) (T .todo) lists (b .1) (b .0) (omega arith)
 
-    pub child-below : i < getD starts (suc n) 0 → getD children i 0 < length (I .nodes)
-    child-below h = let a = next h in T .below (getD children i 0) (rw (a .head-is) here)
+    pub child-below : i < getD starts (suc n) 0 → getD sorted i 0 < length (I .nodes)
+    child-below h = let a = next h in T .below (getD sorted i 0) (rw (a .head-is) here)
 
     -- what the walk makes of the next child
     abbrev pub called : Made
-    called = walk (I .nodes) 4096 k (getD children i 0) (T .state)
+    called = walk (I .nodes) 4096 k (getD sorted i 0) (T .state)
 
     called-is : Called (I .nodes) 4096 (T .state) called
-    called-is = walk-resolves (I .nodes) 4096 (I .facts .beyond) k (getD children i 0) (T .state) (T .holds .fits .resolves)
+    called-is = walk-resolves (I .nodes) 4096 (I .facts .beyond) k (getD sorted i 0) (T .state) (T .holds .fits .resolves)
 
     module _ (h : i < getD starts (suc n) 0) where
-      turn-at : Turn (I .nodes) 4096 (I .facts .beyond) (walk (I .nodes) 4096 k) n (I .state) (T .done) (getD children i 0 ∷ next h .rest) (T .state) (T .sum)
+      turn-at : Turn (I .nodes) 4096 (I .facts .beyond) (walk (I .nodes) 4096 k) n (I .state) (T .done) (getD sorted i 0 ∷ next h .rest) (T .state) (T .sum)
       turn-at = let e = next h .head-is in rw e at (T .turn)
 
       pub too-deep : value (called .value) .deep ≤ measure (eachR (walk (I .nodes) 4096 k) n [] (at (I .nodes) n .kids) (I .state) .0) .deep
-      too-deep = turn-deep (I .nodes) 4096 (I .facts .beyond) (walk (I .nodes) 4096 k) n (I .state) (T .done) (getD children i 0) (next h .rest) (T .state) (T .sum) turn-at .0
+      too-deep = turn-deep (I .nodes) 4096 (I .facts .beyond) (walk (I .nodes) 4096 k) n (I .state) (T .done) (getD sorted i 0) (next h .rest) (T .state) (T .sum) turn-at .0
 
       after-taken : called .after .stages n ≡ taken
       after-taken = called-is .later .stages-stay n (old-taken _ (T .turn .open-still)) ∙ T .turn .open-still
 
-      after-kids : called .after .kids n ≡ T .done ++ (getD children i 0 ∷ next h .rest)
+      after-kids : called .after .kids n ≡ T .done ++ (getD sorted i 0 ∷ next h .rest)
       after-kids = called-is .later .kids-stay n tt (old-taken _ (T .turn .open-still)) ∙ turn-at .held
 
-      step : (k ≤ 64) → (w : ℕ) (measures′ children′ children″ room′ : List ℕ)
-          → Back (I .nodes) (I .facts .beyond) starts (I .lent) k called w measures′ children′ room′
-          → FitsState (I .nodes) 4096 (I .facts .beyond) wordOf starts measures′ children″ (overwrite n (T .done ++ (called .slot ∷ next h .rest)) (called .after))
-          → Midway len measures′ children″ room′ (max deepest (deepW w)) (values + valuesW w) (texts + textsW w) (i + 1)
-      step q w measures′ children′ children″ room′ c f =
+      step : (k ≤ 64) → (w : ℕ) (measures′ sorted′ sorted″ room′ : List ℕ)
+          → Back (I .nodes) (I .facts .beyond) starts (I .lent) k called w measures′ sorted′ room′
+          → FitsState (I .nodes) 4096 (I .facts .beyond) wordOf starts measures′ sorted″ (overwrite n (T .done ++ (called .slot ∷ next h .rest)) (called .after))
+          → Midway len measures′ sorted″ room′ (max deepest (deepW w)) (values + valuesW w) (texts + textsW w) (i + 1)
+      step q w measures′ sorted′ sorted″ room′ c f =
           let v = value (called .value) in
           let d : deepW w ≡ v .deep = ap deepW (c .is) ∙ deep-pack (v .deep) (v .values) (v .texts) (omega (arith, c .shallow)) in
           let a : valuesW w ≡ min (v .values) 2049 = ap valuesW (c .is) ∙ values-pack (v .deep) (v .values) (v .texts) (omega (arith, c .shallow)) in
@@ -156,7 +156,7 @@ module _ {p ws starts measures₀ children₀ room₀ : List ℕ} {n : ℕ} (I :
             todo = next h .rest;
             state = overwrite n (T .done ++ (called .slot ∷ next h .rest)) (called .after);
             sum = pushM (T .sum) v;
-            turn = turn-next (I .nodes) 4096 (I .facts .beyond) (walk (I .nodes) 4096 k) n (I .state) (T .done) (getD children i 0) (next h .rest) (T .state) (T .sum) turn-at called-is;
+            turn = turn-next (I .nodes) 4096 (I .facts .beyond) (walk (I .nodes) 4096 k) n (I .state) (T .done) (getD sorted i 0) (next h .rest) (T .state) (T .sum) turn-at called-is;
             holds = record { fits = f; small = c .holds .small; within = c .holds .within; listed = c .holds .listed };
             place = let e = T .place in rw length-append (omega arith);
             below = λ j m. T .below j (rw (next h .head-is) (there m));
@@ -167,20 +167,20 @@ module _ {p ws starts measures₀ children₀ room₀ : List ℕ} {n : ℕ} (I :
           }
 
       -- the child stays what it is
-      pub mid-same : (k ≤ 64) → (w : ℕ) (measures′ children′ room′ : List ℕ)
-          → Back (I .nodes) (I .facts .beyond) starts (I .lent) k called w measures′ children′ room′ → called .slot ≡ getD children i 0
-          → Midway len measures′ children′ room′ (max deepest (deepW w)) (values + valuesW w) (texts + textsW w) (i + 1)
-      mid-same q w measures′ children′ room′ c e =
-          step q w measures′ children′ children′ room′ c
-          (fits-same (I .nodes) 4096 (I .facts .beyond) wordOf starts measures′ children′ (called .after) (c .holds .fits) n after-taken (T .done ++ (called .slot ∷ next h .rest)) (rw e after-kids))
+      pub mid-same : (k ≤ 64) → (w : ℕ) (measures′ sorted′ room′ : List ℕ)
+          → Back (I .nodes) (I .facts .beyond) starts (I .lent) k called w measures′ sorted′ room′ → called .slot ≡ getD sorted i 0
+          → Midway len measures′ sorted′ room′ (max deepest (deepW w)) (values + valuesW w) (texts + textsW w) (i + 1)
+      mid-same q w measures′ sorted′ room′ c e =
+          step q w measures′ sorted′ sorted′ room′ c
+          (fits-same (I .nodes) 4096 (I .facts .beyond) wordOf starts measures′ sorted′ (called .after) (c .holds .fits) n after-taken (T .done ++ (called .slot ∷ next h .rest)) (rw e after-kids))
 
       -- the child is None there
-      pub mid-none : (k ≤ 64) → (w : ℕ) (measures′ children′ room′ : List ℕ)
-          → Back (I .nodes) (I .facts .beyond) starts (I .lent) k called w measures′ children′ room′ → called .slot ≡ 4096
-          → Midway len measures′ (set children′ i 4096) room′ (max deepest (deepW w)) (values + valuesW w) (texts + textsW w) (i + 1)
-      mid-none q w measures′ children′ room′ c e =
-          step q w measures′ children′ (set children′ i 4096) room′ c
-          (put-there (I .nodes) (I .facts .beyond) starts measures′ children′ n (T .done) (next h .rest) (called .after) i (called .slot) _ (T .place) e (fits-put (I .nodes) 4096 (I .facts .beyond) wordOf starts measures′ children′ (called .after) (c .holds .fits) n (I .below) after-taken (T .done) (next h .rest) (getD children i 0) 4096 after-kids))
+      pub mid-none : (k ≤ 64) → (w : ℕ) (measures′ sorted′ room′ : List ℕ)
+          → Back (I .nodes) (I .facts .beyond) starts (I .lent) k called w measures′ sorted′ room′ → called .slot ≡ 4096
+          → Midway len measures′ (set sorted′ i 4096) room′ (max deepest (deepW w)) (values + valuesW w) (texts + textsW w) (i + 1)
+      mid-none q w measures′ sorted′ room′ c e =
+          step q w measures′ sorted′ (set sorted′ i 4096) room′ c
+          (put-there (I .nodes) (I .facts .beyond) starts measures′ sorted′ n (T .done) (next h .rest) (called .after) i (called .slot) _ (T .place) e (fits-put (I .nodes) 4096 (I .facts .beyond) wordOf starts measures′ sorted′ (called .after) (c .holds .fits) n (I .below) after-taken (T .done) (next h .rest) (getD sorted i 0) 4096 after-kids))
 
     -- all are done
     module _ (h : getD starts (suc n) 0 ≤ i) where
@@ -203,18 +203,18 @@ module _ {p ws starts measures₀ children₀ room₀ : List ℕ} {n : ℕ} (I :
       -- the node's due noted, its measure the word
       pub mid-finish : (w : ℕ) (room′ : List ℕ) → (k ≤ 63) → Notes (kindAt ws n) n room room′
           → w ≡ wordOf (finishR (I .nodes) n (eachR (walk (I .nodes) 4096 k) n [] (at (I .nodes) n .kids) (I .state)) .value)
-          → HoldsWalk (I .nodes) (I .facts .beyond) starts (I .lent) (set measures n w) children room′ (finishR (I .nodes) n (eachR (walk (I .nodes) 4096 k) n [] (at (I .nodes) n .kids) (I .state)) .after)
+          → HoldsWalk (I .nodes) (I .facts .beyond) starts (I .lent) (set measures n w) sorted room′ (finishR (I .nodes) n (eachR (walk (I .nodes) 4096 k) n [] (at (I .nodes) n .kids) (I .state)) .after)
       unfolding finishR Notes dues
       mid-finish w room′ b c e =
           let q = ended .0 in
           let s = eachR (walk (I .nodes) 4096 k) n [] (at (I .nodes) n .kids) (I .state) in
           let r : Resolved (I .nodes) 4096 (I .facts .beyond) n [] (I .state) s = each-resolves (I .nodes) 4096 (I .facts .beyond) (walk (I .nodes) 4096 k) (λ j c. walk-resolves (I .nodes) 4096 (I .facts .beyond) k j c) n [] (at (I .nodes) n .kids) (I .state) (I .holds .fits .resolves) (I .taken-is) (I .kids-are) in
-          let f : FitsState (I .nodes) 4096 (I .facts .beyond) wordOf starts measures children (s .1) = rw q (T .holds .fits) in
+          let f : FitsState (I .nodes) 4096 (I .facts .beyond) wordOf starts measures sorted (s .1) = rw q (T .holds .fits) in
           let o : s .1 .stages n ≡ taken = rw q (T .turn .open-still) in
           let g = r .held in
           let d = I .facts .due-are n (I .below) in
           record {
-            fits = rw e (fits-finish (I .nodes) 4096 (I .facts .beyond) wordOf starts measures children (s .1) f n (I .below) (I .container) o (s .0) (rw g (r .stands)) (λ j m. r .final j (rw g at m)));
+            fits = rw e (fits-finish (I .nodes) 4096 (I .facts .beyond) wordOf starts measures sorted (s .1) f n (I .below) (I .container) o (s .0) (rw g (r .stands)) (λ j m. r .final j (rw g at m)));
             small = small-finish (s .0) (s .1) q (mid-shallow);
             within = within-finish (s .1) q;
             listed = rw (q, d) (c (I .lent) (dues (I .nodes) (T .state .done)) (T .holds .listed) (omega (arith, last-room, I .roomy)));

@@ -51,10 +51,10 @@ pub record Measured (v : Value) (w : ℕ) : Type 0 where
   pub is : w ≡ packW (depth (one v)) (size (one v)) (length (text (one v)))
 
 -- a node table at STOP is what the rooms say, no node has a measure yet, and no due is noted in the room lent for them
-pub record Begins (p ws starts children measures room : List ℕ) (root : ℕ) : Type 0 where
+pub record Begins (p ws starts sorted measures room : List ℕ) (root : ℕ) : Type 0 where
   pub nodes : List Node
   pub stands : SaysNodes p ws nodes
-  pub graph : Graph nodes starts children
+  pub graph : Graph nodes starts sorted
   pub beyond : length nodes ≤ 4096
   pub many : length measures ≡ length nodes
   pub blank : Unmeasured (length nodes) measures
@@ -63,17 +63,17 @@ pub record Begins (p ws starts children measures room : List ℕ) (root : ℕ) :
   pub below : root < length nodes
 
 -- what the answer says of the tree and of the rooms after; `lent` is the room of dues before
-pub data Rooted (t : List Node) (beyond : length t ≤ 4096) (starts lent measures children room : List ℕ) (root : ℕ) : Answer → Type 0 where
-  r-deep : 64 < depth (one (tree t root)) → Rooted t beyond starts lent measures children room root answer.TooDeep
+pub data Rooted (t : List Node) (beyond : length t ≤ 4096) (starts lent measures sorted room : List ℕ) (root : ℕ) : Answer → Type 0 where
+  r-deep : 64 < depth (one (tree t root)) → Rooted t beyond starts lent measures sorted room root answer.TooDeep
   r-word : (w : ℕ)
       → Measured (tree t root) w
       → StandsFor t (walked t 4096 64 root .after .kids) root (tree t root)
-      → HoldsWalk t beyond starts lent measures children room (walked t 4096 64 root .after)
-      → Rooted t beyond starts lent measures children room root (answer.Word w)
+      → HoldsWalk t beyond starts lent measures sorted room (walked t 4096 64 root .after)
+      → Rooted t beyond starts lent measures sorted room root (answer.Word w)
 
 unfoldable pub Roots : List ℕ → List ℕ → List ℕ → List ℕ → List ℕ → List ℕ → List ℕ → List ℕ → List ℕ → ℕ → Answer → Type 0
-Roots p ws starts children measures room children′ measures′ room′ root r =
-    (b : Begins p ws starts children measures room root) → Rooted (b .nodes) (b .beyond) starts room measures′ children′ room′ root r
+Roots p ws starts sorted measures room sorted′ measures′ room′ root r =
+    (b : Begins p ws starts sorted measures room root) → Rooted (b .nodes) (b .beyond) starts room measures′ sorted′ room′ root r
 
 -- ---- depths and words
 
@@ -105,8 +105,8 @@ walked-tree t beyond root h = walk-build t 4096 64 root (start t) .value ∙ lev
 -- ---- for the passes behind
 
 -- the word of a finished node is there, unless it is a leaf without text; it is not one that was read ahead
-pub root-words : {t : List Node} {beyond : length t ≤ 4096} {starts lent measures children room : List ℕ} {s : State}
-    → HoldsWalk t beyond starts lent measures children room s
+pub root-words : {t : List Node} {beyond : length t ≤ 4096} {starts lent measures sorted room : List ℕ} {s : State}
+    → HoldsWalk t beyond starts lent measures sorted room s
     → (j : ℕ) → j < length t → In j (s .done) → (isContainer (at t j .label) || isTextLeaf (at t j .label)) ≡ true
     → (128 ≤ getD measures j 0) × (getD measures j 0 < ahead)
 root-words {t} {measures = measures} {s = s} h j l m c = go (isContainer (at t j .label)) refl c
@@ -121,8 +121,8 @@ root-words {t} {measures = measures} {s = s} h j l m c = go (isContainer (at t j
     go false e d = worded (leafOf t j) (done-leaf t wordOf 4096 measures s (h .fits .resolves) (h .fits .noted) j l e d m) (leaf-deep t j)
 
 -- and whose word is there, is finished
-pub words-done : {t : List Node} {beyond : length t ≤ 4096} {starts lent measures children room : List ℕ} {s : State}
-    → HoldsWalk t beyond starts lent measures children room s
+pub words-done : {t : List Node} {beyond : length t ≤ 4096} {starts lent measures sorted room : List ℕ} {s : State}
+    → HoldsWalk t beyond starts lent measures sorted room s
     → (j : ℕ) → j < length t → 128 ≤ getD measures j 0 → (isContainer (at t j .label) ≡ false → getD measures j 0 < ahead) → In j (s .done)
 words-done {t} {measures = measures} {s = s} h j l w a = go (isContainer (at t j .label)) refl
   where
@@ -131,7 +131,7 @@ words-done {t} {measures = measures} {s = s} h j l w a = go (isContainer (at t j
     go false e = leaf-done t wordOf 4096 measures s (h .fits .resolves) (h .fits .noted) j l e (omega arith) (a e)
 
 -- no measure reaches 2^42: what the passes behind put there is above all words
-pub measures-low : {t : List Node} {beyond : length t ≤ 4096} {starts lent measures children room : List ℕ} {s : State} → HoldsWalk t beyond starts lent measures children room s
+pub measures-low : {t : List Node} {beyond : length t ≤ 4096} {starts lent measures sorted room : List ℕ} {s : State} → HoldsWalk t beyond starts lent measures sorted room s
     → (j : ℕ) → j < length t → getD measures j 0 < 2 * ahead
 measures-low {t} {measures = measures} {s = s} h j l = go (isContainer (at t j .label)) refl
   where
@@ -162,8 +162,8 @@ root-texts t beyond root h due d =
     let e = walked-tree t beyond root h in
     rw (← e) (texts-held t 4096 beyond 64 root due d)
 
-pub worded-texts : {t : List Node} {beyond : length t ≤ 4096} {starts lent measures children room : List ℕ} (root : ℕ) → depth (one (tree t root)) ≤ 64
-    → HoldsWalk t beyond starts lent measures children room (walked t 4096 64 root .after)
+pub worded-texts : {t : List Node} {beyond : length t ≤ 4096} {starts lent measures sorted room : List ℕ} (root : ℕ) → depth (one (tree t root)) ≤ 64
+    → HoldsWalk t beyond starts lent measures sorted room (walked t 4096 64 root .after)
     → upTo (textIf t (worded t measures)) (length t) ≤ length (text (one (tree t root)))
 worded-texts {t} {beyond = beyond} {measures = measures} root d h = root-texts t beyond root d (worded t measures) go
   where
@@ -182,9 +182,9 @@ worded-texts {t} {beyond = beyond} {measures = measures} root d h = root-texts t
 
 -- ---- the answers
 
-module _ {p ws starts children measures room : List ℕ} {root : ℕ} (b : Begins p ws starts children measures room root) where
+module _ {p ws starts sorted measures room : List ℕ} {root : ℕ} (b : Begins p ws starts sorted measures room root) where
   facts-there : Facts p ws starts (b .nodes)
-  facts-there = facts p ws (b .nodes) starts children (b .stands) (b .graph) (b .beyond)
+  facts-there = facts p ws (b .nodes) starts sorted (b .stands) (b .graph) (b .beyond)
 
   -- the same, with the bound that is given
   abbrev facts-at : Facts p ws starts (b .nodes)
@@ -211,11 +211,11 @@ module _ {p ws starts children measures room : List ℕ} {root : ℕ} (b : Begin
   small-start : Shallow (start (b .nodes))
   small-start j v e = absurd (let z : _≡_ {A = ℕ} 0 1 = cc in omega arith)
 
-  holds-start : HoldsWalk (b .nodes) (b .beyond) starts room measures children room (start (b .nodes))
+  holds-start : HoldsWalk (b .nodes) (b .beyond) starts room measures sorted room (start (b .nodes))
   unfolding dues
   holds-start =
       record {
-        fits = fits-start (b .nodes) 4096 (b .beyond) wordOf starts measures children (b .graph) (b .many) (b .blank);
+        fits = fits-start (b .nodes) 4096 (b .beyond) wordOf starts measures sorted (b .graph) (b .many) (b .blank);
         small = small-start;
         within = λ j m. elim m [ ];
         listed = lists-none room (omega (arith, b .roomy)) (b .no-dues);
@@ -225,11 +225,11 @@ module _ {p ws starts children measures room : List ℕ} {root : ℕ} (b : Begin
   root-own : walked (b .nodes) 4096 64 root .slot ≡ root
   root-own = root-slot (b .nodes) 4096 (b .beyond) 63 root
 
-  rooted : (w : ℕ) (measures′ children′ room′ : List ℕ) → w ≡ wordOf (walked (b .nodes) 4096 64 root .value)
+  rooted : (w : ℕ) (measures′ sorted′ room′ : List ℕ) → w ≡ wordOf (walked (b .nodes) 4096 64 root .value)
       → value (walked (b .nodes) 4096 64 root .value) .deep ≤ 64
-      → HoldsWalk (b .nodes) (b .beyond) starts room measures′ children′ room′ (walked (b .nodes) 4096 64 root .after)
-      → Rooted (b .nodes) (b .beyond) starts room measures′ children′ room′ root (answer.Word w)
-  rooted w measures′ children′ room′ e d h =
+      → HoldsWalk (b .nodes) (b .beyond) starts room measures′ sorted′ room′ (walked (b .nodes) 4096 64 root .after)
+      → Rooted (b .nodes) (b .beyond) starts room measures′ sorted′ room′ root (answer.Word w)
+  rooted w measures′ sorted′ room′ e d h =
       let x = value-deep (walked (b .nodes) 4096 64 root .value) in
       let y : depth (one (walked (b .nodes) 4096 64 root .value)) ≤ 64 = omega arith in
       let v = walk-build (b .nodes) 4096 64 root (start (b .nodes)) .value in
@@ -238,9 +238,9 @@ module _ {p ws starts children measures room : List ℕ} {root : ℕ} (b : Begin
       let s : depth (one (tree (b .nodes) root)) ≤ 64 = rw i at y in
       r-word w (record { shallow = s; is = e ∙ (ap wordOf i ∙ value-word (tree (b .nodes) root)) }) (tree-stands (b .nodes) 4096 (b .beyond) 63 root s) h
 
-  rooted-deep : (measures′ children′ room′ : List ℕ) → 64 < value (walked (b .nodes) 4096 64 root .value) .deep
-      → Rooted (b .nodes) (b .beyond) starts room measures′ children′ room′ root answer.TooDeep
-  rooted-deep measures′ children′ room′ h = r-deep (go (decLt 64 (depth (one (tree (b .nodes) root)))))
+  rooted-deep : (measures′ sorted′ room′ : List ℕ) → 64 < value (walked (b .nodes) 4096 64 root .value) .deep
+      → Rooted (b .nodes) (b .beyond) starts room measures′ sorted′ room′ root answer.TooDeep
+  rooted-deep measures′ sorted′ room′ h = r-deep (go (decLt 64 (depth (one (tree (b .nodes) root)))))
     where
       go : Dec (64 < depth (one (tree (b .nodes) root))) → 64 < depth (one (tree (b .nodes) root))
       go (yes x) = x
@@ -255,30 +255,30 @@ module _ {p ws starts children measures room : List ℕ} {root : ℕ} (b : Begin
     unfolding Learns
     learns r a = a starts (b .nodes) (start (b .nodes)) facts-at (holds-start .fits .resolves) (holds-start .fits .noted) small-start (b .below)
 
-    same-holds : (m : List ℕ) → m ≡ measures → HoldsWalk (b .nodes) (b .beyond) starts room m children room (start (b .nodes))
+    same-holds : (m : List ℕ) → m ≡ measures → HoldsWalk (b .nodes) (b .beyond) starts room m sorted room (start (b .nodes))
     same-holds m e = rw e holds-start
 
     -- a container: it is walked
-    opened : Knows (b .nodes) measures measures′ (start (b .nodes)) root seen.Open → Opens p ws starts measures′ children room root
+    opened : Knows (b .nodes) measures measures′ (start (b .nodes)) root seen.Open → Opens p ws starts measures′ sorted room root
     opened (k-open c f e) =
         record { nodes = b .nodes; facts = facts-at; state = start (b .nodes); lent = room; roomy = b .roomy; holds = same-holds measures′ e; below = b .below; container = c; fresh-is = f }
 
-    pub root-open : Learns p ws measures measures′ root seen.Open → Opens p ws starts measures′ children room root
+    pub root-open : Learns p ws measures measures′ root seen.Open → Opens p ws starts measures′ sorted room root
     root-open a = opened (learns seen.Open a)
 
     -- a leaf
     pub root-word : (w : ℕ) → Learns p ws measures measures′ root (seen.Word w)
-        → Rooted (b .nodes) (b .beyond) starts room measures′ children room root (answer.Word w)
+        → Rooted (b .nodes) (b .beyond) starts room measures′ sorted room root (answer.Word w)
     root-word w a = go (learns (seen.Word w) a)
       where
         go : Knows (b .nodes) measures measures′ (start (b .nodes)) root (seen.Word w)
-            → Rooted (b .nodes) (b .beyond) starts room measures′ children room root (answer.Word w)
+            → Rooted (b .nodes) (b .beyond) starts room measures′ sorted room root (answer.Word w)
         go (k-word w q) =
             let x = q 63 in
             let e = x .kids in
             let d = x .dues-stay in
-            let y : Lies starts (length (b .nodes)) children (walked (b .nodes) 4096 64 root .after .kids) = rw e (holds-start .fits .lies) in
-            rooted w measures′ children room (x .is) (x .deep)
+            let y : Lies starts (length (b .nodes)) sorted (walked (b .nodes) 4096 64 root .after .kids) = rw e (holds-start .fits .lies) in
+            rooted w measures′ sorted room (x .is) (x .deep)
             (record {
               fits = record { resolves = walk-resolves (b .nodes) 4096 (b .beyond) 64 root (start (b .nodes)) (holds-start .fits .resolves) .resolves; noted = x .noted-still; lies = y };
               small = x .small;
@@ -292,18 +292,18 @@ module _ {p ws starts children measures room : List ℕ} {root : ℕ} (b : Begin
         go : Knows (b .nodes) measures measures′ (start (b .nodes)) root seen.Empty → ⊥
         go (k-empty q) = let x = q 63 .slot-is in omega (arith, root-own, b .below, b .beyond)
 
-    pub root-walk : (a : Learns p ws measures measures′ root seen.Open) (measures″ children″ room″ : List ℕ) (r : Answer)
-        → Walks p ws starts 64 root measures′ children room measures″ children″ room″ r
-        → Rooted (b .nodes) (b .beyond) starts room measures″ children″ room″ root r
+    pub root-walk : (a : Learns p ws measures measures′ root seen.Open) (measures″ sorted″ room″ : List ℕ) (r : Answer)
+        → Walks p ws starts 64 root measures′ sorted room measures″ sorted″ room″ r
+        → Rooted (b .nodes) (b .beyond) starts room measures″ sorted″ room″ root r
     unfolding Walks opened
-    root-walk a measures″ children″ room″ r q = pick (learns seen.Open a)
+    root-walk a measures″ sorted″ room″ r q = pick (learns seen.Open a)
       where
-        go : (r : Answer) → Ends (b .nodes) (b .beyond) starts room 64 root (walked (b .nodes) 4096 64 root) measures″ children″ room″ r
-            → Rooted (b .nodes) (b .beyond) starts room measures″ children″ room″ root r
-        go _ (ends-deep d) = rooted-deep measures″ children″ room″ d
+        go : (r : Answer) → Ends (b .nodes) (b .beyond) starts room 64 root (walked (b .nodes) 4096 64 root) measures″ sorted″ room″ r
+            → Rooted (b .nodes) (b .beyond) starts room measures″ sorted″ room″ root r
+        go _ (ends-deep d) = rooted-deep measures″ sorted″ room″ d
         go _ (ends-empty e v h) = absurd (omega (arith, root-own, e, b .below, b .beyond))
-        go _ (ends-word w e q d h) = rooted w measures″ children″ room″ q d h
+        go _ (ends-word w e q d h) = rooted w measures″ sorted″ room″ q d h
 
         pick : Knows (b .nodes) measures measures′ (start (b .nodes)) root seen.Open
-            → Rooted (b .nodes) (b .beyond) starts room measures″ children″ room″ root r
+            → Rooted (b .nodes) (b .beyond) starts room measures″ sorted″ room″ root r
         pick (k-open c f e) = go r (q (opened (k-open c f e)))

@@ -89,9 +89,9 @@ module _ (p ws : List ℕ) (t : List Node) (s : SaysNodes p ws t) where
         rw (node-is, ← s .pickle, ← s .words)
         (sym (List·getD-map (λ (n : Node). n .label) (choices (s .rooms .pickle) (s .rooms .nodes) (kidsOf (s .rooms) (s .counts) i) (first (s .rooms .nodes) i) (second (s .rooms .nodes) i)) (kindIn (first (s .rooms .nodes) i)) (kidless NoneL)))
 
-pub facts : (p ws : List ℕ) (t : List Node) (starts children : List ℕ) → SaysNodes p ws t → Graph t starts children → length t ≤ 4096 → Facts p ws starts t
+pub facts : (p ws : List ℕ) (t : List Node) (starts sorted : List ℕ) → SaysNodes p ws t → Graph t starts sorted → length t ≤ 4096 → Facts p ws starts t
 unfolding nodeIs kindIn first classIn Classed Class textLen
-facts p ws t starts children s g b =
+facts p ws t starts sorted s g b =
     record {
       beyond = b;
       words-long = long;
@@ -104,7 +104,7 @@ facts p ws t starts children s g b =
       textless = λ i l. suit i l .textless;
       classes = λ i l e. classed i l e;
       leafless = λ i l. suit i l .leafless;
-      inside = λ i j m. graph-inside t starts children g i j m;
+      inside = λ i j m. graph-inside t starts sorted g i j m;
     }
   where
     f : Firm (s .rooms) (s .counts)

@@ -216,15 +216,15 @@ fn own_text(kind: u64, node: NodeId, pickle: &[u8], nodes: &[u64], measures: &mu
 }
 
 // Is it an Object whose arguments, its first child, are taken out?
-fn blocked(kind: u64, at: usize, end: usize, children: &[u16], measures: &[u64]) -> bool
-    requires { ⌜ end ≤ length (now children) ⌝ }
-    requires { ⌜ (at < end → getD (now children) at 0 < length (now measures)) ⌝ }
-    ensures { λ r. ⌜ r ≡ held kind (slice at end (now (children .entry))) (now (measures .entry)) ⌝ }
+fn blocked(kind: u64, at: usize, end: usize, sorted: &[u16], measures: &[u64]) -> bool
+    requires { ⌜ end ≤ length (now sorted) ⌝ }
+    requires { ⌜ (at < end → getD (now sorted) at 0 < length (now measures)) ⌝ }
+    ensures { λ r. ⌜ r ≡ held kind (slice at end (now (sorted .entry))) (now (measures .entry)) ⌝ }
 {
     if kind != value::OBJECT {
         false
     } else if at < end {
-        let first = children[at] as usize;
+        let first = sorted[at] as usize;
         measures[first] == 1
     } else {
         false
@@ -252,24 +252,24 @@ fn measure(
     node: NodeId,
     levels: u64,
     starts: &[u16],
-    children: &mut [u16],
+    sorted: &mut [u16],
     pickle: &[u8],
     nodes: &[u64],
     measures: &mut [u64],
     dues: &mut [u16],
 ) -> Answer
     requires { ⌜ (1 ≤ levels) × (levels ≤ 64) ⌝ }
-    requires { ⌜ Opens (now pickle) (now nodes) (now starts) (now measures) (now children) (now dues) (node .0) ⌝ }
+    requires { ⌜ Opens (now pickle) (now nodes) (now starts) (now measures) (now sorted) (now dues) (node .0) ⌝ }
     ensures { λ r.
         ⌜ Walks (now (pickle .entry)) (now (nodes .entry)) (now (starts .entry)) levels (node .0)
-        (now (measures .entry)) (now (children .entry)) (now (dues .entry))
-        (now (measures .exit)) (now (children .exit)) (now (dues .exit)) r ⌝ }
+        (now (measures .entry)) (now (sorted .entry)) (now (dues .entry))
+        (now (measures .exit)) (now (sorted .exit)) (now (dues .exit)) r ⌝ }
 {
     let n = node.0;
     let kind = nodes[2 * n] % 16;
     let at = starts[n] as usize;
     let end = starts[n + 1] as usize;
-    if blocked(kind, at, end, children, measures) {
+    if blocked(kind, at, end, sorted, measures) {
         measures[n] = 3;
         return Answer::Empty;
     }
@@ -282,7 +282,7 @@ fn measure(
         if levels == 1 {
             return Answer::TooDeep;
         }
-        let child = NodeId(children[i] as usize);
+        let child = NodeId(sorted[i] as usize);
         let mut w: u64 = 129;
         match known(child, pickle, nodes, measures) {
             Seen::Word(k) => {
@@ -292,13 +292,13 @@ fn measure(
                 w = k;
             }
             Seen::Empty => {
-                children[i] = NOWHERE;
+                sorted[i] = NOWHERE;
             }
             Seen::Open => match measure(
                 child,
                 levels - 1,
                 starts,
-                children,
+                sorted,
                 pickle,
                 nodes,
                 measures,
@@ -306,7 +306,7 @@ fn measure(
             ) {
                 Answer::TooDeep => return Answer::TooDeep,
                 Answer::Empty => {
-                    children[i] = NOWHERE;
+                    sorted[i] = NOWHERE;
                 }
                 Answer::Word(k) => {
                     w = k;
@@ -328,21 +328,21 @@ fn measure(
 pub fn measure_root(
     node: NodeId,
     starts: &[u16],
-    children: &mut [u16],
+    sorted: &mut [u16],
     pickle: &[u8],
     nodes: &[u64],
     measures: &mut [u64],
     dues: &mut [u16],
 ) -> Answer
-    requires { ⌜ Begins (now pickle) (now nodes) (now starts) (now children) (now measures) (now dues) (node .0) ⌝ }
+    requires { ⌜ Begins (now pickle) (now nodes) (now starts) (now sorted) (now measures) (now dues) (node .0) ⌝ }
     ensures { λ r.
         ⌜ Roots (now (pickle .entry)) (now (nodes .entry)) (now (starts .entry))
-        (now (children .entry)) (now (measures .entry)) (now (dues .entry))
-        (now (children .exit)) (now (measures .exit)) (now (dues .exit)) (node .0) r ⌝ }
+        (now (sorted .entry)) (now (measures .entry)) (now (dues .entry))
+        (now (sorted .exit)) (now (measures .exit)) (now (dues .exit)) (node .0) r ⌝ }
 {
     match known(node, pickle, nodes, measures) {
         Seen::Word(w) => Answer::Word(w),
         Seen::Empty => Answer::Empty,
-        Seen::Open => measure(node, 64, starts, children, pickle, nodes, measures, dues),
+        Seen::Open => measure(node, 64, starts, sorted, pickle, nodes, measures, dues),
     }
 }

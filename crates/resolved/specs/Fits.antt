@@ -22,29 +22,29 @@ use Rattle.resolved.specs.Ranges.{Lies, graph-lies, lies-put}
 use Rattle.resolved.specs.Noted.{isContainer, Noted, unseen, noted-stage, noted-done}
 
 module _ (t : List Node) (nowhere : ℕ) (beyond : length t ≤ nowhere) (word : Value → ℕ) (starts : List ℕ) where
-  pub record FitsState (words children : List ℕ) (s : State) : Type 0 where
+  pub record FitsState (words sorted : List ℕ) (s : State) : Type 0 where
     pub resolves : Resolves t nowhere s
     pub noted : Noted t word words s
-    pub lies : Lies starts (length t) children (s .kids)
+    pub lies : Lies starts (length t) sorted (s .kids)
 
   -- before the walk
-  pub fits-start : (words children : List ℕ) → Graph t starts children → length words ≡ length t → ((j : ℕ) → j < length t → getD words j 0 ≡ 0)
-      → FitsState words children (start t)
-  fits-start words children g n z =
+  pub fits-start : (words sorted : List ℕ) → Graph t starts sorted → length words ≡ length t → ((j : ℕ) → j < length t → getD words j 0 ≡ 0)
+      → FitsState words sorted (start t)
+  fits-start words sorted g n z =
       record {
         resolves = start-resolves t nowhere beyond;
         noted = record { long = n; container = λ j l c. z j l; leaf = λ j l c. unseen (z j l) (λ h m. elim m [ ]); calm = λ j c e. (let q : _≡_ {A = ℕ} 0 1 = cc in omega arith) };
-        lies = graph-lies t starts children g;
+        lies = graph-lies t starts sorted g;
       }
 
-  module _ (words children : List ℕ) (s : State) (f : FitsState words children s) where
+  module _ (words sorted : List ℕ) (s : State) (f : FitsState words sorted s) where
     -- measures[i] = 1
-    pub fits-take : (i : ℕ) → i < length t → isContainer (at t i .label) ≡ true → s .stages i ≡ fresh → FitsState (set words i 1) children (stageR i taken s)
+    pub fits-take : (i : ℕ) → i < length t → isContainer (at t i .label) ≡ true → s .stages i ≡ fresh → FitsState (set words i 1) sorted (stageR i taken s)
     fits-take i l c e = record { resolves = take-resolves t nowhere beyond s i (f .resolves) e; noted = noted-stage t word words s i 1 taken (f .noted) l c refl; lies = f .lies }
 
     -- measures[i] = 3
     pub fits-block : (i : ℕ) → i < length t → isContainer (at t i .label) ≡ true → s .stages i ≡ fresh → isObject (at t i .label) ≡ true
-        → FitsState (set words i 3) children (stageR i (kept none) s)
+        → FitsState (set words i 3) sorted (stageR i (kept none) s)
     unfolding freshness
     fits-block i l c e o =
         record { resolves = stage-resolves t nowhere beyond s i (kept none) (f .resolves) e refl blocks; noted = noted-stage t word words s i 3 (kept none) (f .noted) l c (let o′ = o in rw o′); lies = f .lies }
@@ -54,16 +54,16 @@ module _ (t : List Node) (nowhere : ℕ) (beyond : length t ≤ nowhere) (word :
 
     -- children[starts[n] + the number of those before] = x
     pub fits-put : (n : ℕ) → n < length t → s .stages n ≡ taken → (is js : List ℕ) (c x : ℕ) → s .kids n ≡ is ++ (c ∷ js)
-        → FitsState words (set children (getD starts n 0 + length is) x) (overwrite n (is ++ (x ∷ js)) s)
+        → FitsState words (set sorted (getD starts n 0 + length is) x) (overwrite n (is ++ (x ∷ js)) s)
     fits-put n l e is js c x h =
         record {
           resolves = overwrite-resolves t nowhere beyond s n (is ++ (x ∷ js)) (f .resolves) e (rw h (simp length-append));
           noted = record { long = f .noted .long; container = f .noted .container; leaf = f .noted .leaf; calm = f .noted .calm };
-          lies = lies-put starts (length t) children (s .kids) (f .lies) n l is js c x h;
+          lies = lies-put starts (length t) sorted (s .kids) (f .lies) n l is js c x h;
         }
 
     -- a child that stays is not stored
-    pub fits-same : (n : ℕ) → s .stages n ≡ taken → (l : List ℕ) → s .kids n ≡ l → FitsState words children (overwrite n l s)
+    pub fits-same : (n : ℕ) → s .stages n ≡ taken → (l : List ℕ) → s .kids n ≡ l → FitsState words sorted (overwrite n l s)
     fits-same n e l h =
         record {
           resolves = overwrite-resolves t nowhere beyond s n l (f .resolves) e (ap length (sym h));
@@ -78,7 +78,7 @@ module _ (t : List Node) (nowhere : ℕ) (beyond : length t ≤ nowhere) (word :
     -- measures[i] = the word of what it keeps
     pub fits-finish : (i : ℕ) → i < length t → isContainer (at t i .label) ≡ true → s .stages i ≡ taken → (c : Forest)
         → Stand t (s .kids) (s .kids i) c → ((j : ℕ) → In j (s .kids i) → Final nowhere (s .done) j)
-        → let v : Value = record { label = at t i .label; contents = c } in FitsState (set words i (word v)) children (finishR t i (c, s) .after)
+        → let v : Value = record { label = at t i .label; contents = c } in FitsState (set words i (word v)) sorted (finishR t i (c, s) .after)
     unfolding finishR
     fits-finish i l b e c w z =
         let v : Value = record { label = at t i .label; contents = c } in

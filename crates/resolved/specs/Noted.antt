@@ -79,13 +79,13 @@ both : (b : Bool) → b ≡ true → b ≡ false → ⊥
 both b p q = let z : _≡_ {A = ℕ} 0 1 = cc in omega arith
 
 module _ (t : List Node) (word : Value → ℕ) where
-  -- the word of a container's stage
+  -- the measure of a container by its stage
   abbrev pub noted : ℕ → Stage → ℕ
   noted i fresh = 0
   noted i taken = 1
   noted i (kept v) = cond (gone t i v) 3 (word v)
 
-  -- the word of a leaf's stage, where the walk has finished these nodes
+  -- the measure of a leaf, where the walk has finished these nodes
   pub data LeafNoted (done : List ℕ) (j w : ℕ) : Type 0 where
     unseen : w ≡ 0 → (isTextLeaf (at t j .label) ≡ true → ¬ In j done) → LeafNoted done j w
     early : w ≡ word (leafOf t j) + ahead → (isTextLeaf (at t j .label) ≡ true → ¬ In j done) → LeafNoted done j w
@@ -107,7 +107,7 @@ module _ (t : List Node) (word : Value → ℕ) where
   leaf-other : (i j : ℕ) → isContainer (at t i .label) ≡ true → isContainer (at t j .label) ≡ false → j ≢ i
   leaf-other i j c d q = let x : isContainer (at t i .label) ≡ false = rw q at d in both _ c x
 
-  -- ---- a container is staged, and finished
+  -- ---- a container gets a stage, and is finished
 
   pub noted-stage : (words : List ℕ) (s : State) (i w : ℕ) (m : Stage) → Noted words s → i < length t → isContainer (at t i .label) ≡ true
       → w ≡ noted i m

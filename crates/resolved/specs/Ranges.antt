@@ -16,13 +16,13 @@ use Rattle.resolved.specs.Walk.{put}
 use Rattle.resolved.specs.Resolves.{put-same, put-other}
 
 -- the lists that g gives the first n nodes are where `starts` says
-pub record Lies (starts : List ℕ) (n : ℕ) (children : List ℕ) (g : Kids) : Type 0 where
-  pub bounds : (i : ℕ) → i < n → (getD starts i 0 ≤ getD starts (suc i) 0) × (getD starts (suc i) 0 ≤ length children)
-  pub lists : (i : ℕ) → i < n → slice (getD starts i 0) (getD starts (suc i) 0) children ≡ g i
+pub record Lies (starts : List ℕ) (n : ℕ) (sorted : List ℕ) (g : Kids) : Type 0 where
+  pub bounds : (i : ℕ) → i < n → (getD starts i 0 ≤ getD starts (suc i) 0) × (getD starts (suc i) 0 ≤ length sorted)
+  pub lists : (i : ℕ) → i < n → slice (getD starts i 0) (getD starts (suc i) 0) sorted ≡ g i
 
 -- so are the nodes' own, before the walk
-pub graph-lies : (t : List Node) (starts children : List ℕ) → Graph t starts children → Lies starts (length t) children (λ i. at t i .kids)
-graph-lies t starts children g = record { bounds = g .bounds; lists = g .kids }
+pub graph-lies : (t : List Node) (starts sorted : List ℕ) → Graph t starts sorted → Lies starts (length t) sorted (λ i. at t i .kids)
+graph-lies t starts sorted g = record { bounds = g .bounds; lists = g .kids }
 
 -- ---- a store, and a part of the room
 
@@ -39,7 +39,7 @@ set-before f t l k x h = go (decLt k t)
 set-inside : (f t : ℕ) (l : List ℕ) (m x : ℕ) → f + m < t → slice f t (set l (f + m) x) ≡ set (slice f t l) m x
 set-inside f t l m x h = rw (take-set-lt t l (f + m) x h) (drop-set-add f (take t l) m x)
 
-module _ (starts : List ℕ) (n : ℕ) (children : List ℕ) (g : Kids) (l : Lies starts n children g) where
+module _ (starts : List ℕ) (n : ℕ) (sorted : List ℕ) (g : Kids) (l : Lies starts n sorted g) where
   -- a later node's part is further behind
   behind : (i j : ℕ) → i < j → j < n → getD starts (suc i) 0 ≤ getD starts j 0
   behind i zero h k = absurd (omega arith)
@@ -51,8 +51,8 @@ module _ (starts : List ℕ) (n : ℕ) (children : List ℕ) (g : Kids) (l : Lie
 
   -- x in the place of c, behind `is`, in node i's part
   pub lies-put : (i : ℕ) → i < n → (is js : List ℕ) (c x : ℕ) → g i ≡ is ++ (c ∷ js)
-      → Lies starts n (set children (getD starts i 0 + length is) x) (put i (is ++ (x ∷ js)) g)
-  lies-put i h is js c x e = record { bounds = λ j m. (l .bounds j m .0, rw (length-set children place x) (l .bounds j m .1)); lists = go }
+      → Lies starts n (set sorted (getD starts i 0 + length is) x) (put i (is ++ (x ∷ js)) g)
+  lies-put i h is js c x e = record { bounds = λ j m. (l .bounds j m .0, rw (length-set sorted place x) (l .bounds j m .1)); lists = go }
     where
       place : ℕ
       place = getD starts i 0 + length is
@@ -60,25 +60,25 @@ module _ (starts : List ℕ) (n : ℕ) (children : List ℕ) (g : Kids) (l : Lie
       -- that is inside the part
       before-end : getD starts i 0 + length is < getD starts (suc i) 0
       before-end =
-          let a = length-slice (getD starts i 0) (getD starts (suc i) 0) children (l .bounds i h .1) in
-          let b : length (slice (getD starts i 0) (getD starts (suc i) 0) children) ≡ length is + suc (length js) = ap length (l .lists i h ∙ e) ∙ simp length-append in
+          let a = length-slice (getD starts i 0) (getD starts (suc i) 0) sorted (l .bounds i h .1) in
+          let b : length (slice (getD starts i 0) (getD starts (suc i) 0) sorted) ≡ length is + suc (length js) = ap length (l .lists i h ∙ e) ∙ simp length-append in
           omega arith
 
       go : (j : ℕ) → j < n
-          → slice (getD starts j 0) (getD starts (suc j) 0) (set children (getD starts i 0 + length is) x) ≡ put i (is ++ (x ∷ js)) g j
+          → slice (getD starts j 0) (getD starts (suc j) 0) (set sorted (getD starts i 0 + length is) x) ≡ put i (is ++ (x ∷ js)) g j
       go j m = pick (ℕ-discrete j i)
         where
           pick : Dec (j ≡ i)
-              → slice (getD starts j 0) (getD starts (suc j) 0) (set children (getD starts i 0 + length is) x) ≡ put i (is ++ (x ∷ js)) g j
+              → slice (getD starts j 0) (getD starts (suc j) 0) (set sorted (getD starts i 0 + length is) x) ≡ put i (is ++ (x ∷ js)) g j
           pick (yes q) =
               let a = l .lists i h in
-              rw (q, put-same i (is ++ (x ∷ js)) g, set-inside (getD starts i 0) (getD starts (suc i) 0) children (length is) x before-end, a, e) (set-append-seam is c js x)
+              rw (q, put-same i (is ++ (x ∷ js)) g, set-inside (getD starts i 0) (getD starts (suc i) 0) sorted (length is) x before-end, a, e) (set-append-seam is c js x)
           pick (no q) = rw (put-other i (is ++ (x ∷ js)) g j q) (side (decLt j i) ∙ l .lists j m)
             where
               side : Dec (j < i)
-                  → slice (getD starts j 0) (getD starts (suc j) 0) (set children (getD starts i 0 + length is) x) ≡ slice (getD starts j 0) (getD starts (suc j) 0) children
-              side (yes k) = let b = behind j i k h in set-behind (getD starts j 0) (getD starts (suc j) 0) children (getD starts i 0 + length is) x (omega arith)
-              side (no k) = let r : i < j = omega arith in let b = behind i j r m in set-before (getD starts j 0) (getD starts (suc j) 0) children (getD starts i 0 + length is) x (omega (arith, before-end))
+                  → slice (getD starts j 0) (getD starts (suc j) 0) (set sorted (getD starts i 0 + length is) x) ≡ slice (getD starts j 0) (getD starts (suc j) 0) sorted
+              side (yes k) = let b = behind j i k h in set-behind (getD starts j 0) (getD starts (suc j) 0) sorted (getD starts i 0 + length is) x (omega arith)
+              side (no k) = let r : i < j = omega arith in let b = behind i j r m in set-before (getD starts j 0) (getD starts (suc j) 0) sorted (getD starts i 0 + length is) x (omega (arith, before-end))
 
 -- ---- every child is a node
 
@@ -94,14 +94,14 @@ in-below : {x : ℕ} (n : ℕ) (l : List ℕ) → ((k : ℕ) → k < length l �
 in-below n (y ∷ l) h here = h 0 (omega arith)
 in-below n (y ∷ l) h (there m) = in-below n l (λ k q. h (suc k) (omega arith)) m
 
-pub graph-inside : (t : List Node) (starts children : List ℕ) → Graph t starts children → (i j : ℕ) → In j (at t i .kids) → j < length t
-graph-inside t starts children g i j m = go (decLt i (length t))
+pub graph-inside : (t : List Node) (starts sorted : List ℕ) → Graph t starts sorted → (i j : ℕ) → In j (at t i .kids) → j < length t
+graph-inside t starts sorted g i j m = go (decLt i (length t))
   where
     go : Dec (i < length t) → j < length t
     go (yes l) =
         let a = getD starts i 0 in
         let b = getD starts (suc i) 0 in
         let e = g .kids i l in
-        let m′ : In j (drop a (take b children)) = rw e m in
-        in-below (length t) children (g .inside) (in-take b children (in-drop a (take b children) m′))
+        let m′ : In j (drop a (take b sorted)) = rw e m in
+        in-below (length t) sorted (g .inside) (in-take b sorted (in-drop a (take b sorted) m′))
     go (no l) = let z : In j [] = rw (outside t i l) at m in elim z [ ]

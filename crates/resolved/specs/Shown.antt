@@ -147,19 +147,19 @@ manyIn ws starts measures i = cond (isSorted (kindIn (first ws i))) (getD measur
 
 -- a Set's items stand in the log, all other lists among the children
 unfoldable pub roomOf : List ℕ → List ℕ → List ℕ → ℕ → List ℕ
-roomOf ws children log i = cond (eqb (kindIn (first ws i)) 8 || eqb (kindIn (first ws i)) 9) log children
+roomOf ws sorted log i = cond (eqb (kindIn (first ws i)) 8 || eqb (kindIn (first ws i)) 9) log sorted
 
 unfoldable pub listOf : List ℕ → List ℕ → List ℕ → List ℕ → List ℕ → ℕ → List ℕ
-listOf ws starts children log measures i = take (manyIn ws starts measures i) (drop (fromIn ws starts measures i) (roomOf ws children log i))
+listOf ws starts sorted log measures i = take (manyIn ws starts measures i) (drop (fromIn ws starts measures i) (roomOf ws sorted log i))
 
 -- it lies in its room
 unfoldable pub Inside : List ℕ → List ℕ → List ℕ → List ℕ → List ℕ → ℕ → Type 0
-Inside ws starts children log measures i = fromIn ws starts measures i + manyIn ws starts measures i ≤ length (roomOf ws children log i)
+Inside ws starts sorted log measures i = fromIn ws starts measures i + manyIn ws starts measures i ≤ length (roomOf ws sorted log i)
 
 -- ---- all of it
 
 -- The nodes t, of which P are in the graph h, as the rooms show them: p the pickle, d the decoded text, ws the nodes' words.
-pub record Shown (t : List Node) (h : Kids) (P : ℕ → Type 0) (p d ws starts children log measures : List ℕ) : Type 0 where
+pub record Shown (t : List Node) (h : Kids) (P : ℕ → Type 0) (p d ws starts sorted log measures : List ℕ) : Type 0 where
   pub beyond : length t ≤ 4096
   pub short : length p ≤ 65536
   pub words-long : 2 * length t ≤ length ws
@@ -173,6 +173,6 @@ pub record Shown (t : List Node) (h : Kids) (P : ℕ → Type 0) (p d ws starts 
   pub closed : (i : ℕ) → P i → (j : ℕ) → In j (h i) → P j
   pub none : h 4096 ≡ []
   pub leaves : (i : ℕ) → P i → i < length t → isContainer (at t i .label) ≡ false → h i ≡ []
-  pub inside : (i : ℕ) → P i → i < length t → isContainer (at t i .label) ≡ true → Inside ws starts children log measures i
-  pub lists : (i : ℕ) → P i → i < length t → isContainer (at t i .label) ≡ true → listOf ws starts children log measures i ≡ h i
+  pub inside : (i : ℕ) → P i → i < length t → isContainer (at t i .label) ≡ true → Inside ws starts sorted log measures i
+  pub lists : (i : ℕ) → P i → i < length t → isContainer (at t i .label) ≡ true → listOf ws starts sorted log measures i ≡ h i
   pub spelled : (i : ℕ) → P i → i < length t → hasText (at t i .label) ≡ true → Spelled p d ws measures i (at t i .label)

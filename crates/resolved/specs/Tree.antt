@@ -1,4 +1,4 @@
--- The walk from the root, in which nothing is staged yet: afterwards the root stands for `Builder`'s tree, if the levels suffice for it.
+-- The walk from the root, in which every node is fresh: afterwards the root stands for `Builder`'s tree, if the levels suffice for it.
 -- Two examples are computed.
 use Prim.Native.Nat.{ℕ, suc, _+_, _≤_}
 use mathlib.Core.Bool.{Bool, true, false, _&&_}

@@ -64,7 +64,7 @@ walk t nowhere (suc k) i s =
           ]
     ]
 
--- nothing is staged, lists are the nodes' own
+-- every node is fresh, lists are the nodes' own
 abbrev pub start : List Node → State
 start t = record { stages = unbuilt; kids = λ i. at t i .kids; done = [] }
 

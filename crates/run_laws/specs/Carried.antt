@@ -18,7 +18,7 @@ use Rattle.steps.specs.Run.{Next, goes, stops, step, run}
 use Rattle.steps.specs.Out.{Out, out, of-out, bind}
 use Rattle.steps.specs.Effect.{labelled, Effect}
 use Rattle.steps.specs.Keeps.{after, step-keeps}
-use Rattle.steps.specs.Tuples.{Changed, stays, longer, stated, effect-changes}
+use Rattle.steps.specs.Changes.{Changed, stays, longer, stated, effect-changes}
 use Rattle.machine.specs.Ran.{onward, afterSteps}
 use Rattle.run_laws.specs.Steps.{atEnd, in-steps, from-then-on}
 

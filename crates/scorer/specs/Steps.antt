@@ -303,10 +303,6 @@ hit-some w j rest item = go (ltb 0 rest) refl _
     go true e false = omega arith
     go true e true = let h = ltb-true 0 rest e in omega arith
 
-pub hit-one : (b : Bool) → bit b ≤ 1
-hit-one true = omega arith
-hit-one false = omega arith
-
 pub bit-back : (b : Bool) → eqb (bit b) 1 ≡ b
 bit-back true = refl
 bit-back false = refl

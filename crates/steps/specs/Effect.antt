@@ -146,10 +146,6 @@ pub values-count : (a b : ℕ) (s t : State) → Stacks (values a) (values b) s 
 unfolding Stacks
 values-count a b s t h = let l = h .0 in let e = h .1 .count in omega arith
 
-pub mark-count : (a b : ℕ) (s t : State) → Stacks (toMark a) (values b) s t → length (t .stack) + a ≡ last (s .marks) + b
-unfolding Stacks
-mark-count a b s t h = let l = h .2 in let e = h .3 .count in omega arith
-
 pub moved : (s t : State) (k j b : ℕ) (x : List ℕ) → k ≤ j → j ≤ length (s .stack) → t .stack ≡ take j (s .stack) ++ x → j + length x ≡ k + b → Moved k b s t
 moved s t k j b x h l e c =
     let z : length (take j (s .stack)) ≡ j = simp length-take (omega arith) in

@@ -31,10 +31,6 @@ pub run-finish : (ed : Edition) (p : List ℕ) → run ed p ≡ finish ed (start
 unfolding run finish start
 run-finish ed p = refl
 
-pub runs-finish : (ed : Edition) (k : ℕ) (s : State) → length (s .input) < k → runs ed k s ≡ finish ed s
-unfolding finish
-runs-finish ed k s h = runs-enough ed k (suc (length (s .input))) s h (omega arith)
-
 -- its three equations
 module _ (ed : Edition) (s t : State) where
   pub finish-refused : (why : Refusal) → step ed s ≡ no why → finish ed s ≡ no why

@@ -15,6 +15,6 @@ pub mod Fuel
 pub mod Memo
 pub mod Limits
 pub mod Range
-pub mod Tuples
+pub mod Changes
 pub mod Shape
 pub mod NodeWords

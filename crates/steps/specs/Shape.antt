@@ -14,11 +14,11 @@ use Rattle.input.specs.Bytes.{lt-or-le}
 use Rattle.value.specs.Value.{Label, NoneL, BoolL, I64L, F64L, BytesL, StringL, ListL, TupleL, SetL, FrozenSetL, DictL, GlobalL, ObjectL}
 use Rattle.steps.specs.State.{Node, State, kidless}
 use Rattle.steps.specs.Opcodes.{isTuple, isObject}
-use Rattle.steps.specs.Run.{Next, step, start, run}
+use Rattle.steps.specs.Run.{start, run}
 use Rattle.steps.specs.Out.{Out}
 use Rattle.steps.specs.Effect.{Right, labelled, TakesItems, Effect, same, marked, cut, again, new, grown, built, noted}
-use Rattle.steps.specs.Keeps.{after, step-keeps, run-keeps}
-use Rattle.steps.specs.Tuples.{Changed, stays, longer, stated, changed-label, Changes, effect-changes}
+use Rattle.steps.specs.Keeps.{run-keeps}
+use Rattle.steps.specs.Changes.{Changed, stays, longer, stated, changed-label, Changes, effect-changes}
 
 unfoldable pub Shaped : List Node → Type 0
 Shaped l = (i : ℕ) → i < length l → Right l (getD l i (kidless NoneL) .label) (getD l i (kidless NoneL) .kids)
@@ -117,9 +117,6 @@ shaped-effect s t h (new n st ms lk a b k r d e f g) = shaped-more (s .nodes) n 
 shaped-effect s t h (grown o is st ms a b k g d e) = shaped-all (s .nodes) _ (effect-changes s t (grown o is st ms a b k g d e)) (simp length-set) h
 shaped-effect s t h (built o i st a b c d) = shaped-all (s .nodes) _ (effect-changes s t (built o i st a b c d)) (simp length-set) h
 shaped-effect s t h (noted k i a b) = h
-
-pub step-shaped : (ed : Edition) (s : State) → Shaped (s .nodes) → Out (λ (n : Next). Shaped (after n .nodes)) (step ed s)
-step-shaped = step-keeps (λ (s : State). Shaped (s .nodes)) (λ s i h. h) shaped-effect
 
 pub run-shaped : (ed : Edition) (p : List ℕ) → Out (λ (t : State). Shaped (t .nodes)) (run ed p)
 unfolding start Shaped

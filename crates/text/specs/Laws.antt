@@ -9,8 +9,8 @@ use native.Mathlib.Decide.{decLt}
 use native.Mathlib.Omega.{arith}
 use lib.Arith.{digits-lt}
 use lib.Dec.{leb, ltb, eqb, lit<, lit≤}
-use lib.ListN.{length, getD, take, drop, length-append, length-take, length-drop, drop-of-length-le, List·getD-eq-default}
-use lib.Seq.{drop-cons, drop-drop, length-take-le, getD-take, getD-drop}
+use lib.ListN.{length, getD, take, drop, length-append, length-take, length-drop, drop-of-length-le}
+use lib.Seq.{drop-cons, drop-drop, length-take-le}
 use borrow.Author.Tests.{leb-true, ltb-true, lt-ltb}
 use Rattle.refusal.specs.Read.{Read, got, refused}
 use Rattle.refusal.specs.declared.Refusal.the-variants.{InvalidLiteral}
@@ -349,19 +349,6 @@ string-length line =
     by-cond (λ r. length (bytesOf r) ≤ length line - 2) (hasQuotes line)
     (λ _. omega (arith, inner-length 0 1 (inner line), length-inner line)) (λ _. omega arith)
 
-bytes-part : (n k : ℕ) (l : List ℕ) → Bytes l → Bytes (take n (drop k l))
-bytes-part n k l h i =
-    by-lt i n (λ j. rw (getD-take n (drop k l) i 0 j, getD-drop k l i 0) (h (k + i)))
-    (λ j. rw (List·getD-eq-default (take n (drop k l)) 0 {n = i} (simp length-take (omega arith))) (lit< tt))
-
-pub string-bytes : (line : List ℕ) → Bytes line → Bytes (bytesOf (unescapeString line))
-unfolding unescapeString bytesOf inner byte
-string-bytes line h =
-    by-cond (λ r. Bytes (bytesOf r)) (hasQuotes line)
-    (λ _. texts-all stringHead byte Bytes (λ b t p i. p (suc i)) Bytes bytes-nil bytes-append
-    (λ t p. each (stringHead t) (λ v w e. bytes-cons v [] (e .1 p) bytes-nil) (string-each t)) 0 1 (inner line) (bytes-part (length line - 2) 1 line h))
-    (λ _. bytes-nil)
-
 -- a value of UNICODE is at most twice as long as its line
 pub unicode-length : (line : List ℕ) → Bytes line → length (bytesOf (unescapeUnicode line)) ≤ 2 * length line
 unfolding unescapeUnicode
@@ -371,12 +358,6 @@ unicode-length line h =
       texts-length unicodeHead encode Bytes (λ b t p i. p (suc i)) 2
           (λ t p. each (unicodeHead t) (λ v w e. (e .0, e .1 p .1)) (unicode-each t)) 0 0 line h,
     )
-
-pub unicode-bytes : (line : List ℕ) → Bytes line → Bytes (bytesOf (unescapeUnicode line))
-unfolding unescapeUnicode
-unicode-bytes line h =
-    texts-all unicodeHead encode Bytes (λ b t p i. p (suc i)) Bytes bytes-nil bytes-append
-    (λ t p. each (unicodeHead t) (λ v w e. encode-bytes v (scalar-below v (e .1 p .0))) (unicode-each t)) 0 0 line h
 
 valid-nil : valid [] ≡ true
 unfolding evaluates

@@ -17,8 +17,8 @@ pub record Readable (ws measures : List ℕ) (i : ℕ) : Type 0 where
   pub class : kindIn (first ws i) ≡ 12 → 2 * classIn (first ws i) + 1 < length ws
 
 -- rooms that show the nodes have it
-pub shown-readable : (t : List Node) (h : Kids) (P : ℕ → Type 0) (p d ws starts children log measures : List ℕ) (i : ℕ) → Shown t h P p d ws starts children log measures → i < length t → Readable ws measures i
-shown-readable t h P p d ws starts children log measures i s l =
+pub shown-readable : (t : List Node) (h : Kids) (P : ℕ → Type 0) (p d ws starts sorted log measures : List ℕ) (i : ℕ) → Shown t h P p d ws starts sorted log measures → i < length t → Readable ws measures i
+shown-readable t h P p d ws starts sorted log measures i s l =
     record {
       words = omega (arith, s .words-long);
       measured = omega (arith, s .measures-long);

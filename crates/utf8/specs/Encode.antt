@@ -30,15 +30,6 @@ module _ (c : ℕ) where
   unfolding encode
   encode-four l = rw (le-ltb c 0x80 (omega arith), le-ltb c 0x800 (omega arith), le-ltb c 0x10000 l)
 
-  pub encode-length-two : 0x80 ≤ c → c < 0x800 → length (encode c) ≡ 2
-  encode-length-two l h = rw (encode-two l h)
-
-  pub encode-length-three : 0x800 ≤ c → c < 0x10000 → length (encode c) ≡ 3
-  encode-length-three l h = rw (encode-three l h)
-
-  pub encode-length-four : 0x10000 ≤ c → length (encode c) ≡ 4
-  encode-length-four l = rw (encode-four l)
-
 -- row k of the table has the bytes
 some-at : (p : Row → Bool) (t : List Row) (k : ℕ) → k < length t → p (getD t k []) ≡ true → some p t ≡ true
 unfolding some

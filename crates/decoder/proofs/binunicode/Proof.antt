@@ -3,13 +3,13 @@ use borrow.Author.Needs.{needs}
 use Rattle.decoder.proofs.binunicode.Statement.{statement}
 use Rattle.decoder.proofs.binunicode.Tie as tie
 use native.Mathlib.Omega.{arith}
-use Rattle.decoder.specs.ReadsPickle.{Text, text-found, text-ends, text-push, lent-at, makes-string}
+use Rattle.decoder.specs.ReadsPickle.{TextAt, text-found, text-ends, text-push, lent-at, makes-string}
 use Rattle.steps.specs.Opcodes.{binunicode}
 use Rattle.value.specs.Value.{StringL}
 use Rattle.utf8.specs.Utf8.{repair}
 
 -- the text found
-text : (c : tie.After-at) → let a = c .before .before .before .before .args in Text (a .pickle .now) 4 (a .c .at) (c .at .given .0 .0) (c .at .given .0 .1 .0)
+text : (c : tie.After-at) → let a = c .before .before .before .before .args in TextAt (a .pickle .now) 4 (a .c .at) (c .at .given .0 .0) (c .at .given .0 .1 .0)
 text c = text-found _ _ _ (c .before .before .prefixed .ensures) (c .before .before .before .before .pre) (c .at .given .1)
 
 prefixed-requires : tie.Need-prefixed-requires

@@ -3,14 +3,14 @@ use borrow.Author.Needs.{needs}
 use Rattle.decoder.proofs.float.Statement.{statement}
 use Rattle.decoder.proofs.float.Tie as tie
 use native.Mathlib.Omega.{arith}
-use Rattle.decoder.specs.ReadsPickle.{Ends, line-found, line-ends, line-bad, line-push, makes-f64}
+use Rattle.decoder.specs.ReadsPickle.{LineAt, line-found, line-ends, line-bad, line-push, makes-f64}
 use Rattle.float.specs.Literal.{parseF64}
 use Rattle.value.specs.Value.{F64L}
 use Rattle.steps.specs.Opcodes.{float}
 use Rattle.decoder.proofs.LawsPickle.{float-bits, float-bad, float-outside}
 
 -- where the line ends
-ends : (c : tie.After-end) → let a = c .before .before .before .before .args in Ends (a .pickle .now) (a .c .at) (c .end .given .0 .0)
+ends : (c : tie.After-end) → let a = c .before .before .before .before .args in LineAt (a .pickle .now) (a .c .at) (c .end .given .0 .0)
 ends c = line-found _ _ (c .before .before .newline .ensures) (c .before .before .before .before .pre) (c .end .given .1)
 
 -- the line that was read

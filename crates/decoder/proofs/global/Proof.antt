@@ -5,19 +5,19 @@ use Rattle.decoder.proofs.global.Tie as tie
 use Prim.Native.Nat.{_+_, _<_}
 use native.Mathlib.Omega.{arith}
 use lib.ListN.{length}
-use Rattle.decoder.specs.ReadsPickle.{Ends, line-found}
+use Rattle.decoder.specs.ReadsPickle.{LineAt, line-found}
 use mathlib.Core.Path.{refl}
 use Rattle.decoder.proofs.LawsPickle.{line-size, global-ends, global-cut, global-push}
 
 -- where the line ends
-ends : (c : tie.After-end) → let a = c .before .before .before .before .args in Ends (a .pickle .now) (a .c .at) (c .end .given .0 .0)
+ends : (c : tie.After-end) → let a = c .before .before .before .before .args in LineAt (a .pickle .now) (a .c .at) (c .end .given .0 .0)
 ends c = line-found _ _ (c .before .before .newline .ensures) (c .before .before .before .before .pre) (c .end .given .1)
 
 -- where the second line ends
 abbrev first : tie.After-to → tie.After-end
 first c = c .before .before .before .before
 
-last : (c : tie.After-to) → let a = first c .before .before .before .before .args in Ends (a .pickle .now) (first c .end .given .0 .0 + 1) (c .to .given .0 .0)
+last : (c : tie.After-to) → let a = first c .before .before .before .before .args in LineAt (a .pickle .now) (first c .end .given .0 .0 + 1) (c .to .given .0 .0)
 last c = line-found _ _ (c .before .before .newline2 .ensures) (first c .before .before .before .before .pre) (c .to .given .1)
 
 -- both lines are read

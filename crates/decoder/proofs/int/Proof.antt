@@ -3,13 +3,13 @@ use borrow.Author.Needs.{needs}
 use Rattle.decoder.proofs.int.Statement.{statement}
 use Rattle.decoder.proofs.int.Tie as tie
 use native.Mathlib.Omega.{arith}
-use Rattle.decoder.specs.ReadsPickle.{Ends, line-found, line-ends, line-bad, line-push, makes-bool, makes-i64}
+use Rattle.decoder.specs.ReadsPickle.{LineAt, line-found, line-ends, line-bad, line-push, makes-bool, makes-i64}
 use Rattle.number.specs.Number.{intLiteral}
 use Rattle.steps.specs.Opcodes.{int, intLabel}
 use Rattle.decoder.proofs.LawsPickle.{int-bool, int-whole, int-bad}
 
 -- where the line ends
-ends : (c : tie.After-end) → let a = c .before .before .before .before .args in Ends (a .pickle .now) (a .c .at) (c .end .given .0 .0)
+ends : (c : tie.After-end) → let a = c .before .before .before .before .args in LineAt (a .pickle .now) (a .c .at) (c .end .given .0 .0)
 ends c = line-found _ _ (c .before .before .newline .ensures) (c .before .before .before .before .pre) (c .end .given .1)
 
 -- the line that was read

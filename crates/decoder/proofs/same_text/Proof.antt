@@ -15,7 +15,7 @@ Inv-loop text word at₀ at = (at ≤ length text) × (length text ≡ length wo
 abbrev μ-loop : tie.MeasureT-loop
 μ-loop text word at₀ at = length text - at
 
--- a turn's begin
+-- a turn's beginning
 abbrev start : tie.At-loop Inv-loop μ-loop → tie.Start Inv-loop μ-loop
 start c = c .before .before
 

@@ -3,7 +3,7 @@ use borrow.Author.Needs.{needs}
 use Rattle.decoder.proofs.string.Statement.{statement}
 use Rattle.decoder.proofs.string.Tie as tie
 use native.Mathlib.Omega.{arith}
-use Rattle.decoder.specs.ReadsPickle.{Ends, line-found, line-ends, line-bad, line-push}
+use Rattle.decoder.specs.ReadsPickle.{LineAt, line-found, line-ends, line-bad, line-push}
 use Rattle.text.specs.Text.{unescapeString}
 use Rattle.value.specs.Value.{BytesL}
 use Rattle.steps.specs.Opcodes.{string}
@@ -11,7 +11,7 @@ use Rattle.text.specs.Answers.{quotes-two}
 use Rattle.decoder.proofs.LawsPickle.{line-size, string-plain, string-escaped, string-bad, plain-label, makes-inner, makes-string-line}
 
 -- where the line ends
-ends : (c : tie.After-end) → let a = c .before .before .before .before .args in Ends (a .pickle .now) (a .c .at) (c .end .given .0 .0)
+ends : (c : tie.After-end) → let a = c .before .before .before .before .args in LineAt (a .pickle .now) (a .c .at) (c .end .given .0 .0)
 ends c = line-found _ _ (c .before .before .newline .ensures) (c .before .before .before .before .pre) (c .end .given .1)
 
 -- the line, whose text is measured

@@ -36,10 +36,10 @@ abbrev below : ℕ → In 8 kinds.ps
 below t = and 8 kinds.ps (falls 8 kinds.ps _<_ μ t) reads.Pre
 
 abbrev Inv-loop : lts.InvT-loop
-Inv-loop node levels to starts children log pickle decoded nodes measures₀ table₀ text₀ range from end at lengths next₀ j₀ measures table text next j = (E : Entered pickle decoded nodes starts children log levels (node .0) to measures₀ table₀ text₀) → Turn (E .walk .ready .t) (E .walk .ready .h) (E .walk .ready .v) (node .0) to from measures₀ table₀ text₀ next j measures table text
+Inv-loop node levels to starts sorted log pickle decoded nodes measures₀ table₀ text₀ range from end at lengths next₀ j₀ measures table text next j = (E : Entered pickle decoded nodes starts sorted log levels (node .0) to measures₀ table₀ text₀) → Turn (E .walk .ready .t) (E .walk .ready .h) (E .walk .ready .v) (node .0) to from measures₀ table₀ text₀ next j measures table text
 
 abbrev μ-loop : lts.MeasureT-loop
-μ-loop node levels to starts children log pickle decoded nodes measures₀ table₀ text₀ range from end at lengths next₀ j₀ measures table text next j = end - j
+μ-loop node levels to starts sorted log pickle decoded nodes measures₀ table₀ text₀ range from end at lengths next₀ j₀ measures table text next j = end - j
 
 -- what is known of the calls
 abbrev calls : ℕ → lts.Claims
@@ -84,13 +84,13 @@ module _ (t : ℕ) where
   -- ---- what is known there
 
   abbrev Opens : Start → Type 0
-  Opens s = let a = s .args in Open (a .pickle .now) (a .decoded .now) (a .nodes .now) (a .starts .now) (a .children .now) (a .log .now) (a .levels) (a .node .0) (a .to) (a .measures .now) (a .table .now) (a .text .now)
+  Opens s = let a = s .args in Open (a .pickle .now) (a .decoded .now) (a .nodes .now) (a .starts .now) (a .sorted .now) (a .log .now) (a .levels) (a .node .0) (a .to) (a .measures .now) (a .table .now) (a .text .now)
 
   abbrev opens : (s : Start) → Opens s
   opens s = s .pre .1
 
   abbrev Enters : Classed → Type 0
-  Enters c = let a = start (ranged c) .args in Entered (a .pickle .now) (a .decoded .now) (a .nodes .now) (a .starts .now) (a .children .now) (a .log .now) (a .levels) (a .node .0) (a .to) (a .measures .now) (a .table .now) (c .put-class .last .1 .1 .1 .1 .1 .0)
+  Enters c = let a = start (ranged c) .args in Entered (a .pickle .now) (a .decoded .now) (a .nodes .now) (a .starts .now) (a .sorted .now) (a .log .now) (a .levels) (a .node .0) (a .to) (a .measures .now) (a .table .now) (c .put-class .last .1 .1 .1 .1 .1 .0)
 
   abbrev enters : (c : Classed) → Enters c
   enters c = enter (opens (start (ranged c))) _ _ (c .put-class .ensures)
@@ -100,7 +100,7 @@ module _ (t : ℕ) where
   left c E = turn-left E (c .before .loop .inv E) _ (list (c .before) .range-of .ensures) refl (c .loop-test .taken)
 
   abbrev Ready : Item → Type 0
-  Ready c = let l = head c .loop in let a = start (list (head c)) .args in ReadyNode (a .pickle .now) (a .decoded .now) (a .nodes .now) (a .starts .now) (a .children .now) (a .log .now) (c .item .result) (l .next) (l .measures) (l .table) (l .text)
+  Ready c = let l = head c .loop in let a = start (list (head c)) .args in ReadyNode (a .pickle .now) (a .decoded .now) (a .nodes .now) (a .starts .now) (a .sorted .now) (a .log .now) (c .item .result) (l .next) (l .measures) (l .table) (l .text)
 
   module _ (c : Item) (E : Enters (classed (head c))) where
     item : c .item .result ≡ getD (E .walk .ready .h (start (list (head c)) .args .node .0)) (head c .loop .inv E .k) 0

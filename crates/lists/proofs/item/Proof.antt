@@ -23,13 +23,13 @@ cast-result c = search (needs, c .shared-slice-known .given (c .before .before .
 mul-result-2 : tie.Need-mul-result-2
 mul-result-2 c =
     let e = c .if1 .left in
-    let h : c .before .args .at < length (c .before .args .children .now) = rw e at (c .before .pre) in
+    let h : c .before .args .at < length (c .before .args .sorted .now) = rw e at (c .before .pre) in
     search needs
 
 shared-slice-read-result-2 : tie.Need-shared-slice-read-result-2
 shared-slice-read-result-2 c =
     let e = c .before .if1 .left in
-    let h : c .before .before .args .at < length (c .before .before .args .children .now) = rw e at (c .before .before .pre) in
+    let h : c .before .before .args .at < length (c .before .before .args .sorted .now) = rw e at (c .before .before .pre) in
     search needs
 
 cast-result-2 : tie.Need-cast-result-2

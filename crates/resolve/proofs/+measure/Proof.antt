@@ -41,12 +41,12 @@ abbrev calls : ℕ → lts.Claims
 calls t = (blocked-reads.Asked, blocked-reads.Learnt, own-text-reads.Asked, own-text-reads.Learnt, known-reads.Asked, known-reads.Learnt, below t, reads.Post, most-reads.Asked, most-reads.Learnt, note-reads.Asked, note-reads.Learnt, least-reads.Asked, least-reads.Learnt)
 
 abbrev Inv-loop : lts.InvT-loop
-Inv-loop node levels starts children₀ pickle nodes measures₀ dues₀ n kind at end texts₀ deepest₀ values₀ i₀ children measures dues texts deepest values i =
-    (length children ≡ length children₀) × (length dues ≡ length dues₀) × (length measures ≡ length measures₀) × (values ≤ 1 + 4096 * i) × (texts ≤ 131072 * (i + 1)) × (deepest ≤ 127)
-    × ((I : Entered pickle nodes starts measures₀ children₀ dues₀ n) → Midway I (levels - 1) texts₀ measures children dues deepest values texts i)
+Inv-loop node levels starts sorted₀ pickle nodes measures₀ dues₀ n kind at end texts₀ deepest₀ values₀ i₀ sorted measures dues texts deepest values i =
+    (length sorted ≡ length sorted₀) × (length dues ≡ length dues₀) × (length measures ≡ length measures₀) × (values ≤ 1 + 4096 * i) × (texts ≤ 131072 * (i + 1)) × (deepest ≤ 127)
+    × ((I : Entered pickle nodes starts measures₀ sorted₀ dues₀ n) → Midway I (levels - 1) texts₀ measures sorted dues deepest values texts i)
 
 abbrev μ-loop : lts.MeasureT-loop
-μ-loop node levels starts children₀ pickle nodes measures₀ dues₀ n kind at end texts₀ deepest₀ values₀ i₀ children measures dues texts deepest values i = end - i
+μ-loop node levels starts sorted₀ pickle nodes measures₀ dues₀ n kind at end texts₀ deepest₀ values₀ i₀ sorted measures dues texts deepest values i = end - i
 
 module _ (t : ℕ) where
   -- ---- the places that the needs look back to
@@ -104,7 +104,7 @@ module _ (t : ℕ) where
   -- ---- what is known there
 
   abbrev Open : Start → Type 0
-  Open s = Opens (s .args .pickle .now) (s .args .nodes .now) (s .args .starts .now) (s .args .measures .now) (s .args .children .now) (s .args .dues .now) (s .args .node .0)
+  Open s = Opens (s .args .pickle .now) (s .args .nodes .now) (s .args .starts .now) (s .args .measures .now) (s .args .sorted .now) (s .args .dues .now) (s .args .node .0)
 
   abbrev opens : (s : Start) → Open s
   opens s = s .pre .1 .1
@@ -127,13 +127,13 @@ module _ (t : ℕ) where
   levels c = let l = begin (head c) .pre .1 .0 in (omega (arith, l, c .if2 .left), omega (arith, l))
 
   -- the child is open
-  learnt : (c : lts.After-enum-told2 (calls t) (own t) reads.Post Inv-loop μ-loop) → let k = c .before .before .before .before in let h = head (deeper k) in Learns (begin h .args .pickle .now) (begin h .args .nodes .now) (h .loop .measures) (k .known .last .1 .1 .1 .0) (getD (h .loop .children) (h .loop .i) 0) Seen·Open
+  learnt : (c : lts.After-enum-told2 (calls t) (own t) reads.Post Inv-loop μ-loop) → let k = c .before .before .before .before in let h = head (deeper k) in Learns (begin h .args .pickle .now) (begin h .args .nodes .now) (h .loop .measures) (k .known .last .1 .1 .1 .0) (getD (h .loop .sorted) (h .loop .i) 0) Seen·Open
   learnt c = rw (c .enum-told2 .given .1) at (c .before .before .before .before .known .ensures)
 
   -- what the walk of the child comes to
   abbrev Walked : Measured → Answer → Type 0
   Walked m r = let k = known m in let h = head (deeper k) in let a = begin h .args in
-      Walks (a .pickle .now) (a .nodes .now) (a .starts .now) (a .levels - 1) (getD (h .loop .children) (h .loop .i) 0) (k .known .last .1 .1 .1 .0) (h .loop .children) (h .loop .dues) (m .measure .last .1 .1 .1 .1 .1 .1 .0) (m .measure .last .1 .1 .1 .0) (m .measure .last .1 .1 .1 .1 .1 .1 .1 .0) r
+      Walks (a .pickle .now) (a .nodes .now) (a .starts .now) (a .levels - 1) (getD (h .loop .sorted) (h .loop .i) 0) (k .known .last .1 .1 .1 .0) (h .loop .sorted) (h .loop .dues) (m .measure .last .1 .1 .1 .1 .1 .1 .0) (m .measure .last .1 .1 .1 .0) (m .measure .last .1 .1 .1 .1 .1 .1 .1 .0) r
 
   -- ---- the needs
 
@@ -251,11 +251,11 @@ module _ (t : ℕ) where
       let w = known-deep (enter m) _ (levels d) T i _ _ (rw (c .before .before .k .given .1) at (k .known .ensures)) in
       ends-too m _ (begin h .pre .1 .0 .0) (free (texted h) o) T _ _ _ i (omega (arith, w, c .if3 .taken))
 
-  mul-children : lts.Need-mul-children (calls t) (own t) reads.Post Inv-loop μ-loop
-  mul-children c = let d = deeper (c .before .before .before .before) in let h = head d in omega (arith, open-end (opens (begin h)), d .before .loop-test .taken, h .loop .inv .0, few h)
+  mul-sorted : lts.Need-mul-sorted (calls t) (own t) reads.Post Inv-loop μ-loop
+  mul-sorted c = let d = deeper (c .before .before .before .before) in let h = head d in omega (arith, open-end (opens (begin h)), d .before .loop-test .taken, h .loop .inv .0, few h)
 
-  slice-write-children : lts.Need-slice-write-children (calls t) (own t) reads.Post Inv-loop μ-loop
-  slice-write-children c = let d = deeper (c .before .before .before .before) in let h = head d in omega (arith, open-end (opens (begin h)), d .before .loop-test .taken, h .loop .inv .0)
+  slice-write-sorted : lts.Need-slice-write-sorted (calls t) (own t) reads.Post Inv-loop μ-loop
+  slice-write-sorted c = let d = deeper (c .before .before .before .before) in let h = head d in omega (arith, open-end (opens (begin h)), d .before .loop-test .taken, h .loop .inv .0)
 
   sub-measure : lts.Need-sub-measure (calls t) (own t) reads.Post Inv-loop μ-loop
   sub-measure c = omega (arith, begin (head (deeper (c .before .before .before .before))) .pre .1 .0)
@@ -291,15 +291,15 @@ module _ (t : ℕ) where
       let w = walk-deep (enter m) _ (levels d) T i _ (learnt (x .before .before .before .before)) _ _ _ (subst (Walked x) (c .enum-told3 .given .1) (x .measure .ensures)) in
       ends-too m _ (begin h .pre .1 .0 .0) (free (texted h) o) T _ _ _ i (omega (arith, w, begin h .pre .1 .0))
 
-  mul-children-2 : lts.Need-mul-children-2 (calls t) (own t) reads.Post Inv-loop μ-loop
-  mul-children-2 c =
+  mul-sorted-2 : lts.Need-mul-sorted-2 (calls t) (own t) reads.Post Inv-loop μ-loop
+  mul-sorted-2 c =
       let m = measured (c .before .before) in
       let d = deeper (known m) in
       let h = head d in
       omega (arith, open-end (opens (begin h)), d .before .loop-test .taken, h .loop .inv .0, few h, m .measure .kept .1 .1 .1 .0)
 
-  slice-write-children-2 : lts.Need-slice-write-children-2 (calls t) (own t) reads.Post Inv-loop μ-loop
-  slice-write-children-2 c =
+  slice-write-sorted-2 : lts.Need-slice-write-sorted-2 (calls t) (own t) reads.Post Inv-loop μ-loop
+  slice-write-sorted-2 c =
       let m = measured (c .before .before) in
       let d = deeper (known m) in
       let h = head d in
@@ -325,7 +325,7 @@ module _ (t : ℕ) where
       let h = d .before .loop-test .taken in
       let m = c .before .before .match in
       let kept = n .known .kept .1 .1 .1 .0 in
-      let sizes : (length (m .children) ≡ length (l .children)) × (length (m .dues) ≡ length (l .dues)) × (length (m .measures) ≡ length (l .measures)) =
+      let sizes : (length (m .sorted) ≡ length (l .sorted)) × (length (m .dues) ≡ length (l .dues)) × (length (m .measures) ≡ length (l .measures)) =
       ⊎-elim (λ x. (ap length (x .4), ap length (x .6), ap length (x .5) ∙ kept))
       (⊎-elim (λ x. (ap length (x .2) ∙ simp length-set, ap length (x .4), ap length (x .3) ∙ kept))
       (⊎-elim (λ x. (ap length (x .14) ∙ simp length-set (x .5 .kept .1 .1 .1 .0), ap length (x .16) ∙ x .5 .kept .1 .1 .1 .1 .1 .1 .1 .0, ap length (x .15) ∙ (x .5 .kept .1 .1 .1 .1 .1 .1 .0 ∙ kept)))
@@ -400,8 +400,8 @@ pub +measure-spec : {M : Type 1} → statement M
     (shared-slice-read-end t) (cast-end t) (blocked-requires t) (mul-measures t) (slice-write-measures t) (λ c. search needs) (λ c. simp length-set)
     (returns t) (own-text-requires t) (mul-measures-2 t) (slice-write-measures-2 t) (loop-holds t) (same-length-3 t) (same-length-4 t) (same-length-5 t)
     (returns-2 t) (mul-t40 t) (slice-read-t42 t) (cast-t43 t) (known-requires t) (λ c. search needs) (same-length-6 t) (same-length-7 t)
-    (same-length-8 t) (returns-3 t) (λ c. search needs) (mul-children t) (slice-write-children t) (λ c. search needs) (sub-measure t)
+    (same-length-8 t) (returns-3 t) (λ c. search needs) (mul-sorted t) (slice-write-sorted t) (λ c. search needs) (sub-measure t)
     (measure-requires t) (λ c. search needs) (same-length-9 t) (same-length-10 t) (same-length-11 t) (returns-4 t) (λ c. search needs)
-    (mul-children-2 t) (slice-write-children-2 t) (λ c. search needs) (λ c κs. search needs) (add-values t) (add-texts t) (add-i t) (loop-less t)
+    (mul-sorted-2 t) (slice-write-sorted-2 t) (λ c. search needs) (λ c κs. search needs) (add-values t) (add-texts t) (add-i t) (loop-less t)
     (loop-again t) (note-requires t) (add-w t) (λ c κs. search needs) (mul-w t) (add-w-2 t) (λ c κs. search needs) (mul-w-2 t) (add-w-3 t)
     (mul-measures-3 t) (slice-write-measures-3 t) (same-length-12 t) (same-length-13 t) (same-length-14 t) (returns-5 t)

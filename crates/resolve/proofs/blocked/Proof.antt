@@ -24,7 +24,7 @@ returns-2 : tie.Need-returns-2
 returns-2 c =
     let s = c .before .before .before .before in
     let a = s .args in
-    sym (held-first (a .kind) (a .at) (a .end) (a .children .now) (a .measures .now) (c .before .before .before .if1 .left) (omega arith) (s .pre .0))
+    sym (held-first (a .kind) (a .at) (a .end) (a .sorted .now) (a .measures .now) (c .before .before .before .if1 .left) (omega arith) (s .pre .0))
 
 returns-3 : tie.Need-returns-3
 returns-3 c = sym (held-none _ _ _ _ _ (c .if2 .left))
