@@ -1,10 +1,9 @@
 -- `build::build` meets its contract: the parts that are lent fit, and cleared the rooms are as they were.
-use borrow.Author.Needs.{needs}
 use Rattle.build.proofs.build.Statement.{statement}
 use Rattle.build.proofs.build.Tie as tie
 use mathlib.Core.Path.{_≡_, _∙_}
 use native.Mathlib.Omega.{arith}
-use Prim.Native.Nat.{_+_, _-_, _≤_}
+use Prim.Native.Nat.{_+_, _-_, _≤_, zero-le}
 use lib.ListN.{length}
 use lib.Seq.{length-front}
 use Rattle.build.specs.Building.{stopped, count-few, children-fit, first-zero, rooms-lent, parts-fit, make-begins, build-comes, clear-fits, rooms-back}
@@ -103,6 +102,8 @@ pub build-spec : {M : Type 1} → statement M
 build-spec =
     tie.close
     (tie.spec
-    lay-out-requires (λ c. search needs) (λ c. search needs) part-make-end (λ c. search needs) (λ c. search needs) part-make-end-2 add-make
-    (λ c. search needs) (λ c. search needs) part-make-end-3 make-requires clear-requires same-length same-length-2 (λ c. search needs) (λ c. search needs)
-    same-length-5 same-length-6 same-length-7 (λ c. search needs) (λ c. search needs) returns)
+    lay-out-requires (λ c. zero-le) (λ c. zero-le) part-make-end (λ c. zero-le) (λ c. zero-le) part-make-end-2 add-make
+    (λ c. zero-le) (λ c. zero-le) part-make-end-3 make-requires clear-requires same-length same-length-2
+    (λ c. made (cleared c) .make .kept .1 .1 .1 .1 .1 .1 .1 .1 .1 .0) (λ c. made (cleared c) .make .kept .1 .1 .1 .1 .1 .1 .1 .1 .1 .1 .0)
+    same-length-5 same-length-6 same-length-7
+    (λ c. made (cleared c) .make .kept .1 .1 .1 .1 .1 .1 .1 .1 .1 .1 .1 .0) (λ c. made (cleared c) .make .kept .1 .1 .1 .1 .1 .1 .1 .1 .1 .1 .1 .1 .0) returns)
