@@ -126,19 +126,19 @@ pub fn from_bytes_batch(
         ∷ now (table .exit) ∷ now (text .exit) ∷ []) a ⌝ }
 {
     let short = is_short(
-        nodes,
-        owners,
-        children,
-        stack,
-        marks,
-        keys,
-        held,
-        unescaped,
-        starts,
-        sorted,
-        measures,
-        table,
-        text,
+        nodes.len(),
+        owners.len(),
+        children.len(),
+        stack.len(),
+        marks.len(),
+        keys.len(),
+        held.len(),
+        unescaped.len(),
+        starts.len(),
+        sorted.len(),
+        measures.len(),
+        table.len(),
+        text.len(),
     );
     if short | (lengths.len() > answers.len() / 4) {
         return refused(Refusal::ShortRoom);

@@ -17,10 +17,10 @@ use rooms::zero_shorts;
 use rooms::zero_words;
 use store::Counts;
 ghost use Prim.Native.Nat.{_≤_};
-ghost use mathlib.Core.List.{[], _∷_};
+ghost use mathlib.Core.List.{[], _∷_, map};
 ghost use mathlib.Core.Path.{_≡_};
 ghost use lib.ListN.{length};
-ghost use Rattle.rooms.specs.Stated.{machineLengths, builderLengths, stated, Long, AllZero, Ready, short, blank};
+ghost use Rattle.rooms.specs.Stated.{Slices, machineLengths, builderLengths, stated, Long, AllZero, Ready, short, blank};
 ghost use Rattle.machine.specs.Ran.{countsOf};
 ghost use Rattle.build.specs.Given.{due};
 ghost use Rattle.de.specs.Inner.{Runs, Reads};
@@ -144,42 +144,41 @@ pub fn read(
     a
 }
 
-// Whether one of the slices is shorter than stated.
+// Whether one of the slices is shorter than stated, by the lengths of all.
 pub fn is_short(
-    nodes: &[u64],
-    owners: &[u16],
-    children: &[u16],
-    stack: &[u16],
-    marks: &[u16],
-    keys: &[u32],
-    held: &[u16],
-    unescaped: &[u8],
-    starts: &[u16],
-    sorted: &[u16],
-    measures: &[u64],
-    table: &[u64],
-    text: &[u8],
+    nodes: usize,
+    owners: usize,
+    children: usize,
+    stack: usize,
+    marks: usize,
+    keys: usize,
+    held: usize,
+    unescaped: usize,
+    starts: usize,
+    sorted: usize,
+    measures: usize,
+    table: usize,
+    text: usize,
 ) -> bool
     ensures { λ r.
-        ⌜ r ≡ short stated
-        (now (nodes .entry) ∷ now (owners .entry) ∷ now (children .entry) ∷ now (stack .entry)
-        ∷ now (marks .entry) ∷ now (keys .entry) ∷ now (held .entry)
-        ∷ now (unescaped .entry) ∷ now (starts .entry) ∷ now (sorted .entry) ∷ now (measures .entry)
-        ∷ now (table .entry) ∷ now (text .entry) ∷ []) ⌝ }
+        ⌜ ((slices : Slices) → map length slices
+        ≡ nodes ∷ owners ∷ children ∷ stack ∷ marks ∷ keys ∷ held
+        ∷ unescaped ∷ starts ∷ sorted ∷ measures ∷ table ∷ text ∷ []
+        → r ≡ short stated slices) ⌝ }
 {
-    (nodes.len() < 8192)
-        | (owners.len() < 8192)
-        | (children.len() < 8192)
-        | (stack.len() < 2048)
-        | (marks.len() < 256)
-        | (keys.len() < 2048)
-        | (held.len() < 1024)
-        | (unescaped.len() < 65536)
-        | (starts.len() < 4098)
-        | (sorted.len() < 16384)
-        | (measures.len() < 4096)
-        | (table.len() < 8192)
-        | (text.len() < 65536)
+    (nodes < 8192)
+        | (owners < 8192)
+        | (children < 8192)
+        | (stack < 2048)
+        | (marks < 256)
+        | (keys < 2048)
+        | (held < 1024)
+        | (unescaped < 65536)
+        | (starts < 4098)
+        | (sorted < 16384)
+        | (measures < 4096)
+        | (table < 8192)
+        | (text < 65536)
 }
 
 // The machine's rooms zero up to their stated lengths.
@@ -260,19 +259,19 @@ pub fn reading(
         ∷ now (table .exit) ∷ now (text .exit) ∷ []) a ⌝ }
 {
     if is_short(
-        nodes,
-        owners,
-        children,
-        stack,
-        marks,
-        keys,
-        held,
-        unescaped,
-        starts,
-        sorted,
-        measures,
-        table,
-        text,
+        nodes.len(),
+        owners.len(),
+        children.len(),
+        stack.len(),
+        marks.len(),
+        keys.len(),
+        held.len(),
+        unescaped.len(),
+        starts.len(),
+        sorted.len(),
+        measures.len(),
+        table.len(),
+        text.len(),
     ) {
         return refused(Refusal::ShortRoom);
     }

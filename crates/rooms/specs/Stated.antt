@@ -2,7 +2,7 @@
 -- elements. Slices are a list of their contents in this order, and what is said of all of them goes by the list of lengths.
 use Prim.Native.Nat.{ℕ, suc, zero, _+_, _≤_}
 use mathlib.Core.Bool.{Bool, true, false, cond, _||_, or-false, or-assoc}
-use mathlib.Core.List.{List, [], _∷_, _++_}
+use mathlib.Core.List.{List, [], _∷_, _++_, map}
 use mathlib.Core.Path.{_≡_, refl, sym, _∙_, ap, ap₂, subst}
 use lib.ListN.{length, getD, set, take, drop, replicate, length-append, length-drop, length-replicate, length-set}
 use lib.Seq.{take-at, drop-at, getD-drop, getD-set-same, getD-set-other, set-getD, take-set-le}
@@ -97,13 +97,13 @@ long [] l e = tt
 long (n ∷ ns) [] e = true-false e
 long (n ∷ ns) (s ∷ l) e = let x = neither (ltb (length s) n) (short ns l) e in (ltb-false (length s) n (x .0), long ns l (x .1))
 
--- one slice after the other, as code tests them
-unfoldable pub shortFrom : Bool → List ℕ → Slices → Bool
+-- one length after the other, as code tests them
+unfoldable pub shortFrom : Bool → List ℕ → List ℕ → Bool
 shortFrom b [] l = b
 shortFrom b (n ∷ ns) [] = true
-shortFrom b (n ∷ ns) (s ∷ l) = shortFrom (b || ltb (length s) n) ns l
+shortFrom b (n ∷ ns) (k ∷ l) = shortFrom (b || ltb k n) ns l
 
-pub short-from : (b : Bool) (ns : List ℕ) (l : Slices) → shortFrom b ns l ≡ (b || short ns l)
+pub short-from : (b : Bool) (ns : List ℕ) (l : Slices) → shortFrom b ns (map length l) ≡ (b || short ns l)
 unfolding short shortFrom
 short-from b [] l = sym (or-false b)
 short-from false (n ∷ ns) [] = refl

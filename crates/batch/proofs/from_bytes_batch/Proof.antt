@@ -17,11 +17,14 @@ abbrev lent : tie.Start → Slices
 lent s = s .args .nodes .now ∷ s .args .owners .now ∷ s .args .children .now ∷ s .args .stack .now ∷ s .args .marks .now ∷ s .args .keys .now ∷ s .args .held .now ∷ s .args .unescaped .now ∷ s .args .starts .now ∷ s .args .sorted .now ∷ s .args .measures .now ∷ s .args .table .now ∷ s .args .text .now ∷ []
 
 abbrev start : tie.After-is-short → tie.Start
-start c = c .before .before .before .before .before .before .before .before .before .before .before .before .before .before .before .before .before .before .before .before .before .before .before .before .before .before .before .before .before .before
+start c = c .before .before .before .before .before .before .before .before .before .before .before .before .before .before .before .before .before
+
+told : (c : tie.After-is-short) → c .is-short .result ≡ short stated (lent (start c))
+told c = c .is-short .ensures (lent (start c)) refl
 
 -- enough was lent
 enough : (c : tie.Else1) → (short stated (lent (start (c .before))) || ltb (length (start (c .before) .args .answers .now)) (4 * length (start (c .before) .args .lengths .now))) ≡ false
-enough c = let s = start (c .before) in sym (batch-test (s .args .sheets .now) (s .args .lengths .now) (s .args .answers .now) (lent s) _ (c .before .is-short .ensures)) ∙ c .if1 .left
+enough c = let s = start (c .before) in sym (batch-test (s .args .sheets .now) (s .args .lengths .now) (s .args .answers .now) (lent s) _ (told (c .before))) ∙ c .if1 .left
 
 lent-long : (c : tie.Else1) → short stated (lent (start (c .before))) ≡ false
 lent-long c = let s = start (c .before) in batch-long (s .args .sheets .now) (s .args .lengths .now) (s .args .answers .now) (lent s) (enough c)
@@ -65,7 +68,7 @@ returns : tie.Need-returns
 returns c =
     let i = c .before .before in
     let s = start i in
-    batch-short (s .args .sheets .now) (s .args .lengths .now) (s .args .answers .now) (lent s) _ (sym (batch-test (s .args .sheets .now) (s .args .lengths .now) (s .args .answers .now) (lent s) _ (i .is-short .ensures)) ∙ c .before .if1 .taken) (c .refused .ensures)
+    batch-short (s .args .sheets .now) (s .args .lengths .now) (s .args .answers .now) (lent s) _ (sym (batch-test (s .args .sheets .now) (s .args .lengths .now) (s .args .answers .now) (lent s) _ (told i)) ∙ c .before .if1 .taken) (c .refused .ensures)
 
 returns-2 : tie.Need-returns-2
 returns-2 c =
@@ -86,48 +89,6 @@ read-all-requires c κs =
     let s = begin e in
     (eqb-true (length (s .args .sheets .now)) (sum (s .args .lengths .now)) (adds-up e), (batch-places (s .args .sheets .now) (s .args .lengths .now) (s .args .answers .now) (lent s) (enough (else1 e)), ready (lent s) (zeroed z) (lent-long (else1 e)) (made-zero z)))
 
-same-length-27 : tie.Need-same-length-27
-same-length-27 c = called c .read-all .kept .1 .1 .0
-
-same-length-28 : tie.Need-same-length-28
-same-length-28 c = called c .read-all .kept .1 .1 .1 .0 ∙ machine (builder (called c)) .clear-machine .kept .0
-
-same-length-29 : tie.Need-same-length-29
-same-length-29 c = called c .read-all .kept .1 .1 .1 .1 .0 ∙ machine (builder (called c)) .clear-machine .kept .1 .0
-
-same-length-30 : tie.Need-same-length-30
-same-length-30 c = called c .read-all .kept .1 .1 .1 .1 .1 .0 ∙ machine (builder (called c)) .clear-machine .kept .1 .1 .0
-
-same-length-31 : tie.Need-same-length-31
-same-length-31 c = called c .read-all .kept .1 .1 .1 .1 .1 .1 .0 ∙ machine (builder (called c)) .clear-machine .kept .1 .1 .1 .0
-
-same-length-32 : tie.Need-same-length-32
-same-length-32 c = called c .read-all .kept .1 .1 .1 .1 .1 .1 .1 .0 ∙ machine (builder (called c)) .clear-machine .kept .1 .1 .1 .1 .0
-
-same-length-33 : tie.Need-same-length-33
-same-length-33 c = called c .read-all .kept .1 .1 .1 .1 .1 .1 .1 .1 .0 ∙ machine (builder (called c)) .clear-machine .kept .1 .1 .1 .1 .1 .0
-
-same-length-34 : tie.Need-same-length-34
-same-length-34 c = called c .read-all .kept .1 .1 .1 .1 .1 .1 .1 .1 .1 .0 ∙ machine (builder (called c)) .clear-machine .kept .1 .1 .1 .1 .1 .1 .0
-
-same-length-35 : tie.Need-same-length-35
-same-length-35 c = called c .read-all .kept .1 .1 .1 .1 .1 .1 .1 .1 .1 .1 .0 ∙ builder (called c) .clear-builder .kept .0
-
-same-length-36 : tie.Need-same-length-36
-same-length-36 c = called c .read-all .kept .1 .1 .1 .1 .1 .1 .1 .1 .1 .1 .1 .0 ∙ builder (called c) .clear-builder .kept .1 .0
-
-same-length-37 : tie.Need-same-length-37
-same-length-37 c = called c .read-all .kept .1 .1 .1 .1 .1 .1 .1 .1 .1 .1 .1 .1 .0 ∙ builder (called c) .clear-builder .kept .1 .1 .0
-
-same-length-38 : tie.Need-same-length-38
-same-length-38 c = called c .read-all .kept .1 .1 .1 .1 .1 .1 .1 .1 .1 .1 .1 .1 .1 .0 ∙ builder (called c) .clear-builder .kept .1 .1 .1 .0
-
-same-length-39 : tie.Need-same-length-39
-same-length-39 c = called c .read-all .kept .1 .1 .1 .1 .1 .1 .1 .1 .1 .1 .1 .1 .1 .1 .0
-
-same-length-40 : tie.Need-same-length-40
-same-length-40 c = called c .read-all .kept .1 .1 .1 .1 .1 .1 .1 .1 .1 .1 .1 .1 .1 .1 .1 .0
-
 returns-3 : tie.Need-returns-3
 returns-3 c =
     let r = called c .read-all in
@@ -140,8 +101,19 @@ pub from-bytes-batch-spec : {M : Type 1} → statement M
 from-bytes-batch-spec =
     tie.close
     (tie.spec
-    (λ c κs. tt) (λ c κs. tt) (λ c. refl) (λ c. refl) (λ c. refl) (λ c. refl) (λ c. refl) (λ c. refl) (λ c. refl) (λ c. refl) (λ c. refl) (λ c. refl)
-    (λ c. refl) (λ c. refl) (λ c. refl) returns (λ c κs. tt) (λ c. refl) (λ c. refl) (λ c. refl) (λ c. refl) (λ c. refl) (λ c. refl) (λ c. refl)
-    (λ c. refl) (λ c. refl) (λ c. refl) (λ c. refl) (λ c. refl) (λ c. refl) returns-2 clear-machine-requires clear-builder-requires read-all-requires
-    same-length-27 same-length-28 same-length-29 same-length-30 same-length-31 same-length-32 same-length-33 same-length-34 same-length-35 same-length-36
-    same-length-37 same-length-38 same-length-39 same-length-40 returns-3)
+    (λ c κs. tt) (λ c κs. tt) returns (λ c κs. tt) returns-2 clear-machine-requires clear-builder-requires read-all-requires
+    (λ c. called c .read-all .kept .1 .1 .0)
+    (λ c. called c .read-all .kept .1 .1 .1 .0 ∙ machine (builder (called c)) .clear-machine .kept .0)
+    (λ c. called c .read-all .kept .1 .1 .1 .1 .0 ∙ machine (builder (called c)) .clear-machine .kept .1 .0)
+    (λ c. called c .read-all .kept .1 .1 .1 .1 .1 .0 ∙ machine (builder (called c)) .clear-machine .kept .1 .1 .0)
+    (λ c. called c .read-all .kept .1 .1 .1 .1 .1 .1 .0 ∙ machine (builder (called c)) .clear-machine .kept .1 .1 .1 .0)
+    (λ c. called c .read-all .kept .1 .1 .1 .1 .1 .1 .1 .0 ∙ machine (builder (called c)) .clear-machine .kept .1 .1 .1 .1 .0)
+    (λ c. called c .read-all .kept .1 .1 .1 .1 .1 .1 .1 .1 .0 ∙ machine (builder (called c)) .clear-machine .kept .1 .1 .1 .1 .1 .0)
+    (λ c. called c .read-all .kept .1 .1 .1 .1 .1 .1 .1 .1 .1 .0 ∙ machine (builder (called c)) .clear-machine .kept .1 .1 .1 .1 .1 .1 .0)
+    (λ c. called c .read-all .kept .1 .1 .1 .1 .1 .1 .1 .1 .1 .1 .0 ∙ builder (called c) .clear-builder .kept .0)
+    (λ c. called c .read-all .kept .1 .1 .1 .1 .1 .1 .1 .1 .1 .1 .1 .0 ∙ builder (called c) .clear-builder .kept .1 .0)
+    (λ c. called c .read-all .kept .1 .1 .1 .1 .1 .1 .1 .1 .1 .1 .1 .1 .0 ∙ builder (called c) .clear-builder .kept .1 .1 .0)
+    (λ c. called c .read-all .kept .1 .1 .1 .1 .1 .1 .1 .1 .1 .1 .1 .1 .1 .0 ∙ builder (called c) .clear-builder .kept .1 .1 .1 .0)
+    (λ c. called c .read-all .kept .1 .1 .1 .1 .1 .1 .1 .1 .1 .1 .1 .1 .1 .1 .0)
+    (λ c. called c .read-all .kept .1 .1 .1 .1 .1 .1 .1 .1 .1 .1 .1 .1 .1 .1 .1 .0)
+    returns-3)
