@@ -4,9 +4,13 @@ use Rattle.produce.proofs.settle_all.Statement.{statement}
 use Rattle.produce.proofs.settle_all.Tie as tie
 use mathlib.Core.Path.{_≡_}
 use lib.ListN.{length}
+use native.Mathlib.Nat.{le-refl}
 use Rattle.produce.specs.Steps.{arranges, most-few, list-begins, list-fits, list-again}
 
--- from the settling back to the beginning
+-- from the end back to the settling, and to the beginning
+abbrev settled : tie.After-slice-known9 → tie.After-settle
+settled c = c .before .before .before .before .before .before .before .before .before .before .before .before .before
+
 abbrev start : tie.After-settle → tie.Start
 start c = c .before .before .before .before .before .before .before .before .before .before .before .before .before .before
 
@@ -28,22 +32,13 @@ clear-ints-requires c κs = let d = c .before .before .before .before .before .b
 
 returns : tie.Need-returns
 returns c =
-    let d = c .before .before .before .before .before .before .before .before .before .before .before .before .before in
+    let d = settled c in
     (arranges (start d .pre .0) (d .settle .ensures), list-again (start d .pre .0) (d .settle .ensures) (start d .pre .1) (same d) _ (c .before .before .clear-ints .ensures))
 
 pub settle-all-spec : {M : Type 1} → statement M
 settle-all-spec =
     tie.close
     (tie.spec
-    (λ c κs. search needs)
-    sub-begin
-    (λ c. search needs)
-    sub-clear-ints
-    part-clear-ints-start
-    (λ c. search needs)
+    (λ c κs. c .before .before .before .before .before .before .before .before .before .before .before .before .before .pre .0) sub-begin (λ c. search needs) sub-clear-ints part-clear-ints-start (λ c. le-refl _)
     clear-ints-requires
-    (λ c. search needs)
-    (λ c. search needs)
-    (λ c. search needs)
-    (λ c. search needs)
-    returns)
+    (λ c. settled c .settle .kept .1 .1 .0) (λ c. settled c .settle .kept .1 .1 .1 .0) (λ c. settled c .settle .kept .1 .1 .1 .1 .1 .1 .1 .0) (λ c. search needs) returns)
