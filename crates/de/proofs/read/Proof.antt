@@ -1,6 +1,5 @@
 -- `de::read` meets its contract: 2, or the run, its answer, and what was used cleared. Assumes nothing.
-use borrow.Author.Needs.{needs}
-use Prim.Native.Nat.{_*_}
+use Prim.Native.Nat.{_*_, zero-le}
 use mathlib.Core.List.{[], _∷_}
 use mathlib.Core.Path.{_≡_, refl, _∙_, ap}
 use native.Mathlib.Omega.{arith}
@@ -8,7 +7,7 @@ use lib.Seq.{length-front}
 use Rattle.rooms.specs.Stated.{Slices, roomLengths, AllZero, filled, same, rooms-zero}
 use Rattle.store.specs.declared.Counts.{Counts}
 use Rattle.machine.specs.Ran.{countsOf}
-use Rattle.de.specs.Inner.{reads-long, back-fits, back-again, part-fits, part-cleared, machine-zero, working}
+use Rattle.de.specs.Inner.{Runs, reads-long, back-fits, back-again, part-fits, part-cleared, machine-zero, working}
 use Rattle.de.proofs.read.Statement.{statement}
 use Rattle.de.proofs.read.Tie as tie
 
@@ -27,6 +26,9 @@ fits c = c .before .before .before .before .before .before .before .before .befo
 -- the run's end
 abbrev start : tie.After-run-in → tie.Start
 start c = fits (c .before .before .before .before .before .before .before .before)
+
+abbrev left : (c : tie.After-run-in) → Runs (start c .args .edition) (c .run-in .result) (start c .args .pickle .now) (start c .args .nodes .now) (start c .args .owners .now) (start c .args .children .now) (start c .args .stack .now) (start c .args .marks .now) (c .run-in .last .1 .1 .0) (c .run-in .last .1 .1 .1 .0) (c .run-in .last .1 .1 .1 .1 .0) (c .run-in .last .1 .1 .1 .1 .1 .0) (c .run-in .last .1 .1 .1 .1 .1 .1 .0)
+left c = c .run-in .ensures .0
 
 -- the answer's
 abbrev run : tie.After-answer → tie.After-run-in
@@ -127,32 +129,28 @@ same-length-13 c = told c .answer .kept .1 .1 .1 .1 .1 .1 .1 .1 .1 .1 .1 .1 .1 .
 returns-2 : tie.Need-returns-2
 unfolding filled
 returns-2 c =
-    let k = ended c in
-    let s = start (ran c) in
-    let r = ran c .run-in .ensures .0 in
-    let a = told c .answer .ensures in
     record {
-      answer = a .0 .answer;
-      slices = same (back-again (r .nodes-back) _ (ap (λ (x : Counts). 2 * x .nodes) (counted k)) _ (c .before .before .before .before .before .before .before .before .before .before .clear-words .ensures))
-          (same (part-cleared 8192 (s .args .owners .now) (zero s .1 .0) (ran c .run-in .last .1 .1 .1 .0) (told c .answer .last .1 .1 .1 .1 .1 .1 .0) (ran c .run-in .kept .1 .1 .1 .0) (r .owners-behind) (a .1 .0 .0))
-          (same (part-cleared 8192 (s .args .children .now) (zero s .1 .1 .0) (ran c .run-in .last .1 .1 .1 .1 .0) (told c .answer .last .1 .1 .1 .1 .1 .1 .1 .0) (ran c .run-in .kept .1 .1 .1 .1 .0) (r .children-behind) (a .1 .0 .1))
-          (same (back-again (r .stack-back) _ (ap (λ (x : Counts). x .deepest) (counted k)) _ (c .before .before .before .before .before .before .clear-shorts .ensures))
-          (same (back-again (r .marks-back) _ (ap (λ (x : Counts). x .most) (counted k)) _ (c .before .before .clear-shorts2 .ensures))
-          (same (a .1 .1 .0 ∙ ran c .run-in .ensures .1 .0)
+      answer = told c .answer .ensures .0 .answer;
+      slices = same (back-again (left (ran c) .nodes-back) _ (ap (λ (x : Counts). 2 * x .nodes) (counted (ended c))) _ (c .before .before .before .before .before .before .before .before .before .before .clear-words .ensures))
+          (same (part-cleared 8192 (start (ran c) .args .owners .now) (zero (start (ran c)) .1 .0) (ran c .run-in .last .1 .1 .1 .0) (told c .answer .last .1 .1 .1 .1 .1 .1 .0) (ran c .run-in .kept .1 .1 .1 .0) (left (ran c) .owners-behind) (told c .answer .ensures .1 .0 .0))
+          (same (part-cleared 8192 (start (ran c) .args .children .now) (zero (start (ran c)) .1 .1 .0) (ran c .run-in .last .1 .1 .1 .1 .0) (told c .answer .last .1 .1 .1 .1 .1 .1 .1 .0) (ran c .run-in .kept .1 .1 .1 .1 .0) (left (ran c) .children-behind) (told c .answer .ensures .1 .0 .1))
+          (same (back-again (left (ran c) .stack-back) _ (ap (λ (x : Counts). x .deepest) (counted (ended c))) _ (c .before .before .before .before .before .before .clear-shorts .ensures))
+          (same (back-again (left (ran c) .marks-back) _ (ap (λ (x : Counts). x .most) (counted (ended c))) _ (c .before .before .clear-shorts2 .ensures))
+          (same (told c .answer .ensures .1 .1 .0 ∙ ran c .run-in .ensures .1 .0)
           (same (ran c .run-in .ensures .1 .1)
-          (same (a .1 .1 .1)
-          (same (a .1 .1 .2)
-          (same (a .1 .1 .3)
-          (same (a .1 .1 .4)
-          (same (a .0 .table-is)
-          (same (a .0 .text-is) refl))))))))))));
+          (same (told c .answer .ensures .1 .1 .1)
+          (same (told c .answer .ensures .1 .1 .2)
+          (same (told c .answer .ensures .1 .1 .3)
+          (same (told c .answer .ensures .1 .1 .4)
+          (same (told c .answer .ensures .0 .table-is)
+          (same (told c .answer .ensures .0 .text-is) refl))))))))))));
     }
 
 pub read-spec : {M : Type 1} → statement M
 read-spec =
     tie.close
     (tie.spec
-    (λ c κs. search needs) returns run-in-requires (λ c. omega arith) (λ c. omega arith) part-answer-end (λ c. omega arith) (λ c. omega arith) part-answer-end-2 (λ c. omega arith)
-    (λ c. omega arith) part-answer-end-3 (λ c. omega arith) (λ c. omega arith) part-answer-end-4 answer-requires (λ c κs. search needs) mul-clear-words
+    (λ c κs. tt) returns run-in-requires (λ c. zero-le) (λ c. zero-le) part-answer-end (λ c. zero-le) (λ c. zero-le) part-answer-end-2 (λ c. zero-le)
+    (λ c. zero-le) part-answer-end-3 (λ c. zero-le) (λ c. zero-le) part-answer-end-4 answer-requires (λ c κs. tt) mul-clear-words
     clear-words-requires clear-shorts-requires clear-shorts-requires-2 same-length same-length-2 same-length-3 same-length-4 same-length-5 same-length-6
     same-length-7 same-length-8 same-length-9 same-length-10 same-length-11 same-length-12 same-length-13 returns-2)

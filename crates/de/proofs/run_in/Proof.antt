@@ -1,8 +1,7 @@
 -- `de::run_in` meets its contract: the parts that are lent are put back, and the memo is cleared. Assumes nothing.
-use borrow.Author.Needs.{needs}
+use Prim.Native.Nat.{zero-le}
 use mathlib.Core.List.{_++_}
 use mathlib.Core.Path.{_∙_, ap}
-use native.Mathlib.Omega.{arith}
 use lib.ListN.{drop}
 use lib.Seq.{length-front}
 use Rattle.store.specs.declared.Counts.{Counts}
@@ -90,7 +89,7 @@ pub run-in-spec : {M : Type 1} → statement M
 run-in-spec =
     tie.close
     (tie.spec
-    (λ c. omega arith) (λ c. omega arith) part-run-end (λ c. omega arith) (λ c. omega arith) part-run-end-2 (λ c. omega arith) (λ c. omega arith)
-    part-run-end-3 (λ c. omega arith) (λ c. omega arith) part-run-end-4 (λ c. omega arith) (λ c. omega arith) part-run-end-5 (λ c. omega arith)
-    (λ c. omega arith) part-run-end-6 (λ c. omega arith) (λ c. omega arith) part-run-end-7 run-requires (λ c κs. search needs) clear-ints-requires
+    (λ c. zero-le) (λ c. zero-le) part-run-end (λ c. zero-le) (λ c. zero-le) part-run-end-2 (λ c. zero-le) (λ c. zero-le)
+    part-run-end-3 (λ c. zero-le) (λ c. zero-le) part-run-end-4 (λ c. zero-le) (λ c. zero-le) part-run-end-5 (λ c. zero-le)
+    (λ c. zero-le) part-run-end-6 (λ c. zero-le) (λ c. zero-le) part-run-end-7 run-requires (λ c κs. tt) clear-ints-requires
     clear-shorts-requires same-length same-length-2 same-length-3 same-length-4 same-length-5 same-length-6 same-length-7 returns)
