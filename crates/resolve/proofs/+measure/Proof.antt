@@ -1,6 +1,8 @@
 -- `resolve::measure` meets its contract. Each call has a level less. The loop's invariant: whatever state of a walk the rooms held where the
 -- loop begins, they are in the midst of its turns now.
-use Prim.Native.Nat.{ℕ, _+_, _-_, _*_, _≤_, _<_}
+use Prim.Native.Nat.{ℕ, _+_, _-_, _*_, _/_, _%_, _≤_, _<_, min, max}
+use mir.Val.{Fits}
+use mir.Syntax.{w64}
 use borrow.Fn.Kinds.{In}
 use borrow.Fn.PlainCycle.{Measures, is, falls, and}
 use Rattle.resolve.proofs.measure.Reads as reads
@@ -19,13 +21,19 @@ use mathlib.Core.Bool.{false}
 use mathlib.Core.Path.{_≡_, refl, subst, _∙_, ap}
 use mathlib.Core.Logic.{⊎-elim}
 use native.Mathlib.Omega.{arith}
-use lib.ListN.{length, length-set, getD}
+use mathlib.Core.List.{List}
+use lib.ListN.{length, length-set, getD, set}
 use Rattle.reading.specs.Build.{blocked}
 use Rattle.resolve.specs.Known.{Learns}
-use Rattle.resolve.specs.declared.Seen.the-variants.{Open as Seen·Open}
+use Rattle.resolve.specs.declared.Seen.{Seen}
+use Rattle.resolve.specs.declared.Seen.the-variants as seen
 use Rattle.resolve.specs.declared.Answer.{Answer}
+use Rattle.resolve.specs.declared.Answer.the-variants as answer
+use Rattle.resolve.specs.Class.{Owns}
+use Rattle.resolve.specs.Word.{deepW, valuesW, textsW}
 use Rattle.resolve.specs.Loop.{Entered, Midway, mid-start, mid-room}
-use Rattle.resolve.specs.Ends.{Opens, Walks, open-free, moved, own-len, open-words, open-starts, open-measured, open-owned, enter, ends-blocked, ends-too, ends-done, known-deep, known-word, known-empty, known-open, walk-deep, walk-word, walk-empty, child-at, open-end, open-first, join}
+use Rattle.resolved.specs.Walk.{walk}
+use Rattle.resolve.specs.Ends.{Opens, Ends, Walks, open-free, moved, own-len, open-words, open-starts, open-measured, open-owned, enter, ends-blocked, ends-too, ends-done, known-deep, known-word, known-empty, known-open, walk-deep, walk-word, walk-empty, child-at, open-end, open-first, join}
 
 abbrev μ : Measures 6 kinds.ps ℕ
 μ κs a = a .1 .0
@@ -47,6 +55,127 @@ Inv-loop node levels starts sorted₀ pickle nodes measures₀ dues₀ n kind at
 
 abbrev μ-loop : lts.MeasureT-loop
 μ-loop node levels starts sorted₀ pickle nodes measures₀ dues₀ n kind at end texts₀ deepest₀ values₀ i₀ sorted measures dues texts deepest values i = end - i
+
+-- ---- a turn of the loop, over plain lists: so that a need names the facts of its place and nothing else
+
+-- node n is entered, whatever it was, and its own text measured; the loop has come to child i, which is there
+record Turn (p ws starts measures sorted room : List ℕ) (n levels : ℕ) (after : List ℕ) (len : ℕ) (ms ss rs : List ℕ) (deepest values texts i : ℕ) : Type 0 where
+  owns : Owns p ws measures after n len
+  midway : (I : Entered p ws starts (set after n 1) sorted room n) → Midway I (levels - 1) len ms ss rs deepest values texts i
+  child : i < getD starts (n + 1) 0
+  level : 1 ≤ levels
+
+module _ {p ws starts measures sorted room : List ℕ} {n levels : ℕ} {after : List ℕ} {len : ℕ} {ms ss rs : List ℕ} {deepest values texts i : ℕ} (T : Turn p ws starts measures sorted room n levels after len ms ss rs deepest values texts i) where
+  module _ (o : Opens p ws starts measures sorted room n) where
+    abbrev moves : Opens p ws starts after sorted room n
+    moves = moved o after len (T .owns)
+
+    abbrev into : Entered p ws starts (set after n 1) sorted room n
+    into = enter moves
+
+    -- the child is a node, and its measure is in the room
+    child-node : (getD ss i 0 < length (o .nodes)) × (getD ss i 0 < length ms)
+    child-node = let e = child-at into (levels - 1) (T .midway into) (T .child) in (e, omega (arith, e, T .midway into .holds .fits .noted .long))
+
+  -- the turn is done: d is the depth so far, and the sums go by the word w
+  record Done (ms′ ss′ rs′ : List ℕ) (w d : ℕ) : Type 0 where
+    sorted-long : length ss′ ≡ length ss
+    dues-long : length rs′ ≡ length rs
+    measures-long : length ms′ ≡ length ms
+    next : (I : Entered p ws starts (set after n 1) sorted room n) → Midway I (levels - 1) len ms′ ss′ rs′ d (values + valuesW w) (texts + textsW w) (i + 1)
+
+  -- what is learnt of the child, for which a level is left
+  module _ (left : (1 ≤ levels - 1) × (levels - 1 ≤ 64)) (ms₁ : List ℕ) (a : Seen) (learns : Learns p ws ms ms₁ (getD ss i 0) a) where
+    learns-as : (b : Seen) → a ≡ b → Learns p ws ms ms₁ (getD ss i 0) b
+    learns-as b e = subst (Learns p ws ms ms₁ (getD ss i 0)) e learns
+
+    to-walk : a ≡ seen.Open → Opens p ws starts measures sorted room n → Opens p ws starts ms₁ ss rs (getD ss i 0)
+    to-walk e o = known-open (into o) (levels - 1) left (T .midway (into o)) (T .child) ms₁ (learns-as seen.Open e)
+
+    module _ (kept : length ms₁ ≡ length ms) (ms′ ss′ rs′ : List ℕ) (w d : ℕ) (most : d ≡ max deepest (deepW w)) where
+      word-known : (v : ℕ) → a ≡ seen.Word v → deepW v < levels → ss′ ≡ ss → ms′ ≡ ms₁ → rs′ ≡ rs → w ≡ v → Done ms′ ss′ rs′ w d
+      word-known v e l f g k x =
+          record {
+            sorted-long = ap length f;
+            dues-long = ap length k;
+            measures-long = ap length g ∙ kept;
+            next = λ I. join I _ _ _ _ _ _ _ _ _ _ _ _ _ _ _ g f k x most (known-word I (levels - 1) left (T .midway I) (T .child) ms₁ v (learns-as (seen.Word v) e) (omega arith));
+          }
+
+      empty-known : a ≡ seen.Empty → ss′ ≡ set ss i 4096 → ms′ ≡ ms₁ → rs′ ≡ rs → w ≡ 129 → Done ms′ ss′ rs′ w d
+      empty-known e f g k x =
+          record {
+            sorted-long = ap length f ∙ simp length-set;
+            dues-long = ap length k;
+            measures-long = ap length g ∙ kept;
+            next = λ I. join I _ _ _ _ _ _ _ _ _ _ _ _ _ _ _ g f k x most (known-empty I (levels - 1) left (T .midway I) (T .child) ms₁ (learns-as seen.Empty e));
+          }
+
+      -- the child is walked
+      module _ (ms₂ ss₂ rs₂ : List ℕ) (r : Answer) (walks : Walks p ws starts (levels - 1) (getD ss i 0) ms₁ ss rs ms₂ ss₂ rs₂ r) (fresh : a ≡ seen.Open)
+          (kept-ms : length ms₂ ≡ length ms₁) (kept-ss : length ss₂ ≡ length ss) (kept-rs : length rs₂ ≡ length rs) where
+        walked : (b : Answer) → r ≡ b → Walks p ws starts (levels - 1) (getD ss i 0) ms₁ ss rs ms₂ ss₂ rs₂ b
+        walked b f = subst (Walks p ws starts (levels - 1) (getD ss i 0) ms₁ ss rs ms₂ ss₂ rs₂) f walks
+
+        word-walked : (v : ℕ) → r ≡ answer.Word v → ss′ ≡ ss₂ → ms′ ≡ ms₂ → rs′ ≡ rs₂ → w ≡ v → Done ms′ ss′ rs′ w d
+        word-walked v q f g k x =
+            record {
+              sorted-long = ap length f ∙ kept-ss;
+              dues-long = ap length k ∙ kept-rs;
+              measures-long = ap length g ∙ kept-ms ∙ kept;
+              next = λ I. join I _ _ _ _ _ _ _ _ _ _ _ _ _ _ _ g f k x most (walk-word I (levels - 1) left (T .midway I) (T .child) ms₁ (learns-as seen.Open fresh) ms₂ ss₂ rs₂ v (walked (answer.Word v) q));
+            }
+
+        empty-walked : r ≡ answer.Empty → ss′ ≡ set ss₂ i 4096 → ms′ ≡ ms₂ → rs′ ≡ rs₂ → w ≡ 129 → Done ms′ ss′ rs′ w d
+        empty-walked q f g k x =
+            record {
+              sorted-long = ap length f ∙ simp length-set kept-ss;
+              dues-long = ap length k ∙ kept-rs;
+              measures-long = ap length g ∙ kept-ms ∙ kept;
+              next = λ I. join I _ _ _ _ _ _ _ _ _ _ _ _ _ _ _ g f k x most (walk-empty I (levels - 1) left (T .midway I) (T .child) ms₁ (learns-as seen.Open fresh) ms₂ ss₂ rs₂ (walked answer.Empty q));
+            }
+
+  -- the child is too deep
+  module _ (o : Opens p ws starts measures sorted room n) (free : blocked (o .nodes) (o .state .stages) n ≡ false) (ms′ ss′ rs′ : List ℕ) where
+    abbrev Deep : Type 0
+    Deep = Ends (o .nodes) (o .facts .beyond) starts (o .lent) levels n (walk (o .nodes) 4096 levels n (o .state)) ms′ ss′ rs′ answer.TooDeep
+
+    level-out : levels ≡ 1 → Deep
+    level-out e = ends-too (moves o) levels (T .level) free (T .midway (into o)) ms′ ss′ rs′ (T .child) (omega arith)
+
+    module _ (left : (1 ≤ levels - 1) × (levels - 1 ≤ 64)) (ms₁ : List ℕ) (a : Seen) (learns : Learns p ws ms ms₁ (getD ss i 0) a) where
+      word-deep : (v : ℕ) → a ≡ seen.Word v → levels ≤ deepW v → Deep
+      word-deep v e l =
+          let w = known-deep (into o) (levels - 1) left (T .midway (into o)) (T .child) ms₁ v (learns-as left ms₁ a learns (seen.Word v) e) in
+          ends-too (moves o) levels (T .level) free (T .midway (into o)) ms′ ss′ rs′ (T .child) (omega (arith, w))
+
+      walk-too : (ms₂ ss₂ rs₂ : List ℕ) (r : Answer) → Walks p ws starts (levels - 1) (getD ss i 0) ms₁ ss rs ms₂ ss₂ rs₂ r → a ≡ seen.Open → r ≡ answer.TooDeep → Deep
+      walk-too ms₂ ss₂ rs₂ r b e q =
+          let w = walk-deep (into o) (levels - 1) left (T .midway (into o)) (T .child) ms₁ (learns-as left ms₁ a learns seen.Open e) ms₂ ss₂ rs₂ (subst (Walks p ws starts (levels - 1) (getD ss i 0) ms₁ ss rs ms₂ ss₂ rs₂) q b) in
+          ends-too (moves o) levels (T .level) free (T .midway (into o)) ms′ ss′ rs′ (T .child) (omega (arith, w, left))
+
+-- the sums so far stay small: w is a word, of which x and y are the higher parts
+sums : (values x texts y i deepest w d : ℕ) → values ≤ 1 + 4096 * i → texts ≤ 131072 * (i + 1) → deepest ≤ 127 → d ≡ max deepest (w % 128)
+    → (values + x % 4096 ≤ 1 + 4096 * (i + 1)) × (texts + y % 131072 ≤ 131072 * (i + 1 + 1)) × (d ≤ 127)
+sums values x texts y i deepest w d a b e f = (omega arith, omega arith, omega arith)
+
+fits-values : (values x i end : ℕ) → values ≤ 1 + 4096 * i → i < end → end < 65536 → Fits w64 (values + x % 4096)
+fits-values values x i end a b e = omega arith
+
+fits-texts : (texts x i end : ℕ) → texts ≤ 131072 * (i + 1) → i < end → end < 65536 → Fits w64 (texts + x % 131072)
+fits-texts texts x i end a b e = omega arith
+
+fits-next : (i end : ℕ) → i < end → end < 65536 → Fits w64 (i + 1)
+fits-next i end a b = omega arith
+
+falls-by-one : (i end : ℕ) → i < end → end - (i + 1) < end - i
+falls-by-one i end a = omega arith
+
+fits-texted : (texts r : ℕ) → r ≡ min texts 65537 → Fits w64 (524288 * r)
+fits-texted texts r a = omega arith
+
+fits-word : (deepest values texts v r : ℕ) → deepest ≤ 127 → v ≡ min values 2049 → r ≡ min texts 65537 → Fits w64 (deepest + 1 + 128 * v + 524288 * r)
+fits-word deepest values texts v r a b e = omega arith
 
 module _ (t : ℕ) where
   -- ---- the places that the needs look back to
@@ -122,18 +251,37 @@ module _ (t : ℕ) where
   measures-long : (c : Head) → length (c .loop .measures) ≡ length (begin c .args .measures .now)
   measures-long c = c .loop .inv .2 ∙ simp length-set (texted c .own-text .kept .1 .1 .1 .1 .0)
 
+  -- the loop has come to a child
+  turn : (c : lts.In-loop (calls t) (own t) reads.Post Inv-loop μ-loop) → let h = c .before in let a = begin h .args in let x = texted h .own-text in
+      Turn (a .pickle .now) (a .nodes .now) (a .starts .now) (a .measures .now) (a .sorted .now) (a .dues .now) (a .node .0) (a .levels) (x .last .1 .1 .1 .1 .0) (x .result) (h .loop .measures) (h .loop .sorted) (h .loop .dues) (h .loop .deepest) (h .loop .values) (h .loop .texts) (h .loop .i)
+  turn c = let h = c .before in record { owns = texted h .own-text .ensures; midway = h .loop .inv .6; child = c .loop-test .taken; level = begin h .pre .1 .0 .0 }
+
+  -- the measures after the child is looked up
+  abbrev looked : Known → List ℕ
+  looked k = k .known .last .1 .1 .1 .0
+
+  learns : (k : Known) → let h = head (deeper k) in let a = begin h .args in
+      Learns (a .pickle .now) (a .nodes .now) (h .loop .measures) (looked k) (getD (h .loop .sorted) (h .loop .i) 0) (k .known .result)
+  learns k = k .known .ensures
+
   -- the child's levels
   levels : (c : Deeper) → (1 ≤ begin (head c) .args .levels - 1) × (begin (head c) .args .levels - 1 ≤ 64)
   levels c = let l = begin (head c) .pre .1 .0 in (omega (arith, l, c .if2 .left), omega (arith, l))
 
-  -- the child is open
-  learnt : (c : lts.After-enum-told2 (calls t) (own t) reads.Post Inv-loop μ-loop) → let k = c .before .before .before .before in let h = head (deeper k) in Learns (begin h .args .pickle .now) (begin h .args .nodes .now) (h .loop .measures) (k .known .last .1 .1 .1 .0) (getD (h .loop .sorted) (h .loop .i) 0) Seen·Open
-  learnt c = rw (c .enum-told2 .given .1) at (c .before .before .before .before .known .ensures)
-
-  -- what the walk of the child comes to
-  abbrev Walked : Measured → Answer → Type 0
-  Walked m r = let k = known m in let h = head (deeper k) in let a = begin h .args in
-      Walks (a .pickle .now) (a .nodes .now) (a .starts .now) (a .levels - 1) (getD (h .loop .sorted) (h .loop .i) 0) (k .known .last .1 .1 .1 .0) (h .loop .sorted) (h .loop .dues) (m .measure .last .1 .1 .1 .1 .1 .1 .0) (m .measure .last .1 .1 .1 .0) (m .measure .last .1 .1 .1 .1 .1 .1 .1 .0) r
+  -- where the arms of a turn meet
+  arms : (c : lts.After-row-known (calls t) (own t) reads.Post Inv-loop μ-loop) (d : ℕ) → d ≡ max (head (deeper (c .before .before .before .before)) .loop .deepest) (deepW (c .before .match .w))
+      → let m = c .before .match in Done (turn (deeper (c .before .before .before .before) .before)) (m .measures) (m .sorted) (m .dues) (m .w) d
+  arms c deep most =
+      let k = c .before .before .before .before in
+      let d = deeper k in
+      let m = c .before .match in
+      let T = turn (d .before) in
+      let kept = k .known .kept .1 .1 .1 .0 in
+      ⊎-elim (λ x. word-known T (levels d) (looked k) (k .known .result) (learns k) kept (m .measures) (m .sorted) (m .dues) (m .w) deep most (x .1 .given .0 .0) (x .1 .given .1) (x .3 .left) (x .4) (x .5) (x .6) (x .7))
+      (⊎-elim (λ x. empty-known T (levels d) (looked k) (k .known .result) (learns k) kept (m .measures) (m .sorted) (m .dues) (m .w) deep most (x .1 .given .1) (x .2) (x .3) (x .4) (x .5))
+      (⊎-elim (λ x. let r = x .5 in let l = r .last .1 .1 .1 in let z = r .kept .1 .1 .1 in empty-walked T (levels d) (looked k) (k .known .result) (learns k) kept (m .measures) (m .sorted) (m .dues) (m .w) deep most (l .1 .1 .1 .0) (l .0) (l .1 .1 .1 .1 .0) (r .result) (r .ensures) (x .1 .given .1) (z .1 .1 .1 .0) (z .0) (z .1 .1 .1 .1 .0) (x .13 .given .1) (x .14) (x .15) (x .16) (x .17))
+      (λ x. let r = x .5 in let l = r .last .1 .1 .1 in let z = r .kept .1 .1 .1 in word-walked T (levels d) (looked k) (k .known .result) (learns k) kept (m .measures) (m .sorted) (m .dues) (m .w) deep most (l .1 .1 .1 .0) (l .0) (l .1 .1 .1 .1 .0) (r .result) (r .ensures) (x .1 .given .1) (z .1 .1 .1 .0) (z .0) (z .1 .1 .1 .1 .0) (x .13 .given .0 .0) (x .13 .given .1) (x .15) (x .16) (x .17) (x .18))))
+      (m .came)
 
   -- ---- the needs
 
@@ -205,11 +353,7 @@ module _ (t : ℕ) where
 
   returns-2 : lts.Need-returns-2 (calls t) (own t) reads.Post Inv-loop μ-loop
   unfolding Walks
-  returns-2 c o =
-      let h = c .before .before in
-      let m = moved o _ _ (texted h .own-text .ensures) in
-      let T = h .loop .inv .6 (enter m) in
-      ends-too m _ (begin h .pre .1 .0 .0) (free (texted h) o) T _ _ _ (c .before .loop-test .taken) (omega (arith, c .if2 .taken))
+  returns-2 c o = level-out (turn (c .before)) o (free (texted (c .before .before)) o) _ _ _ (c .if2 .taken)
 
   mul-t40 : lts.Need-mul-t40 (calls t) (own t) reads.Post Inv-loop μ-loop
   mul-t40 c = omega (arith, open-end (opens (begin (head c))), c .before .loop-test .taken, head c .loop .inv .0)
@@ -223,12 +367,9 @@ module _ (t : ℕ) where
   known-requires : lts.Need-known-requires (calls t) (own t) reads.Post Inv-loop μ-loop
   known-requires c κs =
       let d = c .before .before in
-      let h = head d in
-      let f = opens (begin h) in
-      let I = enter (moved f _ _ (texted h .own-text .ensures)) in
-      let T = h .loop .inv .6 I in
-      let e = child-at I (begin h .args .levels - 1) T (d .before .loop-test .taken) in
-      (f .facts .readable _ e, omega (arith, e, T .holds .fits .noted .long))
+      let o = opens (begin (head d)) in
+      let b = child-node (turn (d .before)) o in
+      (o .facts .readable _ (b .0), b .1)
 
   same-length-6 : lts.Need-same-length-6 (calls t) (own t) reads.Post Inv-loop μ-loop
   same-length-6 c = head (deeper (c .before .before .before .before .before .before)) .loop .inv .0
@@ -244,12 +385,7 @@ module _ (t : ℕ) where
   returns-3 c o =
       let k = c .before .before .before .before .before .before in
       let d = deeper k in
-      let h = head d in
-      let m = moved o _ _ (texted h .own-text .ensures) in
-      let T = h .loop .inv .6 (enter m) in
-      let i = d .before .loop-test .taken in
-      let w = known-deep (enter m) _ (levels d) T i _ _ (rw (c .before .before .k .given .1) at (k .known .ensures)) in
-      ends-too m _ (begin h .pre .1 .0 .0) (free (texted h) o) T _ _ _ i (omega (arith, w, c .if3 .taken))
+      word-deep (turn (d .before)) o (free (texted (head d)) o) _ _ _ (levels d) (looked k) (k .known .result) (learns k) (c .before .before .k .given .0 .0) (c .before .before .k .given .1) (c .if3 .taken)
 
   mul-sorted : lts.Need-mul-sorted (calls t) (own t) reads.Post Inv-loop μ-loop
   mul-sorted c = let d = deeper (c .before .before .before .before) in let h = head d in omega (arith, open-end (opens (begin h)), d .before .loop-test .taken, h .loop .inv .0, few h)
@@ -264,10 +400,8 @@ module _ (t : ℕ) where
   measure-requires c κs =
       let k = c .before .before .before .before .before .before .before in
       let d = deeper k in
-      let h = head d in
-      let s = begin h in
-      let I = enter (moved (opens s) _ _ (texted h .own-text .ensures)) in
-      (omega (arith, s .pre .0, s .pre .1 .0), (levels d, known-open I _ (levels d) (h .loop .inv .6 I) (d .before .loop-test .taken) _ (learnt (c .before .before .before))))
+      let s = begin (head d) in
+      (omega (arith, s .pre .0, s .pre .1 .0), (levels d, to-walk (turn (d .before)) (levels d) (looked k) (k .known .result) (learns k) (c .before .before .before .enum-told2 .given .1) (opens s)))
 
   same-length-9 : lts.Need-same-length-9 (calls t) (own t) reads.Post Inv-loop μ-loop
   same-length-9 c = let m = measured (c .before .before) in m .measure .kept .1 .1 .1 .0 ∙ head (deeper (known m)) .loop .inv .0
@@ -284,12 +418,9 @@ module _ (t : ℕ) where
       let x = measured (c .before .before) in
       let k = known x in
       let d = deeper k in
-      let h = head d in
-      let m = moved o _ _ (texted h .own-text .ensures) in
-      let T = h .loop .inv .6 (enter m) in
-      let i = d .before .loop-test .taken in
-      let w = walk-deep (enter m) _ (levels d) T i _ (learnt (x .before .before .before .before)) _ _ _ (subst (Walked x) (c .enum-told3 .given .1) (x .measure .ensures)) in
-      ends-too m _ (begin h .pre .1 .0 .0) (free (texted h) o) T _ _ _ i (omega (arith, w, begin h .pre .1 .0))
+      let m = x .measure .last .1 .1 .1 in
+      walk-too (turn (d .before)) o (free (texted (head d)) o) _ _ _ (levels d) (looked k) (k .known .result) (learns k) (m .1 .1 .1 .0) (m .0) (m .1 .1 .1 .1 .0) (x .measure .result) (x .measure .ensures)
+      (x .before .before .before .before .enum-told2 .given .1) (c .enum-told3 .given .1)
 
   mul-sorted-2 : lts.Need-mul-sorted-2 (calls t) (own t) reads.Post Inv-loop μ-loop
   mul-sorted-2 c =
@@ -306,46 +437,24 @@ module _ (t : ℕ) where
       omega (arith, open-end (opens (begin h)), d .before .loop-test .taken, h .loop .inv .0, m .measure .kept .1 .1 .1 .0)
 
   add-values : lts.Need-add-values (calls t) (own t) reads.Post Inv-loop μ-loop
-  add-values c = let d = deeper (c .before .before .before .before .before) in omega (arith, head d .loop .inv .3, d .before .loop-test .taken, few (head d))
+  add-values c = let d = deeper (c .before .before .before .before .before) in let l = head d .loop in fits-values (l .values) (c .before .before .match .w / 128) (l .i) _ (l .inv .3) (d .before .loop-test .taken) (few (head d))
 
   add-texts : lts.Need-add-texts (calls t) (own t) reads.Post Inv-loop μ-loop
-  add-texts c = let d = deeper (c .before .before .before .before .before) in omega (arith, head d .loop .inv .4, d .before .loop-test .taken, few (head d))
+  add-texts c = let d = deeper (c .before .before .before .before .before) in let l = head d .loop in fits-texts (l .texts) (c .before .before .match .w / 524288) (l .i) _ (l .inv .4) (d .before .loop-test .taken) (few (head d))
 
   add-i : lts.Need-add-i (calls t) (own t) reads.Post Inv-loop μ-loop
-  add-i c = let d = deeper (c .before .before .before .before .before) in omega (arith, d .before .loop-test .taken, few (head d))
+  add-i c = let d = deeper (c .before .before .before .before .before) in fits-next (head d .loop .i) _ (d .before .loop-test .taken) (few (head d))
 
   loop-less : lts.Need-loop-less (calls t) (own t) reads.Post Inv-loop μ-loop
-  loop-less c = omega (arith, deeper (c .before .before .before .before .before) .before .loop-test .taken)
+  loop-less c = let d = deeper (c .before .before .before .before .before) in falls-by-one (head d .loop .i) _ (d .before .loop-test .taken)
 
   loop-again : lts.Need-loop-again (calls t) (own t) reads.Post Inv-loop μ-loop
   loop-again c =
-      let n = c .before .before .before .before .before in
-      let d = deeper n in
-      let l = head d .loop in
-      let h = d .before .loop-test .taken in
-      let m = c .before .before .match in
-      let kept = n .known .kept .1 .1 .1 .0 in
-      let sizes : (length (m .sorted) ≡ length (l .sorted)) × (length (m .dues) ≡ length (l .dues)) × (length (m .measures) ≡ length (l .measures)) =
-      ⊎-elim (λ x. (ap length (x .4), ap length (x .6), ap length (x .5) ∙ kept))
-      (⊎-elim (λ x. (ap length (x .2) ∙ simp length-set, ap length (x .4), ap length (x .3) ∙ kept))
-      (⊎-elim (λ x. (ap length (x .14) ∙ simp length-set (x .5 .kept .1 .1 .1 .0), ap length (x .16) ∙ x .5 .kept .1 .1 .1 .1 .1 .1 .1 .0, ap length (x .15) ∙ (x .5 .kept .1 .1 .1 .1 .1 .1 .0 ∙ kept)))
-      (λ x. (ap length (x .15) ∙ x .5 .kept .1 .1 .1 .0, ap length (x .17) ∙ x .5 .kept .1 .1 .1 .1 .1 .1 .1 .0, ap length (x .16) ∙ (x .5 .kept .1 .1 .1 .1 .1 .1 .0 ∙ kept)))))
-      (m .came)
-      in (
-        sizes .0 ∙ l .inv .0,
-        sizes .1 ∙ l .inv .1,
-        sizes .2 ∙ l .inv .2,
-        omega (arith, l .inv .3),
-        omega (arith, l .inv .4),
-        omega (arith, c .most .ensures, l .inv .5),
-        λ I.
-            let T = l .inv .6 I in
-            ⊎-elim (λ x. let v : ℕ = x .1 .given .0 .0 in let r = x .1 .given .1 in join I _ _ _ _ _ _ _ _ _ _ _ _ _ _ _ (x .5) (x .4) (x .6) (x .7) (c .most .ensures) (known-word I _ (levels d) T h _ v (rw r at (n .known .ensures)) (omega (arith, x .3 .left))))
-            (⊎-elim (λ x. let r = x .1 .given .1 in join I _ _ _ _ _ _ _ _ _ _ _ _ _ _ _ (x .3) (x .2) (x .4) (x .5) (c .most .ensures) (known-empty I _ (levels d) T h _ (rw r at (n .known .ensures))))
-            (⊎-elim (λ x. let r = x .1 .given .1 in let u = x .13 .given .1 in join I _ _ _ _ _ _ _ _ _ _ _ _ _ _ _ (x .15) (x .14) (x .16) (x .17) (c .most .ensures) (walk-empty I _ (levels d) T h _ (rw r at (n .known .ensures)) _ _ _ (rw u at (x .5 .ensures))))
-            (λ x. let r = x .1 .given .1 in let v : ℕ = x .13 .given .0 .0 in let u = x .13 .given .1 in join I _ _ _ _ _ _ _ _ _ _ _ _ _ _ _ (x .16) (x .15) (x .17) (x .18) (c .most .ensures) (walk-word I _ (levels d) T h _ (rw r at (n .known .ensures)) _ _ _ v (rw u at (x .5 .ensures))))))
-            (m .came),
-      )
+      let l = head (deeper (c .before .before .before .before .before)) .loop in
+      let w = c .before .before .match .w in
+      let s = sums (l .values) (w / 128) (l .texts) (w / 524288) (l .i) (l .deepest) w (c .most .result) (l .inv .3) (l .inv .4) (l .inv .5) (c .most .ensures) in
+      let r = arms (c .before) (c .most .result) (c .most .ensures) in
+      (r .sorted-long ∙ l .inv .0, r .dues-long ∙ l .inv .1, r .measures-long ∙ l .inv .2, s .0, s .1, s .2, r .next)
 
   note-requires : lts.Need-note-requires (calls t) (own t) reads.Post Inv-loop μ-loop
   note-requires c κs =
@@ -363,10 +472,10 @@ module _ (t : ℕ) where
   add-w-2 c = omega (arith, c .least .ensures, c .before .before .before .before .before .before .loop .inv .5)
 
   mul-w-2 : lts.Need-mul-w-2 (calls t) (own t) reads.Post Inv-loop μ-loop
-  mul-w-2 c = omega (arith, c .least2 .ensures)
+  mul-w-2 c = fits-texted _ _ (c .least2 .ensures)
 
   add-w-3 : lts.Need-add-w-3 (calls t) (own t) reads.Post Inv-loop μ-loop
-  add-w-3 c = omega (arith, c .before .least .ensures, c .least2 .ensures, c .before .before .before .before .before .before .before .loop .inv .5)
+  add-w-3 c = fits-word _ _ _ _ _ (c .before .before .before .before .before .before .before .loop .inv .5) (c .before .least .ensures) (c .least2 .ensures)
 
   mul-measures-3 : lts.Need-mul-measures-3 (calls t) (own t) reads.Post Inv-loop μ-loop
   mul-measures-3 c = let s = begin (c .before .before .before .before .before .before .before) in omega (arith, open-measured (opens s), measures-long (c .before .before .before .before .before .before .before))
@@ -378,7 +487,7 @@ module _ (t : ℕ) where
   same-length-12 c = c .before .before .before .before .before .before .before .loop .inv .0
 
   same-length-13 : lts.Need-same-length-13 (calls t) (own t) reads.Post Inv-loop μ-loop
-  same-length-13 c = simp length-set (measures-long (c .before .before .before .before .before .before .before))
+  same-length-13 c = let h = c .before .before .before .before .before .before .before in length-set (h .loop .measures) (begin h .args .node .0) (h .loop .deepest + 1 + 128 * c .before .least .result + 524288 * c .least2 .result) ∙ measures-long h
 
   same-length-14 : lts.Need-same-length-14 (calls t) (own t) reads.Post Inv-loop μ-loop
   same-length-14 c = c .before .before .before .before .note .kept .1 .1 .0 ∙ c .before .before .before .before .before .before .before .loop .inv .1
@@ -397,11 +506,11 @@ pub +measure-spec : {M : Type 1} → statement M
     close μ
     λ t. lts.spec (calls t) (own t) reads.Post Inv-loop μ-loop
     (mul-kind t) (mul-kind-2 t) (shared-slice-read-kind t) (mul-at t) (shared-slice-read-at t) (cast-at t) (add-end t) (mul-end t)
-    (shared-slice-read-end t) (cast-end t) (blocked-requires t) (mul-measures t) (slice-write-measures t) (λ c. search needs) (λ c. simp length-set)
+    (shared-slice-read-end t) (cast-end t) (blocked-requires t) (mul-measures t) (slice-write-measures t) (λ c. refl) (λ c. simp length-set)
     (returns t) (own-text-requires t) (mul-measures-2 t) (slice-write-measures-2 t) (loop-holds t) (same-length-3 t) (same-length-4 t) (same-length-5 t)
-    (returns-2 t) (mul-t40 t) (slice-read-t42 t) (cast-t43 t) (known-requires t) (λ c. search needs) (same-length-6 t) (same-length-7 t)
-    (same-length-8 t) (returns-3 t) (λ c. search needs) (mul-sorted t) (slice-write-sorted t) (λ c. search needs) (sub-measure t)
-    (measure-requires t) (λ c. search needs) (same-length-9 t) (same-length-10 t) (same-length-11 t) (returns-4 t) (λ c. search needs)
-    (mul-sorted-2 t) (slice-write-sorted-2 t) (λ c. search needs) (λ c κs. search needs) (add-values t) (add-texts t) (add-i t) (loop-less t)
-    (loop-again t) (note-requires t) (add-w t) (λ c κs. search needs) (mul-w t) (add-w-2 t) (λ c κs. search needs) (mul-w-2 t) (add-w-3 t)
+    (returns-2 t) (mul-t40 t) (slice-read-t42 t) (cast-t43 t) (known-requires t) (λ c. c .match .keys1) (same-length-6 t) (same-length-7 t)
+    (same-length-8 t) (returns-3 t) (λ c. c .match .keys2) (mul-sorted t) (slice-write-sorted t) (λ c. c .match .keys3) (sub-measure t)
+    (measure-requires t) (λ c. c .match2 .keys1) (same-length-9 t) (same-length-10 t) (same-length-11 t) (returns-4 t) (λ c. c .match2 .keys2)
+    (mul-sorted-2 t) (slice-write-sorted-2 t) (λ c. c .match2 .keys3) (λ c κs. tt) (add-values t) (add-texts t) (add-i t) (loop-less t)
+    (loop-again t) (note-requires t) (add-w t) (λ c κs. tt) (mul-w t) (add-w-2 t) (λ c κs. tt) (mul-w-2 t) (add-w-3 t)
     (mul-measures-3 t) (slice-write-measures-3 t) (same-length-12 t) (same-length-13 t) (same-length-14 t) (returns-5 t)
