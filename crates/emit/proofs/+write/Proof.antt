@@ -1,6 +1,6 @@
 -- `emit::write` meets its contract. Each call has a level less. The loop's invariant: whatever nodes and graph the rooms show, the children
 -- that are passed are written.
-use Prim.Native.Nat.{ℕ, _-_, _<_}
+use Prim.Native.Nat.{ℕ, _+_, _-_, _<_}
 use borrow.Fn.Kinds.{In}
 use borrow.Fn.PlainCycle.{Measures, is, falls, and}
 use Rattle.emit.proofs.write.Reads as reads
@@ -18,13 +18,16 @@ use Rattle.lists.proofs.item.Reads as item-reads
 use Rattle.lists.proofs.range_of.Reads as range-of-reads
 use Rattle.emit.proofs.+write.{statement}
 use Rattle.emit.proofs.+write.Tie.{close}
+use mathlib.Core.Bool.{Bool, true, false}
+use mathlib.Core.List.{List}
 use mathlib.Core.Path.{_≡_, refl, sym, _∙_}
 use mathlib.Core.Logic.{⊎-elim}
 use native.Mathlib.Omega.{arith}
 use lib.ListN.{length, length-set, getD}
-use Rattle.emit.specs.Leaves.{atom-ready, atom-leaf}
-use Rattle.emit.specs.Calls.{Open, ReadyNode, ready-most, ready-inside, below-kind, below-ready, not-below}
-use Rattle.emit.specs.Turns.{open-small, open-boxed, open-text, open-behind, open-levels, open-listed, list-end, list-room, Entered, enter, Turn, turn-start, turn-left, turn-over, turn-item, turn-finish, turn-ready, child-open, child-flat, next-walked, next-flat, next-leaf, turn-same, open-done}
+use Rattle.resolved.specs.Shown.{labelOf}
+use Rattle.emit.specs.Leaves.{kindBelow, AtomPut, LeafPut, opened, atom-ready, atom-leaf}
+use Rattle.emit.specs.Calls.{Open, ReadyNode, FlatWrites, ready-most, ready-inside, below-kind, below-ready, not-below}
+use Rattle.emit.specs.Turns.{open-small, open-boxed, open-text, open-behind, open-levels, open-listed, list-end, list-room, Entered, enter, Turn, turn-start, turn-left, turn-over, turn-item, turn-finish, turn-ready, child-open, child-flat, next-walked, next-flat, next-leaf, turn-same, open-done, Writes}
 
 abbrev μ : Measures 8 kinds.ps ℕ
 μ κs a = a .1 .0
@@ -44,6 +47,41 @@ abbrev μ-loop : lts.MeasureT-loop
 -- what is known of the calls
 abbrev calls : ℕ → lts.Claims
 calls t = (range-of-reads.Asked, range-of-reads.Learnt, put-class-reads.Asked, put-class-reads.Learnt, behind-reads.Asked, behind-reads.Learnt, item-reads.Asked, item-reads.Learnt, is-below-reads.Asked, is-below-reads.Learnt, write-atom-reads.Asked, write-atom-reads.Learnt, write-text-reads.Asked, write-text-reads.Learnt, is-open-reads.Asked, is-open-reads.Learnt, below t, reads.Post, write-flat-reads.Asked, write-flat-reads.Learnt, finish-reads.Asked, finish-reads.Learnt)
+
+-- ---- a child is written, over plain lists: from there to where the arms meet
+
+module _ {p d ws starts sorted log : List ℕ} {levels i to from : ℕ} {measures₀ table₀ bytes₀ : List ℕ} (E : Entered p d ws starts sorted log levels i to measures₀ table₀ bytes₀)
+    {next j : ℕ} {measures table bytes : List ℕ} (T : Turn (E .walk .ready .t) (E .walk .ready .h) (E .walk .ready .v) i to from measures₀ table₀ bytes₀ next j measures table bytes)
+    (l : T .k < length (E .walk .ready .h i)) (c : ℕ) (e : c ≡ getD (E .walk .ready .h i) (T .k) 0) (measures′ table′ bytes′ : List ℕ) (next′ : ℕ) where
+  abbrev Next : Type 0
+  Next = Turn (E .walk .ready .t) (E .walk .ready .h) (E .walk .ready .v) i to from measures₀ table₀ bytes₀ next′ (j + 1) measures′ table′ bytes′
+
+  met : (measures₁ table₁ bytes₁ : List ℕ) (next₁ : ℕ) → measures′ ≡ measures₁ → table′ ≡ table₁ → bytes′ ≡ bytes₁ → next′ ≡ next₁
+      → Turn (E .walk .ready .t) (E .walk .ready .h) (E .walk .ready .v) i to from measures₀ table₀ bytes₀ next₁ (j + 1) measures₁ table₁ bytes₁ → Next
+  met measures₁ table₁ bytes₁ next₁ x y z w = turn-same (E .walk .ready .t) (E .walk .ready .h) (E .walk .ready .v) i to from measures₀ table₀ bytes₀ next₁ next′ (j + 1) measures₁ measures′ table₁ table′ bytes₁ bytes′ x y z w
+
+  module _ (table₁ : List ℕ) (next₁ : ℕ) (b : Bool) (kept : length table₁ ≡ length table) where
+    atom : b ≡ kindBelow 4 ws c → b ≡ true → AtomPut ws c next table table₁ next₁ → measures′ ≡ measures → table′ ≡ table₁ → bytes′ ≡ bytes → next′ ≡ next₁ → Next
+    atom g h a x y z w =
+        let r = turn-ready E T l c e in
+        let o : kindBelow 4 ws c ≡ true = sym g ∙ h in
+        met measures table₁ bytes next₁ x y z w
+        (next-leaf E T l c e 4 (omega arith) o next₁ table₁ bytes kept refl (atom-leaf (below-ready r 4 (omega arith) o) (below-kind r 4 (omega arith) o) table₁ next₁ a))
+
+    module _ (bytes₁ : List ℕ) (kept-bytes : length bytes₁ ≡ length bytes) where
+      leaf : b ≡ kindBelow 6 ws c → b ≡ true → LeafPut (labelOf p ws c) next table bytes table₁ bytes₁ next₁ → measures′ ≡ measures → table′ ≡ table₁ → bytes′ ≡ bytes₁ → next′ ≡ next₁ → Next
+      leaf g h a x y z w = met measures table₁ bytes₁ next₁ x y z w (next-leaf E T l c e 6 (omega arith) (sym g ∙ h) next₁ table₁ bytes₁ kept kept-bytes a)
+
+      flat : b ≡ opened ws measures c → b ≡ false → FlatWrites p d ws c next measures table bytes table₁ bytes₁ next₁ → measures′ ≡ measures → table′ ≡ table₁ → bytes′ ≡ bytes₁ → next′ ≡ next₁ → Next
+      flat g h a x y z w =
+          let o : opened ws measures c ≡ false = sym g ∙ h in
+          met measures table₁ bytes₁ next₁ x y z w (next-flat E T l c e o next₁ table₁ bytes₁ kept kept-bytes (a (child-flat E T l c e o)))
+
+      walked : (measures₁ : List ℕ) → length measures₁ ≡ length measures → b ≡ opened ws measures c → b ≡ true
+          → Writes p d ws starts sorted log (levels - 1) c next measures table bytes measures₁ table₁ bytes₁ next₁ → measures′ ≡ measures₁ → table′ ≡ table₁ → bytes′ ≡ bytes₁ → next′ ≡ next₁ → Next
+      walked measures₁ m g h a x y z w =
+          let o : opened ws measures c ≡ true = sym g ∙ h in
+          met measures₁ table₁ bytes₁ next₁ x y z w (next-walked E T l c e o next₁ measures₁ table₁ bytes₁ m kept kept-bytes (a (child-open E T l c e o)))
 
 module _ (t : ℕ) where
   -- ---- the places that the needs look back to
@@ -113,6 +151,20 @@ module _ (t : ℕ) where
   given : (c : Item) → Ready c
   given c = ready c (enters (classed (head c)))
 
+  -- where the arms of a turn meet
+  arms : (c : lts.Joined1 (calls t) (own t) reads.Post Inv-loop μ-loop) (E : Enters (classed (head (c .before .before)))) → let i = c .before .before in let m = c .if1 in Next E (head i .loop .inv E) (left (i .before) E) (i .item .result) (item i E) (m .measures) (m .table) (m .text) (m .next)
+  arms c E =
+      let i = c .before .before in
+      let T = head i .loop .inv E in
+      let k = left (i .before) E in
+      let e = item i E in
+      let m = c .if1 in
+      ⊎-elim (λ y. let w = y .2 in atom E T k (i .item .result) e (m .measures) (m .table) (m .text) (m .next) (w .last .1 .1 .1 .0) (w .result) (c .before .is-below .result) (w .kept .1 .1 .1 .0) (c .before .is-below .ensures) (y .0 .taken) (w .ensures) (y .5) (y .6) (y .7) (y .8))
+      (⊎-elim (λ y. let w = y .6 in leaf E T k (i .item .result) e (m .measures) (m .table) (m .text) (m .next) (w .last .1 .1 .1 .1 .1 .1 .0) (w .result) (y .1 .result) (w .kept .1 .1 .1 .1 .1 .1 .0) (w .last .1 .1 .1 .1 .1 .1 .1 .0) (w .kept .1 .1 .1 .1 .1 .1 .1 .0) (y .1 .ensures) (y .2 .taken) (w .ensures) (y .11) (y .12) (y .13) (y .14))
+      (⊎-elim (λ y. let w = y .9 in let l = w .last .1 .1 .1 .1 .1 .1 .1 .1 .1 in let z = w .kept .1 .1 .1 .1 .1 .1 .1 .1 .1 in walked E T k (i .item .result) e (m .measures) (m .table) (m .text) (m .next) (l .1 .0) (w .result) (y .4 .result) (z .1 .0) (l .1 .1 .0) (z .1 .1 .0) (l .0) (z .0) (y .4 .ensures) (y .5 .taken) (w .ensures) (y .16) (y .17) (y .18) (y .19))
+      (λ y. let w = y .9 in flat E T k (i .item .result) e (m .measures) (m .table) (m .text) (m .next) (w .last .1 .1 .1 .1 .1 .1 .0) (w .result) (y .4 .result) (w .kept .1 .1 .1 .1 .1 .1 .0) (w .last .1 .1 .1 .1 .1 .1 .1 .0) (w .kept .1 .1 .1 .1 .1 .1 .1 .0) (y .4 .ensures) (y .5 .left) (w .ensures) (y .14) (y .15) (y .16) (y .17))))
+      (m .came)
+
   -- ---- the needs
 
   range-of-requires : lts.Need-range-of-requires (calls t) (own t) reads.Post Inv-loop μ-loop
@@ -174,27 +226,7 @@ module _ (t : ℕ) where
   loop-less c = omega (arith, c .before .before .before .loop-test .taken)
 
   loop-again : lts.Need-loop-again (calls t) (own t) reads.Post Inv-loop μ-loop
-  loop-again c E =
-      let i = c .before .before in
-      let T = head i .loop .inv E in
-      let k = left (i .before) E in
-      let e = item i E in
-      ⊎-elim
-      (λ y.
-      let o = sym (c .before .is-below .ensures) ∙ y .0 .taken in
-      turn-same _ _ _ _ _ _ _ _ _ _ _ _ _ _ _ _ _ _ (y .5) (y .6) (y .7) (y .8) (next-leaf E T k _ e 4 (omega arith) o _ _ _ (y .2 .kept .1 .1 .1 .0) refl (atom-leaf (below-ready (ready i E) 4 (omega arith) o) (below-kind (ready i E) 4 (omega arith) o) _ _ (y .2 .ensures))))
-      (⊎-elim
-      (λ y.
-      let o = sym (y .1 .ensures) ∙ y .2 .taken in
-      turn-same _ _ _ _ _ _ _ _ _ _ _ _ _ _ _ _ _ _ (y .11) (y .12) (y .13) (y .14) (next-leaf E T k _ e 6 (omega arith) o _ _ _ (y .6 .kept .1 .1 .1 .1 .1 .1 .0) (y .6 .kept .1 .1 .1 .1 .1 .1 .1 .0) (y .6 .ensures)))
-      (⊎-elim
-      (λ y.
-      let o = sym (y .4 .ensures) ∙ y .5 .taken in
-      turn-same _ _ _ _ _ _ _ _ _ _ _ _ _ _ _ _ _ _ (y .16) (y .17) (y .18) (y .19) (next-walked E T k _ e o _ _ _ _ (y .9 .kept .1 .1 .1 .1 .1 .1 .1 .1 .1 .0) (y .9 .kept .1 .1 .1 .1 .1 .1 .1 .1 .1 .1 .0) (y .9 .kept .1 .1 .1 .1 .1 .1 .1 .1 .1 .1 .1 .0) (y .9 .ensures (child-open E T k _ e o))))
-      (λ y.
-      let o = sym (y .4 .ensures) ∙ y .5 .left in
-      turn-same _ _ _ _ _ _ _ _ _ _ _ _ _ _ _ _ _ _ (y .14) (y .15) (y .16) (y .17) (next-flat E T k _ e o _ _ _ (y .9 .kept .1 .1 .1 .1 .1 .1 .0) (y .9 .kept .1 .1 .1 .1 .1 .1 .1 .0) (y .9 .ensures (child-flat E T k _ e o))))))
-      (c .if1 .came)
+  loop-again c E = arms c E
 
   sub-finish : lts.Need-sub-finish (calls t) (own t) reads.Post Inv-loop μ-loop
   sub-finish c = let r = list (c .before) in omega (arith, list-end (opens (start r)) _ (r .range-of .ensures))
