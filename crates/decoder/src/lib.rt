@@ -79,7 +79,7 @@ fn text_word(at: usize, len: usize) -> u64
     requires { ⌜ (at < 2 ^ 32) × (len < 2 ^ 32) ⌝ }
     ensures { λ r. ⌜ r ≡ len * 2 ^ 32 + at ⌝ }
 {
-    len as u64 * 0x1_0000_0000 + at as u64
+    len as u64 * store::HALF + at as u64
 }
 
 // A length of `width` bytes, and so many bytes.
@@ -351,7 +351,8 @@ pub fn global(pickle: &[u8], c: Counts) -> Effect
                     let name = line(pickle, from, to).len();
                     Effect::Push(
                         read_to(c, to + 1),
-                        value::GLOBAL + 16 * (module as u64 * 0x100_0000 + c.at as u64),
+                        value::GLOBAL
+                            + store::KIND_RADIX * (module as u64 * store::MODULE_LEN + c.at as u64),
                         text_word(from, name),
                     )
                 }
@@ -741,15 +742,19 @@ fn made_kind(pickle: &[u8], a: u64, b: u64, n: u64) -> u64
     if 1 < n {
         return value::OBJECT;
     }
-    let m = a / 16;
+    let m = a / store::KIND_RADIX;
     if same_text(
-        text_at(pickle, (m % 0x100_0000) as usize, (m / 0x100_0000) as usize),
+        text_at(
+            pickle,
+            (m % store::MODULE_LEN) as usize,
+            (m / store::MODULE_LEN) as usize,
+        ),
         b"__builtin__",
     ) {
         let name = text_at(
             pickle,
-            (b % 0x1_0000_0000) as usize,
-            (b / 0x1_0000_0000) as usize,
+            (b % store::HALF) as usize,
+            (b / store::HALF) as usize,
         );
         if same_text(name, b"set") {
             return value::SET;
@@ -766,7 +771,7 @@ fn only_item(children: &[u16], word: u64) -> NodeId
     requires { ⌜ word / 2 ^ 32 < length (now children) ⌝ }
     ensures { λ r. ⌜ r .0 ≡ getD (now (children .entry)) (word / 2 ^ 32) 0 ⌝ }
 {
-    let at = (word / 0x1_0000_0000) as usize;
+    let at = (word / store::HALF) as usize;
     NodeId(children[at] as usize)
 }
 
@@ -783,7 +788,7 @@ fn reduced(
     ensures { λ e. ⌜ Decides c (λ r. (r .pickle ≡ now (pickle .entry)) × (r .nodes ≡ now (nodes .entry)) × (r .children ≡ now (children .entry)) × Calls c r (class .0) (arguments .0)) (λ s. going (reduce s)) e ⌝ }
 {
     let word = second_word(nodes, arguments);
-    let n = word % 0x1_0000_0000;
+    let n = word % store::HALF;
     let made = made_kind(
         pickle,
         first_word(nodes, class),

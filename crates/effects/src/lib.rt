@@ -202,7 +202,7 @@ pub fn make(
     let first = 2 * id;
     let second = first + 1;
     nodes[first] = kind;
-    nodes[second] = c.links as u64 * 0x1_0000_0000; // no items yet, and where its links begin
+    nodes[second] = c.links as u64 * store::HALF; // no items yet, and where its links begin
     let links = link_all(
         nodes,
         owners,
@@ -253,7 +253,7 @@ fn with_state(a: u64) -> u64
     requires { ⌜ a < 0x100_0000 ⌝ }
     ensures { λ r. ⌜ r ≡ cond (stateIn a) a (a + 32) ⌝ }
 {
-    if a / 32 % 2 == 1 {
+    if a / store::STATE % 2 == 1 {
         return a;
     }
     a + 32
@@ -269,7 +269,7 @@ pub fn set_state(nodes: &mut [u64], c: Counts, object: NodeId, state: NodeId) ->
     let a = nodes[first];
     let b = nodes[second];
     nodes[first] = with_state(a);
-    nodes[second] = state.0 as u64 * 0x1_0000_0000 + b % 0x1_0000_0000;
+    nodes[second] = state.0 as u64 * store::HALF + b % store::HALF;
     Step::Next(c)
 }
 

@@ -132,38 +132,35 @@ module _ (k : ℕ) (new : Bool) (b w p n z x : ℕ) where
   unfolding recordFrom
   from-object q e h = rw (q, e, half-two n h)
 
-  module _ (q : x ≡ k + 16 * bit false + 32 * bit false) where
-    same : x ≡ k
-    same = omega arith
-
+  module _ (q : x ≡ k) where
     pub from-none : k ≡ 0 → (x ∷ 0 ∷ 0 ∷ 0 ∷ []) ≡ recordFrom k new b w p n z
     unfolding recordFrom
-    from-none e = rw (same, e)
+    from-none e = rw (q, e)
 
     pub from-bool : k ≡ 1 → (x ∷ bit (eqb b 1) ∷ 0 ∷ 0 ∷ []) ≡ recordFrom k new b w p n z
     unfolding recordFrom
-    from-bool e = rw (same, e)
+    from-bool e = rw (q, e)
 
     pub from-dict : k ≡ 10 → (x ∷ n / 2 ∷ z ∷ 0 ∷ []) ≡ recordFrom k new b w p n z
     unfolding recordFrom
-    from-dict e = rw (same, e, half-div n)
+    from-dict e = rw (q, e, half-div n)
 
     pub from-names : k < 13 → k ≢ 12 → 10 ≤ k → k ≢ 10 → (x ∷ p ∷ w ∷ 0 ∷ []) ≡ recordFrom k new b w p n z
     unfolding recordFrom
-    from-names h h₁₂ h₁₀ h₁ = let e : k ≡ 11 = omega arith in rw (same, e)
+    from-names h h₁₂ h₁₀ h₁ = let e : k ≡ 11 = omega arith in rw (q, e)
 
     module _ (h₀ : k ≢ 0) (h₁ : k ≢ 1) where
       pub from-number : k < 4 → (x ∷ b ∷ 0 ∷ 0 ∷ []) ≡ recordFrom k new b w p n z
       unfolding recordFrom
-      from-number h = rw (same, ne-eqb k 0 h₀, ne-eqb k 1 h₁, lt-ltb k 4 h)
+      from-number h = rw (q, ne-eqb k 0 h₀, ne-eqb k 1 h₁, lt-ltb k 4 h)
 
       pub from-text : 4 ≤ k → k < 6 → (x ∷ p ∷ w ∷ 0 ∷ []) ≡ recordFrom k new b w p n z
       unfolding recordFrom
-      from-text h₄ h = rw (same, ne-eqb k 0 h₀, ne-eqb k 1 h₁, le-ltb k 4 h₄, lt-ltb k 6 h)
+      from-text h₄ h = rw (q, ne-eqb k 0 h₀, ne-eqb k 1 h₁, le-ltb k 4 h₄, lt-ltb k 6 h)
 
       pub from-items : 6 ≤ k → k < 10 → (x ∷ n ∷ z ∷ 0 ∷ []) ≡ recordFrom k new b w p n z
       unfolding recordFrom
-      from-items h₆ h = rw (same, ne-eqb k 0 h₀, ne-eqb k 1 h₁, le-ltb k 4 (omega arith), le-ltb k 6 h₆, lt-ltb k 10 h)
+      from-items h₆ h = rw (q, ne-eqb k 0 h₀, ne-eqb k 1 h₁, le-ltb k 4 (omega arith), le-ltb k 6 h₆, lt-ltb k 10 h)
 
 -- ---- a label's text by its kind: what leads, and what trails
 

@@ -21,9 +21,6 @@ use value::Head;
 
 // A place to write at is one number: the next record, and 4,096 times where the next text begins.
 
-// The number of no node: a None.
-const NOTHING: usize = 4096;
-
 // A container's measure from here on says where it is written: its record, 2^12 times its records, 2^24 times the place of its text, 2^41 times
 // the text's length.
 const WRITTEN: u64 = 0x8000_0000_0000_0000;
@@ -76,7 +73,7 @@ fn is_placed(first: u64) -> bool
     if kind == value::STRING {
         return true;
     }
-    10 < kind
+    value::DICT < kind
 }
 
 // The second word of a record whose text began at `from` and begins at `to`, if it has any text.
@@ -120,7 +117,7 @@ fn copy_records(
 fn kind_of(first: u64) -> u64
     ensures { λ r. ⌜ r ≡ kindOf first ⌝ }
 {
-    let kind = first % 16;
+    let kind = first % store::KIND_RADIX;
     if kind < store::KIND_ESCAPED {
         return kind;
     }
@@ -130,7 +127,7 @@ fn kind_of(first: u64) -> u64
     if kind == store::KIND_UNICODE {
         return value::STRING;
     }
-    0
+    value::NONE
 }
 
 // Is it the kind of a container?
@@ -144,6 +141,18 @@ fn is_box(kind: u64) -> bool
         return true;
     }
     kind == value::OBJECT
+}
+
+// Word 0 of a record that is no Object's.
+fn plain_word(kind: u64) -> u64
+    requires { ⌜ kind < 16 ⌝ }
+    ensures { λ r. ⌜ r ≡ kind ⌝ }
+{
+    value::word_of(Head {
+        kind,
+        new: false,
+        state: false,
+    })
 }
 
 // The record of a node with these words: its text's lengths and place, the values directly in it, its records in all.
@@ -161,11 +170,7 @@ fn record_of(first: u64, second: u64, lengths: u64, at: u64, values: u64, size: 
         });
         return Record(word, at, lengths, size);
     }
-    let word = value::word_of(Head {
-        kind,
-        new: false,
-        state: false,
-    });
+    let word = plain_word(kind);
     if kind == value::NONE {
         return Record(word, 0, 0, 0);
     }
@@ -244,10 +249,10 @@ fn is_below(node: NodeId, kind: u64, nodes: &[u64]) -> bool
     ensures { λ r. ⌜ r ≡ kindBelow kind (now (nodes .entry)) (node .0) ⌝ }
 {
     let i = node.0;
-    if i == NOTHING {
+    if i == store::NOWHERE {
         return false;
     }
-    nodes[2 * i] % 16 < kind
+    nodes[2 * i] % store::KIND_RADIX < kind
 }
 
 // A value with neither text nor contents: None, a Bool, an I64 or an F64.
@@ -283,7 +288,7 @@ fn write_text<'a>(
     let bytes = texts::lead_part(node, pickle, decoded, nodes, measures);
     put_bytes(bytes, text, at as usize);
     let len = bytes.len() as u64;
-    let words = Record(kind_of(nodes[2 * i]), at, len, 0);
+    let words = Record(plain_word(kind_of(nodes[2 * i])), at, len, 0);
     put_record(table, (to % 0x1000) as usize, words);
     to + 1 + 0x1000 * len
 }
@@ -315,7 +320,11 @@ fn write_leaf<'a>(
     }
     let at = to / 0x1000;
     let lengths = put_names(node, pickle, decoded, nodes, measures, text, at as usize);
-    put_record(table, (to % 0x1000) as usize, Record(kind, at, lengths, 0));
+    put_record(
+        table,
+        (to % 0x1000) as usize,
+        Record(plain_word(kind), at, lengths, 0),
+    );
     behind(to, lengths)
 }
 
@@ -347,7 +356,7 @@ fn is_open(node: NodeId, nodes: &[u64], measures: &[u64]) -> bool
     ensures { λ r. ⌜ r ≡ opened (now (nodes .entry)) (now (measures .entry)) (node .0) ⌝ }
 {
     let i = node.0;
-    if i == NOTHING {
+    if i == store::NOWHERE {
         return false;
     }
     if is_box(kind_of(nodes[2 * i])) {
@@ -373,7 +382,7 @@ fn write_flat<'a>(
         (now (table .entry)) (now (text .entry)) (now (table .exit)) (now (text .exit)) r ⌝ }
 {
     let i = node.0;
-    if i == NOTHING {
+    if i == store::NOWHERE {
         let words = record_of(0, 0, 0, 0, 0, 1);
         put_record(table, (to % 0x1000) as usize, words);
         return to + 1;

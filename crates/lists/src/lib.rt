@@ -30,14 +30,14 @@ pub fn range_of(node: NodeId, nodes: &[u64], starts: &[u16], measures: &[u64]) -
     ensures { λ r. ⌜ Ranges (now (nodes .entry)) (now (starts .entry)) (now (measures .entry)) (node .0) r ⌝ }
 {
     let i = node.0;
-    let kind = nodes[2 * i] % 16;
+    let kind = nodes[2 * i] % store::KIND_RADIX;
     if is_sorted(kind) {
         let measure = measures[i];
-        let at = (measure % 0x1_0000) as usize;
+        let at = (measure % store::SHORTS) as usize;
         return Range {
             log: kind < value::DICT,
             at,
-            end: at + (measure / 0x1_0000 % 0x1_0000) as usize,
+            end: at + (measure / store::SHORTS % store::SHORTS) as usize,
         };
     }
     Range {

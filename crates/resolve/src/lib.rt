@@ -26,11 +26,7 @@ ghost use Rattle.resolve.specs.Rooted.{Begins, Roots};
 // A measure: 0 for a fresh node, 1 for one taken out, 3 for an Object that is None for good, else a word: depth + 128 * values + 2^19 * text,
 // values capped at 2,049 and text at 65,537. The word of a leaf with a text is stored when the walk comes to it.
 
-// A Global measured for an Object of its class, where the walk has not come to the Global itself.
-const AHEAD: u64 = 0x200_0000_0000;
-
-// The number of no node.
-const NOWHERE: u16 = 4096;
+const NOWHERE: u16 = store::NOWHERE as u16;
 
 pub enum Answer {
     TooDeep,
@@ -80,8 +76,12 @@ fn names_len(pickle: &[u8], a: u64, b: u64) -> usize
     requires { ⌜ length (now pickle) ≤ 65536 ⌝ }
     ensures { λ r. ⌜ r ≡ namesLen (now (pickle .entry)) a b ⌝ }
 {
-    let module = repaired_len(cut(pickle, a / 16 % 0x100_0000, a / 16 / 0x100_0000));
-    let name = repaired_len(cut(pickle, b % 0x1_0000_0000, b / 0x1_0000_0000));
+    let module = repaired_len(cut(
+        pickle,
+        a / store::KIND_RADIX % store::MODULE_LEN,
+        a / store::KIND_RADIX / store::MODULE_LEN,
+    ));
+    let name = repaired_len(cut(pickle, b % store::HALF, b / store::HALF));
     module + name
 }
 
@@ -114,9 +114,9 @@ fn node_text_len(pickle: &[u8], nodes: &[u64], node: NodeId) -> usize
     let i = node.0;
     let a = nodes[2 * i];
     let b = nodes[2 * i + 1];
-    let place = b % 0x1_0000_0000;
-    let len = b / 0x1_0000_0000;
-    let kind = a % 16;
+    let place = b % store::HALF;
+    let len = b / store::HALF;
+    let kind = a % store::KIND_RADIX;
     if kind == value::BYTES {
         let bytes = cut(pickle, place, len);
         return bytes.len();
@@ -128,7 +128,7 @@ fn node_text_len(pickle: &[u8], nodes: &[u64], node: NodeId) -> usize
         return names_len(pickle, a, b);
     }
     if kind == value::OBJECT {
-        let class = (a / 64) as usize;
+        let class = (a / store::CLASS) as usize;
         return names_len(pickle, nodes[2 * class], nodes[2 * class + 1]);
     }
     if kind == store::KIND_ESCAPED {
@@ -160,7 +160,7 @@ fn leaf_word(node: NodeId, pickle: &[u8], nodes: &[u64]) -> u64
     requires { ⌜ Readable (now pickle) (now nodes) (node .0) ⌝ }
     ensures { λ r. ⌜ r ≡ packW 1 1 (textLen (now (pickle .entry)) (now (nodes .entry)) (node .0)) ⌝ }
 {
-    129 + 524288 * least(node_text_len(pickle, nodes, node) as u64, 65537)
+    129 + store::TEXT_AT * least(node_text_len(pickle, nodes, node) as u64, 65537)
 }
 
 // A node as far as no walk is needed for it.
@@ -171,7 +171,7 @@ fn known(node: NodeId, pickle: &[u8], nodes: &[u64], measures: &mut [u64]) -> Se
         ⌜ Learns (now (pickle .entry)) (now (nodes .entry)) (now (measures .entry)) (now (measures .exit)) (node .0) r ⌝ }
 {
     let n = node.0;
-    let kind = nodes[2 * n] % 16;
+    let kind = nodes[2 * n] % store::KIND_RADIX;
     if kind < value::BYTES {
         return Seen::Word(129);
     }
@@ -180,10 +180,10 @@ fn known(node: NodeId, pickle: &[u8], nodes: &[u64], measures: &mut [u64]) -> Se
         if m < 4 {
             return Seen::Empty;
         }
-        if m < AHEAD {
+        if m < store::AHEAD {
             return Seen::Word(m);
         }
-        let w = m - AHEAD;
+        let w = m - store::AHEAD;
         measures[n] = w;
         return Seen::Word(w);
     }
@@ -205,14 +205,14 @@ fn own_text(kind: u64, node: NodeId, pickle: &[u8], nodes: &[u64], measures: &mu
         return 0;
     }
     let n = node.0;
-    let class = (nodes[2 * n] / 64) as usize;
+    let class = (nodes[2 * n] / store::CLASS) as usize;
     let m = measures[class];
     if m != 0 {
-        return m / 524288 % 131072;
+        return m / store::TEXT_AT % store::TEXTS;
     }
     let w = leaf_word(NodeId(class), pickle, nodes);
-    measures[class] = w + AHEAD;
-    w / 524288 % 131072
+    measures[class] = w + store::AHEAD;
+    w / store::TEXT_AT % store::TEXTS
 }
 
 // Is it an Object whose arguments, its first child, are taken out?
@@ -239,7 +239,7 @@ fn note(kind: u64, node: NodeId, dues: &mut [u16])
     if kind < value::SET {
         return;
     }
-    if 10 < kind {
+    if value::DICT < kind {
         return;
     }
     let count = dues[0] as usize + 1;
@@ -266,7 +266,7 @@ fn measure(
         (now (measures .exit)) (now (sorted .exit)) (now (dues .exit)) r ⌝ }
 {
     let n = node.0;
-    let kind = nodes[2 * n] % 16;
+    let kind = nodes[2 * n] % store::KIND_RADIX;
     let at = starts[n] as usize;
     let end = starts[n + 1] as usize;
     if blocked(kind, at, end, sorted, measures) {
@@ -286,7 +286,7 @@ fn measure(
         let mut w: u64 = 129;
         match known(child, pickle, nodes, measures) {
             Seen::Word(k) => {
-                if levels <= k % 128 {
+                if levels <= k % store::DEPTHS {
                     return Answer::TooDeep;
                 }
                 w = k;
@@ -313,13 +313,16 @@ fn measure(
                 }
             },
         }
-        deepest = most(deepest, w % 128);
-        values += w / 128 % 4096;
-        texts += w / 524288 % 131072;
+        deepest = most(deepest, w % store::DEPTHS);
+        values += w / store::DEPTHS % store::VALUES;
+        texts += w / store::TEXT_AT % store::TEXTS;
         i += 1;
     }
     note(kind, node, dues);
-    let w = deepest + 1 + 128 * least(values, 2049) + 524288 * least(texts, 65537);
+    let w = deepest
+        + 1
+        + store::DEPTHS * least(values, 2049)
+        + store::TEXT_AT * least(texts, 65537);
     measures[n] = w;
     Answer::Word(w)
 }

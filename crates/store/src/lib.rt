@@ -49,13 +49,53 @@ pub const KIND_ESCAPED: u64 = 13;
 
 pub const KIND_UNICODE: u64 = 14;
 
+// The kinds of nodes have the numbers below this one.
+pub const NODE_KINDS: u64 = 15;
+
+// How a node's two words are packed (steps/specs/NodeWords.antt). The first: its kind is below KIND_RADIX; above it stand a Global's module,
+// place below MODULE_LEN and then length, or an Object's flags, STATE where it has a state, and from CLASS on the node of its class.
+pub const KIND_RADIX: u64 = 16;
+
+pub const STATE: u64 = 32;
+
+pub const CLASS: u64 = 64;
+
+pub const MODULE_LEN: u64 = 0x100_0000;
+
+// The second, where it has two parts, is two halves: place and length of a text, an Object's arguments and state, how many items a
+// container has and where its links begin.
+pub const HALF: u64 = 0x1_0000_0000;
+
+// The number of no node.
+pub const NOWHERE: usize = 4096;
+
+// How the walk behind STOP packs a node's measure: its depth is below DEPTHS; then come its values, below VALUES, and from TEXT_AT on its
+// text, below TEXTS. With AHEAD it is a Global's that was measured for an Object of its class before the walk came to it.
+pub const DEPTHS: u64 = 128;
+
+pub const VALUES: u64 = 4096;
+
+pub const TEXT_AT: u64 = 524288;
+
+pub const TEXTS: u64 = 131072;
+
+pub const AHEAD: u64 = 0x200_0000_0000;
+
+// What the walk packs is below this, with AHEAD too.
+pub const MEASURED: u64 = 0x400_0000_0000;
+
+// A measure from here on is of a Set or Dict in order: where its list begins, below SHORTS, and how many it has, below SHORTS again.
+pub const IN_ORDER: u64 = 0x2000_0000_0000_0000;
+
+pub const SHORTS: u64 = 0x1_0000;
+
 // The kind of a node.
 pub fn kind(nodes: &[u64], id: NodeId) -> u64
     requires { ⌜ 2 * id .0 < length (now nodes) ⌝ }
     ensures { λ r. ⌜ r ≡ kindIn (first (now (nodes .entry)) (id .0)) ⌝ }
 {
     let i = 2 * id.0;
-    nodes[i] % 16
+    nodes[i] % KIND_RADIX
 }
 
 // ---- where a memo number stands

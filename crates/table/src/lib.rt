@@ -46,9 +46,6 @@ ghost use Rattle.table.specs.Decides.{Decides};
 ghost use Rattle.value.specs.Told.{told};
 ghost use Rattle.table.specs.Compare.{badTable, ordered as orderedBy, Compares};
 
-// The kinds that there are have the numbers below this one.
-const KINDS: u64 = 13;
-
 // A record's head: wrong, or the length of its text and how many values are directly in it.
 enum Headed {
     Wrong,
@@ -89,7 +86,7 @@ fn word0(a: u64) -> u64
             state: false,
         });
     }
-    if k < KINDS {
+    if k < value::KINDS {
         return word_of(head);
     }
     0
@@ -515,7 +512,7 @@ fn has_text(a: u64) -> bool
     if k < GLOBAL {
         return false;
     }
-    k < KINDS
+    k < value::KINDS
 }
 
 // Where the text of a record ends; of a wrong record, no more than a usize holds.

@@ -67,11 +67,11 @@ fn text_at<'a>(pickle: &'a [u8], decoded: &'a [u8], place: Place) -> &'a [u8]
 fn module_place(first: u64) -> Place
     ensures { λ r. ⌜ ((p d : List ℕ) → placed r p d ≡ within 24 (first / 16) p) ⌝ }
 {
-    let word = first / 16;
+    let word = first / store::KIND_RADIX;
     Place {
         decoded: false,
-        at: word % 0x100_0000,
-        len: word / 0x100_0000,
+        at: word % store::MODULE_LEN,
+        len: word / store::MODULE_LEN,
     }
 }
 
@@ -81,8 +81,8 @@ fn text_place(second: u64) -> Place
 {
     Place {
         decoded: false,
-        at: second % 0x1_0000_0000,
-        len: second / 0x1_0000_0000,
+        at: second % store::HALF,
+        len: second / store::HALF,
     }
 }
 
@@ -100,12 +100,12 @@ fn lead_place(node: NodeId, nodes: &[u64], measures: &[u64]) -> Place
         };
     }
     let first = nodes[2 * i];
-    let kind = first % 16;
+    let kind = first % store::KIND_RADIX;
     if kind == value::GLOBAL {
         return module_place(first);
     }
     if kind == value::OBJECT {
-        let class = (first / 64) as usize;
+        let class = (first / store::CLASS) as usize;
         return module_place(nodes[2 * class]);
     }
     text_place(nodes[2 * i + 1])
@@ -125,12 +125,12 @@ fn trail_place(node: NodeId, nodes: &[u64], measures: &[u64]) -> Place
         };
     }
     let first = nodes[2 * i];
-    let kind = first % 16;
+    let kind = first % store::KIND_RADIX;
     if kind == value::GLOBAL {
         return text_place(nodes[2 * i + 1]);
     }
     if kind == value::OBJECT {
-        let class = (first / 64) as usize;
+        let class = (first / store::CLASS) as usize;
         return text_place(nodes[2 * class + 1]);
     }
     Place {
@@ -196,15 +196,15 @@ fn cut(bytes: &[u8], at: u64, len: u64) -> &[u8]
 fn module_text(pickle: &[u8], first: u64) -> &[u8]
     ensures { λ r. ⌜ now r ≡ within 24 (first / 16) (now (pickle .entry)) ⌝ }
 {
-    let word = first / 16;
-    cut(pickle, word % 0x100_0000, word / 0x100_0000)
+    let word = first / store::KIND_RADIX;
+    cut(pickle, word % store::MODULE_LEN, word / store::MODULE_LEN)
 }
 
 // The text of a node with this second word, as it stands in the pickle.
 fn own_text(pickle: &[u8], second: u64) -> &[u8]
     ensures { λ r. ⌜ now r ≡ within 32 second (now (pickle .entry)) ⌝ }
 {
-    cut(pickle, second % 0x1_0000_0000, second / 0x1_0000_0000)
+    cut(pickle, second % store::HALF, second / store::HALF)
 }
 
 // A text, repaired, at `at` of the decoded text; its length.
@@ -318,7 +318,7 @@ fn spell_node(
     let i = node.0;
     let first = nodes[2 * i];
     let second = nodes[2 * i + 1];
-    let kind = first % 16;
+    let kind = first % store::KIND_RADIX;
     if kind == value::STRING {
         return spell_text(own_text(pickle, second), measure, decoded, used);
     }
@@ -332,7 +332,7 @@ fn spell_node(
         );
     }
     if kind == value::OBJECT {
-        let class = (first / 64) as usize;
+        let class = (first / store::CLASS) as usize;
         return spell_names(
             module_text(pickle, nodes[2 * class]),
             own_text(pickle, nodes[2 * class + 1]),
@@ -363,21 +363,21 @@ fn has_text(kind: u64) -> bool
     if kind < value::GLOBAL {
         return false;
     }
-    kind < 15
+    kind < store::NODE_KINDS
 }
 
 // Whether a node's text is wanted: the walk reached it, as its measure says.
 fn is_due(first: u64, measure: u64) -> bool
     ensures { λ r. ⌜ r ≡ dueWord first measure ⌝ }
 {
-    let kind = first % 16;
-    if measure < 128 {
+    let kind = first % store::KIND_RADIX;
+    if measure < store::DEPTHS {
         return false;
     }
     if kind == value::OBJECT {
-        return measure < 0x400_0000_0000;
+        return measure < store::MEASURED;
     }
-    if 0x200_0000_0000 <= measure {
+    if store::AHEAD <= measure {
         return false;
     }
     has_text(kind)

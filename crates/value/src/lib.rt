@@ -44,6 +44,9 @@ pub const GLOBAL: u64 = 11;
 
 pub const OBJECT: u64 = 12;
 
+// The kinds have the numbers below this one.
+pub const KINDS: u64 = 13;
+
 // What word 0 of a record says. Only `head_of` reads that word and only `word_of` makes it.
 pub struct Head {
     pub kind: u64,

@@ -3,6 +3,7 @@ use borrow.Author.Needs.{needs}
 use Rattle.emit.proofs.write_leaf.Statement.{statement}
 use Rattle.emit.proofs.write_leaf.Tie as tie
 use Prim.Native.Nat.{_≤_}
+use mathlib.Core.Path.{_∙_}
 use native.Mathlib.Omega.{arith}
 use Rattle.steps.specs.NodeWords.{first}
 use Rattle.emit.specs.Words.{kindOf}
@@ -37,9 +38,13 @@ put-names-requires : tie.Need-put-names-requires
 unfolding first
 put-names-requires c κs = let n = c .before in let p = start (n .before .before) .pre in (p .0 .text-ready, omega (arith, named-kind (p .0) (p .1) (named n)))
 
+plain-word-requires : tie.Need-plain-word-requires
+unfolding first
+plain-word-requires c κs = let n = c .before .before .before .before .before in let p = start (n .before .before) .pre in omega (arith, n .before .before .kind-of .ensures, named-kind (p .0) (p .1) (named n))
+
 behind-requires : tie.Need-behind-requires
 behind-requires c κs =
-    let w = c .before .before .before .before .before .before in
+    let w = c .before .before .before .before .before .before .before in
     let n = w .before .before in
     let p = start (n .before .before) .pre in
     names-fit (p .0) (p .1) (named n) _ _ (w .put-names .ensures)
@@ -47,14 +52,14 @@ behind-requires c κs =
 returns-3 : tie.Need-returns-3
 unfolding first
 returns-3 c =
-    let w = c .before .before .before .before .before .before .before in
+    let w = c .before .before .before .before .before .before .before .before in
     let n = w .before .before in
     let p = start (n .before .before) .pre in
-    names-leaf (p .0) (p .1) (named n) _ _ (w .put-names .ensures) _ _ (rw (n .before .before .kind-of .ensures) at (c .before .before .before .put-record .ensures)) (c .behind .ensures)
+    names-leaf (p .0) (p .1) (named n) _ _ (w .put-names .ensures) _ _ (rw (c .before .before .before .before .plain-word .ensures ∙ n .before .before .kind-of .ensures) at (c .before .before .before .put-record .ensures)) (c .behind .ensures)
 
 pub write-leaf-spec : {M : Type 1} → statement M
 write-leaf-spec =
     tie.close
     (tie.spec
     (λ c. search needs) (λ c. search needs) (λ c. search needs) (λ c κs. search needs) write-atom-requires (λ c. search needs) returns write-text-requires
-    (λ c. search needs) (λ c. search needs) (λ c. search needs) put-names-requires (λ c κs. search needs) behind-requires (λ c. search needs) (λ c. search needs) returns-3)
+    (λ c. search needs) (λ c. search needs) (λ c. search needs) put-names-requires plain-word-requires (λ c κs. search needs) behind-requires (λ c. search needs) (λ c. search needs) returns-3)

@@ -1,5 +1,4 @@
 -- Each effect by its function.
-use borrow.Author.Needs.{needs}
 use Rattle.machine.proofs.apply.Statement.{statement}
 use Rattle.machine.proofs.apply.Tie as tie
 use mathlib.Core.Path.{_≡_, refl, subst}
@@ -46,6 +45,28 @@ remember c = c .before .before .before
 abbrev build : tie.After-set-state-arg → tie.After-e8
 build c = c .before .before
 
+-- from the end of an arm back to its call
+abbrev pushed : tie.After-slice-known9 → tie.After-push-node
+pushed c = c .before .before .before .before
+
+abbrev shared : tie.After-slice-known10 → tie.After-push-id
+shared c = c .before .before
+
+abbrev marked : tie.After-slice-known11 → tie.After-put-mark
+marked c = c .before .before
+
+abbrev made : tie.After-slice-known15 → tie.After-make
+made c = c .before .before .before .before .before .before .before .before
+
+abbrev extended : tie.After-slice-known18 → tie.After-extend
+extended c = c .before .before .before .before .before .before
+
+abbrev remembered : tie.After-slice-known20 → tie.After-remember
+remembered c = c .before .before .before .before
+
+abbrev built : tie.After-slice-known21 → tie.After-set-state
+built c = c .before .before
+
 push-node-requires : tie.Need-push-node-requires
 push-node-requires c κs = push-lengths _ _ _ _ _ (fits (push c .before .before) _ (push c .e .given .1))
 
@@ -70,21 +91,21 @@ set-state-requires c κs = buildable _ _ _ _ _ (fits (build c .before .before) _
 returns : tie.Need-returns
 unfolding Applies PushNode
 returns c = λ p f.
-    let done = c .before .before .before .before in
+    let done = pushed c in
     let e = push (done .before) .e .given .1 in
     rw e (done .push-node .ensures _ _ refl refl (rw e at f))
 
 returns-2 : tie.Need-returns-2
 unfolding Applies PushId
 returns-2 c = λ p f.
-    let done = c .before .before in
+    let done = shared c in
     let e = share (done .before) .e2 .given .1 in
     rw e (done .push-id .ensures _ _ refl (rw e at f))
 
 returns-3 : tie.Need-returns-3
 unfolding Applies PutMark
 returns-3 c = λ p f.
-    let done = c .before .before in
+    let done = marked c in
     let e = mark (done .before) .e3 .given .1 in
     rw e (done .put-mark .ensures _ _ refl (rw e at f))
 
@@ -95,21 +116,21 @@ returns-4 c = λ p f. let e = c .before .e4 .given .1 in rw e (goes-on _ _ _ (rw
 returns-5 : tie.Need-returns-5
 unfolding Applies MakesNode
 returns-5 c = λ p f.
-    let done = c .before .before .before .before .before .before .before .before in
+    let done = made c in
     let e = make (done .before) .e5 .given .1 in
     rw e (done .make .ensures _ refl refl refl refl (rw e at f))
 
 returns-6 : tie.Need-returns-6
 unfolding Applies Extends
 returns-6 c = λ p f.
-    let done = c .before .before .before .before .before .before in
+    let done = extended c in
     let e = extend (done .before) .e6 .given .1 in
     rw e (done .extend .ensures _ refl refl refl refl (rw e at f))
 
 returns-7 : tie.Need-returns-7
 unfolding Applies Remembers Fits enacted
 returns-7 c = λ p f.
-    let done = c .before .before .before .before in
+    let done = remembered c in
     let arm = remember (done .before) in
     let e = arm .e7 .given .1 in
     rw e (done .remember .ensures _ (start (arm .before .before) .args .had) refl refl (rw e at f))
@@ -117,7 +138,7 @@ returns-7 c = λ p f.
 returns-8 : tie.Need-returns-8
 unfolding Applies Builds
 returns-8 c = λ p f.
-    let done = c .before .before in
+    let done = built c in
     let e = build (done .before) .e8 .given .1 in
     rw e (done .set-state .ensures _ _ refl (rw e at f))
 
@@ -133,8 +154,8 @@ pub apply-spec : {M : Type 1} → statement M
 apply-spec =
     tie.close
     (tie.spec
-    (λ c. search needs) push-node-requires (λ c. search needs) push-id-requires (λ c. search needs) put-mark-requires (λ c. search needs)
-    (λ c. search needs) make-requires (λ c. search needs) extend-requires (λ c. search needs) remember-requires (λ c. search needs) set-state-requires
-    (λ c. search needs) (λ c. search needs) (λ c. search needs) (λ c. search needs) returns (λ c. search needs) returns-2 (λ c. search needs) returns-3
-    returns-4 (λ c. search needs) (λ c. search needs) (λ c. search needs) (λ c. search needs) returns-5 (λ c. search needs) (λ c. search needs)
-    (λ c. search needs) (λ c. search needs) returns-6 (λ c. search needs) (λ c. search needs) returns-7 (λ c. search needs) returns-8 returns-9 returns-10)
+    (λ c. c .match .keys1) push-node-requires (λ c. c .match .keys2) push-id-requires (λ c. c .match .keys3) put-mark-requires (λ c. c .match .keys4)
+    (λ c. c .match .keys5) make-requires (λ c. c .match .keys6) extend-requires (λ c. c .match .keys7) remember-requires (λ c. c .match .keys8) set-state-requires
+    (λ c. c .match .keys9) (λ c. c .match .keys10) (λ c. pushed c .push-node .kept .0) (λ c. pushed c .push-node .kept .1 .0) returns (λ c. shared c .push-id .kept .0) returns-2 (λ c. marked c .put-mark .kept .0) returns-3
+    returns-4 (λ c. made c .make .kept .0) (λ c. made c .make .kept .1 .0) (λ c. made c .make .kept .1 .1 .0) (λ c. made c .make .kept .1 .1 .1 .0) returns-5 (λ c. extended c .extend .kept .0) (λ c. extended c .extend .kept .1 .0)
+    (λ c. extended c .extend .kept .1 .1 .0) (λ c. refl) returns-6 (λ c. remembered c .remember .kept .0) (λ c. remembered c .remember .kept .1 .0) returns-7 (λ c. built c .set-state .kept .0) returns-8 returns-9 returns-10)

@@ -1,5 +1,4 @@
 -- A step: what is decided, applied.
-use borrow.Author.Needs.{needs}
 use Rattle.machine.proofs.take_step.Statement.{statement}
 use Rattle.machine.proofs.take_step.Tie as tie
 use mathlib.Core.Path.{refl}
@@ -32,10 +31,14 @@ apply-requires c κs =
     let d = decided c in
     record { pickle = start (d .before) .args .pickle .now; fits = d .decide .ensures (rooms (d .before)) (start (d .before) .pre) (agrees _) .fits }
 
+-- from the end back to what is applied
+abbrev applied : tie.After-slice-known14 → tie.After-apply
+applied c = c .before .before .before .before .before .before .before .before .before .before .before .before .before .before
+
 returns : tie.Need-returns
 unfolding Decides Applies
 returns c =
-    let done = c .before .before .before .before .before .before .before .before .before .before .before .before .before .before in
+    let done = applied c in
     let d = decided (done .before) in
     let says = d .decide .ensures (rooms (d .before)) (start (d .before) .pre) (agrees _) in
     rw (says .enacts) at (done .apply .ensures (start (d .before) .args .pickle .now) (says .fits))
@@ -44,5 +47,5 @@ pub take-step-spec : {M : Type 1} → statement M
 take-step-spec =
     tie.close
     (tie.spec
-    decide-requires apply-requires (λ c. search needs) (λ c. search needs) (λ c. search needs) (λ c. search needs) (λ c. search needs) (λ c. search needs)
-    (λ c. search needs) returns)
+    decide-requires apply-requires (λ c. applied c .apply .kept .0) (λ c. applied c .apply .kept .1 .0) (λ c. applied c .apply .kept .1 .1 .0) (λ c. applied c .apply .kept .1 .1 .1 .0) (λ c. applied c .apply .kept .1 .1 .1 .1 .0) (λ c. applied c .apply .kept .1 .1 .1 .1 .1 .0)
+    (λ c. applied c .apply .kept .1 .1 .1 .1 .1 .1 .0) returns)

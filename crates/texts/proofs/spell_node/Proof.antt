@@ -1,5 +1,9 @@
 -- `texts::spell_node` meets its contract: each return by the law of its kind. Assumes nothing.
-use borrow.Author.Needs.{needs}
+use Prim.Native.Nat.{ℕ, _+_, _*_, _^_, _<_}
+use mir.Val.{Fits}
+use mir.Syntax.{w64}
+use mathlib.Core.List.{List}
+use lib.ListN.{length}
 use Rattle.texts.proofs.spell_node.Statement.{statement}
 use Rattle.texts.proofs.spell_node.Tie as tie
 use native.Mathlib.Omega.{arith}
@@ -17,6 +21,32 @@ second c = c .before .before
 
 abbrev third : tie.Else3 → tie.After-shared-slice-known4
 third c = second (c .before)
+
+-- ---- the numbers of a node whose words are in the room
+
+module _ (i : ℕ) (ws : List ℕ) (words : 2 * i + 1 < length ws) (room : length ws * 8 < 2 ^ 63) where
+  fits-first : Fits w64 (2 * i)
+  fits-first = omega arith
+
+  fits-first-at : Fits w64 (2 * i * 8)
+  fits-first-at = omega arith
+
+  first-in : 2 * i < length ws
+  first-in = omega arith
+
+  fits-second : Fits w64 (2 * i + 1)
+  fits-second = omega arith
+
+  fits-second-at : Fits w64 ((2 * i + 1) * 8)
+  fits-second-at = omega arith
+
+module _ (s : tie.Start) where
+  abbrev room : length (s .args .nodes .now) * 8 < 2 ^ 63
+  room = s .good .1 .1 .1 .0 .1
+
+  -- the class of an Object
+  abbrev class : ℕ
+  class = classIn (first (s .args .nodes .now) (s .args .node .0))
 
 -- ---- the needs
 
@@ -48,31 +78,31 @@ returns-2 c =
 
 mul-module-text : tie.Need-mul-module-text
 unfolding kindIn first classIn
-mul-module-text c = omega (arith, start (second (c .before)) .pre .class (c .if3 .taken))
+mul-module-text c = let s = start (second (c .before)) in fits-first (class s) (s .args .nodes .now) (s .pre .class (c .if3 .taken)) (room s)
 
 mul-module-text-2 : tie.Need-mul-module-text-2
 unfolding kindIn first classIn
-mul-module-text-2 c = omega (arith, start (second (c .before)) .pre .class (c .if3 .taken))
+mul-module-text-2 c = let s = start (second (c .before)) in fits-first-at (class s) (s .args .nodes .now) (s .pre .class (c .if3 .taken)) (room s)
 
 shared-slice-read-module-text : tie.Need-shared-slice-read-module-text
 unfolding kindIn first classIn
-shared-slice-read-module-text c = omega (arith, start (second (c .before .before)) .pre .class (c .before .if3 .taken))
+shared-slice-read-module-text c = let s = start (second (c .before .before)) in first-in (class s) (s .args .nodes .now) (s .pre .class (c .before .if3 .taken)) (room s)
 
 mul-own-text : tie.Need-mul-own-text
 unfolding kindIn first classIn
-mul-own-text c = omega (arith, start (second (c .before .before .before)) .pre .class (c .before .before .if3 .taken))
+mul-own-text c = let s = start (second (c .before .before .before)) in fits-first (class s) (s .args .nodes .now) (s .pre .class (c .before .before .if3 .taken)) (room s)
 
 add-own-text : tie.Need-add-own-text
 unfolding kindIn first classIn
-add-own-text c = omega (arith, start (second (c .before .before .before)) .pre .class (c .before .before .if3 .taken))
+add-own-text c = let s = start (second (c .before .before .before)) in fits-second (class s) (s .args .nodes .now) (s .pre .class (c .before .before .if3 .taken)) (room s)
 
 mul-own-text-2 : tie.Need-mul-own-text-2
 unfolding kindIn first classIn
-mul-own-text-2 c = omega (arith, start (second (c .before .before .before)) .pre .class (c .before .before .if3 .taken))
+mul-own-text-2 c = let s = start (second (c .before .before .before)) in fits-second-at (class s) (s .args .nodes .now) (s .pre .class (c .before .before .if3 .taken)) (room s)
 
 shared-slice-read-own-text : tie.Need-shared-slice-read-own-text
 unfolding kindIn first classIn
-shared-slice-read-own-text c = omega (arith, start (second (c .before .before .before .before)) .pre .class (c .before .before .before .if3 .taken))
+shared-slice-read-own-text c = start (second (c .before .before .before .before)) .pre .class (c .before .before .before .if3 .taken)
 
 spell-names-requires-2 : tie.Need-spell-names-requires-2
 unfolding kindIn first classIn
@@ -129,8 +159,8 @@ pub spell-node-spec : {M : Type 1} → statement M
 spell-node-spec =
     tie.close
     (tie.spec
-    (λ c. search needs) (λ c. search needs) (λ c. search needs) (λ c. search needs) (λ c. search needs) (λ c. search needs) (λ c. search needs) (λ c κs. search needs)
-    spell-text-requires (λ c. search needs) returns (λ c κs. search needs) (λ c κs. search needs) spell-names-requires (λ c. search needs) returns-2 mul-module-text
-    mul-module-text-2 shared-slice-read-module-text (λ c κs. search needs) mul-own-text add-own-text mul-own-text-2 shared-slice-read-own-text (λ c κs. search needs)
-    spell-names-requires-2 (λ c. search needs) returns-3 (λ c κs. search needs) spell-string-requires (λ c. search needs) returns-4 (λ c κs. search needs)
-    spell-unicode-requires (λ c. search needs) returns-5 returns-6)
+    (λ c. let s = c .before .before .before in fits-first (s .args .node .0) (s .args .nodes .now) (s .pre .words) (room s)) (λ c. let s = c .before .before .before in fits-first-at (s .args .node .0) (s .args .nodes .now) (s .pre .words) (room s)) (λ c. let s = c .before .before .before .before in first-in (s .args .node .0) (s .args .nodes .now) (s .pre .words) (room s)) (λ c. let s = c .before .before .before .before in fits-first (s .args .node .0) (s .args .nodes .now) (s .pre .words) (room s)) (λ c. let s = c .before .before .before .before in fits-second (s .args .node .0) (s .args .nodes .now) (s .pre .words) (room s)) (λ c. let s = c .before .before .before .before in fits-second-at (s .args .node .0) (s .args .nodes .now) (s .pre .words) (room s)) (λ c. start c .pre .words) (λ c κs. tt)
+    spell-text-requires (λ c. c .before .before .spell-text .kept .1 .1 .0) returns (λ c κs. tt) (λ c κs. tt) spell-names-requires (λ c. c .before .before .spell-names .kept .1 .1 .1 .0) returns-2 mul-module-text
+    mul-module-text-2 shared-slice-read-module-text (λ c κs. tt) mul-own-text add-own-text mul-own-text-2 shared-slice-read-own-text (λ c κs. tt)
+    spell-names-requires-2 (λ c. c .before .before .spell-names2 .kept .1 .1 .1 .0) returns-3 (λ c κs. tt) spell-string-requires (λ c. c .before .before .spell-string .kept .1 .0) returns-4 (λ c κs. tt)
+    spell-unicode-requires (λ c. c .before .before .spell-unicode .kept .1 .0) returns-5 returns-6)
