@@ -1,4 +1,4 @@
-//! Pickles that no tablet writes: at the limits of document 01, and those of up to 65,536 bytes that cost most to read.
+//! Pickles that no tablet writes: at the limits of RULES A3.1, and those of up to 65,536 bytes that cost most to read.
 
 use crate::inputs;
 use crate::reading::Input;

@@ -20,7 +20,7 @@ free it.";
 pub struct Input {
     pub name: &'static str,
     pub pickle: Vec<u8>,
-    /// The number that is due here: 0, and then the Rust's value, or a refusal that document 01 adds.
+    /// The number that is due here: 0, and then the Rust's value, or an added refusal (RULES A4.1).
     pub number: u64,
     pub rust: bool,
     pub cpython: bool,

@@ -1,4 +1,4 @@
-"""What a run of tests/calls asks of the library, and what is due by the Rust and document 01 (tests/oracle): pickles with all
+"""What a run of tests/calls asks of the library, and what is due by the Rust and RULES, part A (tests/oracle): pickles with all
 that follows from them, the slices of a reading at their lengths, and tables that a reading seldom or never gives."""
 import itertools
 

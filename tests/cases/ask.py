@@ -40,7 +40,7 @@ def batches(cases):
 
 
 def expected(pickles):
-    """What document 01 demands of the prefix reading."""
+    """What RULES, part A, demands of the prefix reading."""
     return ask(TRACE, "expect", pickles)
 
 

@@ -1,4 +1,4 @@
-"""Each number of document 01 that stops a reading, at one below, at and one above, reached in several ways.
+"""Each number of RULES A3.1 that stops a reading, at one below, at and one above, reached in several ways.
 
 A family is a function of the distance from the number: -1, 0 and 1 in the fixed list, varied after it.
 """

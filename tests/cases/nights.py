@@ -1,4 +1,4 @@
-"""A night's sheets read at once, as document 02 (Ask 1) has it: what is due of the whole night, and what the sheets leave, from what each
+"""A night's sheets read at once, as RULES, Ask 1, has it: what is due of the whole night, and what the sheets leave, from what each
 gives when it is read by itself as whole data."""
 import tables
 

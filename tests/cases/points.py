@@ -1,4 +1,4 @@
-"""The cases of the list of open points, by the number of their point, and the bench lines of document 01.
+"""The cases of the list of open points, by the number of their point, and the bench lines of RULES A10.
 
 Only the pickles stand here; what they give is the oracle's to say.
 """
@@ -119,7 +119,7 @@ POINTS = [
 # Where Python's own reader differs: those of docs/DIFFERENCES.md that no point has.
 POINTS += [("6", data) for data in PICKLES if data not in [known for _, known in POINTS]]
 
-# Document 01, "Bytes to keep on the bench", and the listing program's example.
+# The bench (RULES A10), and the worked input of the listing (A9.5).
 BENCH = [
     b"",
     b".",

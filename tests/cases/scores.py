@@ -1,4 +1,4 @@
-"""Document 02, Ask 3, written from its words: whether a value, (kind, payload) as tables.py has it, is a sheet, and its score. Then values
+"""RULES, Ask 3, written from the rule's words: whether a value, (kind, payload) as tables.py has it, is a sheet, and its score. Then values
 to score: sheets, sheets with one thing wrong, at the edges of what is allowed, with further keys of every kind."""
 from tables import BOOL, BYTES, DICT, FLOAT, FROZENSET, GLOBAL, INT, LIST, NONE, OBJECT, SET, STRING, TUPLE
 

@@ -104,7 +104,7 @@ def names(words, text):
 
 
 def unwritable(words, text):
-    """Document 02, Ask 5: writing refuses a module or a name that contains a newline or ends with CR."""
+    """RULES, Ask 5.1: writing refuses a module or a name that contains a newline or ends with CR."""
     return any(b"\n" in name or name.endswith(b"\r") for name in names(words, text))
 
 

@@ -10,7 +10,7 @@ ROOT = os.path.join(os.path.dirname(os.path.abspath(__file__)), "..", "..")
 sys.path.insert(0, os.path.join(ROOT, "tests", "cases"))
 LONGEST = 65536           # longer pickles never come to the machine
 PLACE, STACK, MARKS, MEMO, NODES, LINKS = range(6)      # of a step
-MOST = [(LINKS, 8192, 16), (NODES, 4096, 15), (STACK, 2048, 12), (MARKS, 256, 13), (MEMO, 1024, 14)]    # in document 01's order
+MOST = [(LINKS, 8192, 16), (NODES, 4096, 15), (STACK, 2048, 12), (MARKS, 256, 13), (MEMO, 1024, 14)]    # in the order of RULES A4.4
 STEP = re.compile(r" (\d+):(\d+),(\d+),(\d+),(\d+),(\d+)(?::(\S+))?")
 AFTER = {"17", "18", "19"}      # what is settled after the machine
 SINGLE = dict(zip(b"abfnrtv", b"\a\b\f\n\r\t\v"))
@@ -27,10 +27,10 @@ def program(pickles):
     return done.stdout.decode().split("\n")[:-1]
 
 
-# ---- what is due: document 01's limits laid over the Rust's run, as tests/oracle/src/due.rs lays them
+# ---- what is due: the limits of RULES A3.1 laid over the Rust's run, as tests/oracle/src/due.rs lays them
 
 def outside(line):
-    """Whether a float literal that the Rust has parsed is outside document 01's."""
+    """Whether a float literal that the Rust has parsed is outside those of RULES A7.5."""
     text = bytes.fromhex(line).decode().strip().lstrip("+-").lower()
     if text in ("inf", "infinity", "nan"):
         return True
@@ -50,7 +50,7 @@ def columns(steps):
 
 
 def first_limit(steps, floats):
-    """The first opcode that the Rust lets through and document 01 does not, and the refusal's number; the step behind it has the
+    """The first opcode that the Rust lets through and RULES, part A, does not, and the refusal's number; the step behind it has the
     counts that it leaves."""
     found = [(i, 0, 20) for i, line in enumerate(floats[:-1]) if line and outside(line)]
     for order, (what, most, number) in enumerate(MOST):

@@ -1,4 +1,4 @@
--- Document 02, Ask 1: sheets that lie end to end in one buffer, read by one call. The batch is defined on `whole` alone, the reading of a
+-- RULES, Ask 1: sheets that lie end to end in one buffer, read by one call. The batch is defined on `whole` alone, the reading of a
 -- sheet as whole data.
 use Prim.Native.Nat.{ℕ, _*_, _/_, _≤_}
 use mathlib.Core.Bool.{Bool, true, false, cond, _||_}

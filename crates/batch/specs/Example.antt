@@ -1,4 +1,4 @@
--- Ask 1 on three sheets of document 01's bench: one that is accepted, one that is refused, and one that is accepted and shorter.
+-- RULES, Ask 1, on three sheets, of A9.5 and the bench (A10): one that is accepted, one that is refused, and one that is accepted and shorter.
 use Prim.Native.Nat.{ℕ}
 use mathlib.Core.Bool.{true, false}
 use mathlib.Core.List.{List, [], _∷_, _++_}

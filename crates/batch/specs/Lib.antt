@@ -1,4 +1,4 @@
--- A night's sheets read by one call (document 02, Ask 1).
+-- A night's sheets read by one call (RULES, Ask 1).
 pub mod Batch
 pub mod Sheets
 pub mod Each

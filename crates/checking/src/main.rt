@@ -4,7 +4,7 @@
 // A night that is refused has only the line `refused`, its number and its detail: 1 where it has more than 1,024 sheets, 23 where the lengths
 // are cut off or are not those of the bytes behind them, of which 524,288 are read at most.
 //
-// Started with a word, it reads plain data only (document 02, Ask 7): sheet by sheet, since the profile has no batch.
+// Started with a word, it reads plain data only (RULES, Ask 7.6): sheet by sheet, since the profile has no batch.
 use lengths::BAD_LENGTHS;
 use lengths::add_up;
 use op::Edition;

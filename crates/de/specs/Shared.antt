@@ -1,5 +1,5 @@
 -- Demand 3's premise is neither empty nor always true: a pickle that shares a list meets it, one whose lists contain each other does not. And
--- document 01's bench, held to the public call.
+-- the bench of RULES A10, held to the public call.
 use Prim.Native.Nat.{ℕ, zero, suc, _<_}
 use mathlib.Core.List.{List, [], _∷_}
 use mathlib.Core.Logic.{inr}
@@ -39,7 +39,7 @@ machine = tt
 abbrev node-of : Label → List ℕ → Node
 node-of l ks = record { label = l; kids = ks }
 
--- ---- document 01's worked input: a list is placed twice, and 5 added after that
+-- ---- the worked input of RULES A9.5: a list is placed twice, and 5 added after that
 
 abbrev pub shared : List ℕ
 shared = 0x80 ∷ 0x02 ∷ 0x5D ∷ 0x71 ∷ 0x00 ∷ 0x68 ∷ 0x00 ∷ 0x4B ∷ 0x05 ∷ 0x61 ∷ 0x86 ∷ 0x2E ∷ []
@@ -116,7 +116,7 @@ pub entwined-not : ¬ NothingContainsItself entwined-nodes 2
 unfolding NothingContainsItself Reachable
 entwined-not h = h 0 (inr (direct here)) (through here (direct here))
 
--- ---- document 01's bench
+-- ---- the bench of RULES A10
 
 -- each of the nine pickles, read by the call, gives what stands beside it
 pub Called : List Line → Type 0

@@ -1,5 +1,5 @@
-// The effects of the opcodes on the rooms (the second half of `Decoder`'s methods: push, push_id, put, extend): each tests the limits that
-// document 01 adds, in its order, and then writes only the rooms that it changes. On a refusal no room is changed.
+// The effects of the opcodes on the rooms (the second half of `Decoder`'s methods: push, push_id, put, extend): each tests the limits of
+// RULES A3.1, in the order of A4.4, and then writes only the rooms that it changes. On a refusal no room is changed.
 use refusal::Refusal;
 use store::Counts;
 use store::MemoKey;
@@ -24,7 +24,7 @@ pub enum Step {
     Refused(Counts, Refusal),
 }
 
-// Document 01's limits: the rooms are at least so long.
+// The limits of RULES A3.1: the rooms are at least so long.
 pub const NODES: usize = 4096;
 
 pub const LINKS: usize = 8192;

@@ -22,7 +22,7 @@ use Rattle.float.specs.declared.Power.{Power}
 use Rattle.float.specs.declared.Power.the-variants.{Up, Down, Unformed}
 use Rattle.float.proofs.Scans.{part-is}
 
--- past a bound of document 01
+-- past a bound of RULES A7.5
 abbrev pub Out : ℕ → ℕ → ℕ → Type 0
 Out w up down = (2 ^ 53 < w) ⊎ ((up + 22 < down) ⊎ (down + 22 < up))
 

@@ -49,7 +49,7 @@ unfoldable pub exponent : List ℕ → Exponent
 exponent [] = raised 0
 exponent (b ∷ s) = cond (eqb b 0x65 || eqb b 0x45) (power (minus s) (behindSign s)) unformed
 
--- A number as it is written, w * 10 ^ up / 10 ^ down. Document 01's e, the exponent less the digits after the point, is up - down.
+-- A number as it is written, w * 10 ^ up / 10 ^ down. The e of RULES A7.5, the exponent less the digits after the point, is up - down.
 pub data Number : Type 0 where
   number : (w up down : ℕ) → Number
   formless : Number

@@ -1,4 +1,4 @@
--- What a FLOAT literal says: document 01, 'Literals', FLOAT.
+-- What a FLOAT literal says: RULES A7.5.
 use Prim.Native.Nat.{ℕ, _+_, _-_, _*_, _^_, _≤_, _<_}
 use mathlib.Core.Bool.{Bool, true, false, cond, _&&_}
 use mathlib.Core.List.{List}
@@ -19,7 +19,7 @@ use Rattle.float.specs.Nearest.{Nearest, middle-up, middle-down, round-n
 use Rattle.float.specs.declared.F64Literal.{F64Literal}
 use Rattle.float.specs.declared.F64Literal.the-variants.{Bits, Invalid, Outside}
 
--- an answer's number of document 01 and its values
+-- what an answer says: the bits, or a refusal of RULES A4
 unfoldable pub f64Read : F64Literal → Read ℕ
 f64Read (Bits bits) = got bits
 f64Read Invalid = refused InvalidLiteral 0

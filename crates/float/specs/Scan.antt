@@ -1,5 +1,5 @@
 -- What the scans of the code answer. Their numbers stop at `cap`, which is above 2 ^ 53 and above every slice's length by more than
--- 22, so that no test of document 01 tells a capped number from the number itself.
+-- 22, so that no test of RULES A7.5 tells a capped number from the number itself.
 use Prim.Native.Nat.{ℕ, _+_, _*_, _^_, _≤_, min}
 use mathlib.Core.List.{List}
 use mathlib.Core.Path.{_≡_}

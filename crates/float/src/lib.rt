@@ -11,7 +11,7 @@ ghost use Rattle.float.specs.Scan.{cap, runOf, Scanned, capped};
 ghost use Rattle.float.specs.Literal.{f64Read, double, signed, value, floatLiteral, parseF64};
 ghost use Rattle.float.specs.Form as Form;
 
-// `Invalid`: no number's form. `Outside`: `inf`, `infinity` or `nan`, or a number past the bounds of document 01.
+// `Invalid`: no number's form. `Outside`: `inf`, `infinity` or `nan`, or a number past the bounds of RULES A7.5.
 pub enum F64Literal {
     Bits(u64),
     Invalid,

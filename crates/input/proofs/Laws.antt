@@ -137,7 +137,7 @@ i32-is p at x v h B e f =
     f ∙ ap (λ (l : List ℕ). lowFirst (filled 8 x l)) (part-is 4 p at) ∙ ap (λ (y : ℕ). lowFirst (filled 8 y q)) g
     ∙ sym (word-short q (bytes-take 4 (drop at p) (bytes-drop at p B)) n)
 
--- what `long` computes is document 01's rule, so PEP 307's integer
+-- what `long` computes is the rule on the bytes of RULES A7.4, so PEP 307's integer
 fill-sign : (l : List ℕ) → eqb (fillOf l) 0 ≡ ltb (lastByte l) 128
 unfolding fillOf
 fill-sign l = go (ltb (lastByte l) 128)

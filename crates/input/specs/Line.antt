@@ -1,4 +1,4 @@
--- Document 01, 'Literals': the search for a line runs to the first newline, or to the end; one CR before the newline is dropped.
+-- RULES A7.1: the search for a line runs to the first newline, or to the end; one CR before the newline is dropped.
 use Prim.Native.Nat.{ℕ, zero, suc, _+_, _-_, _<_, _≤_}
 use mathlib.Core.Path.{_≡_, refl, ap, _∙_}
 use mathlib.Core.Bool.{Bool, true, false, cond}

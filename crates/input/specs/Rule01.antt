@@ -1,4 +1,4 @@
--- Document 01's rule on the bytes of a LONG1 or LONG4, and that it is PEP 307's integer within i64.
+-- The rule on the bytes of a LONG1 or LONG4 (RULES A7.4), and that it is PEP 307's integer within i64.
 use Prim.Native.Nat.{ℕ, suc, _+_, _-_, _*_, _^_, _<_, _≤_}
 use mathlib.Core.Path.{_≡_, refl, sym, ap, _∙_}
 use mathlib.Core.Logic.{⊎-elim}
@@ -175,7 +175,7 @@ module _ (l : List ℕ) (B : Bytes l) where
   unfolding ext filled
   signed s = ap read (sym (extend s (8 - length l) l B)) ∙ long-wide (ext s) (ext-bytes s) (ext-long s) s ∙ rw (past-same s)
 
-  -- document 01's rule accepts the integers of i64, with their 64 bits, and no others
+  -- the rule on the bytes accepts the integers of i64, with their 64 bits, and no others
   pub long-is-01 : longOf l ≡ longBy01 l
   unfolding longOf denotes longBy01 rule01 wordOf fillOf val
   long-is-01 = signed (ltb (lastByte l) 128)

@@ -10,7 +10,7 @@ use borrow.Author.Tests.{eq-eqb, ne-eqb, eqb-true, eqb-false}
 use native.Mathlib.Numerals.{add-one}
 use native.Mathlib.Omega.{arith}
 
--- number and detail of BadLengths (document 02, Asks 1 and 12)
+-- number and detail of BadLengths (RULES, Ask 1.2)
 abbrev pub badLengths : ℕ × ℕ
 badLengths = (23, 0)
 

@@ -1,4 +1,4 @@
--- Worked examples: document 01's, and a line of each kind.
+-- Worked examples: that of RULES A9.5, and a line of each kind.
 use Prim.Native.Nat.{_^_, _-_}
 use mathlib.Core.Bool.{true}
 use mathlib.Core.List.{[], _∷_}
@@ -12,7 +12,7 @@ unfoldable evaluates : Unit {0}
 unfolding figure figures noZeros decimalText signedText printable listedByte listedText names kindName flag listedNames contentOf line listing count
 evaluates = tt
 
--- document 01's input: ([5], [5])
+-- the input of RULES A9.5: ([5], [5])
 pub worked : listing 0 (node TupleL (node ListL (node (I64L 5) nil nil) (node ListL (node (I64L 5) nil nil) nil)) nil)
     ≡ 0x30 ∷ 0x09 ∷ 0x74 ∷ 0x75 ∷ 0x70 ∷ 0x6C ∷ 0x65 ∷ 0x09 ∷ 0x32 ∷ 0x0A
     ∷ 0x31 ∷ 0x09 ∷ 0x6C ∷ 0x69 ∷ 0x73 ∷ 0x74 ∷ 0x09 ∷ 0x31 ∷ 0x0A

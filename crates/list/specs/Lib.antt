@@ -1,4 +1,4 @@
--- The listing of a value (document 01, 'The listing program'), and the call that writes it.
+-- The listing of a value (RULES A9), and the call that writes it.
 pub mod Listing
 pub mod Examples
 pub mod Back

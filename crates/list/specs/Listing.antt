@@ -1,4 +1,4 @@
--- Document 01, 'The listing program', with document 02's Ask 2: what the list call writes, one line a record.
+-- RULES A9.1 to A9.3, with Ask 2.1: what the list call writes, one line a record.
 use Prim.Native.Nat.{ℕ, suc, _+_, _*_, _≤_}
 use mathlib.Core.Bool.{Bool, cond, _&&_}
 use mathlib.Core.List.{List, [], _∷_, _++_}

@@ -1,4 +1,4 @@
--- Document 02, Ask 2: two well-formed values with the same listing are the same value.
+-- RULES, Ask 2.2: two well-formed values with the same listing are the same value.
 use Prim.Native.Nat.{ℕ, suc, _+_, _*_, _^_, _<_}
 use mathlib.Core.List.{List, [], _++_, append-assoc}
 use mathlib.Core.Path.{_≡_, refl, sym, _∙_, ap}

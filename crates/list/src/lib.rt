@@ -1,4 +1,4 @@
-// The list call: one line a record of a table (document 01, 'The listing program'; document 02, Ask 2). The lines are measured first,
+// The list call: one line a record of a table (RULES A9.1 to A9.3, Ask 2.1). The lines are measured first,
 // `.._len` by `.._len`; then every `put_` function writes one field from `at` on, and answers the next place.
 use refusal::Answer;
 use refusal::Refusal;

@@ -1,4 +1,4 @@
--- Worked examples of document 01 and of the open points 4.1 to 4.4 and 4.8.
+-- Worked examples of RULES A7.2 and A7.3, and of the open points 4.1 to 4.4 and 4.8 (tests/oracle/points.txt).
 use Prim.Native.Nat.{_^_, _-_}
 use mathlib.Core.Bool.{true}
 use mathlib.Core.List.{[], _∷_}

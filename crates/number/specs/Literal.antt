@@ -1,4 +1,4 @@
--- What the answers of this crate's functions mean: document 01's refusal, or the value with an i64 as its 64 bits.
+-- What the answers of this crate's functions mean: the refusal of RULES A7, or the value with an i64 as its 64 bits.
 use Prim.Native.Nat.{ℕ}
 use mathlib.Core.Bool.{Bool}
 use lib.IntN.{pos, negℤ}

@@ -1,5 +1,5 @@
 -- What Rust's `i64::from_str` and `u32::from_str` read, and what de.rs's INT, LONG and memo numbers make of it.
--- Document 01, 'Literals'.
+-- RULES A7.2 and A7.3.
 use Prim.Native.Nat.{ℕ, _+_, _-_, _*_, _^_}
 use mathlib.Core.Bool.{Bool, true, false, cond, _&&_}
 use mathlib.Core.List.{List, [], _∷_}
@@ -12,7 +12,7 @@ use Rattle.refusal.specs.Read.{Read, got, refused}
 use Rattle.utf8.specs.Utf8.{valid}
 use Rattle.number.specs.Space.{same, trimmed}
 
--- document 01: number 8, at the start of the line
+-- number 8 of RULES A4, at the start of the line
 unfoldable pub invalid : {A : Type 0} → Read A
 invalid = refused InvalidLiteral 0
 

@@ -1,5 +1,5 @@
 -- The editions of the reader: which opcodes of the table each accepts, how it refuses the others, and the highest protocol that PROTO
--- accepts. `Full` is document 01's reader, `Plain` document 02's profile for plain data, Ask 7.
+-- accepts. `Full` is the reader of RULES, part A, `Plain` the profile for plain data of Ask 7.
 use Prim.Native.Nat.{ℕ}
 use mathlib.Core.Bool.{Bool, false, cond, _||_}
 use mathlib.Core.List.{List, [], _∷_}

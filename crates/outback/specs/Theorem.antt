@@ -1,4 +1,4 @@
--- Document 02, Ask 6, over the definitions. A table's pickle, whatever follows it, is read back as exactly that table and text, and
+-- RULES, Ask 6, over the definitions. A table's pickle, whatever follows it, is read back as exactly that table and text, and
 -- exactly what was written is consumed, unless an added refusal is met. So among pickles read without one none is the beginning of another,
 -- and different values have different pickles.
 use Prim.Native.Nat.{ℕ, _*_}

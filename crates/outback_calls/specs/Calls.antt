@@ -1,4 +1,4 @@
--- Document 02, Ask 6, of the two public calls. What `qelemvir_to_bytes` wrote, followed by any bytes, is read by
+-- RULES, Ask 6, of the two public calls. What `qelemvir_to_bytes` wrote, followed by any bytes, is read by
 -- `qelemvir_from_bytes_prefix` as exactly the table and text that were written, and exactly what was written is consumed, unless the
 -- reading's number is that of an added refusal. That a writing's number is 0 says at once that the table is well formed, that Ask 5 does not
 -- refuse it, and that there was room.

@@ -132,7 +132,7 @@ pub told-apart : (prefix emptyName ≡ reads 4 (node (GlobalL [] []) nil nil)) �
 unfolding machine building
 told-apart = (refl, refl)
 
--- document 01's worked input, a list placed twice and 5 added after that: both read it
+-- the worked input of RULES A9.5, a list placed twice and 5 added after that: both read it
 pub both-read : (prefixIn Plain shared ≡ prefix shared) × (prefix shared .answer .number ≡ 0)
 unfolding machine building
 both-read = (refl, refl)

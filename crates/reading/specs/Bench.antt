@@ -1,5 +1,5 @@
--- Document 01, 'Bytes to keep on the bench': the nine pickles and their prefix readings, one table and one computed test. Then worked
--- cases of the open points on building.
+-- RULES A10: the nine pickles of the bench and their prefix readings, one table and one computed test. Then worked
+-- cases of the open points on building (tests/oracle/points.txt).
 use Prim.Native.Nat.{ℕ}
 use mathlib.Core.Bool.{true, false}
 use mathlib.Core.List.{List, [], _∷_, _++_, map}

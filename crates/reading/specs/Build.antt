@@ -1,4 +1,4 @@
--- `Builder` of de.rs over the node table at STOP (document 01, 'Steps of the machine', on Building): the tree of a root, in which a
+-- `Builder` of de.rs over the node table at STOP (RULES A6): the tree of a root, in which a
 -- Set has its argument and a Dict all its entries. Measures are taken on this tree; Settle puts its sets and dicts in order.
 use Prim.Native.Nat.{ℕ, suc, zero}
 use mathlib.Core.Bool.{Bool, true, false, cond, _&&_}

@@ -1,4 +1,4 @@
--- Document 01, 'Numbers that stop a reading': depth, values and text, measured on the tree that `Builder` makes, before equal keys or
+-- RULES A3.3: depth, values and text, measured on the tree that `Builder` makes, before equal keys or
 -- items collapse (`depth`, `size` and `text` of crate value, on that tree). A Set costs its argument too, and an Object its arguments'
 -- Tuple; a node inside itself is one None; a copied part measures what it measured at its first place.
 use Prim.Native.Nat.{ℕ, _≤_, _<_}

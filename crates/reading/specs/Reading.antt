@@ -71,7 +71,7 @@ leaves p r = eqb (r .answer .number) 0 && ltb (r .answer .length) (length p)
 unfoldable pub wholeIn : Edition → List ℕ → Reading
 wholeIn ed p = cond (leaves p (prefixIn ed p)) (refuses TrailingData) (prefixIn ed p)
 
--- those of document 01: in the full edition
+-- those of RULES, part A: in the full edition
 abbrev pub prefix : List ℕ → Reading
 prefix p = prefixIn Full p
 

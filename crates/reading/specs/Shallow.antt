@@ -1,4 +1,4 @@
--- Document 01: each descent spends one of the 64 levels. The remaining levels are `build`'s fuel: where k levels are enough, or where the
+-- RULES A3.1, of depth: each descent spends one of the 64 levels. The remaining levels are `build`'s fuel: where k levels are enough, or where the
 -- tree is no deeper than k, k levels make the tree. Out of levels there stands one None more, so that a tree which is cut is deeper than
 -- k; hence TooDeep exactly where the tree itself is deeper than 64.
 use Prim.Native.Nat.{ℕ, suc, zero, _+_, _≤_}

@@ -1,3 +1,3 @@
--- What document 01 says of refusals, and the shape of what a leaf of the reader says.
+-- What RULES A4 says of refusals, and the shape of what a leaf of the reader says.
 pub mod Numbers
 pub mod Read

@@ -1,4 +1,4 @@
--- Document 01, 'Numbers that stop a reading': number and detail of each refusal, and the answer that carries them.
+-- RULES A4.1 and A4.2: number and detail of each refusal, and the answer that carries them.
 use Prim.Native.Nat.{ℕ}
 use Rattle.refusal.specs.declared.Wanted.{Wanted}
 use Rattle.refusal.specs.declared.Wanted.the-variants.{Length, DictItems, List, Dict, Class, Arguments, Object}

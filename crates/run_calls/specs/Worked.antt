@@ -1,4 +1,4 @@
--- The premises are met, by document 01's worked input: after five steps its list stands twice on the stack and is empty; the sixth, APPEND,
+-- The premises are met, by the worked input of RULES A9.5: after five steps its list stands twice on the stack and is empty; the sixth, APPEND,
 -- adds 5, and the eighth stops.
 use mathlib.Core.List.{[], _∷_}
 use mathlib.Core.Path.{_≡_, refl}

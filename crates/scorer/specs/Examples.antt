@@ -1,4 +1,4 @@
--- Sheets of document 02, scored by hand.
+-- Sheets (RULES, Ask 3), scored by hand.
 use mathlib.Core.Bool.{true, false}
 use mathlib.Core.Path.{_≡_, refl}
 use Rattle.value.specs.Value.{Label, Forest, Value, count, BoolL, I64L, BytesL, StringL, SetL, FrozenSetL, DictL, nil, node}

@@ -18,7 +18,7 @@ use Rattle.scorer.specs.Walk.{both, int-label}
 
 -- ---- a value's own table
 
--- within document 01's limits it is well formed, and of that value
+-- within the limits of RULES A2.4 it is well formed, and of that value
 pub value-formed : (v : Value) (n : ℕ) → T (shaped (one v)) → T (settled (one v)) → size (one v) ≡ n → n ≤ 2048 → depth (one v) ≤ 64 → length (text (one v)) ≤ 65536 → WellFormed (table (one v) 0) n (text (one v))
 value-formed v n shape order counted few shallow short =
     let long : length (table (one v) 0) ≡ 4 * size (one v) = table-length (one v) 0 in

@@ -1,4 +1,4 @@
--- Document 02, Ask 3: sheets and their scores.
+-- RULES, Ask 3: sheets and their scores.
 pub mod Sheet
 pub mod Call
 pub mod Walk

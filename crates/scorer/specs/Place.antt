@@ -1,4 +1,4 @@
--- Values that lie in a table in document 01's form, from a record on: what their records say, and where the next ones lie.
+-- Values that lie in a table in the form of RULES A2, from a record on: what their records say, and where the next ones lie.
 use Prim.Native.Nat.{ℕ, suc, _+_, _-_, _*_, _≤_, _<_}
 use mathlib.Core.Bool.{Bool, true, false, _&&_}
 use mathlib.Core.List.{List, [], _++_, append-assoc, append-nil}

@@ -1,4 +1,4 @@
--- Document 02, Ask 3: when a value is a sheet, and its score. The kinds are document 01's: 1 Bool, 2 I64, 4 Bytes, 8 Set, 10 Dict.
+-- RULES, Ask 3.1 and 3.2: when a value is a sheet, and its score. The kinds are those of A2.2: 1 Bool, 2 I64, 4 Bytes, 8 Set, 10 Dict.
 use Prim.Native.Nat.{ℕ, _+_, _-_}
 use mathlib.Core.Bool.{Bool, true, false, cond, _&&_, _||_}
 use mathlib.Core.List.{List, [], _∷_}

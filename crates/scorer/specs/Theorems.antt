@@ -1,4 +1,4 @@
--- Document 02, Ask 3, on the score call: when it answers what, that flipping by hand changes nothing, that a marked sheet's reversed
+-- RULES, Ask 3.2 to 3.4, on the score call: when it answers what, that flipping by hand changes nothing, that a marked sheet's reversed
 -- items do not matter, and how large a score can be.
 use Prim.Native.Nat.{ℕ, _+_, _*_, _^_, _≤_, _<_, compare, Ordering·lt, Ordering·eq}
 use mathlib.Core.Bool.{Bool, true, false, cond, _&&_}

@@ -1,4 +1,4 @@
-// The score of a sheet (document 02, Ask 3), from the table that a reading gave. It stands on the reader's promises about tables: that
+// The score of a sheet (RULES, Ask 3), from the table that a reading gave. It stands on the reader's promises about tables: that
 // `well_formed` decides, and what a well-formed table says.
 use refusal::Refusal;
 use refusal::Which;

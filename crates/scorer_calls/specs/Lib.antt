@@ -1,3 +1,3 @@
--- Reading and then scoring (document 01, demand 3, with document 02, Ask 3) over the contracts of the readings and the score call.
+-- Reading and then scoring (RULES A1.3 with Ask 3.5) over the contracts of the readings and the score call.
 pub mod Sharing
 pub mod Clinic

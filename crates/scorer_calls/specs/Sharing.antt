@@ -1,4 +1,4 @@
--- Reading and then scoring: demand 3 of document 01 with Ask 3 of document 02. A sheet whose parts are shared in the pickle scores as the
+-- Reading and then scoring: RULES A1.3 with Ask 3.5. A sheet whose parts are shared in the pickle scores as the
 -- one that is written out plainly, afresh at every reference.
 use Prim.Native.Nat.{ℕ, _*_, _<_, _≤_}
 use mathlib.Core.Bool.{Bool, true, false}

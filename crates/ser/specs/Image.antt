@@ -1,4 +1,4 @@
--- Document 01, 'Writing': the bytes of a value, at protocol 2 as Python 2 writes it, without the memo. A value's bytes are made of
+-- RULES A8: the bytes of a value, at protocol 2 as Python 2 writes it, without the memo. A value's bytes are made of
 -- its label and of the bytes of the values directly in it, its parts. Opcodes are those of pickletools (crate `op`).
 use Prim.Native.Nat.{ℕ, suc, zero, _-_, _^_, _/_, _%_}
 use mathlib.Core.Bool.{Bool, true, false, cond, _||_}

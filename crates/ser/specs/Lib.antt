@@ -1,4 +1,4 @@
--- The bytes of a value (document 01, 'Writing'), and what the writer's functions promise.
+-- The bytes of a value (RULES A8), and what the writer's functions promise.
 pub mod Image
 pub mod Examples
 pub mod Walk

@@ -1,4 +1,4 @@
--- Document 02, Ask 5: the names that can be read back. A module and a name are written a line each: a newline in one ends its line
+-- RULES, Ask 5.1: the names that can be read back. A module and a name are written a line each: a newline in one ends its line
 -- too early, and a reader drops one CR at a line's end.
 use Prim.Native.Nat.{ℕ, suc, zero, _+_, _-_, _<_, _≤_, min}
 use mathlib.Core.Bool.{Bool, true, false, not, _&&_, _||_, and-assoc}

@@ -1,4 +1,4 @@
--- What the machine holds, and the parts of a step: reading, the stack, marks, memo, nodes and links, with document 01's limits.
+-- What the machine holds, and the parts of a step: reading, the stack, marks, memo, nodes and links, with the limits of RULES A3.1.
 use Prim.Native.Nat.{ℕ, suc, _+_, _-_}
 use mathlib.Core.Bool.{Bool, true, false, cond}
 use mathlib.Core.List.{List, [], _∷_, _++_}
@@ -10,7 +10,7 @@ use Rattle.refusal.specs.declared.Refusal.the-variants.{EndOfInput, StackUnderf
 use Rattle.input.specs.Line.{newlineOf, lineOf}
 use Rattle.value.specs.Value.{Label, NoneL}
 
--- ---- document 01, 'Numbers that stop a reading'
+-- ---- RULES A3.1
 
 abbrev pub stackLimit : ℕ
 stackLimit = 2048

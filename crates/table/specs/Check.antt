@@ -22,7 +22,7 @@ use Rattle.table.specs.declared.Checked.the-variants.{Bad, Good}
 use Rattle.table.specs.declared.Headed.{Headed}
 use Rattle.table.specs.declared.Headed.the-variants.{Wrong, Right}
 
--- n records and a text that have been lent, within document 01's numbers
+-- n records and a text that have been lent, within the numbers of RULES A2.4
 pub record Lent (w : List ℕ) (n : ℕ) (t : List ℕ) : Type 0 where
   pub room : 4 * n ≤ length w
   pub few : n ≤ 2048

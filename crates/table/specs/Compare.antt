@@ -1,4 +1,4 @@
--- What the compare call answers: document 01's number, detail and sign, for any two lent tables.
+-- What the compare call answers: number, detail and sign by RULES A4.5, for any two lent tables.
 use Prim.Native.Nat.{ℕ, _*_, Ordering, Ordering·lt, Ordering·eq, Ordering·gt}
 use mathlib.Core.Bool.{Bool, true, false}
 use mathlib.Core.List.{List, [], _++_, append-nil}

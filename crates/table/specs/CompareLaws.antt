@@ -1,4 +1,4 @@
--- Document 02, Ask 13, on the compare call: over well-formed tables its sign is turned round with its arguments, what is before what is
+-- RULES, Ask 13, on the compare call: over well-formed tables its sign is turned round with its arguments, what is before what is
 -- before another is before it, and the sign is 0 exactly for identical tables with identical texts. The laws are those of the order of
 -- values (OrderLaws and Total of crate value). There `lex` has them for what a label is ordered by, a number or bytes, `forests` for what
 -- is ordered part by part, and `then` joins the two. A kind is an instance by its `key`, `name` and `new`; only that these determine a

@@ -1,4 +1,4 @@
--- What stands in a table in document 01's form is found there.
+-- What stands in a table in the form of RULES A2 is found there.
 use Prim.Native.Nat.{ℕ, suc, zero, _+_, _-_, _*_, _≤_, _<_}
 use mathlib.Core.Bool.{Bool, true, false}
 use mathlib.Core.List.{List, _++_, append-assoc}

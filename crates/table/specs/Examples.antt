@@ -1,4 +1,4 @@
--- Tables of document 01, read by hand.
+-- Tables of RULES A2, read by hand.
 use mathlib.Core.Bool.{true}
 use mathlib.Core.List.{[], _∷_}
 use mathlib.Core.Path.{_≡_, refl}

@@ -33,7 +33,7 @@ lastEnd w (suc k) = cond (hasText (kindIn (wordAt w k 0))) (endOf (wordAt w k 0)
 unfoldable pub textLength : List ℕ → ℕ → ℕ
 textLength w n = lastEnd w (min n (length w / 4))
 
--- ---- in document 01's form it is the end of the text so far
+-- ---- in the form of RULES A2 it is the end of the text so far
 
 end-by : (a b c p : ℕ) → kindIn a < 13 → b ≡ right1 (kindIn a) b p → p + spanOf (kindIn a) c ≤ 65536 → cond (hasText (kindIn a)) (endOf a b c) p ≡ p + spanOf (kindIn a) c
 unfolding hasText endOf right1 spanOf Below

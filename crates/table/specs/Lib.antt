@@ -1,4 +1,4 @@
--- Document 01's value table: whether a lent one is well formed, the length of its text, and what compare answers.
+-- The value table of RULES A2: whether a lent one is well formed, the length of its text, and what compare answers.
 pub mod Find
 pub mod Complete
 pub mod Record

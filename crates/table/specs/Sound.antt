@@ -1,4 +1,4 @@
--- What is found at a record stands there in document 01's form: its records and its text are those of the value.
+-- What is found at a record stands there in the form of RULES A2: its records and its text are those of the value.
 use Prim.Native.Nat.{ℕ, suc, zero, _+_, _-_, _*_, _^_, _/_, _%_, _≤_, _<_}
 use mathlib.Core.Bool.{Bool, true, false, cond, _&&_}
 use mathlib.Core.List.{List, [], _∷_, _++_, append-assoc, append-nil}

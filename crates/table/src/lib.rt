@@ -1,4 +1,4 @@
-// The table of a value (document 01): whether any lent words, count and text are well formed, the order of two of them, and the
+// The table of a value (RULES A2): whether any lent words, count and text are well formed, the order of two of them, and the
 // length of a table's text. Each set item or dict key is compared once with the one before it.
 use refusal::Refusal;
 use refusal::Which;
@@ -542,7 +542,7 @@ pub fn text_len(words: &[u64], count: usize) -> usize
     0
 }
 
-// Whether these words, this count and this text are a table and its text in document 01's form.
+// Whether these words, this count and this text are a table and its text, well formed by RULES A2.4.
 pub fn well_formed(words: &[u64], count: usize, text: &[u8]) -> bool
     ensures { λ r. ⌜ Decides r (WellFormed (now (words .entry)) count (now (text .entry))) ⌝ }
 {
@@ -606,7 +606,7 @@ fn ordered(order: Order) -> Compared
     }
 }
 
-// The order of the values of two tables (document 01, 'Order'); the first table is looked at first.
+// The order of the values of two tables (RULES A2.5); the first table is looked at first.
 pub fn compare(
     first: &[u64],
     first_count: usize,

@@ -1,4 +1,4 @@
--- Document 01, 'Literals': the escapes of STRING and UNICODE. Bytes stand by their ASCII numbers: 43 is `+`, 48 to 57 the digits,
+-- RULES A7.6 and A7.7: the escapes of STRING and UNICODE. Bytes stand by their ASCII numbers: 43 is `+`, 48 to 57 the digits,
 -- 65 to 70 A to F, 97 to 102 a to f, 92 the backslash, 120 `x`, 117 `u`, 85 `U`.
 use Prim.Native.Nat.{ℕ, zero, suc, _+_, _-_, _*_, _%_}
 use mathlib.Core.Bool.{Bool, cond, _&&_}

@@ -1,4 +1,4 @@
--- Worked lines of document 01 and of its open points 4.9 to 4.11.
+-- Worked lines of RULES A7.6 and A7.7, and of the open points 4.9 to 4.11 (tests/oracle/points.txt).
 use mathlib.Core.Path.{_≡_, refl}
 use mathlib.Core.List.{[], _∷_}
 use Rattle.refusal.specs.Read.{got, refused}

@@ -1,4 +1,4 @@
--- What document 01, 'Literals', says of STRING and UNICODE.
+-- What RULES A7.6 and A7.7 say of STRING and UNICODE.
 pub mod Pieces
 pub mod Escapes
 pub mod Text

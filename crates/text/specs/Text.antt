@@ -1,4 +1,4 @@
--- Document 01, 'Literals': what a line of STRING and one of UNICODE say, and what each answer of the code says of them.
+-- RULES A7.6 and A7.7: what a line of STRING and one of UNICODE say, and what each answer of the code says of them.
 use Prim.Native.Nat.{ℕ, _-_}
 use mathlib.Core.Bool.{Bool, true, false, cond, _&&_, _||_}
 use mathlib.Core.List.{List, [], _∷_}
@@ -54,7 +54,7 @@ marked e (refused why at) = refused why at
 unfoldable pub measured : List ℕ → Read (Bool × ℕ)
 measured line = marked (hasEscape (inner line)) (lengthOf (unescapeString line))
 
--- the answers of the code, as document 01's values and refusals: of hex characters,
+-- the answers of the code, as values and refusals of RULES A7: of hex characters,
 unfoldable pub hexSays : Hex → Option ℕ
 hexSays (hex.Number v) = some v
 hexSays hex.Bad = none

@@ -1,4 +1,4 @@
--- The order of values (value.rs; document 01, 'Order'): by kind, then by what each kind is ordered by, then by contents.
+-- The order of values (value.rs; RULES A2.5): by kind, then by what each kind is ordered by, then by contents.
 use Prim.Native.Nat.{ℕ, _-_, _^_, _/_, _%_, compare, Ordering, Ordering·lt, Ordering·eq, Ordering·gt}
 use mathlib.Core.Bool.{cond}
 use mathlib.Core.List.{List, [], _∷_}

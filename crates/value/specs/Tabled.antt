@@ -1,4 +1,4 @@
--- A table in document 01's form is one in which its values stand; so table and text determine the value.
+-- A table in the form of RULES A2 is one in which its values stand; so table and text determine the value.
 use Prim.Native.Nat.{ℕ, suc, _+_, _-_, _*_, _^_, _/_, _%_, _≤_, _<_}
 use mathlib.Core.Bool.{Bool}
 use mathlib.Core.List.{List, [], _++_, append-assoc, append-nil}

@@ -1,4 +1,4 @@
--- A value (value.rs), and document 01's table of it. One shape for all: a label over a forest, its contents in order, which is
+-- A value (value.rs), and its table (RULES A2.1 to A2.3). One shape for all: a label over a forest, its contents in order, which is
 -- exactly the table's preorder. A Dict's contents alternate key and value; an Object's are its arguments, a Tuple, and any state.
 use Prim.Native.Nat.{ℕ, suc, zero, _+_, _*_, _^_, _≤_, max}
 use mathlib.Core.Bool.{Bool, true, false}

@@ -1,4 +1,4 @@
--- Document 01, 'The value table': when a lent table, its stated count and its text are well formed. One predicate, and it says
+-- RULES A2.4: when a lent table, its stated count and its text are well formed. One predicate, and it says
 -- which value they are of; there is one at most (`well-formed-one`).
 use Prim.Native.Nat.{ℕ, _*_, _≤_, Ordering, Ordering·lt, Ordering·eq, Ordering·gt}
 use mathlib.Core.Bool.{Bool, true, false, _&&_}

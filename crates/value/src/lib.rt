@@ -17,7 +17,7 @@ pub enum Order {
     Greater,
 }
 
-// The kinds of values, as word 0 has them; in the order of kinds (document 01), which their tests by `<` rest on.
+// The kinds of values, as word 0 has them (RULES A2.2); in the order of kinds (A2.5), which their tests by `<` rest on.
 pub const NONE: u64 = 0;
 
 pub const BOOL: u64 = 1;

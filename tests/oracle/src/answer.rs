@@ -3,7 +3,7 @@
 use crate::pickle::{from_bytes, from_bytes_prefix, DeError, Value};
 use crate::{hex, table};
 
-/// A number and detail of document 01.
+/// A number and detail of RULES A4.
 pub type Refusal = (u64, u64);
 
 /// What the unchanged Rust says of a pickle: the value with the bytes consumed, or its refusal.

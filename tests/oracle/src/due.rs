@@ -1,5 +1,5 @@
-//! What document 01 demands of the reader here: the numbers that stop a reading (2 and 12 to 20) laid over the counts
-//! of the Rust's own run. ShortRoom (1) is the caller's affair.
+//! What RULES, part A, demands of the reader here: the numbers that stop a reading (2 and 12 to 20) laid over the
+//! counts of the Rust's own run. ShortRoom (1) is the caller's affair.
 
 use judge::answer::Refusal;
 
@@ -72,8 +72,8 @@ fn after_stop(measure: &Measure, left: bool) -> Option<u64> {
     }
 }
 
-/// Whether a literal that the Rust has parsed is outside document 01's floats: a name, or a number w * 10^e, w not 0,
-/// with w or e out of range. w is over all digits written, e the exponent less the digits after the point.
+/// Whether a literal that the Rust has parsed is outside the floats of RULES A7.5: a name, or a number w * 10^e, w not
+/// 0, with w or e out of range. w is over all digits written, e the exponent less the digits after the point.
 pub fn float_outside(line: &[u8]) -> Result<bool, &'static str> {
     let text = std::str::from_utf8(line).map_err(|_| "not UTF-8")?.trim();
     let text = text.strip_prefix(['+', '-']).unwrap_or(text);

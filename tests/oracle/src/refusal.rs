@@ -1,4 +1,4 @@
-//! Document 01's number and detail of each refusal of the Rust.
+//! Number and detail, by RULES A4, of each refusal of the Rust.
 
 /// A macro, not a function: the unchanged de.rs and its substituted copy each have a type `DeError` of their own,
 /// and this has to be said of both in the same words. The caller's `DeError` is meant.
@@ -19,7 +19,7 @@ macro_rules! refusal {
     };
 }
 
-/// The detail of number 10. An unknown word is 0, which no table of document 01 has.
+/// The detail of number 10. An unknown word is 0, which RULES A4 does not have.
 pub fn invalid(what: &str) -> u64 {
     let words = ["length", "dict items", "list", "dict", "class", "arguments", "object"];
     words.iter().position(|word| *word == what).map_or(0, |place| place as u64 + 1)

@@ -1,4 +1,4 @@
-//! Document 01's value table: preorder records of four words, and a text without gaps in the same order.
+//! The value table of RULES A2: preorder records of four words, and a text without gaps in the same order.
 
 use crate::pickle::{Global, Object, Value};
 
@@ -24,7 +24,7 @@ pub fn of_value(value: &Value) -> Option<Table> {
 }
 
 /// The value of a table. Items and keys in any order, also repeated: the Rust's sets and dicts put that right, and
-/// there is no limit on records, depth and text. All else must be as document 01 has it.
+/// there is no limit on records, depth and text. All else must be as RULES A2 has it.
 pub fn to_value(words: &[u64], text: &[u8]) -> Result<Value, &'static str> {
     if words.len() % 4 != 0 {
         return Err("a record has four words");

@@ -1,4 +1,4 @@
-//! Program `trace`: runs a copy of de.rs into which the build has put counts and measures, and says what document 01
+//! Program `trace`: runs a copy of de.rs into which the build has put counts and measures, and says what RULES, part A,
 //! demands of the reader here. The protocol is in README.md.
 
 mod due;
@@ -59,7 +59,7 @@ fn show_step(step: &Step) -> String {
 }
 
 /// The answer due. A refusal of the Rust itself, and every value, come from the unchanged Rust as well, which here is
-/// only asked when nothing else is due: then its value is within the numbers of document 01.
+/// only asked when nothing else is due: then its value is within the numbers of RULES A3.1.
 fn expect(data: &[u8], whole: bool) -> Result<String, String> {
     if due::too_long(data) {
         return Ok(answer::refused((2, 0)));

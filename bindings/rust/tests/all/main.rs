@@ -230,7 +230,7 @@ fn orders(values: &[Value]) {
     assert_eq!(turned, ascending);
 }
 
-/// Document 01's worked input: the tuple of one list twice.
+/// The worked input of RULES A9.5: the tuple of one list twice.
 fn known_pickle() {
     let (value, read) = Reader::new().from_bytes_prefix(b"\x80\x02]q\0h\0K\x05a\x86.").unwrap();
     assert_eq!(read, 12);

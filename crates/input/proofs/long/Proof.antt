@@ -1,4 +1,4 @@
--- `input::long` meets its contract: its two tests are document 01's rule. Assumes nothing.
+-- `input::long` meets its contract: its two tests are the rule on the bytes of RULES A7.4. Assumes nothing.
 use Prim.Native.Nat.{_^_}
 use mathlib.Core.Path.{_≡_, refl, sym, _∙_}
 use mathlib.Core.Bool.{Bool, true, false, cond, Bool·beq}
