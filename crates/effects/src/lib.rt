@@ -25,15 +25,15 @@ pub enum Step {
 }
 
 // The limits of RULES A3.1: the rooms are at least so long.
-pub const NODES: usize = 4096;
+const NODES: usize = 4096;
 
-pub const LINKS: usize = 8192;
+const LINKS: usize = 8192;
 
-pub const STACK: usize = 2048;
+const STACK: usize = 2048;
 
-pub const MARKS: usize = 256;
+const MARKS: usize = 256;
 
-pub const MEMO: usize = 1024;
+const MEMO: usize = 1024;
 
 fn most(a: usize, b: usize) -> usize
     ensures { λ r. ⌜ r ≡ max a b ⌝ }

@@ -463,7 +463,7 @@ fn write<'a>(
     let mut next = behind(to, lengths);
     let mut j = from;
     while j < end {
-        let child = NodeId(lists::item(range.log, j, sorted, log));
+        let child = lists::item(range.log, j, sorted, log);
         if is_below(child, value::BYTES, nodes) {
             next = write_atom(child, next, nodes, table); // most are: no call that lends the texts
         } else if is_below(child, value::LIST, nodes) {

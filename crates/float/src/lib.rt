@@ -306,7 +306,7 @@ fn number_of(negative: bool, text: &[u8]) -> F64Literal
 }
 
 // The text of a line, its white space trimmed.
-pub fn float_text(text: &[u8]) -> F64Literal
+fn float_text(text: &[u8]) -> F64Literal
     ensures { λ r. ⌜ f64Read r ≡ floatLiteral (now (text .entry)) ⌝ }
 {
     let rest = after_sign(text);

@@ -47,14 +47,14 @@ pub fn range_of(node: NodeId, nodes: &[u64], starts: &[u16], measures: &[u64]) -
     }
 }
 
-// The number at a place of the log or of the children.
-pub fn item(in_log: bool, at: usize, sorted: &[u16], log: &[u16]) -> usize
+// The node at a place of the log or of the children side by side.
+pub fn item(in_log: bool, at: usize, sorted: &[u16], log: &[u16]) -> NodeId
     requires { ⌜ at < length (cond «in_log» (now log) (now sorted)) ⌝ }
-    ensures { λ r. ⌜ r ≡ getD (cond «in_log» (now (log .entry)) (now (sorted .entry))) at 0 ⌝ }
+    ensures { λ r. ⌜ r .0 ≡ getD (cond «in_log» (now (log .entry)) (now (sorted .entry))) at 0 ⌝ }
 {
     if in_log {
-        log[at] as usize
+        NodeId(log[at] as usize)
     } else {
-        sorted[at] as usize
+        NodeId(sorted[at] as usize)
     }
 }

@@ -270,7 +270,7 @@ fn integer(text: &[u8]) -> I64Literal
 }
 
 // `parse::<i64>`, of any line.
-pub fn parse_i64(line: &[u8]) -> I64Literal
+fn parse_i64(line: &[u8]) -> I64Literal
     ensures { λ r. ⌜ i64Read r ≡ turned bits64 (parseI64 (now (line .entry))) ⌝ }
 {
     if utf8::valid(line) {

@@ -19,7 +19,7 @@ use text::Decoded;
 use text::Quoted;
 
 // The measure of a node whose text was decoded: this, its place, 2^17 times the length of what leads, 2^34 times that of what trails.
-pub const DECODED: u64 = 0x4000_0000_0000_0000;
+const DECODED: u64 = 0x4000_0000_0000_0000;
 
 // A text by its place and its length, as far as there is any, in the decoded text or in the pickle.
 struct Place {

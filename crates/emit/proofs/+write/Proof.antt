@@ -138,10 +138,10 @@ module _ (t : ℕ) where
   left c E = turn-left E (c .before .loop .inv E) _ (list (c .before) .range-of .ensures) refl (c .loop-test .taken)
 
   abbrev Ready : Item → Type 0
-  Ready c = let l = head c .loop in let a = start (list (head c)) .args in ReadyNode (a .pickle .now) (a .decoded .now) (a .nodes .now) (a .starts .now) (a .sorted .now) (a .log .now) (c .item .result) (l .next) (l .measures) (l .table) (l .text)
+  Ready c = let l = head c .loop in let a = start (list (head c)) .args in ReadyNode (a .pickle .now) (a .decoded .now) (a .nodes .now) (a .starts .now) (a .sorted .now) (a .log .now) (c .item .result .0) (l .next) (l .measures) (l .table) (l .text)
 
   module _ (c : Item) (E : Enters (classed (head c))) where
-    item : c .item .result ≡ getD (E .walk .ready .h (start (list (head c)) .args .node .0)) (head c .loop .inv E .k) 0
+    item : c .item .result .0 ≡ getD (E .walk .ready .h (start (list (head c)) .args .node .0)) (head c .loop .inv E .k) 0
     item = turn-item E (head c .loop .inv E) _ (list (head c) .range-of .ensures) refl (left (c .before) E) _ (c .item .ensures)
 
     ready : Ready c
@@ -152,17 +152,17 @@ module _ (t : ℕ) where
   given c = ready c (enters (classed (head c)))
 
   -- where the arms of a turn meet
-  arms : (c : lts.Joined1 (calls t) (own t) reads.Post Inv-loop μ-loop) (E : Enters (classed (head (c .before .before)))) → let i = c .before .before in let m = c .if1 in Next E (head i .loop .inv E) (left (i .before) E) (i .item .result) (item i E) (m .measures) (m .table) (m .text) (m .next)
+  arms : (c : lts.Joined1 (calls t) (own t) reads.Post Inv-loop μ-loop) (E : Enters (classed (head (c .before .before)))) → let i = c .before .before in let m = c .if1 in Next E (head i .loop .inv E) (left (i .before) E) (i .item .result .0) (item i E) (m .measures) (m .table) (m .text) (m .next)
   arms c E =
       let i = c .before .before in
       let T = head i .loop .inv E in
       let k = left (i .before) E in
       let e = item i E in
       let m = c .if1 in
-      ⊎-elim (λ y. let w = y .2 in atom E T k (i .item .result) e (m .measures) (m .table) (m .text) (m .next) (w .last .1 .1 .1 .0) (w .result) (c .before .is-below .result) (w .kept .1 .1 .1 .0) (c .before .is-below .ensures) (y .0 .taken) (w .ensures) (y .5) (y .6) (y .7) (y .8))
-      (⊎-elim (λ y. let w = y .6 in leaf E T k (i .item .result) e (m .measures) (m .table) (m .text) (m .next) (w .last .1 .1 .1 .1 .1 .1 .0) (w .result) (y .1 .result) (w .kept .1 .1 .1 .1 .1 .1 .0) (w .last .1 .1 .1 .1 .1 .1 .1 .0) (w .kept .1 .1 .1 .1 .1 .1 .1 .0) (y .1 .ensures) (y .2 .taken) (w .ensures) (y .11) (y .12) (y .13) (y .14))
-      (⊎-elim (λ y. let w = y .9 in let l = w .last .1 .1 .1 .1 .1 .1 .1 .1 .1 in let z = w .kept .1 .1 .1 .1 .1 .1 .1 .1 .1 in walked E T k (i .item .result) e (m .measures) (m .table) (m .text) (m .next) (l .1 .0) (w .result) (y .4 .result) (z .1 .0) (l .1 .1 .0) (z .1 .1 .0) (l .0) (z .0) (y .4 .ensures) (y .5 .taken) (w .ensures) (y .16) (y .17) (y .18) (y .19))
-      (λ y. let w = y .9 in flat E T k (i .item .result) e (m .measures) (m .table) (m .text) (m .next) (w .last .1 .1 .1 .1 .1 .1 .0) (w .result) (y .4 .result) (w .kept .1 .1 .1 .1 .1 .1 .0) (w .last .1 .1 .1 .1 .1 .1 .1 .0) (w .kept .1 .1 .1 .1 .1 .1 .1 .0) (y .4 .ensures) (y .5 .left) (w .ensures) (y .14) (y .15) (y .16) (y .17))))
+      ⊎-elim (λ y. let w = y .2 in atom E T k (i .item .result .0) e (m .measures) (m .table) (m .text) (m .next) (w .last .1 .1 .1 .0) (w .result) (c .before .is-below .result) (w .kept .1 .1 .1 .0) (c .before .is-below .ensures) (y .0 .taken) (w .ensures) (y .5) (y .6) (y .7) (y .8))
+      (⊎-elim (λ y. let w = y .6 in leaf E T k (i .item .result .0) e (m .measures) (m .table) (m .text) (m .next) (w .last .1 .1 .1 .1 .1 .1 .0) (w .result) (y .1 .result) (w .kept .1 .1 .1 .1 .1 .1 .0) (w .last .1 .1 .1 .1 .1 .1 .1 .0) (w .kept .1 .1 .1 .1 .1 .1 .1 .0) (y .1 .ensures) (y .2 .taken) (w .ensures) (y .11) (y .12) (y .13) (y .14))
+      (⊎-elim (λ y. let w = y .9 in let l = w .last .1 .1 .1 .1 .1 .1 .1 .1 .1 in let z = w .kept .1 .1 .1 .1 .1 .1 .1 .1 .1 in walked E T k (i .item .result .0) e (m .measures) (m .table) (m .text) (m .next) (l .1 .0) (w .result) (y .4 .result) (z .1 .0) (l .1 .1 .0) (z .1 .1 .0) (l .0) (z .0) (y .4 .ensures) (y .5 .taken) (w .ensures) (y .16) (y .17) (y .18) (y .19))
+      (λ y. let w = y .9 in flat E T k (i .item .result .0) e (m .measures) (m .table) (m .text) (m .next) (w .last .1 .1 .1 .1 .1 .1 .0) (w .result) (y .4 .result) (w .kept .1 .1 .1 .1 .1 .1 .0) (w .last .1 .1 .1 .1 .1 .1 .1 .0) (w .kept .1 .1 .1 .1 .1 .1 .1 .0) (y .4 .ensures) (y .5 .left) (w .ensures) (y .14) (y .15) (y .16) (y .17))))
       (m .came)
 
   -- ---- the needs

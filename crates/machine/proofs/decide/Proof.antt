@@ -1,9 +1,12 @@
 -- The match over the opcode byte: what the edition has against it, or each arm its opcode's definition.
-use borrow.Author.Needs.{needs}
 use Rattle.machine.proofs.decide.Statement.{statement}
 use Rattle.machine.proofs.decide.Tie as tie
 use mathlib.Core.Path.{_≡_, sym, _∙_}
-use Prim.Native.Nat.{_+_}
+use Prim.Native.Nat.{ℕ, _+_, _^_, _<_, _≤_}
+use mir.Val.{Fits}
+use mir.Syntax.{w64}
+use lib.Dec.{lit≤}
+use native.Mathlib.Numerals.{add-one-le}
 use lib.ListN.{getD}
 use native.Mathlib.Omega.{arith}
 use Rattle.op.specs.Edition.{against, highest}
@@ -19,6 +22,15 @@ use Rattle.store.specs.Rooms.{Rooms}
 use Rattle.store.specs.Effects.{SomeRooms, Decides}
 use Rattle.decoder.specs.Reads.{cutTo}
 use Rattle.machine.specs.RoomsOf.{Agrees, ended, lent, outside-it, unknown-to-it, arm, unsupported, tuples, no-name, marks, stop, none-pushed, true-pushed, false-pushed, list-pushed, tuple-pushed, dict-pushed}
+
+fits-next : {i n : ℕ} → i < n → n < 2 ^ 64 → Fits w64 (i + 1)
+fits-next h l = omega arith
+
+up-to : {n : ℕ} → n < 0x88 → n ≤ 0x87
+up-to h = omega arith
+
+apart : {m n : ℕ} → m ≤ n → n < m → ⊥
+apart h l = omega arith
 
 -- from the arm where nothing is against the byte back to the look-up, and to the beginning
 abbrev asked : tie.After-enum-told3 → tie.After-against
@@ -51,30 +63,30 @@ returns-3 : tie.Need-returns-3
 returns-3 c = unknown-to-it _ _ _ _ _ _ _ _ _ (c .before .before .before .before .if1 .left) (sym (c .enum-told2 .given .1) ∙ c .before .before .against .ensures)
 
 returns-47 : tie.Need-returns-47
-returns-47 c = tuples _ _ _ _ _ _ _ _ _ (asked (c .before .before .before .before) .before .before .if1 .left) (free (c .before .before .before .before)) _ (c .before .before .if2 .left) (omega (arith, c .before .if3 .taken)) (c .small-tuple .ensures)
+returns-47 c = tuples _ _ _ _ _ _ _ _ _ (asked (c .before .before .before .before) .before .before .if1 .left) (free (c .before .before .before .before)) _ (c .before .before .if2 .left) (c .before .if3 .taken) (c .small-tuple .ensures)
 
 returns-48 : tie.Need-returns-48
 unfolding numberOf numberIn isNamed place
-returns-48 c = unsupported _ _ _ _ _ _ _ _ _ (asked (c .before .before) .before .before .if1 .left) (free (c .before .before)) (no-name _ (c .before .match2 .rest) (λ x y. omega (arith, x, c .if2 .taken)))
+returns-48 c = unsupported _ _ _ _ _ _ _ _ _ (asked (c .before .before) .before .before .if1 .left) (free (c .before .before)) (no-name _ (c .before .match2 .rest) (λ x y. apart x (c .if2 .taken)))
 
 returns-49 : tie.Need-returns-49
 unfolding numberOf numberIn isNamed place
-returns-49 c = unsupported _ _ _ _ _ _ _ _ _ (asked (c .before .before .before) .before .before .if1 .left) (free (c .before .before .before)) (no-name _ (c .before .before .match2 .rest) (λ x y. omega (arith, y, c .if3 .left)))
+returns-49 c = unsupported _ _ _ _ _ _ _ _ _ (asked (c .before .before .before) .before .before .if1 .left) (free (c .before .before .before)) (no-name _ (c .before .before .match2 .rest) (λ x y. apart (c .if3 .left) y))
 
 pub decide-spec : {M : Type 1} → statement M
 unfolding does numberOf numberIn isNamed place binint1 binint2
 decide-spec =
     tie.close
     (tie.spec
-    (λ c. ended _ _ _ _ _ _ _ _ _ (c .if1 .taken)) (λ c. search needs) (λ c. search needs) (λ c κs. search needs) (λ c. search needs) (λ c. search needs) (λ c. search needs) (λ c κs. tt)
+    (λ c. ended _ _ _ _ _ _ _ _ _ (c .if1 .taken)) (λ c. c .before .if1 .left) (λ c. fits-next (c .before .if1 .left) (c .before .before .before .before .before .before .before .before .before .good .1 .0 .0)) (λ c κs. tt) (λ c. c .match .keys1) (λ c. c .match .keys2) (λ c. c .match .keys3) (λ c κs. tt)
     (λ c κs. rooms (c .before) (λ r a. a .marks))
     (λ c κs. rooms (c .before) (λ r a. a .stack))
     (λ c κs. rooms (c .before) (λ r a. a .pickle))
     (λ c κs. rooms (c .before) (λ r a. a .pickle))
     (λ c κs. rooms (c .before) (λ r a. a .pickle))
-    (λ c κs. (rooms (c .before) (λ r a. a .pickle), omega arith))
+    (λ c κs. (rooms (c .before) (λ r a. a .pickle), lit≤ tt))
     (λ c κs. rooms (c .before) (λ r a. a .pickle))
-    (λ c κs. (rooms (c .before) (λ r a. a .pickle), omega arith))
+    (λ c κs. (rooms (c .before) (λ r a. a .pickle), lit≤ tt))
     (λ c κs. rooms (c .before) (λ r a. (a .pickle, a .nodes, a .children, a .stack)))
     (λ c κs. rooms (c .before) (λ r a. a .pickle))
     (λ c κs. rooms (c .before) (λ r a. a .pickle))
@@ -96,13 +108,13 @@ decide-spec =
     (λ c κs. rooms (c .before) (λ r a. (a .nodes, a .stack)))
     (λ c κs. rooms (c .before) (λ r a. a .marks))
     (λ c κs. rooms (c .before) (λ r a. (a .nodes, a .stack, a .marks)))
-    (λ c κs. rooms (c .before) (λ r a. a .pickle)) (λ c κs. search needs)
+    (λ c κs. rooms (c .before) (λ r a. a .pickle)) (λ c κs. tt)
     (λ c κs. rooms (c .before .before) (λ r a. a .pickle))
     (λ c κs. rooms (c .before) (λ r a. (a .nodes, a .stack)))
-    (λ c κs. (omega (arith, asked (c .before) .before .before .if1 .left), omega arith))
+    (λ c κs. (add-one-le (asked (c .before) .before .before .if1 .left), lit≤ tt))
     (λ c κs. tt)
-    (λ c κs. (omega (arith, asked (c .before) .before .before .if1 .left), omega arith)) (λ c κs. tt)
-    (λ c κs. (omega (arith, c .before .if2 .left), omega (arith, c .if3 .taken))) returns-2 returns-3
+    (λ c κs. (add-one-le (asked (c .before) .before .before .if1 .left), lit≤ tt)) (λ c κs. tt)
+    (λ c κs. (c .before .if2 .left, up-to (c .if3 .taken))) returns-2 returns-3
     (λ c. says (c .before) MARK _ _ (c .match2 .keys1) (λ r a. tt) (marks 0 _))
     (λ c. says (c .before) STOP _ _ (c .match2 .keys2) (λ r a. tt) (stop 0 _))
     (λ c. says (c .before .before) POP _ _ (c .before .match2 .keys3) (λ r a. tt) (c .pop .ensures))
