@@ -35,12 +35,6 @@ const MARKS: usize = 256;
 
 const MEMO: usize = 1024;
 
-fn most(a: usize, b: usize) -> usize
-    ensures { λ r. ⌜ r ≡ max a b ⌝ }
-{
-    if a < b { b } else { a }
-}
-
 // The counts with a value more on the stack.
 fn pushed(c: Counts, nodes: usize, links: usize) -> Counts
     requires { ⌜ c .stack < 2048 ⌝ }
@@ -52,7 +46,7 @@ fn pushed(c: Counts, nodes: usize, links: usize) -> Counts
         nodes: nodes,
         links: links,
         stack: stack,
-        deepest: most(c.deepest, stack),
+        deepest: value::most(c.deepest, stack),
         marks: c.marks,
         most: c.most,
         memo: c.memo,
@@ -111,7 +105,7 @@ pub fn put_mark(marks: &mut [u16], c: Counts) -> Step
         stack: c.stack,
         deepest: c.deepest,
         marks: marks,
-        most: most(c.most, marks),
+        most: value::most(c.most, marks),
         memo: c.memo,
         greatest: c.greatest,
     })
@@ -297,6 +291,6 @@ pub fn remember(keys: &mut [u32], held: &mut [u16], c: Counts, key: MemoKey, id:
         marks: c.marks,
         most: c.most,
         memo: c.memo + 1,
-        greatest: most(c.greatest, key.0 as usize + 1),
+        greatest: value::most(c.greatest, key.0 as usize + 1),
     })
 }

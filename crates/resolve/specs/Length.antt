@@ -1,10 +1,10 @@
 -- How long the text of a node is, off its words: no text is decoded for it.
 use Prim.Native.Nat.{ℕ, _+_, _-_, _*_, _^_, _/_, _%_, _<_, _≤_}
-use mathlib.Core.List.{List, [], _++_}
+use mathlib.Core.List.{List, _++_}
 use mathlib.Core.Path.{_≡_, sym, _∙_, ap}
 use mathlib.Core.Logic.{_≢_}
-use lib.ListN.{length, length-append, length-take, length-drop, getD, set, take, drop, replicate, length-replicate, getD-replicate, List·getD-map, List·getD-eq-default, drop-of-length-le}
-use lib.Seq.{take-all, take-nil, getD-set-other}
+use lib.ListN.{length, length-append, length-take, length-drop, getD, set, take, drop, replicate, length-replicate, getD-replicate, List·getD-map, List·getD-eq-default}
+use lib.Seq.{getD-set-other}
 use native.Mathlib.Decide.{decLt}
 use native.Mathlib.Numerals.{add-one}
 use native.Mathlib.Omega.{arith}
@@ -65,12 +65,6 @@ len-none p ws a b v w x y z t =
 -- ---- a part of a text, which may end before it
 
 module _ (t : List ℕ) (place n : ℕ) where
-  pub cut-none : length t ≤ place → [] ≡ take n (drop place t)
-  cut-none h = rw (drop-of-length-le t {i = place} h) (sym (take-nil n))
-
-  pub cut-rest : length t - place ≤ n → take (length t - place) (drop place t) ≡ take n (drop place t)
-  cut-rest h = take-all (length t - place) (drop place t) (rw length-drop (omega arith)) ∙ sym (take-all n (drop place t) (rw length-drop (omega arith)))
-
   pub cut-short : (m : ℕ) (l : List ℕ) → length t ≤ m → l ≡ take n (drop place t) → length l ≤ m
   cut-short m l h e = rw (e, length-take, length-drop) (omega arith)
 

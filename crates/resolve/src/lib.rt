@@ -55,33 +55,17 @@ fn most(x: u64, y: u64) -> u64
 
 // ---- how long a node's text is
 
-// `len` bytes of a text from `place` on, or as many as there are.
-fn cut(text: &[u8], place: u64, len: u64) -> &[u8]
-    ensures { λ r. ⌜ now r ≡ take len (drop place (now (text .entry))) ⌝ }
-{
-    let n = text.len();
-    if n as u64 <= place {
-        return &text[0..0];
-    }
-    let at = place as usize;
-    if (n - at) as u64 <= len {
-        return &text[at..n];
-    }
-    let end = at + len as usize;
-    &text[at..end]
-}
-
 // Of a Global's module and name.
 fn names_len(pickle: &[u8], a: u64, b: u64) -> usize
     requires { ⌜ length (now pickle) ≤ 65536 ⌝ }
     ensures { λ r. ⌜ r ≡ namesLen (now (pickle .entry)) a b ⌝ }
 {
-    let module = repaired_len(cut(
+    let module = repaired_len(value::cut(
         pickle,
         a / store::KIND_RADIX % store::MODULE_LEN,
         a / store::KIND_RADIX / store::MODULE_LEN,
     ));
-    let name = repaired_len(cut(pickle, b % store::HALF, b / store::HALF));
+    let name = repaired_len(value::cut(pickle, b % store::HALF, b / store::HALF));
     module + name
 }
 
@@ -118,11 +102,11 @@ fn node_text_len(pickle: &[u8], nodes: &[u64], node: NodeId) -> usize
     let len = b / store::HALF;
     let kind = a % store::KIND_RADIX;
     if kind == value::BYTES {
-        let bytes = cut(pickle, place, len);
+        let bytes = value::cut(pickle, place, len);
         return bytes.len();
     }
     if kind == value::STRING {
-        return repaired_len(cut(pickle, place, len));
+        return repaired_len(value::cut(pickle, place, len));
     }
     if kind == value::GLOBAL {
         return names_len(pickle, a, b);
@@ -132,10 +116,10 @@ fn node_text_len(pickle: &[u8], nodes: &[u64], node: NodeId) -> usize
         return names_len(pickle, nodes[2 * class], nodes[2 * class + 1]);
     }
     if kind == store::KIND_ESCAPED {
-        return string_text(cut(pickle, place, len));
+        return string_text(value::cut(pickle, place, len));
     }
     if kind == store::KIND_UNICODE {
-        return unicode_text(cut(pickle, place, len));
+        return unicode_text(value::cut(pickle, place, len));
     }
     0
 }

@@ -1,16 +1,15 @@
 -- A text that stands at a place, and the places of a node's text by its measure and its words.
-use Prim.Native.Nat.{ℕ, suc, zero, _+_, _-_, _^_, _/_, _%_, _<_, _≤_, min}
+use Prim.Native.Nat.{ℕ, _+_, _-_, _^_, _/_, _%_, _<_, _≤_, min}
 use mathlib.Core.Bool.{true, false}
-use mathlib.Core.List.{List, [], _∷_}
-use mathlib.Core.Path.{_≡_, sym, _∙_, ap}
+use mathlib.Core.List.{List}
+use mathlib.Core.Path.{_≡_}
 use mathlib.Core.Logic.{_≢_}
 use native.Mathlib.Omega.{arith}
-use native.Mathlib.Decide.{decLe}
-use lib.ListN.{length, length-drop, getD, take, drop}
-use lib.Seq.{take-all, drop-nil}
+use lib.ListN.{length, getD, take, drop}
 use borrow.Author.Tests.{le-leb, lt-leb, ne-eqb}
 use Rattle.text.specs.Text.{pick}
 use Rattle.value.specs.Shape.{kindIn}
+use Rattle.value.specs.Parts.{part-cut}
 use Rattle.steps.specs.NodeWords.{first, second, within, classIn}
 use Rattle.resolved.specs.Shown.{isDecoded, placeIn, leadIn, trailIn, rawLead, rawTrail, leadText, trailText}
 use Rattle.texts.specs.declared.Place.{Place}
@@ -19,26 +18,7 @@ use Rattle.texts.specs.declared.Place.{Place}
 unfoldable pub placed : Place → List ℕ → List ℕ → List ℕ
 placed c p d = take (c .len) (drop (c .at) (pick (c .decoded) d p))
 
--- ---- as far as there is any
-
-take-min : (n : ℕ) (l : List ℕ) → take (min n (length l)) l ≡ take n l
-take-min n l = go (decLe n (length l))
-  where
-    go : Dec (n ≤ length l) → take (min n (length l)) l ≡ take n l
-    go (yes h) = let e : min n (length l) ≡ n = omega arith in rw e
-    go (no h) = let e : min n (length l) ≡ length l = omega arith in rw e (take-all (length l) l (omega arith) ∙ sym (take-all n l (omega arith)))
-
-drop-min : (n : ℕ) (l : List ℕ) → drop (min n (length l)) l ≡ drop n l
-drop-min n [] = drop-nil (min n 0) ∙ sym (drop-nil n)
-drop-min zero (x ∷ l) = let e : min 0 (suc (length l)) ≡ 0 = omega arith in rw e
-drop-min (suc n) (x ∷ l) = let e : min (suc n) (suc (length l)) ≡ suc (min n (length l)) = omega arith in rw e (drop-min n l)
-
-pub part-cut : (l : List ℕ) (at len : ℕ) → take (min len (length l - min at (length l))) (drop (min at (length l)) l) ≡ take len (drop at l)
-part-cut l at len =
-    let e : length l - min at (length l) ≡ length (drop (min at (length l)) l) = sym (length-drop (min at (length l)) l) in
-    rw e (take-min len (drop (min at (length l)) l) ∙ ap (take len) (drop-min at l))
-
--- the same of a part by its end, `held` bytes being there
+-- as far as there is any: a part by its end, `held` bytes being there
 pub part-end : (l : List ℕ) (at len held from more : ℕ) → held ≡ length l → from ≡ min at held → more ≡ min len (held - from) → take (from + more - from) (drop from l) ≡ take len (drop at l)
 part-end l at len held from more h f m =
     let e : from + more - from ≡ more = omega arith in

@@ -28,15 +28,6 @@ struct Place {
     len: u64,
 }
 
-fn least(x: usize, y: usize) -> usize
-    ensures { λ r. ⌜ r ≡ min x y ⌝ }
-{
-    if x < y {
-        return x;
-    }
-    y
-}
-
 // How long the text is that holds a node's.
 fn held_len(pickle: &[u8], decoded: &[u8], is_decoded: bool) -> usize
     ensures { λ r. ⌜ r ≡ length (pick «is_decoded» (now (decoded .entry)) (now (pickle .entry))) ⌝ }
@@ -53,13 +44,13 @@ fn text_at<'a>(pickle: &'a [u8], decoded: &'a [u8], place: Place) -> &'a [u8]
     ensures { λ r. ⌜ now r ≡ placed place (now (pickle .entry)) (now (decoded .entry)) ⌝ }
 {
     let held = held_len(pickle, decoded, place.decoded);
-    let from = least(place.at as usize, held);
+    let from = value::least(place.at as usize, held);
     text::part(
         pickle,
         decoded,
         place.decoded,
         from,
-        from + least(place.len as usize, held - from),
+        from + value::least(place.len as usize, held - from),
     )
 }
 
@@ -184,27 +175,19 @@ fn decoded_measure(at: usize, lead: usize, trail: usize) -> u64
     DECODED + at as u64 + 0x2_0000 * lead as u64 + 0x4_0000_0000 * trail as u64
 }
 
-// `len` bytes from `at` on, as far as there are any.
-fn cut(bytes: &[u8], at: u64, len: u64) -> &[u8]
-    ensures { λ r. ⌜ now r ≡ take len (drop at (now (bytes .entry))) ⌝ }
-{
-    let from = least(at as usize, bytes.len());
-    value::part(bytes, from, least(len as usize, bytes.len() - from))
-}
-
 // The module of a Global with this first word, as it stands in the pickle.
 fn module_text(pickle: &[u8], first: u64) -> &[u8]
     ensures { λ r. ⌜ now r ≡ within 24 (first / 16) (now (pickle .entry)) ⌝ }
 {
     let word = first / store::KIND_RADIX;
-    cut(pickle, word % store::MODULE_LEN, word / store::MODULE_LEN)
+    value::cut(pickle, word % store::MODULE_LEN, word / store::MODULE_LEN)
 }
 
 // The text of a node with this second word, as it stands in the pickle.
 fn own_text(pickle: &[u8], second: u64) -> &[u8]
     ensures { λ r. ⌜ now r ≡ within 32 second (now (pickle .entry)) ⌝ }
 {
-    cut(pickle, second % store::HALF, second / store::HALF)
+    value::cut(pickle, second % store::HALF, second / store::HALF)
 }
 
 // A text, repaired, at `at` of the decoded text; its length.

@@ -2,7 +2,7 @@
 // conversions, `Value::dict` and `Value::object` are left out.
 ghost use mathlib.Core.Path.{_≡_};
 ghost use mathlib.Core.Bool.{true};
-ghost use Prim.Native.Nat.{_+_, _*_, _^_, _≤_, _<_, min, compare};
+ghost use Prim.Native.Nat.{_+_, _*_, _^_, _≤_, _<_, min, max, compare};
 ghost use lib.ListN.{length, take, drop};
 ghost use Rattle.value.specs.Value.{Value, one};
 ghost use Rattle.value.specs.Order.{_then_, lex, byValue, totalOrder, labels, order};
@@ -143,6 +143,12 @@ pub fn least(a: usize, b: usize) -> usize
     b
 }
 
+pub fn most(a: usize, b: usize) -> usize
+    ensures { λ r. ⌜ r ≡ max a b ⌝ }
+{
+    if a < b { b } else { a }
+}
+
 // Eight bytes of two texts are the same: tested together, which is quicker than one by one.
 fn same_eight(a: &[u8], b: &[u8], i: usize) -> bool
     requires { ⌜ i + 8 ≤ length (now a) ⌝ }
@@ -205,6 +211,14 @@ pub fn part(text: &[u8], at: usize, len: usize) -> &[u8]
 {
     let end = at + len;
     &text[at..end]
+}
+
+// The same, as far as there is any.
+pub fn cut(text: &[u8], at: u64, len: u64) -> &[u8]
+    ensures { λ r. ⌜ now r ≡ take len (drop at (now (text .entry))) ⌝ }
+{
+    let from = least(at as usize, text.len());
+    part(text, from, least(len as usize, text.len() - from))
 }
 
 // Two names: by module, then by name. A word holds both lengths.
