@@ -1,7 +1,7 @@
 -- The text places in a table: each is a place of the table's own text, so that they can be moved.
 use Prim.Native.Nat.{ℕ, suc, zero, _+_, _-_, _*_, _^_, _<_, _≤_}
 use mathlib.Core.Bool.{true, false}
-use mathlib.Core.List.{List, [], _∷_, _++_, append-assoc, append-nil}
+use mathlib.Core.List.{List, [], _∷_, _++_, append-nil}
 use mathlib.Core.Path.{_≡_, sym, _∙_, ap}
 use lib.ListN.{length, length-append, getD, drop}
 use lib.Seq.{getD-take, getD-drop}
@@ -9,7 +9,7 @@ use native.Mathlib.Omega.{arith}
 use Rattle.value.specs.Value.{Label, Forest, textOf, text, count, size, recordOf, table, table-length, NoneL, BoolL, I64L, F64L, BytesL, StringL, ListL, TupleL, SetL, FrozenSetL, DictL, GlobalL, ObjectL, nil, node}
 use Rattle.steps.specs.State.{Node}
 use Rattle.resolved.specs.Resolved.{Kids}
-use Rattle.resolved.specs.Moved.{placed}
+use Rattle.resolved.specs.Moved.{placed, regroup}
 use Rattle.resolved.specs.Written.{Written}
 use Rattle.emit.specs.Copies.{Copyable}
 
@@ -39,9 +39,6 @@ module _ (lo hi : ℕ) where
   record-textual DictL p n z r g h t = (no, t)
   record-textual (GlobalL m k) p n z r g h t = ((λ e. (g, h)), t)
   record-textual (ObjectL m k b) p n z r g h t = ((λ e. (g, h)), t)
-
-  regroup : (a b c d : List ℕ) → (a ++ (b ++ c)) ++ d ≡ a ++ (b ++ (c ++ d))
-  regroup a b c d = simp append-assoc
 
   table-textual : (f : Forest) (p : ℕ) (r : List ℕ) → lo ≤ p → p + length (text f) ≤ hi → Textual r → Textual (table f p ++ r)
   unfolding table text

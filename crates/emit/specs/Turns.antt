@@ -1,5 +1,5 @@
 -- A container's list, walked: its text is written, then child after child; at the end its record and its measure.
-use Prim.Native.Nat.{ℕ, suc, zero, _+_, _-_, _*_, _^_, _/_, _%_, _<_, _≤_}
+use Prim.Native.Nat.{ℕ, suc, _+_, _-_, _*_, _^_, _/_, _%_, _<_, _≤_}
 use mathlib.Core.Bool.{Bool, true, false, cond}
 use mathlib.Core.List.{List, [], _∷_}
 use mathlib.Core.Path.{_≡_, refl, sym, _∙_, ap}
@@ -15,10 +15,10 @@ use Rattle.value.specs.Stands.{_⊕_, size-append}
 use Rattle.steps.specs.State.{Node}
 use Rattle.steps.specs.NodeWords.{first}
 use Rattle.reading.specs.Build.{at, before}
-use Rattle.reading.specs.Unfold.{In, here, there}
 use Rattle.resolved.specs.Resolved.{Kids, Stand, sNil, sNode, StandsFor, stand-label, stand-in}
 use Rattle.resolved.specs.Ordered.{Final}
 use Rattle.resolved.specs.Moved.{text-before}
+use Rattle.resolved.specs.Ranges.{in-at}
 use Rattle.resolved.specs.Noted.{isContainer}
 use Rattle.resolved.specs.Written.{Part, part-stays, Written, written-none, written-node, written-stays}
 use Rattle.resolved.specs.Shown.{labelOf, fromIn, manyIn, listOf, Inside}
@@ -189,11 +189,6 @@ place-record n a p e l = omega arith
 
 place-text : (n a p : ℕ) → n ≡ place a p → a < 4096 → textIn n ≡ p
 place-text n a p e l = omega arith
-
-in-at : (l : List ℕ) (k : ℕ) → k < length l → In (getD l k 0) l
-in-at [] k h = absurd (omega arith)
-in-at (x ∷ l) zero h = here
-in-at (x ∷ l) (suc k) h = there (in-at l k (omega arith))
 
 module _ (g : Forest) (v : Value) (r : Forest) (e : g ≡ before v r) where
   before-size : size g ≡ size (one v) + size r

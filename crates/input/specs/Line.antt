@@ -6,7 +6,7 @@ use mathlib.Core.List.{List, [], _∷_}
 use lib.Dec.{eqb}
 use native.Mathlib.Omega.{arith}
 use lib.ListN.{length, getD, take, drop, length-take, length-drop}
-use lib.Seq.{getD-take, getD-drop}
+use lib.Seq.{getD-drop}
 use borrow.Author.Tests.{eq-eqb, ne-eqb, eqb-true, eqb-false}
 use Rattle.refusal.specs.Read.{Read, got, refused}
 use Rattle.refusal.specs.declared.Refusal.the-variants.{EndOfInput}
@@ -152,20 +152,6 @@ module _ (p : List ℕ) (from at : ℕ) where
   part-length true = simp length-take (omega arith)
   part-length false = simp length-take (omega arith)
 
-  part-at : (c : Bool) (i : ℕ) → i < length (part c) → getD (part c) i 0 ≡ getD p (from + i) 0
-  unfolding part
-  part-at true i h =
-      let k : i < length (take (at - from) (drop from p)) - 1 = let z = rw length-take at h in omega arith in
-      let m : i < at - from = let z = rw length-take at k in omega arith in
-      getD-take _ (take (at - from) (drop from p)) i 0 k ∙ getD-take _ (drop from p) i 0 m ∙ getD-drop from p i 0
-  part-at false i h =
-      let m : i < at - from = let z = rw length-take at h in omega arith in
-      getD-take _ (drop from p) i 0 m ∙ getD-drop from p i 0
-
   pub line-length : length (lineOf p from at) ≤ at - from
   unfolding lineOf lessCr part
   line-length = part-length (eqb (lastByte (take (at - from) (drop from p))) 13)
-
-  pub line-at : (i : ℕ) → i < length (lineOf p from at) → getD (lineOf p from at) i 0 ≡ getD p (from + i) 0
-  unfolding lineOf lessCr part
-  line-at = part-at (eqb (lastByte (take (at - from) (drop from p))) 13)

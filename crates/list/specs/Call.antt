@@ -15,10 +15,10 @@ use Rattle.refusal.specs.Numbers.{refusedAnswer}
 use Rattle.input.specs.Bytes.{Bytes}
 use Rattle.value.specs.Value.{Value, Forest, one}
 use Rattle.value.specs.WellFormed.{WellFormed}
-use Rattle.table.specs.Compare.{decided}
+use Rattle.table.specs.Compare.{decided, formed-stands}
 use Rattle.table.specs.CompareLaws.{Identical}
 use Rattle.table.specs.Call.{told, done, answered, answered-full, Call, call-one, call-good}
-use Rattle.output.specs.Whole.{whole-stands, whole-one, put-answered}
+use Rattle.output.specs.Whole.{whole-one, put-answered}
 use Rattle.list.specs.Listing.{listing, listing-short}
 use Rattle.value.specs.Shape.{Words}
 use Rattle.list.specs.One.{listing-one}
@@ -88,7 +88,7 @@ module _ (w : List ℕ) (n : ℕ) (t : List ℕ) where
     ready-all o h =
         record {
           values = all;
-          stands = whole-stands w n t f;
+          stands = formed-stands w n t f;
           counted = whole-one w n t f;
           few = omega (arith, f .counted, f .lent);
           shallow = omega (arith, f .shallow);
@@ -100,7 +100,7 @@ module _ (w : List ℕ) (n : ℕ) (t : List ℕ) where
 
   module _ {i m : ℕ} (measured : Counted w t 0 1 0 0 i m) where
     measure : (f : WellFormed w n t) → m ≡ length (listing 0 (one (f .value)))
-    measure f = omega (arith, measured (one (f .value)) (whole-stands w n t f) (whole-one w n t f) .1)
+    measure f = omega (arith, measured (one (f .value)) (formed-stands w n t f) (whole-one w n t f) .1)
 
     pub measured-ready : (o : List ℕ) → WellFormed w n t → m ≤ length o → Ready w t 0 1 0 o 0
     measured-ready o f h = ready-all f o (omega (arith, measure f))
@@ -115,4 +115,4 @@ module _ (w : List ℕ) (n : ℕ) (t : List ℕ) where
     unfolding listed
     list-all o o′ j p f h x =
         call-good (λ v. answered (listed v)) w n t o o′ (done p) f
-        (λ g. put-answered (listing 0 (one (g .value))) o o′ p (omega (arith, measure g)) (x (one (g .value)) (whole-stands w n t g) (whole-one w n t g) .put))
+        (λ g. put-answered (listing 0 (one (g .value))) o o′ p (omega (arith, measure g)) (x (one (g .value)) (formed-stands w n t g) (whole-one w n t g) .put))

@@ -2,14 +2,14 @@
 -- are a whole character there, since the first byte of a sequence never stands inside another. Assumes nothing.
 use Prim.Native.Nat.{ℕ, zero, suc, _≤_}
 use mathlib.Core.Bool.{Bool, true, false, false≢true, cond, _&&_, _||_}
-use mathlib.Core.List.{List, [], _∷_, _++_, map, map-id, map-append, reverse, flatten, reverse-cons, reverse-append, reverse-reverse, append-assoc, append-nil}
+use mathlib.Core.List.{List, [], _∷_, _++_, map, map-id, map-append, reverse, flatten, reverse-cons, reverse-append, reverse-reverse, append-nil}
 use mathlib.Core.Path.{_≡_, refl, sym, ap, subst, _∙_}
 use native.Mathlib.Omega.{arith}
 use lib.Dec.{T, leb, leb→le}
 use lib.ListN.{length, take, drop, take-append-drop, length-reverse}
 use lib.Seq.{drop-at, length-take-le}
 use Rattle.utf8.specs.Utf8.{Row, table37, within, whole, some, wellFormed, piece, pieces, every, valid, encode, trail}
-use Rattle.utf8.specs.Laws.{piece-whole, flatten-pieces}
+use Rattle.utf8.specs.Laws.{piece-whole, flatten-pieces, flatten-append}
 use Rattle.number.specs.Space.{whiteSpace, spaces, space, width, strip, trimStart, trimEnd, trimmed}
 use Rattle.number.specs.Trims.{both, no-space, space-all, space-sized, width-le, width-space, width-finds, strip-more, strip-stop}
 
@@ -199,11 +199,6 @@ module _
           let n = sized (read p) (rw (back p) h) in
           sym (strip-more read s (length (read p)) v (n .0)) ∙ ap (strip read 0) (drop-at (read p) (flatten (map read ps)) (length (read p)) refl) ∙ i
       go false h i = strip-stop read s (sym (w ∙ rw (back p, h) refl))
-
-flatten-append : (p q : List (List ℕ)) → flatten (p ++ q) ≡ flatten p ++ flatten q
-unfolding flatten
-flatten-append [] q = refl
-flatten-append (x ∷ p) q = rw (flatten-append p q, append-assoc)
 
 flatten-reverse : (ps : List (List ℕ)) → reverse (flatten ps) ≡ flatten (map reverse (reverse ps))
 unfolding flatten

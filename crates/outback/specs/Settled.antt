@@ -8,7 +8,7 @@ use native.Mathlib.Omega.{arith}
 use Rattle.value.specs.Value.{Label, Forest, Value, count, NoneL, BoolL, I64L, F64L, BytesL, StringL, ListL, TupleL, SetL, FrozenSetL, DictL, GlobalL, ObjectL, nil, node}
 use Rattle.value.specs.Order.{order}
 use Rattle.value.specs.Shape.{and-l, and-r}
-use Rattle.value.specs.WellFormed.{less, ascending, keys, proper, settled}
+use Rattle.value.specs.WellFormed.{less, ascending, ascending-rest, keys, proper, settled}
 use Rattle.reading.specs.Build.{before}
 use Rattle.reading.specs.Settle.{by, insert, asSet, enter, asDict, items, arrange, settle}
 use Rattle.outback.specs.Returnable.{Returnable, AllReturnable}
@@ -55,11 +55,6 @@ ascending-first : (l : Label) (c r : Forest) → T (ascending (node l c r)) → 
 unfolding ascending leads
 ascending-first l c nil h = tt
 ascending-first l c (node m d r) h = and-l (less (order (record { label = l; contents = c }) (record { label = m; contents = d }))) (ascending (node m d r)) h
-
-ascending-rest : (l : Label) (c r : Forest) → T (ascending (node l c r)) → T (ascending r)
-unfolding ascending
-ascending-rest l c nil h = tt
-ascending-rest l c (node m d r) h = and-r (less (order (record { label = l; contents = c }) (record { label = m; contents = d }))) (ascending (node m d r)) h
 
 insert-first : (v : Value) (f : Forest) → T (leads v f) → insert v f ≡ before v f
 unfolding insert by leads

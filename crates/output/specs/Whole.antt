@@ -1,23 +1,15 @@
--- What a call that writes something of a well-formed table's value shows of it: the value stands at the table's first record, and
--- bytes put from 0 on are the call's answer.
-use Prim.Native.Nat.{ℕ, _+_, _*_, _≤_}
-use mathlib.Core.List.{List, [], _++_, append-nil}
-use mathlib.Core.Path.{_≡_, refl, sym, _∙_, ap}
+-- What a call that writes something of a well-formed table's value shows of it: it is one value, and bytes put from 0 on are the call's
+-- answer.
+use Prim.Native.Nat.{ℕ, _+_, _≤_}
+use mathlib.Core.List.{List, _++_}
+use mathlib.Core.Path.{_≡_, refl, _∙_}
 use native.Mathlib.Omega.{arith}
-use lib.ListN.{length, drop, take-append-drop}
+use lib.ListN.{length, drop}
 use lib.Seq.{sets-eq}
-use Rattle.value.specs.Value.{one, text, count, table}
-use Rattle.value.specs.Stands.{Stands}
-use Rattle.value.specs.Tabled.{table-stands}
+use Rattle.value.specs.Value.{one, count}
 use Rattle.value.specs.WellFormed.{WellFormed}
 use Rattle.table.specs.Call.{told, done, answered, answered-all}
 use Rattle.output.specs.Put.{Put}
-
-pub whole-stands : (w : List ℕ) (n : ℕ) (t : List ℕ) (f : WellFormed w n t) → Stands w t 0 (one (f .value))
-whole-stands w n t f =
-    let v = one (f .value) in
-    let e : w ≡ table v 0 ++ drop (4 * n) w = sym (take-append-drop (4 * n) w) ∙ ap (λ (x : List ℕ). x ++ drop (4 * n) w) (f .records) in
-    table-stands w t v 0 0 (drop (4 * n) w) [] (f .shape) e (f .texts ∙ sym (append-nil (text v))) (omega arith)
 
 pub whole-one : (w : List ℕ) (n : ℕ) (t : List ℕ) (f : WellFormed w n t) → count (one (f .value)) ≡ 1
 unfolding count

@@ -85,7 +85,3 @@ build-fuel t (suc k) (suc k′) i d l l′ = go (view t i d) (build-fuel t k k�
     go (inside e f) ih = rw (f k, f k′)
     go (stuck e b f) ih = rw (f k, f k′)
     go (entered e b f) ih = rw (f k, f k′, kids-same t (build t k) (build t k′) i d (build-left t (length t) k) e (λ j c m. ih j c (omega arith) (omega arith)))
-
--- `build` with no fuel in it, and its equation for a fresh node that is not blocked; the other three cases are `view`'s
-unfoldable pub builds : List Node → ℕ → Stages → Value × Stages
-builds t i d = build t (suc (left d (length t))) i d

@@ -1,7 +1,7 @@
 -- Demand 3: sharing never shows. Where nothing reachable from the root contains itself, the tree that `Builder` makes is the value
 -- written out plainly from the nodes, afresh at every reference and keeping no finished part.
 use Prim.Native.Nat.{ℕ, suc, zero, _+_, _<_, _≤_}
-use mathlib.Core.Bool.{Bool, true, false, _&&_}
+use mathlib.Core.Bool.{Bool, true, false}
 use mathlib.Core.List.{List, [], _∷_}
 use mathlib.Core.Path.{_≡_, refl, sym, _∙_, ap}
 use mathlib.Core.Logic.{_≢_, _⊎_, inl, inr}
@@ -9,6 +9,7 @@ use lib.ListN.{length, List·getD-eq-default}
 use lib.Dec.{eqb, T, eqb→eq, eqb-refl}
 use native.Mathlib.Omega.{arith}
 use native.Mathlib.Decide.{decLt}
+use Rattle.utf8.specs.Rows.{and-right}
 use Rattle.value.specs.Value.{Label, Forest, Value, NoneL, one, nil, node}
 use Rattle.steps.specs.State.{Node, kidless}
 use Rattle.steps.specs.Opcodes.{isObject}
@@ -157,10 +158,6 @@ module _ (t : List Node) (Good : ℕ → Type 0) (good-in : (i j : ℕ) → Good
   unfolding blocked firstTaken
   not-blocked P i d r kn e = go (at t i .kids) refl (and-right (isObject (at t i .label)) (firstTaken d (at t i .kids)) e)
     where
-      and-right : (a b : Bool) → (a && b) ≡ true → b ≡ true
-      and-right true b h = h
-      and-right false b h = cc
-
       bad : (j : ℕ) → In j (at t i .kids) → (m : Stage) → d j ≡ m → isTaken m ≡ true → ⊥
       bad j h fresh q f = let z : _≡_ {A = ℕ} 0 1 = cc in omega arith
       bad j h taken q f = acyclic j (good-in i j (r .good) h) (contains-in (r .below j (kn .open-in j q)) h)

@@ -1,6 +1,6 @@
 -- What `measure` asks and ensures: each answer says what the walk makes of the node. A law for each of its returns, and for each arm of a turn.
 use Prim.Native.Nat.{ℕ, suc, zero, _+_, _-_, _*_, _<_, _≤_, min, max}
-use mathlib.Core.Bool.{Bool, true, false, _&&_}
+use mathlib.Core.Bool.{Bool, true, false}
 use mathlib.Core.List.{List, [], _∷_}
 use mathlib.Core.Path.{_≡_, refl, sym, _∙_, ap}
 use mathlib.Core.Logic.{_≢_}
@@ -10,6 +10,7 @@ use lib.Dec.{eqb}
 use borrow.Author.Tests.{ne-eqb}
 use native.Mathlib.Numerals.{add-one, sub-one}
 use native.Mathlib.Omega.{arith}
+use Rattle.utf8.specs.Rows.{and-left}
 use Rattle.value.specs.Value.{Value, textOf}
 use Rattle.steps.specs.State.{Node}
 use Rattle.reading.specs.Build.{Stage, fresh, taken, kept, stage, none, at, isTaken, firstTaken, blocked}
@@ -159,13 +160,9 @@ module _ {p ws starts measures sorted room : List ℕ} {n : ℕ} (o : Opens p ws
     unfolding blocked measure
     ends-blocked e h =
         let b : blocked (o .nodes) (o .state .stages) n ≡ true = sym held-is ∙ (sym e ∙ h) in
-        let f = fits-block (o .nodes) 4096 (o .facts .beyond) wordOf starts measures sorted (o .state) (o .holds .fits) n (o .below) (o .container) (o .fresh-is) (left _ _ b) in
+        let f = fits-block (o .nodes) 4096 (o .facts .beyond) wordOf starts measures sorted (o .state) (o .holds .fits) n (o .below) (o .container) (o .fresh-is) (and-left _ _ b) in
         rw (walk-stuck b) (ends-empty refl refl (record { fits = f; small = small-none; within = o .holds .within; listed = o .holds .listed }))
       where
-        left : (b c : Bool) → (b && c) ≡ true → b ≡ true
-        left true c h = refl
-        left false c h = h
-
         small-none : Shallow (stageR n (kept none) (o .state))
         small-none j v x = pick (staged n (kept none) (o .state .stages) j)
           where

@@ -9,6 +9,7 @@ use lib.Dec.{leb, ltb}
 use borrow.Author.Tests.{leb-true, ltb-true}
 use native.Mathlib.Decide.{decLt}
 use native.Mathlib.Omega.{arith}
+use Rattle.utf8.specs.Rows.{both}
 use Rattle.value.specs.Value.{Value, one, size, depth, text}
 use Rattle.steps.specs.State.{Node}
 use Rattle.reading.specs.Build.{Stages, unbuilt, at, build, tree}
@@ -167,17 +168,13 @@ pub worded-texts : {t : List Node} {beyond : length t ≤ 4096} {starts lent mea
     → upTo (textIf t (worded t measures)) (length t) ≤ length (text (one (tree t root)))
 worded-texts {t} {beyond = beyond} {measures = measures} root d h = root-texts t beyond root d (worded t measures) go
   where
-    both : (b c : Bool) → (b && c) ≡ true → (b ≡ true) × (c ≡ true)
-    both true c e = (refl, e)
-    both false c e = absurd (let z : _≡_ {A = ℕ} 0 1 = cc in omega arith)
-
     low : (b : Bool) (w : ℕ) → (b || ltb w ahead) ≡ true → b ≡ false → w < ahead
     low true w e f = absurd (let z : _≡_ {A = ℕ} 0 1 = cc in omega arith)
     low false w e f = ltb-true w ahead e
 
     go : (j : ℕ) → j < length t → worded t measures j ≡ true → In j (walked t 4096 64 root .after .done)
     go j l e =
-        let a = both (leb 128 (getD measures j 0)) (isContainer (at t j .label) || ltb (getD measures j 0) ahead) e in
+        let a = both {a = leb 128 (getD measures j 0)} e in
         words-done h j l (leb-true 128 (getD measures j 0) (a .0)) (low (isContainer (at t j .label)) (getD measures j 0) (a .1))
 
 -- ---- the answers

@@ -16,7 +16,7 @@ use Rattle.resolved.specs.Resolved.{Stand}
 use Rattle.resolved.specs.Ordered.{Final}
 use Rattle.resolved.specs.Walk.{State, put, gone, overwrite, stageR, finishR, start}
 use Rattle.resolved.specs.Resolves.{Resolves, put-same, put-other, own-stays, overwrite-resolves, stage-resolves, finish-resolves}
-use Rattle.resolved.specs.Resolving.{take-resolves}
+use Rattle.resolved.specs.Resolving.{object-gone, take-resolves}
 use Rattle.resolved.specs.Tree.{start-resolves}
 use Rattle.resolved.specs.Ranges.{Lies, graph-lies, lies-put}
 use Rattle.resolved.specs.Noted.{isContainer, Noted, unseen, noted-stage, noted-done}
@@ -47,10 +47,7 @@ module _ (t : List Node) (nowhere : ℕ) (beyond : length t ≤ nowhere) (word :
         → FitsState (set words i 3) sorted (stageR i (kept none) s)
     unfolding freshness
     fits-block i l c e o =
-        record { resolves = stage-resolves t nowhere beyond s i (kept none) (f .resolves) e refl blocks; noted = noted-stage t word words s i 3 (kept none) (f .noted) l c (let o′ = o in rw o′); lies = f .lies }
-      where
-        blocks : (v : Value) → kept none ≡ kept v → (gone t i v ≡ true) × (v ≡ none)
-        blocks v q = let z : none ≡ v = cc in let o′ = o in (rw (← z, o′), sym z)
+        record { resolves = stage-resolves t nowhere beyond s i (kept none) (f .resolves) e refl (object-gone t i o); noted = noted-stage t word words s i 3 (kept none) (f .noted) l c (let o′ = o in rw o′); lies = f .lies }
 
     -- children[starts[n] + the number of those before] = x
     pub fits-put : (n : ℕ) → n < length t → s .stages n ≡ taken → (is js : List ℕ) (c x : ℕ) → s .kids n ≡ is ++ (c ∷ js)

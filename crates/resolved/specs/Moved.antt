@@ -44,6 +44,9 @@ moves p q (a ∷ b ∷ []) = []
 moves p q (a ∷ b ∷ c ∷ []) = []
 moves p q (a ∷ b ∷ c ∷ d ∷ r) = a ∷ cond (placed a) (b - p + q) b ∷ c ∷ d ∷ moves p q r
 
+pub regroup : (a b c d : List ℕ) → (a ++ (b ++ c)) ++ d ≡ a ++ (b ++ (c ++ d))
+regroup a b c d = simp append-assoc
+
 module _ (p q : ℕ) where
   back : (o : ℕ) → p + o - p + q ≡ q + o
   back o = omega arith
@@ -66,9 +69,6 @@ module _ (p q : ℕ) where
   record-moves DictL o n z r = refl
   record-moves (GlobalL m k) o n z r = rw (back o)
   record-moves (ObjectL m k b) o n z r = rw (object-kind b n, back o)
-
-  regroup : (a b c d : List ℕ) → (a ++ (b ++ c)) ++ d ≡ a ++ (b ++ (c ++ d))
-  regroup a b c d = simp append-assoc
 
   table-moves : (f : Forest) (o : ℕ) (r : List ℕ) → moves p q (table f (p + o) ++ r) ≡ table f (q + o) ++ moves p q r
   unfolding table moves

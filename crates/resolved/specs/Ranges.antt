@@ -82,11 +82,15 @@ module _ (starts : List ℕ) (n : ℕ) (sorted : List ℕ) (g : Kids) (l : Lies 
 
 -- ---- every child is a node
 
-in-take : {x : ℕ} (n : ℕ) (l : List ℕ) → In x (take n l) → In x l
+pub in-at : (l : List ℕ) (k : ℕ) → k < length l → In (getD l k 0) l
+in-at (x ∷ l) zero h = here
+in-at (x ∷ l) (suc k) h = there (in-at l k (omega arith))
+
+pub in-take : {x : ℕ} (n : ℕ) (l : List ℕ) → In x (take n l) → In x l
 in-take (suc n) (y ∷ l) here = here
 in-take (suc n) (y ∷ l) (there m) = there (in-take n l m)
 
-in-drop : {x : ℕ} (n : ℕ) (l : List ℕ) → In x (drop n l) → In x l
+pub in-drop : {x : ℕ} (n : ℕ) (l : List ℕ) → In x (drop n l) → In x l
 in-drop zero l m = m
 in-drop (suc n) (y ∷ l) m = there (in-drop n l m)
 

@@ -1,11 +1,12 @@
 -- Every call of the walk, with however many levels, keeps to `Resolves`, and the number that it gives its owner stands for its value.
 use Prim.Native.Nat.{ℕ, suc, zero, _≤_}
-use mathlib.Core.Bool.{Bool, true, false, cond, _&&_}
+use mathlib.Core.Bool.{Bool, true, false, cond}
 use mathlib.Core.List.{List, [], _∷_, _++_, append-assoc}
 use mathlib.Core.Path.{_≡_, refl, sym, _∙_, ap}
 use mathlib.Core.Logic.{_≢_, inl, inr}
 use lib.ListN.{length, length-append}
 use native.Mathlib.Omega.{arith}
+use Rattle.utf8.specs.Rows.{and-left}
 use Rattle.value.specs.Value.{Forest, Value}
 use Rattle.steps.specs.State.{Node}
 use Rattle.steps.specs.Opcodes.{isObject}
@@ -15,6 +16,10 @@ use Rattle.resolved.specs.Resolved.{Stand, sNil, sNode, StandsFor, frame
 use Rattle.resolved.specs.Ordered.{Final}
 use Rattle.resolved.specs.Walk.{State, Made, gone, overwrite, stageR, eachR, finishR, walk}
 use Rattle.resolved.specs.Resolves.{Resolves, Later, Any, Called, old-taken, not-old, put-same, stage-own, nowhere-none, resolves-empty, later-frame, open-not-done, overwrite-later, overwrite-resolves, stage-later, stage-resolves, finish-resolves}
+
+-- an Object that is left as None is gone
+pub object-gone : (t : List Node) (i : ℕ) → isObject (at t i .label) ≡ true → (v : Value) → kept none ≡ kept v → (gone t i v ≡ true) × (v ≡ none)
+object-gone t i o v q = let z : none ≡ v = cc in let o′ = o in (rw (← z, o′), sym z)
 
 module _ (t : List Node) (nowhere : ℕ) (beyond : length t ≤ nowhere) where
   -- ---- over a list of children
@@ -136,19 +141,12 @@ module _ (t : List Node) (nowhere : ℕ) (beyond : length t ≤ nowhere) where
           record { resolves = r; later = stay; stands = rw q′ at (o .stands); final = inr m }
 
       object : blocked t (s .stages) i ≡ true → isObject (at t i .label) ≡ true
-      object f = left (isObject (at t i .label)) (firstTaken (s .stages) (at t i .kids)) f
-        where
-          left : (b c : Bool) → (b && c) ≡ true → b ≡ true
-          left true c h = refl
-          left false c h = h
+      object f = and-left (isObject (at t i .label)) (firstTaken (s .stages) (at t i .kids)) f
 
       go : (m : Stage) → s .stages i ≡ m → (b : Bool) → blocked t (s .stages) i ≡ b
           → ((j : ℕ) (c : State) → Resolves t nowhere c → Called t nowhere c (walk t nowhere k j c)) → Called t nowhere s (walk t nowhere (suc k) i s)
       go (kept v) e b f ih = rw (e, walk) (has v e (gone t i v) refl)
       go taken e b f ih = rw (e, walk) (record { resolves = r; later = stay; stands = nowhere-none t nowhere beyond (s .kids) (resolves-empty t nowhere beyond r); final = inl refl })
       go fresh e true f ih =
-          rw (e, f, walk) (record { resolves = stage-resolves t nowhere beyond s i (kept none) r e refl blocks; later = stage-later t nowhere beyond s i (kept none) e; stands = nowhere-none t nowhere beyond (s .kids) (resolves-empty t nowhere beyond r); final = inl refl })
-        where
-          blocks : (v : Value) → kept none ≡ kept v → (gone t i v ≡ true) × (v ≡ none)
-          blocks v q = let z : none ≡ v = cc in let o = object f in (rw (← z, o), sym z)
+          rw (e, f, walk) (record { resolves = stage-resolves t nowhere beyond s i (kept none) r e refl (object-gone t i (object f)); later = stage-later t nowhere beyond s i (kept none) e; stands = nowhere-none t nowhere beyond (s .kids) (resolves-empty t nowhere beyond r); final = inl refl })
       go fresh e false f ih = rw (e, f, walk) (finish-called s i _ r e (each-resolves (walk t nowhere k) ih i [] (at t i .kids) (stageR i taken s) (take-resolves s i r e) (stage-own i taken (s .stages)) (r .fresh-is i e)))

@@ -24,7 +24,7 @@ part-join r a b x y p e q =
     let z : take (length y) (drop (length x) (drop a r)) ≡ y = rw (drop-drop (length x) a r, ← e) q in
     rw (length-append x y, take-add (length x) (length y) (drop a r), p, z)
 
-drop-take : (a n : ℕ) (x : List ℕ) → drop a (take (a + n) x) ≡ take n (drop a x)
+pub drop-take : (a n : ℕ) (x : List ℕ) → drop a (take (a + n) x) ≡ take n (drop a x)
 drop-take zero n x = rw zero-add
 drop-take (suc a) n [] = rw (suc-add, take-nil n)
 drop-take (suc a) n (y ∷ x) = rw suc-add (drop-take a n x)

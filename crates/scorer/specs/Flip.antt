@@ -8,13 +8,14 @@ use lib.Seq.{take-at}
 use lib.Dec.{T, eqb, isEq}
 use borrow.Author.Tests.{eqb-true, eq-eqb, le-leb}
 use native.Mathlib.Omega.{arith}
+use Rattle.utf8.specs.Rows.{both}
 use Rattle.value.specs.Value.{Label, Forest, Value, one, half, kind, textOf, text, count, size, depth, table, table-length, NoneL, BoolL, I64L, F64L, BytesL, StringL, ListL, TupleL, SetL, FrozenSetL, DictL, GlobalL, ObjectL, nil, node}
 use Rattle.value.specs.Shape.{fitting, shaped}
 use Rattle.value.specs.Order.{lex}
 use Rattle.value.specs.OrderLaws.{lex-eq}
 use Rattle.value.specs.WellFormed.{WellFormed, ascending, keys, proper, settled}
 use Rattle.scorer.specs.Sheet.{bits, between, holds, answersKey, reverseKey, maxKey, flippedKey, isKey, under, answers, reverse, highest, flipped, inRange, answered, isSheet, Sheet, counted, sum, marked, scoreOf, itemsOf}
-use Rattle.scorer.specs.Walk.{both, int-label}
+use Rattle.scorer.specs.Walk.{int-label}
 
 -- ---- a value's own table
 

@@ -2,7 +2,7 @@
 use Prim.Native.Nat.{ℕ, suc, _+_, _-_, _*_, _≤_, _<_}
 use mathlib.Core.Bool.{Bool, true, false, _&&_}
 use mathlib.Core.List.{List, [], _++_, append-assoc, append-nil}
-use mathlib.Core.Path.{_≡_, refl, sym, _∙_, ap}
+use mathlib.Core.Path.{_≡_, sym, _∙_, ap}
 use lib.ListN.{length, length-append, getD, drop, List·getD-append, length-drop, take-append-drop}
 use lib.Seq.{drop-append-seam, drop-at, drop-drop, getD-drop}
 use lib.Dec.{T, lit<}
@@ -12,7 +12,7 @@ use Rattle.value.specs.Shape.{fitting, shaped, and-l, and-r}
 use Rattle.value.specs.Stands.{wordAt, labelAt, arityAt, Says}
 use Rattle.value.specs.Tabled.{says-at}
 use Rattle.value.specs.WellFormed.{WellFormed}
-use Rattle.table.specs.Sound.{sizeAt, RecordWords, own}
+use Rattle.table.specs.Sound.{sizeAt, RecordWords, own, leaf-size}
 
 pub record Lies (w t : List ℕ) (i : ℕ) (f : Forest) : Type 0 where
   pub place : ℕ
@@ -45,11 +45,6 @@ pub record Parts (w t : List ℕ) (i : ℕ) (l : Label) (c r : Forest) : Type 0 
   pub contents : Lies w t (i + 1) c
   pub alone : Lies w t i (node l c nil)
   pub rest : Lies w t (i + 1 + size c) r
-
-leaf-size : (c : Forest) (m : ℕ) → count c ≡ m → m ≡ 0 → suc (size c) ≡ 1
-unfolding count size
-leaf-size nil m e h = refl
-leaf-size (node l c r) m e h = absurd (omega arith)
 
 T-all : (a b : Bool) → T a → T b → T (a && (b && true))
 T-all true true x y = tt

@@ -8,6 +8,7 @@ use lib.Dec.{eqb, ltb, leb, isEq}
 use borrow.Author.Tests.{eqb-true, eq-eqb, ne-eqb, lt-ltb, le-leb, lt-leb, leb-true, ltb-true}
 use native.Mathlib.Nat.{add-zero}
 use native.Mathlib.Omega.{arith}
+use Rattle.utf8.specs.Rows.{both}
 use Rattle.value.specs.Value.{Label, Forest, Value, one, bit, kind, count, size, nil, node}
 use Rattle.value.specs.Shape.{kindIn, headOf, labelOf}
 use Rattle.value.specs.Stands.{wordAt, labelAt, Reads, Says}
@@ -18,7 +19,7 @@ use Rattle.value.specs.Order.{lex}
 use Rattle.value.specs.WellFormed.{WellFormed}
 use Rattle.table.specs.Sound.{sizeAt}
 use Rattle.scorer.specs.Sheet.{bits, between, sameInt, isKey, under, counted}
-use Rattle.scorer.specs.Walk.{both, same-parts, first, past, walk, int-leaf}
+use Rattle.scorer.specs.Walk.{same-parts, first, past, walk, int-leaf}
 use Rattle.scorer.specs.Place.{Lies, Parts, parts}
 use Rattle.scorer.specs.declared.Tally.{Tally}
 use Rattle.scorer.specs.declared.Tally.the-variants.{Off, Sum}

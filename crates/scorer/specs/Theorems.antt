@@ -12,17 +12,18 @@ use native.Mathlib.Omega.{arith}
 use Rattle.refusal.specs.Numbers.{numberOf}
 use Rattle.refusal.specs.declared.Which.the-variants.{First}
 use Rattle.refusal.specs.declared.Refusal.the-variants.{BadTable}
+use Rattle.utf8.specs.Rows.{both}
 use Rattle.value.specs.Value.{Label, Forest, Value, one, half, kind, count, text, table, I64L, nil, node}
 use Rattle.value.specs.Shape.{fitting, shaped, and-l, and-r}
 use Rattle.value.specs.Tabled.{table-one}
 use Rattle.value.specs.Order.{lex, labels, forests, order}
 use Rattle.value.specs.Told.{compare-more}
 use Rattle.value.specs.Walk.{compare-same, eq-then, then-end}
-use Rattle.value.specs.WellFormed.{WellFormed, less, ascending, keys}
+use Rattle.value.specs.WellFormed.{WellFormed, less, ascending, ascending-rest, keys}
 use Rattle.table.specs.Compare.{decided}
 use Rattle.scorer.specs.Sheet.{bits, between, holds, answersKey, answers, highest, inRange, isSheet, Sheet, sum, marked, scoreOf, itemsOf, reverse}
 use Rattle.scorer.specs.Call.{sheetShape, unscored, told, tallyOf, Scores}
-use Rattle.scorer.specs.Walk.{both, less-lt, int-label, int-leaf}
+use Rattle.scorer.specs.Walk.{less-lt, int-label, int-leaf}
 use Rattle.scorer.specs.Steps.{counted-most}
 use Rattle.scorer.specs.Root.{dict-keys, own-order, inner-order, inner-shape, under-settled, under-shaped}
 use Rattle.scorer.specs.Flip.{sheet-holds, is-true, flip, flip-sheet, flip-marked, flip-items, flip-score, flip-formed, flip-value}
@@ -143,11 +144,6 @@ next-item m l c (node k d (node a b r)) x p f s h e =
     let q = in-range 1 200 k (both {a = between 1 200 k} e .0) in
     items-ascend l k c d x (q .0) p (q .1) f (and-l (fitting k (count d)) (shaped d && shaped (node a b r)) s) (and-l (less (order (record { label = l; contents = c }) (record { label = k; contents = d }))) (ascending (node k d (keys r))) h)
 
-tail-ascends : (l : Label) (c r : Forest) → T (ascending (node l c r)) → T (ascending r)
-unfolding ascending
-tail-ascends l c nil h = tt
-tail-ascends l c (node k d r) h = and-r (less (order (record { label = l; contents = c }) (record { label = k; contents = d }))) (ascending (node k d r)) h
-
 few-items : (m : ℕ) (f : Forest) → T (shaped f) → T (ascending (keys f)) → inRange m f ≡ true → half (count f) + first-item f ≤ 201
 unfolding first-item inRange keys count shaped
 few-items m nil s h e = omega arith
@@ -159,7 +155,7 @@ few-items m (node l c (node a d g)) s h e =
     let fits = and-l (fitting l (count c)) (shaped c && (fitting a (count d) && (shaped d && shaped g))) s in
     let after = and-r (shaped c) (fitting a (count d) && (shaped d && shaped g)) (and-r (fitting l (count c)) (shaped c && (fitting a (count d) && (shaped d && shaped g))) s) in
     let rest = and-r (shaped d) (shaped g) (and-r (fitting a (count d)) (shaped d && shaped g) after) in
-    let n = few-items m g rest (tail-ascends l c (keys g) h) (q .1) in
+    let n = few-items m g rest (ascending-rest l c (keys g) h) (q .1) in
     let next = next-item m l c g (i .0) (i .1) fits rest h (q .1) in
     omega arith
 

@@ -5,11 +5,12 @@ use mathlib.Core.Path.{_≡_, refl, sym, _∙_, ap, ap₂}
 use lib.Dec.{T, eqb, eqb→eq}
 use borrow.Author.Tests.{eqb-true, eq-eqb}
 use native.Mathlib.Omega.{arith}
+use Rattle.utf8.specs.Rows.{both}
 use Rattle.value.specs.Value.{Label, Forest, Value, kind, count, NoneL, BoolL, I64L, F64L, BytesL, StringL, ListL, TupleL, SetL, FrozenSetL, DictL, GlobalL, ObjectL, nil, node}
 use Rattle.value.specs.Shape.{fitting, shaped, and-l, and-r}
 use Rattle.value.specs.Order.{order}
 use Rattle.value.specs.Total.{order-same, order-less}
-use Rattle.value.specs.WellFormed.{less, ascending, keys}
+use Rattle.value.specs.WellFormed.{less, ascending, ascending-rest, keys}
 use Rattle.scorer.specs.Sheet.{bits, between, sameInt, holds, inRange, answered, counted, sum}
 use Rattle.scorer.specs.declared.Tally.{Tally}
 use Rattle.scorer.specs.declared.Tally.the-variants.{Off, Sum}
@@ -21,10 +22,6 @@ value l c = record { label = l; contents = c }
 
 true-false : {A : Type 0} → _≡_ {A = Bool} true false → A
 true-false e = let z : _≡_ {A = ℕ} 0 1 = cc in absurd (omega arith)
-
-pub both : {a b : Bool} → (a && b) ≡ true → (a ≡ true) × (b ≡ true)
-both {a = true} h = (refl, h)
-both {a = false} h = true-false (sym h)
 
 neither : {a b : Bool} → (a || b) ≡ false → (a ≡ false) × (b ≡ false)
 neither {a = true} h = true-false h
@@ -122,11 +119,6 @@ ascending-before l c (node m d r) h =
     let o = order (value l c) (value m d) in
     let e : o ≡ Ordering·lt = less-lt o (and-l (less o) (ascending (node m d r)) h) in
     (e, before-through (value l c) (value m d) r e (ascending-before m d r (and-r (less o) (ascending (node m d r)) h)))
-
-ascending-rest : (l : Label) (c r : Forest) → T (ascending (node l c r)) → T (ascending r)
-unfolding ascending
-ascending-rest l c nil h = tt
-ascending-rest l c (node m d r) h = and-r (less (order (value l c) (value m d))) (ascending (node m d r)) h
 
 holds-before : (v : Value) (l : Label) (c f : Forest) → T (fitting l (count c)) → T (shaped f) → Before v f → holds l f ≡ true → order v (value l c) ≡ Ordering·lt
 unfolding holds Before shaped

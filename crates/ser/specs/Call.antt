@@ -12,7 +12,8 @@ use Rattle.refusal.specs.Numbers.{refusedAnswer}
 use Rattle.value.specs.Value.{Value, one}
 use Rattle.value.specs.WellFormed.{WellFormed}
 use Rattle.table.specs.Call.{Told, told, done, answered, answered-full, Call, call-one, call-good}
-use Rattle.output.specs.Whole.{whole-stands, whole-one, put-answered}
+use Rattle.table.specs.Compare.{formed-stands}
+use Rattle.output.specs.Whole.{whole-one, put-answered}
 use Rattle.ser.specs.Image.{framed, pickled}
 use Rattle.ser.specs.Walk.{Ready, Puts}
 use Rattle.ser.specs.Short.{written-short}
@@ -35,18 +36,18 @@ write-one w n t o p q r s x y = call-one x y
 module _ (w : List ℕ) (n : ℕ) (t : List ℕ) where
   -- every record can be looked at
   pub read-all : WellFormed w n t → Readable w t 0 n
-  read-all f = rw (f .counted) at (values-read w t (one (f .value)) 0 (whole-stands w n t f) (omega (arith, f .counted, f .few, f .lent)))
+  read-all f = rw (f .counted) at (values-read w t (one (f .value)) 0 (formed-stands w n t f) (omega (arith, f .counted, f .few, f .lent)))
 
   pub length-few : WellFormed w n t → recordsTake w 0 n + 3 < 2 ^ 64
   length-few f = omega (arith, pickled-length w n t f, written-short w n t f)
 
   pub ready-all : (o : List ℕ) → WellFormed w n t → recordsTake w 0 n + 3 ≤ length o → Ready framed w t 0 1 o 0
   unfolding pickled
-  ready-all o f h = record { values = one (f .value); stands = whole-stands w n t f; counted = whole-one w n t f; room = record { fits = omega (arith, pickled-length w n t f, h) } }
+  ready-all o f h = record { values = one (f .value); stands = formed-stands w n t f; counted = whole-one w n t f; room = record { fits = omega (arith, pickled-length w n t f, h) } }
 
   -- the records say whether all names can be read back
   names-all : (f : WellFormed w n t) → writableIn (one (f .value)) ≡ writableFrom w t 0 n
-  names-all f = sym (from-values w t (one (f .value)) 0 (whole-stands w n t f)) ∙ rw (f .counted)
+  names-all f = sym (from-values w t (one (f .value)) 0 (formed-stands w n t f)) ∙ rw (f .counted)
 
   pub write-unwritable : (o : List ℕ) (r : Answer) → WellFormed w n t → writableFrom w t 0 n ≡ false → r ≡ refusedAnswer UnwritableName → WriteCall w n t o o r
   unfolding written
@@ -59,4 +60,4 @@ module _ (w : List ℕ) (n : ℕ) (t : List ℕ) where
 
     pub write-all : (o′ : List ℕ) (p : ℕ) → recordsTake w 0 n + 3 ≤ length o → Puts framed w t 0 1 o 0 o′ p → WriteCall w n t o o′ (done p)
     unfolding written pickled
-    write-all o′ p h x = call-good written w n t o o′ (done p) f (λ g. rw (names-all g, names) (put-answered (pickled (g .value)) o o′ p (omega (arith, pickled-length w n t g)) (x (one (g .value)) (whole-stands w n t g) (whole-one w n t g))))
+    write-all o′ p h x = call-good written w n t o o′ (done p) f (λ g. rw (names-all g, names) (put-answered (pickled (g .value)) o o′ p (omega (arith, pickled-length w n t g)) (x (one (g .value)) (formed-stands w n t g) (whole-one w n t g))))

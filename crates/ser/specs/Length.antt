@@ -7,15 +7,16 @@ use mathlib.Core.Path.{_≡_, refl, sym, _∙_, ap}
 use native.Mathlib.Omega.{arith}
 use lib.Dec.{T, eqb, leb, ltb, eqb→eq, ltb→lt}
 use lib.ListN.{length, length-append, length-take, length-drop, getD, take, drop, take-append-drop}
+use lib.Seq.{length-take-le}
 use borrow.Author.Tests.{le-ltb, ne-eqb}
 use Rattle.value.specs.Value.{Label, Forest, one, kind, count, size, NoneL, BoolL, I64L, F64L, BytesL, StringL, ListL, TupleL, SetL, FrozenSetL, DictL, GlobalL, ObjectL, nil, node}
 use Rattle.value.specs.Shape.{kindIn, labelsOf, labelOf, moduleOf, nameOf, namesEnd, fitting, shaped, and-l, and-r}
 use Rattle.value.specs.Stands.{wordAt, labelAt, arityAt, textEnd, Reads, Stands}
 use Rattle.value.specs.Left.{kind-at}
 use Rattle.table.specs.Record.{Below, below}
+use Rattle.table.specs.Compare.{formed-stands}
 use Rattle.value.specs.WellFormed.{WellFormed}
 use Rattle.output.specs.Decimal.{either}
-use Rattle.output.specs.Whole.{whole-stands}
 use Rattle.op.specs.declared.Opcode.the-variants.{MARK, BINSTRING, «SHORT_BINSTRING», SETITEM, SETITEMS}
 use Rattle.ser.specs.Image.{op, low, int, float, bytes, string, global, setOpening, bool, opening, tupleOpcode, joined, listBatch, dictBatch, batch, batchSize, batchesUpTo, batches, appends, tupleMark, tuple, built, object, contents, images, framed, pickled}
 use Rattle.ser.specs.Parts.{images-length, size-some}
@@ -153,9 +154,6 @@ openingTakes k b c =
     let names = c / 2 ^ 32 + c % 2 ^ 32 + 3 in
     getD (1 ∷ 1 ∷ length (int b) ∷ 9 ∷ cond (leb c 255) (c + 2) (c + 5) ∷ (c + 5) ∷ 1 ∷ 0 ∷ 18 ∷ 24 ∷ 1 ∷ names ∷ names ∷ []) k 0
 
-part-length : (n : ℕ) (s : List ℕ) → n ≤ length s → length (take n s) ≡ n
-part-length n s h = length-take n s ∙ omega arith
-
 bytes-length : (t : List ℕ) → length (bytes t) ≡ cond (leb (length t) 255) (length t + 2) (length t + 5)
 unfolding bytes
 bytes-length t = go (leb (length t) 255)
@@ -175,13 +173,13 @@ global-length m k = rw (length-append m, length-append k) (omega arith)
 -- a record's words, and the text
 module _ (a b c : ℕ) (t : List ℕ) where
   text-takes : b + c ≤ length t → (f : List ℕ → List ℕ) (g : ℕ → ℕ) → ((s : List ℕ) → length (f s) ≡ g (length s)) → length (f (take c (drop b t))) ≡ g c
-  text-takes h f g e = e (take c (drop b t)) ∙ ap g (part-length c (drop b t) (omega (arith, length-drop b t)))
+  text-takes h f g e = e (take c (drop b t)) ∙ ap g (length-take-le c (drop b t) (omega (arith, length-drop b t)))
 
   names-take : namesEnd b c ≤ length t → length (global (moduleOf c (drop b t)) (nameOf c (drop b t))) ≡ c / 2 ^ 32 + c % 2 ^ 32 + 3
   names-take h =
       let u = drop b t in
-      let x = part-length (c / 2 ^ 32) u (omega (arith, length-drop b t)) in
-      let y = part-length (c % 2 ^ 32) (drop (c / 2 ^ 32) u) (omega (arith, length-drop (c / 2 ^ 32) u, length-drop b t)) in
+      let x = length-take-le (c / 2 ^ 32) u (omega (arith, length-drop b t)) in
+      let y = length-take-le (c % 2 ^ 32) (drop (c / 2 ^ 32) u) (omega (arith, length-drop (c / 2 ^ 32) u, length-drop b t)) in
       global-length (moduleOf c u) (nameOf c u) ∙ omega (arith, x, y)
 
   abbrev Takes : ℕ → Type 0
@@ -258,5 +256,5 @@ module _ (w : List ℕ) where
 pub pickled-length : (w : List ℕ) (n : ℕ) (t : List ℕ) (f : WellFormed w n t) → length (pickled (f .value)) ≡ recordsTake w 0 n + 3
 unfolding pickled framed
 pickled-length w n t f =
-    let h : recordsTake w 0 n ≡ length (joined (images (one (f .value)))) = rw (f .counted) at (values-length w t (one (f .value)) 0 (f .shape) (whole-stands w n t f)) in
+    let h : recordsTake w 0 n ≡ length (joined (images (one (f .value)))) = rw (f .counted) at (values-length w t (one (f .value)) 0 (f .shape) (formed-stands w n t f)) in
     rw (length-append (joined (images (one (f .value))))) (omega (arith, h))

@@ -51,9 +51,6 @@ module _
     keeps : {n : ℕ} (s t : State) → P s → Effected n s t → P t
     keeps s t p e = effects (withInput s (drop (e .read) (s .input))) t (reads s (drop (e .read) (s .input)) p) (e .effect)
 
-    pub does-keeps : (v : ℕ) (o : Opcode) (s : State) → P s → Out (λ (n : Next). P (after n)) (does v o s)
-    does-keeps v o s p = weaken _ _ _ (does-effected v o s) (λ n e. keeps s (after n) p e)
-
     pub step-keeps : (ed : Edition) (s : State) → P s → Out (λ (n : Next). P (after n)) (step ed s)
     step-keeps ed s p = weaken _ _ _ (step-effected ed s) (λ n e. keeps s (after n) p e)
 

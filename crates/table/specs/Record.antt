@@ -4,6 +4,7 @@ use mathlib.Core.Bool.{Bool, true, false, cond, _&&_}
 use mathlib.Core.List.{List, [], _∷_, _++_}
 use mathlib.Core.Path.{_≡_, refl, sym, _∙_, ap}
 use lib.ListN.{length, length-append, getD, take, drop, length-take, length-drop, List·getD-eq-default}
+use lib.Seq.{length-take-le}
 use lib.Dec.{T, eqb, ltb, eqb-refl}
 use borrow.Author.Tests.{lt-ltb, le-ltb, ltb-true, ltb-false}
 use native.Mathlib.Omega.{arith}
@@ -68,9 +69,6 @@ pub half-twice : (x : ℕ) → half (x + x) ≡ x
 half-twice zero = refl
 half-twice (suc x) = let e : suc x + suc x ≡ suc (suc (x + x)) = omega arith in rw e (ap suc (half-twice x))
 
-length-cut : (c : ℕ) (x : List ℕ) → c ≤ length x → length (take c x) ≡ c
-length-cut c x h = length-take c x ∙ omega arith
-
 -- a module and a name that fit: their lengths, and the word of both
 names-cut : (c : ℕ) (x : List ℕ) → c / 2 ^ 32 + c % 2 ^ 32 ≤ length x → length (take (c / 2 ^ 32) x ++ take (c % 2 ^ 32) (drop (c / 2 ^ 32) x)) ≡ c / 2 ^ 32 + c % 2 ^ 32
 names-cut c x h = length-append (take (c / 2 ^ 32) x) _ ∙ simp (length-take, length-drop) (omega arith)
@@ -128,13 +126,13 @@ module _ (a b c p z : ℕ) (x : List ℕ) (known : kindIn a < 13) where
   unfolding labelOf arityOf right2 spanOf Below labelBy arityBy
   back2 =
       below 13 (λ k. spanOf k c ≤ length x → getD (words (labelBy (newIn a) b c x k) p (arityBy (stateIn a) b k) z) 1 0 ≡ right2 k c z)
-      ((λ h. refl), ((λ h. refl), ((λ h. refl), ((λ h. refl), (length-cut c x, (length-cut c x, ((λ h. refl), ((λ h. refl), ((λ h. refl), ((λ h. refl), ((λ h. refl), (names-word c x, (names-word c x, tt))))))))))))) (kindIn a) known
+      ((λ h. refl), ((λ h. refl), ((λ h. refl), ((λ h. refl), (length-take-le c x, (length-take-le c x, ((λ h. refl), ((λ h. refl), ((λ h. refl), ((λ h. refl), ((λ h. refl), (names-word c x, (names-word c x, tt))))))))))))) (kindIn a) known
 
   pub back-text : spanOf (kindIn a) c ≤ length x → length (textOf (labelOf a b c x)) ≡ spanOf (kindIn a) c
   unfolding labelOf spanOf Below labelBy
   back-text =
       below 13 (λ k. let s = spanOf k c in s ≤ length x → length (textOf (labelBy (newIn a) b c x k)) ≡ s)
-      ((λ h. refl), ((λ h. refl), ((λ h. refl), ((λ h. refl), (length-cut c x, (length-cut c x, ((λ h. refl), ((λ h. refl), ((λ h. refl), ((λ h. refl), ((λ h. refl), (names-cut c x, (names-cut c x, tt))))))))))))) (kindIn a) known
+      ((λ h. refl), ((λ h. refl), ((λ h. refl), ((λ h. refl), (length-take-le c x, (length-take-le c x, ((λ h. refl), ((λ h. refl), ((λ h. refl), ((λ h. refl), ((λ h. refl), (names-cut c x, (names-cut c x, tt))))))))))))) (kindIn a) known
 
   -- and where it is not
   pub misfit : length x < spanOf (kindIn a) c → getD (words (labelOf a b c x) p (arityOf a b) z) 1 0 ≡ c → ⊥

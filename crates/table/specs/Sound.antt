@@ -8,6 +8,7 @@ use lib.Seq.{drop-drop, drop-cons, take-add, length-take-le}
 use lib.Dec.{T, ltb}
 use borrow.Author.Tests.{ltb-true, ltb-false, eqb-true}
 use native.Mathlib.Omega.{arith}
+use Rattle.utf8.specs.Rows.{both}
 use Rattle.value.specs.Value.{Label, Forest, textOf, text, count, size, depth, words, recordOf, table, NoneL, BoolL, I64L, F64L, BytesL, StringL, ListL, TupleL, SetL, FrozenSetL, DictL, GlobalL, ObjectL, nil, node}
 use Rattle.value.specs.Shape.{kindIn, newIn, labelOf, fitting, shaped, and-l, and-r}
 use Rattle.value.specs.Stands.{_⊕_, wordAt, labelAt, arityAt, Stands}
@@ -61,10 +62,6 @@ regroup a b c d = simp append-assoc
 
 never : {A : Type 0} {f : Forest} {j e : ℕ} → bad ≡ good f j e → A
 never h = let z : _≡_ {A = ℕ} 0 1 = cc in absurd (omega arith)
-
-both : {a b : Bool} → (a && b) ≡ true → (a ≡ true) × (b ≡ true)
-both {a = true} h = (refl, h)
-both {a = false} h = let z : _≡_ {A = ℕ} 0 1 = cc in absurd (omega arith)
 
 -- the four words of record i
 pub record RecordWords (w : List ℕ) (i : ℕ) (r : List ℕ) : Type 0 where
@@ -212,7 +209,7 @@ module _ (w t : List ℕ) (i p z : ℕ) where
         size = back-size a b c p z x known (r .w2 ∙ back2 a b c p z x known fit) d (r .w3 ∙ back3 a b c p z x known);
       }
 
-leaf-size : (c : Forest) (m : ℕ) → count c ≡ m → m ≡ 0 → suc (size c) ≡ 1
+pub leaf-size : (c : Forest) (m : ℕ) → count c ≡ m → m ≡ 0 → suc (size c) ≡ 1
 unfolding count size
 leaf-size nil m e h = refl
 leaf-size (node l c r) m e h = absurd (omega arith)

@@ -5,7 +5,6 @@ use mathlib.Core.List.{List, [], _∷_, _++_}
 use mathlib.Core.Option.{Option, none, some}
 use mathlib.Core.Path.{_≡_, refl, sym, ap, _∙_, subst}
 use native.Mathlib.Nat.{pow-suc, mul-add, mod-lt, le-trans, pow-le-pow-right}
-use native.Mathlib.Decide.{decLt}
 use native.Mathlib.Omega.{arith}
 use lib.Arith.{digits-lt}
 use lib.Dec.{leb, ltb, eqb, lit<, lit≤}
@@ -19,16 +18,11 @@ use Rattle.text.specs.declared.Piece.the-variants.{One, Bad}
 use Rattle.input.specs.Bytes.{Bytes}
 use Rattle.utf8.specs.Utf8.{scalar, trail, encode, valid, evaluates}
 use Rattle.utf8.specs.Laws.{valid-append}
-use Rattle.utf8.specs.Encode.{encode-one, encode-two, encode-three, encode-four, scalar-low, scalar-high, valid-encode}
+use Rattle.utf8.specs.Encode.{by-lt, encode-one, encode-two, encode-three, encode-four, scalar-low, scalar-high, valid-encode}
 use Rattle.text.specs.Pieces.{before, after, texts, reads, bytesOf}
 use Rattle.text.specs.Escapes.{within, hexDigit, hexFrom, hexDigits, hexNumber, hexPiece, hexEscape, octalDigit, octals, octalEscape}
 use Rattle.text.specs.Escapes.{letters, look, stringEscape, stringHead, scalarOf, scalarPiece, unicodeEscape, unicodeHead}
 use Rattle.text.specs.Text.{inner, byte, hasQuotes, hasEscape, unescapeString, unescapeUnicode}
-
-bytes-append : (a b : List ℕ) → Bytes a → Bytes b → Bytes (a ++ b)
-bytes-append [] b h k i = k i
-bytes-append (x ∷ a) b h k zero = h zero
-bytes-append (x ∷ a) b h k (suc i) = bytes-append a b (λ j. h (suc j)) k i
 
 bytes-nil : Bytes []
 bytes-nil i = lit< tt
@@ -236,13 +230,6 @@ string-each (b ∷ s) =
     (λ _. (omega arith, λ k. k 0))
 
 -- the UTF-8 of a code point: four bytes at most, two for Latin-1; all of them bytes
-by-lt : {P : Type 0} (a b : ℕ) → (a < b → P) → (b ≤ a → P) → P
-by-lt {P} a b f g = go (decLt a b)
-  where
-    go : Dec (a < b) → P
-    go (yes h) = f h
-    go (no h) = g (omega arith)
-
 pub encode-length : (c : ℕ) → length (encode c) ≤ 4
 encode-length c =
     by-lt c 0x80 (λ h. rw (encode-one c h) (omega arith))

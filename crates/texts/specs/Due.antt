@@ -7,13 +7,15 @@ use mathlib.Core.Logic.{_≢_, _⊎_, inl, inr}
 use native.Mathlib.Decide.{decLt, ℕ-discrete}
 use native.Mathlib.Omega.{arith}
 use lib.ListN.{length, length-append, length-set, getD, take, drop, set}
-use lib.Seq.{length-take-le, take-take, take-add, take-at, drop-at, take-append-seam, drop-append-seam, drop-drop, sets, sets-eq, length-sets, getD-set-same, getD-set-other}
+use lib.Seq.{length-take-le, take-take, take-at, drop-at, take-append-seam, drop-append-seam, drop-drop, sets, sets-eq, length-sets, getD-set-same, getD-set-other}
 use lib.Dec.{eqb, ltb, leb}
 use borrow.Author.Tests.{ltb-true, lt-ltb, le-ltb, le-leb, lt-leb, ne-eqb}
+use Rattle.utf8.specs.Rows.{and-left}
 use Rattle.value.specs.Value.{Label, NoneL}
 use Rattle.value.specs.Shape.{kindIn}
 use Rattle.steps.specs.NodeWords.{first, second, classIn}
 use Rattle.resolved.specs.Noted.{isContainer}
+use Rattle.resolved.specs.Written.{drop-take}
 use Rattle.resolved.specs.Shown.{labels, labelOf, leading, trailing, hasText, isDecoded, placeIn, leadIn, trailIn, rawLead, rawTrail, leadText, trailText, Spelled}
 use Rattle.texts.specs.declared.Spelling.{Spelling}
 use Rattle.texts.specs.Measure.{measureOf, measure-least, measure-most, measure-decoded, measure-place, measure-lead, measure-trail}
@@ -71,11 +73,7 @@ due-word p ws i m = due-at p ws (first ws i) (second ws i) (kindIn (first ws i))
 -- what is wanted has a text, and is not decoded yet
 pub due-text : (p ws : List ℕ) (i m : ℕ) → isDue p ws i m ≡ true → hasText (labelOf p ws i) ≡ true
 unfolding isDue
-due-text p ws i m e = go (hasText (labelOf p ws i)) _ e
-  where
-    go : (x y : Bool) → (x && y) ≡ true → x ≡ true
-    go true y e = refl
-    go false y e = e
+due-text p ws i m e = and-left (hasText (labelOf p ws i)) _ e
 
 due-raw : (p ws : List ℕ) (i m : ℕ) → isDue p ws i m ≡ true → m < 2 ^ 62
 unfolding isDue
@@ -174,14 +172,11 @@ pub record Decodes (p ws d₀ measures₀ : List ℕ) (n : ℕ) (d measures : Li
 
 -- ---- parts of lists that agree
 
-part-of : (b a : ℕ) (l : List ℕ) → b ≤ length l → take a (drop b l) ≡ drop b (take (b + a) l)
-part-of b a l h = sym (rw (take-add b a l) (drop-at (take b l) (take a (drop b l)) b (length-take-le b l h)))
-
 part-same : (b a n : ℕ) (l m : List ℕ) → b + a ≤ n → n ≤ length l → n ≤ length m → take n l ≡ take n m → take a (drop b l) ≡ take a (drop b m)
 part-same b a n l m h i j e =
-    part-of b a l (omega arith)
+    sym (drop-take b a l)
     ∙ ap (drop b) (sym (take-take (b + a) n l h) ∙ ap (take (b + a)) e ∙ take-take (b + a) n m h)
-    ∙ sym (part-of b a m (omega arith))
+    ∙ drop-take b a m
 
 -- two texts put one behind the other, and what is round them
 module _ (lead trail d : List ℕ) (used : ℕ) (f : used + length lead + length trail ≤ length d) where

@@ -56,7 +56,7 @@ module _ (k : ℕ) {e f : ℕ × ℕ} {r : Row} (q : getD table37 k [] ≡ e ∷
   unfolding wellFormed whole
   fits-row x y u b h = some-at _ table37 k (b .0) (rw (q, within-at e x (b .1) (b .2), within-at f y (b .3) (b .4), h))
 
-by-lt : {A : Type 0} (c n : ℕ) → (c < n → A) → (n ≤ c → A) → A
+pub by-lt : {A : Type 0} (c n : ℕ) → (c < n → A) → (n ≤ c → A) → A
 by-lt c n f g = elim (decLt c n) [ yes h ↦ f h | no h ↦ g (omega arith) ]
 
 module _ (c : ℕ) where

@@ -148,7 +148,7 @@ unfolding every
 every-append [] q h k = k
 every-append (x ∷ p) q h k = rw (and-left (wellFormed x) (every p) h) (every-append p q (and-right (wellFormed x) (every p) h) k)
 
-flatten-append : (p q : List (List ℕ)) → flatten (p ++ q) ≡ flatten p ++ flatten q
+pub flatten-append : (p q : List (List ℕ)) → flatten (p ++ q) ≡ flatten p ++ flatten q
 unfolding flatten
 flatten-append [] q = refl
 flatten-append (x ∷ p) q = rw (flatten-append p q, append-assoc)

@@ -20,6 +20,9 @@ pub and-right : (x y : Bool) → (x && y) ≡ true → y ≡ true
 and-right true y h = h
 and-right false y h = cc
 
+pub both : {a b : Bool} → (a && b) ≡ true → (a ≡ true) × (b ≡ true)
+both {a} {b} h = (and-left a b h, and-right a b h)
+
 pub or-false : (x : Bool) → (x || false) ≡ x
 or-false true = refl
 or-false false = refl

@@ -9,7 +9,7 @@ use lib.Dec.{T}
 use Rattle.utf8.specs.Utf8.{valid}
 use Rattle.value.specs.Value.{Label, Forest, Value, one, text, count, size, depth, table, NoneL, BoolL, I64L, F64L, BytesL, StringL, ListL, TupleL, SetL, FrozenSetL, DictL, GlobalL, ObjectL, nil, node}
 use Rattle.value.specs.Order.{order}
-use Rattle.value.specs.Shape.{shaped}
+use Rattle.value.specs.Shape.{shaped, and-r}
 use Rattle.value.specs.Tabled.{table-one}
 
 abbrev pub less : Ordering → Bool
@@ -22,6 +22,11 @@ unfoldable pub ascending : Forest → Bool
 ascending nil = true
 ascending (node l c nil) = true
 ascending (node l c (node m d r)) = less (order (record { label = l; contents = c }) (record { label = m; contents = d })) && ascending (node m d r)
+
+pub ascending-rest : (l : Label) (c r : Forest) → T (ascending (node l c r)) → T (ascending r)
+unfolding ascending
+ascending-rest l c nil h = tt
+ascending-rest l c (node m d r) h = and-r (less (order (record { label = l; contents = c }) (record { label = m; contents = d }))) (ascending (node m d r)) h
 
 -- the keys of a Dict's contents
 unfoldable pub keys : Forest → Forest
