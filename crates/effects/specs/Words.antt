@@ -27,8 +27,8 @@ pub record Buildable (nodes : List ℕ) (c : Counts) (o i : ℕ) : Type 0 where
   pub nodes-are : rooms .nodes ≡ nodes
   pub fits : Fits (Build c (record { 0 = o }) (record { 0 = i })) rooms 0
 
-unfoldable pub Builds : List ℕ → Counts → ℕ → ℕ → List ℕ → Step → Type 0
-Builds nodes c o i nodes′ t =
+unfoldable pub SetsState : List ℕ → Counts → ℕ → ℕ → List ℕ → Step → Type 0
+SetsState nodes c o i nodes′ t =
     (r : Rooms) (h : ℕ) → r .nodes ≡ nodes → Fits (Build c (record { 0 = o }) (record { 0 = i })) r h → Done t r (wordsIn r nodes′) (enacted (Build c (record { 0 = o }) (record { 0 = i })) r h)
 
 -- ---- an Object's state
@@ -88,6 +88,6 @@ module _ (nodes : List ℕ) (c : Counts) (o i : ℕ) where
   unfolding first
   build-room k = rw (← k .nodes-are) (build-small (k .rooms) c o i 0 (k .fits))
 
-  pub built-lent : Builds nodes c o i (set (set nodes (2 * o) (cond (stateIn (getD nodes (2 * o) 0)) (getD nodes (2 * o) 0) (getD nodes (2 * o) 0 + 32))) (2 * o + 1) (i * 2 ^ 32 + getD nodes (2 * o + 1) 0 % 2 ^ 32)) (step.Next c)
-  unfolding Builds first second
-  built-lent r h q f = rw (← q, words-plus (r .nodes) o (cond (stateIn (getD (r .nodes) (2 * o) 0)) (getD (r .nodes) (2 * o) 0) (getD (r .nodes) (2 * o) 0 + 32)) (i * 2 ^ 32 + getD (r .nodes) (2 * o + 1) 0 % 2 ^ 32), add-one (2 * o)) (build-done r c o i h f)
+  pub state-lent : SetsState nodes c o i (set (set nodes (2 * o) (cond (stateIn (getD nodes (2 * o) 0)) (getD nodes (2 * o) 0) (getD nodes (2 * o) 0 + 32))) (2 * o + 1) (i * 2 ^ 32 + getD nodes (2 * o + 1) 0 % 2 ^ 32)) (step.Next c)
+  unfolding SetsState first second
+  state-lent r h q f = rw (← q, words-plus (r .nodes) o (cond (stateIn (getD (r .nodes) (2 * o) 0)) (getD (r .nodes) (2 * o) 0) (getD (r .nodes) (2 * o) 0 + 32)) (i * 2 ^ 32 + getD (r .nodes) (2 * o + 1) 0 % 2 ^ 32), add-one (2 * o)) (build-done r c o i h f)

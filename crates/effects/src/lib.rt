@@ -15,7 +15,7 @@ ghost use Rattle.effects.specs.Push.{PushNode, PushId, PutMark};
 ghost use Rattle.effects.specs.Links.{filled, Linkable, LinkAll};
 ghost use Rattle.effects.specs.Containers.{Makeable, MakesNode, Extendable, Extends};
 ghost use Rattle.effects.specs.Memo.{Rememberable, Remembers};
-ghost use Rattle.effects.specs.Words.{Buildable, Builds};
+ghost use Rattle.effects.specs.Words.{Buildable, SetsState};
 
 // What a step comes to: the counts with which the machine goes on or has stopped, or why it refuses.
 pub enum Step {
@@ -256,7 +256,7 @@ fn with_state(a: u64) -> u64
 // An Object's state, in place of any earlier one.
 pub fn set_state(nodes: &mut [u64], c: Counts, object: NodeId, state: NodeId) -> Step
     requires { ⌜ Buildable (now nodes) c (object .0) (state .0) ⌝ }
-    ensures { λ t. ⌜ Builds (now (nodes .entry)) c (object .0) (state .0) (now (nodes .exit)) t ⌝ }
+    ensures { λ t. ⌜ SetsState (now (nodes .entry)) c (object .0) (state .0) (now (nodes .exit)) t ⌝ }
 {
     let first = 2 * object.0;
     let second = first + 1;

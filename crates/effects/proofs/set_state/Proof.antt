@@ -5,7 +5,7 @@ use Rattle.effects.proofs.set_state.Tie as tie
 use lib.ListN.{length-set}
 use native.Mathlib.Omega.{arith}
 use borrow.Author.Needs.{needs}
-use Rattle.effects.specs.Words.{build-room, built-lent}
+use Rattle.effects.specs.Words.{build-room, state-lent}
 
 with-state-requires : tie.Need-with-state-requires
 with-state-requires c κs = build-room _ _ _ _ (c .before .before .before .before .pre) .0
@@ -21,4 +21,4 @@ set-state-spec =
     (λ c. let v = build-room _ _ _ _ (c .before .before .before .pre) in omega arith) (λ c. let v = build-room _ _ _ _ (c .before .before .before .pre) in omega arith) (λ c. let v = build-room _ _ _ _ (c .before .before .before .before .pre) in omega arith) with-state-requires
     (λ c. let v = build-room _ _ _ _ (c .before .before .before .before .before .pre) in omega arith) (λ c. let v = build-room _ _ _ _ (c .before .before .before .before .before .pre) in omega arith)
     (λ c. let v = build-room _ _ _ _ (c .before .before .before .before .before .pre) in omega arith) (λ c. let v = build-room _ _ _ _ (c .before .before .before .before .before .pre) in omega arith)
-    (λ c. let v = build-room _ _ _ _ (c .before .before .before .before .before .pre) in omega arith) slice-write-nodes-2 (λ c. search needs) (λ c. rw (c .with-state .ensures) (built-lent _ _ _ _)))
+    (λ c. let v = build-room _ _ _ _ (c .before .before .before .before .before .pre) in omega arith) slice-write-nodes-2 (λ c. search needs) (λ c. rw (c .with-state .ensures) (state-lent _ _ _ _)))

@@ -8,7 +8,7 @@ use Rattle.store.specs.Effects.{Fits, enacted}
 use Rattle.effects.specs.Push.{PushNode, PushId, PutMark}
 use Rattle.effects.specs.Containers.{MakesNode, Extends}
 use Rattle.effects.specs.Memo.{Remembers}
-use Rattle.effects.specs.Words.{Builds}
+use Rattle.effects.specs.Words.{SetsState}
 use Rattle.machine.specs.RoomsOf.{roomsOf}
 use Rattle.machine.specs.Applied.{Applies, push-lengths, share-lengths, mark-lengths, makeable, extendable, rememberable, buildable, goes-on, stops, refuses}
 
@@ -136,7 +136,7 @@ returns-7 c = λ p f.
     rw e (done .remember .ensures _ (start (arm .before .before) .args .had) refl refl (rw e at f))
 
 returns-8 : tie.Need-returns-8
-unfolding Applies Builds
+unfolding Applies SetsState
 returns-8 c = λ p f.
     let done = built c in
     let e = build (done .before) .e8 .given .1 in
