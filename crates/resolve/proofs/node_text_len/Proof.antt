@@ -1,8 +1,10 @@
 -- `resolve::node_text_len` meets its contract: one law for each kind.
-use borrow.Author.Needs.{needs}
+use mir.Val.{Fits}
+use mir.Syntax.{w64}
+use mathlib.Core.List.{List}
 use Rattle.resolve.proofs.node_text_len.Statement.{statement}
 use Rattle.resolve.proofs.node_text_len.Tie as tie
-use Prim.Native.Nat.{_+_, _*_, _^_, _/_, _%_, _<_}
+use Prim.Native.Nat.{ℕ, _+_, _*_, _^_, _/_, _%_, _<_}
 use lib.ListN.{length, getD}
 use mathlib.Core.Path.{refl}
 use native.Mathlib.Omega.{arith}
@@ -19,6 +21,27 @@ second c = start (c .before .before)
 -- an Object's class is one of the nodes
 class : (c : tie.Then4) → let s = second (c .before .before) in 2 * (getD (s .args .nodes .now) (2 * s .args .node .0) 0 / 64) + 1 < length (s .args .nodes .now)
 class c = class-words _ _ _ _ _ refl refl (second (c .before .before) .pre) (c .if4 .taken)
+
+-- ---- the numbers of a node whose words are in the room
+
+module _ (i : ℕ) (ws : List ℕ) (words : 2 * i + 1 < length ws) (room : length ws * 8 < 2 ^ 63) where
+  fits-first : Fits w64 (2 * i)
+  fits-first = omega arith
+
+  fits-first-at : Fits w64 (2 * i * 8)
+  fits-first-at = omega arith
+
+  first-in : 2 * i < length ws
+  first-in = omega arith
+
+  fits-second : Fits w64 (2 * i + 1)
+  fits-second = omega arith
+
+  fits-second-at : Fits w64 ((2 * i + 1) * 8)
+  fits-second-at = omega arith
+
+abbrev room : (s : tie.Start) → length (s .args .nodes .now) * 8 < 2 ^ 63
+room s = s .good .1 .0 .1
 
 -- ---- the needs
 
@@ -38,25 +61,25 @@ returns-3 : tie.Need-returns-3
 returns-3 c = len-global _ _ _ _ _ refl refl _ (c .before .if3 .taken) (c .names-len .ensures)
 
 mul-names-len : tie.Need-mul-names-len
-mul-names-len c = omega (arith, class c)
+mul-names-len c = let s = second (c .before .before) in fits-first _ (s .args .nodes .now) (class c) (room s)
 
 mul-names-len-2 : tie.Need-mul-names-len-2
-mul-names-len-2 c = omega (arith, class c)
+mul-names-len-2 c = let s = second (c .before .before) in fits-first-at _ (s .args .nodes .now) (class c) (room s)
 
 shared-slice-read-names-len : tie.Need-shared-slice-read-names-len
-shared-slice-read-names-len c = omega (arith, class (c .before))
+shared-slice-read-names-len c = let s = second (c .before .before .before) in first-in _ (s .args .nodes .now) (class (c .before)) (room s)
 
 mul-names-len-3 : tie.Need-mul-names-len-3
-mul-names-len-3 c = omega (arith, class (c .before))
+mul-names-len-3 c = let s = second (c .before .before .before) in fits-first _ (s .args .nodes .now) (class (c .before)) (room s)
 
 add-names-len : tie.Need-add-names-len
-add-names-len c = omega (arith, class (c .before))
+add-names-len c = let s = second (c .before .before .before) in fits-second _ (s .args .nodes .now) (class (c .before)) (room s)
 
 mul-names-len-4 : tie.Need-mul-names-len-4
-mul-names-len-4 c = omega (arith, class (c .before))
+mul-names-len-4 c = let s = second (c .before .before .before) in fits-second-at _ (s .args .nodes .now) (class (c .before)) (room s)
 
 shared-slice-read-names-len-2 : tie.Need-shared-slice-read-names-len-2
-shared-slice-read-names-len-2 c = omega (arith, class (c .before .before))
+shared-slice-read-names-len-2 c = class (c .before .before)
 
 returns-4 : tie.Need-returns-4
 returns-4 c = len-object _ _ _ _ _ refl refl _ (c .before .before .before .if4 .taken) (c .names-len2 .ensures)
@@ -76,7 +99,7 @@ pub node-text-len-spec : {M : Type 1} → statement M
 node-text-len-spec =
     tie.close
     (tie.spec
-    (λ c. search needs) (λ c. search needs) (λ c. search needs) (λ c. search needs) (λ c. search needs) (λ c. search needs) (λ c. search needs)
-    (λ c κs. search needs) returns (λ c κs. search needs) repaired-len-requires returns-2 (λ c κs. search needs) returns-3 mul-names-len mul-names-len-2
-    shared-slice-read-names-len mul-names-len-3 add-names-len mul-names-len-4 shared-slice-read-names-len-2 (λ c κs. search needs) returns-4
-    (λ c κs. search needs) (λ c κs. search needs) returns-5 (λ c κs. search needs) (λ c κs. search needs) returns-6 returns-7)
+    (λ c. let s = c .before .before in fits-first (s .args .node .0) (s .args .nodes .now) (s .pre .words) (room s)) (λ c. let s = c .before .before in fits-first-at (s .args .node .0) (s .args .nodes .now) (s .pre .words) (room s)) (λ c. let s = c .before .before .before in first-in (s .args .node .0) (s .args .nodes .now) (s .pre .words) (room s)) (λ c. let s = c .before .before .before in fits-first (s .args .node .0) (s .args .nodes .now) (s .pre .words) (room s)) (λ c. let s = c .before .before .before in fits-second (s .args .node .0) (s .args .nodes .now) (s .pre .words) (room s)) (λ c. let s = c .before .before .before in fits-second-at (s .args .node .0) (s .args .nodes .now) (s .pre .words) (room s)) (λ c. start c .pre .words)
+    (λ c κs. tt) returns (λ c κs. tt) repaired-len-requires returns-2 (λ c κs. start (c .before .before .before) .pre .short) returns-3 mul-names-len mul-names-len-2
+    shared-slice-read-names-len mul-names-len-3 add-names-len mul-names-len-4 shared-slice-read-names-len-2 (λ c κs. second (c .before .before .before .before) .pre .short) returns-4
+    (λ c κs. tt) (λ c κs. tt) returns-5 (λ c κs. tt) (λ c κs. tt) returns-6 returns-7)
