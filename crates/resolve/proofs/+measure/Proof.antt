@@ -16,7 +16,6 @@ use Rattle.resolve.proofs.note.Reads as note-reads
 use Rattle.resolve.proofs.own_text.Reads as own-text-reads
 use Rattle.resolve.proofs.+measure.{statement}
 use Rattle.resolve.proofs.+measure.Tie.{close}
-use borrow.Author.Needs.{needs}
 use mathlib.Core.Bool.{false}
 use mathlib.Core.Path.{_≡_, refl, subst, _∙_, ap}
 use mathlib.Core.Logic.{⊎-elim}
