@@ -137,6 +137,10 @@ module _ (x : Reading) (l l′ : Slices) (a : Answer) (c : ReadCall x l l′ a) 
           let q : _≡_ {A = Left} (record { answer = a; slices = l′ }) (record { answer = refusedAnswer ShortRoom; slices = l }) = c ∙ rw e in
           absurd (refusal-number ShortRoom (sym (ap (λ (y : Left). y .answer .number) q) ∙ z))
 
+  -- and that the reading is no refusal
+  pub not-refused : (why : Refusal) → a .number ≡ 0 → x ≡ refuses why → ⊥
+  not-refused why z e = refusal-number why (ap (λ (y : Reading). y .answer .number) (sym e) ∙ ap (λ (y : Answer). y .number) (sym (call-answer (call-long-enough z))) ∙ z)
+
   -- on success the table and the text that its records say are well formed: what compare, list and write ask
   pub call-well-formed : Formed x → a .number ≡ 0 → WellFormed (tableOf l′) (a .count) (take (textLength (tableOf l′) (a .count)) (textOf l′))
   unfolding Formed
@@ -209,7 +213,7 @@ Read ed p a = (s : State) × (run ed p ≡ ok s) × (s .input ≡ drop (a .lengt
 module _ (ed : Edition) (p : List ℕ) (x : Reading) (l l′ : Slices) (a : Answer) (z : a .number ≡ 0) (c : ReadCall x l l′ a) where
   read-length : Ends ed p x → Read ed p a
   unfolding Read
-  read-length (refused why e) = absurd (refusal-number why (ap (λ (y : Reading). y .answer .number) (sym e) ∙ ap (λ (y : Answer). y .number) (sym (call-answer x l l′ a c (call-long-enough x l l′ a c z))) ∙ z))
+  read-length (refused why e) = absurd (not-refused x l l′ a c why z e)
   read-length (read s f r e) =
       let y = consumed-rest ed p s r in
       let n : a .length ≡ consumed p s = ap (λ (y : Answer). y .length) (call-answer x l l′ a c (call-long-enough x l l′ a c z)) ∙ ap (λ (y : Reading). y .answer .length) e in
@@ -231,7 +235,7 @@ module _ (ed : Edition) (p : List ℕ) (l l′ : Slices) (a : Answer) (z : a .nu
       left n m e q = ltb-false m (length p) (sym (rw (q, eqb) refl) ∙ e)
 
       go : (b : Bool) → leaves p (prefixIn ed p) ≡ b → Read ed p a → a .length ≡ length p
-      go true e r = absurd (refusal-number TrailingData (ap (λ (y : Reading). y .answer .number) (sym (whole-trailing ed p e)) ∙ ap (λ (y : Answer). y .number) (sym answer) ∙ z))
+      go true e r = absurd (not-refused (wholeIn ed p) l l′ a c TrailingData z (whole-trailing ed p e))
       go false e r =
           let q : a ≡ prefixIn ed p .answer = answer ∙ ap (λ (y : Reading). y .answer) (whole-prefix ed p e) in
           let k : length p ≤ a .length = left (a .number) (a .length) (rw q e) z in

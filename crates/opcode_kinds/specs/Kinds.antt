@@ -23,7 +23,7 @@ use Rattle.value.specs.Shape.{and-l, and-r}
 use Rattle.steps.specs.State.{Node, State, Res, ok, no, _>>=_, kidless, withInput, withStack, withMarks, last, butLast, pop, top, popMark, popMany, pushId, pushNode, push, link, nodeAt, extend, get, put}
 use Rattle.steps.specs.Opcodes.{classOf, proto, mark, popOne, popToMark, dup, intLabel, int, binint, binint1, binint2, long, longN, float, binfloat, string, binstring, shortBinstring, unicode, binunicode, global, made, list, tuple, tupleN, dict, added, append, appends, setitem, setitems, getLine, getBytes, putLine, putBytes, builtin, setName, frozensetName, object, setOf, reduced, called, reduce, newobj, buildState}
 use Rattle.steps.specs.Run.{Next, stops, going, does, decide, step}
-use Rattle.steps.specs.Out.{Out, out, weaken, bind, bind-any, bind-need, join-need}
+use Rattle.steps.specs.Out.{Out, out, weaken, both-out, bind, bind-any, bind-need, join-need}
 use Rattle.steps.specs.Effect.{labelled, values-count}
 use Rattle.steps.specs.Arguments.{taken, byte-read, Claim, putLine-claim, putBytes-claim}
 use Rattle.steps.specs.Pickletools.{decided, byte-leads, admit-out}
@@ -290,14 +290,9 @@ put-stands : (k : ℕ) (s : State) → Out (Stocked (topmost (any ∷ []))) (put
 unfolding put
 put-stands k s = bind _ _ _ _ (top-gives s) λ i h. bind-need _ _ _ _ λ u. out _ _ (any-stands _ (h .0))
 
-both : {A : Type 0} (P Q : A → Type 0) (r : Res A) → Out P r → Out Q r → Out (λ (a : A). P a × Q a) r
-unfolding Out
-both P Q (ok a) p q = (p, q)
-both P Q (no why) p q = tt
-
 put-kept : (f : Form) (s : State) (r : Res State) → Out (Claim f (values 0) (values 0) s) r → Out (Stocked (topmost (any ∷ []))) r → Out (TakenAndLeft (topmost (any ∷ [])) (topmost (any ∷ [])) s) r
 unfolding TakenAndLeft Stocked
-put-kept f s r c h = weaken _ _ _ (both _ _ r c h) λ t u.
+put-kept f s r c h = weaken _ _ _ (both-out _ _ r c h) λ t u.
     let n = values-count 0 0 (u .0 .then) t (u .0 .did .stacks) in
     let e : length (u .0 .then .stack) ≡ length (s .stack) = ap (λ (x : State). length (x .stack)) (u .0 .reads .rest) in
     let z = u .1 .reaches in

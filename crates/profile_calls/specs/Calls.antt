@@ -5,7 +5,6 @@ use Prim.Native.Nat.{ℕ}
 use mathlib.Core.Bool.{false}
 use mathlib.Core.List.{List, [], _∷_}
 use mathlib.Core.Path.{_≡_, refl, sym, _∙_, ap}
-use Rattle.refusal.specs.declared.Refusal.{Refusal}
 use Rattle.refusal.specs.declared.Refusal.the-variants.{OutsideProfile}
 use Rattle.refusal.specs.declared.Answer.{Answer}
 use Rattle.refusal.specs.Numbers.{refusedAnswer}
@@ -24,9 +23,8 @@ use Rattle.reading.specs.Build as Build
 use Rattle.reading.specs.Measure.{measured}
 use Rattle.reading.specs.Settle as Settle
 use Rattle.reading.specs.Reading.{Reading, refuses, reads, told, stopped, prefixIn, wholeIn, prefix, whole, leaves}
-use Rattle.reading.specs.Success.{refusal-number}
 use Rattle.de.specs.Call.{reading, ReadCall, read-one}
-use Rattle.de.specs.Theorems.{call-answer, call-table, call-text, call-long-enough, Ends, refused as ends-refused, read as ends-read, prefix-ends, whole-ends}
+use Rattle.de.specs.Theorems.{call-answer, call-table, call-text, call-long-enough, not-refused, Ends, refused as ends-refused, read as ends-read, prefix-ends, whole-ends}
 use Rattle.de.specs.Shared.{shared}
 use Rattle.profile_calls.specs.Alike.{Barred, Executes, executes}
 use Rattle.profile_calls.specs.Readings.{ReadAlike, reads-as-full, reads-barred, prefix-alike, whole-alike}
@@ -40,11 +38,6 @@ machine = tt
 unfoldable building : Unit {0}
 unfolding text count size depth table Build.firstTaken Build.blocked Build.finish Build.each Build.build Build.tree measured Settle.arrange Settle.settle told stopped prefixIn
 building = tt
-
--- a call that succeeds has not refused
-not-refused : (x : Reading) (l l′ : Slices) (a : Answer) (why : Refusal) → ReadCall x l l′ a → a .number ≡ 0 → x ≡ refuses why → ⊥
-not-refused x l l′ a why c z e =
-    refusal-number why (ap (λ (y : Reading). y .answer .number) (sym e) ∙ ap (λ (y : Answer). y .number) (sym (call-answer x l l′ a c (call-long-enough x l l′ a c z))) ∙ z)
 
 -- the answer of the profile: 26, the byte of one of the six, and the step of it
 pub record Outside (p : List ℕ) (a : Answer) : Type 0 where
@@ -60,7 +53,7 @@ module _ (p : List ℕ) (x y : Reading) (same : ReadAlike p x y) (l l′ l″ : 
     where
       go : ReadAlike p x y → (b ≡ a) × (l″ ≡ l′)
       go (reads-as-full e) = read-one y l l″ l′ b a d (c ∙ ap (λ (r : Reading). reading r l) e)
-      go (reads-barred i o m e) = absurd (not-refused x l l′ a (OutsideProfile i) c z e)
+      go (reads-barred i o m e) = absurd (not-refused x l l′ a c (OutsideProfile i) z e)
 
   call-outside : Ends Full p y → b .number ≡ 0 → ¬ (a .number ≡ 0) → Outside p a
   call-outside ends z n = go same ends
@@ -70,7 +63,7 @@ module _ (p : List ℕ) (x y : Reading) (same : ReadAlike p x y) (l l′ l″ : 
 
       go : ReadAlike p x y → Ends Full p y → Outside p a
       go (reads-as-full e) f = absurd (n (ap (λ (r : Answer). r .number) (sym (read-one y l l″ l′ b a d (c ∙ ap (λ (r : Reading). reading r l) e) .0)) ∙ z))
-      go (reads-barred i o m e) (ends-refused why f) = absurd (not-refused y l l″ b why d z f)
+      go (reads-barred i o m e) (ends-refused why f) = absurd (not-refused y l l″ b d why z f)
       go (reads-barred i o m e) (ends-read s f r q) = record { code = i; one-of-six = o; executed = executes p i s r m; answer = call-answer x l l′ a c long ∙ ap (λ (r : Reading). r .answer) e }
 
 -- the value left at STOP contains no class, what collapses in it included, and the answer counts the records of what is left of it, whose
@@ -86,7 +79,7 @@ pub record Fills (p : List ℕ) (l l′ : Slices) (a : Answer) : Type 0 where
   pub text-is : textOf l′ ≡ begun (text (Settle.settle (built state root))) (textOf l)
 
 call-fills : (p : List ℕ) (x : Reading) (l l′ : Slices) (a : Answer) → ReadCall x l l′ a → a .number ≡ 0 → ReadsClassless p x → Fills p l l′ a
-call-fills p x l l′ a c z (refused why e) = absurd (not-refused x l l′ a why c z e)
+call-fills p x l l′ a c z (refused why e) = absurd (not-refused x l l′ a c why z e)
 call-fills p x l l′ a c z (read s r d e h) =
     let long = call-long-enough x l l′ a c z in
     record {

@@ -13,7 +13,7 @@ use Rattle.input.specs.Bytes.{Bytes}
 use Rattle.value.specs.Value.{Label, Forest, one, NoneL, BoolL, I64L, F64L, BytesL, StringL, ListL, TupleL, SetL, FrozenSetL, DictL, GlobalL, ObjectL}
 use Rattle.steps.specs.State.{State, Res, ok, no}
 use Rattle.steps.specs.Run.{run}
-use Rattle.steps.specs.Out.{Out, out, bind, bind-any, bind-need}
+use Rattle.steps.specs.Out.{Out, out, both-out, bind, bind-any, bind-need}
 use Rattle.steps.specs.Shape.{Shaped, run-shaped}
 use Rattle.reading.specs.Build.{at, tree}
 use Rattle.reading.specs.Form.{All, tree-all}
@@ -22,7 +22,6 @@ use Rattle.reading.specs.Letters.{Labelled, labelled-at, Made, Classes, run-lab
 use Rattle.reading.specs.Measure.{measured}
 use Rattle.reading.specs.Settle.{settle}
 use Rattle.reading.specs.Reading.{Reading, refuses, reads, told, consumed, stopped, prefixIn, wholeIn, leaves}
-use Rattle.reading.specs.Success.{both-out}
 
 abbrev pub classless : Label → Bool
 classless NoneL = true

@@ -13,7 +13,7 @@ use Rattle.value.specs.Value.{one}
 use Rattle.value.specs.WellFormed.{WellFormed}
 use Rattle.steps.specs.State.{State, Res, ok, no}
 use Rattle.steps.specs.Run.{run}
-use Rattle.steps.specs.Out.{Out, out, bind, bind-any, bind-need}
+use Rattle.steps.specs.Out.{Out, out, both-out, bind, bind-any, bind-need}
 use Rattle.steps.specs.Shape.{Shaped, run-shaped}
 use Rattle.reading.specs.Build.{tree}
 use Rattle.reading.specs.Measure.{measured}
@@ -47,11 +47,6 @@ refusal-number (BadTable which) e = omega arith
 refusal-number OutputFull e = omega arith
 refusal-number UnwritableName e = omega arith
 refusal-number (OutsideProfile code) e = omega arith
-
-pub both-out : {A : Type 0} (P Q : A → Type 0) (r : Res A) → Out P r → Out Q r → Out (λ (a : A). P a × Q a) r
-unfolding Out
-both-out P Q (ok a) p q = (p, q)
-both-out P Q (no why) p q = tt
 
 -- the nodes at STOP
 Sound : State → Type 0

@@ -1,17 +1,18 @@
 -- The numbers 1, 2 and 11 of the two readings in any edition, exactly: 2 for a pickle over the limit; 11, of the whole reading alone, where the prefix
 -- reading succeeds and leaves bytes; never 1.
 use Prim.Native.Nat.{ℕ, _<_, _≤_}
-use mathlib.Core.Bool.{Bool, true, false, not, _&&_}
+use mathlib.Core.Bool.{Bool, true, false, not}
 use mathlib.Core.List.{List}
 use mathlib.Core.Logic.{_↔_}
 use mathlib.Core.Path.{_≡_, refl, sym, _∙_, ap}
 use lib.ListN.{length}
-use lib.Dec.{T, leb, ltb, eqb}
+use lib.Dec.{T, leb}
 use native.Mathlib.Omega.{arith}
 use borrow.Author.Tests.{le-leb, leb-true, leb-false, lt-ltb, ltb-true, eq-eqb, eqb-true}
 use Rattle.refusal.specs.declared.Refusal.{Refusal}
 use Rattle.refusal.specs.declared.Refusal.the-variants.{TooLong}
 use Rattle.op.specs.declared.Edition.{Edition}
+use Rattle.utf8.specs.Rows.{both}
 use Rattle.value.specs.Value.{Forest, one}
 use Rattle.steps.specs.State.{State, Res, ok, no, _>>=_, need}
 use Rattle.reading.specs.Build.{tree}
@@ -91,11 +92,7 @@ pub record LeavesBytes (ed : Edition) (p : List ℕ) : Type 0 where
 
 leaves-bytes : (ed : Edition) (p : List ℕ) → leaves p (prefixIn ed p) ≡ true → LeavesBytes ed p
 unfolding leaves
-leaves-bytes ed p e = let x = split (eqb (prefixIn ed p .answer .number) 0) (ltb (prefixIn ed p .answer .length) (length p)) e in record { succeeds = eqb-true _ 0 (x .0); left = ltb-true _ (length p) (x .1) }
-  where
-    split : (a b : Bool) → (a && b) ≡ true → (a ≡ true) × (b ≡ true)
-    split true b q = (refl, q)
-    split false b q = absurd (let z : _≡_ {A = ℕ} 0 1 = cc in omega arith)
+leaves-bytes ed p e = let x = both e in record { succeeds = eqb-true _ 0 (x .0); left = ltb-true _ (length p) (x .1) }
 
 bytes-leave : (ed : Edition) (p : List ℕ) → LeavesBytes ed p → leaves p (prefixIn ed p) ≡ true
 unfolding leaves

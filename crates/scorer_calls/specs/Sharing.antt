@@ -6,7 +6,6 @@ use mathlib.Core.List.{List, [], _∷_, _++_}
 use mathlib.Core.Path.{_≡_, refl, sym, _∙_, ap, subst}
 use lib.ListN.{length, take, drop}
 use lib.Seq.{take-append-seam, take-append-le}
-use Rattle.refusal.specs.declared.Refusal.{Refusal}
 use Rattle.refusal.specs.declared.Refusal.the-variants.{TrailingData}
 use Rattle.refusal.specs.declared.Answer.{Answer}
 use Rattle.op.specs.declared.Edition.the-variants.{Full}
@@ -19,11 +18,11 @@ use Rattle.steps.specs.Run.{run}
 use Rattle.reading.specs.Measure.{measured}
 use Rattle.reading.specs.Settle.{settle}
 use Rattle.reading.specs.Unfold.{WritesOut, NothingContainsItself}
-use Rattle.reading.specs.Reading.{Reading, refuses, reads, told, consumed, prefix, whole, leaves, whole-trailing, whole-prefix, pickleLimit, told-fits, sharing-never-shows}
-use Rattle.reading.specs.Success.{Formed, refusal-number, prefix-well-formed}
+use Rattle.reading.specs.Reading.{Reading, reads, told, consumed, prefix, whole, leaves, whole-trailing, whole-prefix, pickleLimit, told-fits, sharing-never-shows}
+use Rattle.reading.specs.Success.{Formed, prefix-well-formed}
 use Rattle.rooms.specs.Stated.{Slices, tableOf, textOf, begun}
 use Rattle.de.specs.Call.{reading, ReadCall}
-use Rattle.de.specs.Theorems.{call-never-shows-sharing, call-answer, call-table, call-text, call-long-enough, prefix-call-formed}
+use Rattle.de.specs.Theorems.{call-never-shows-sharing, call-answer, call-table, call-text, call-long-enough, not-refused, prefix-call-formed}
 use Rattle.scorer.specs.Call.{Scores}
 use Rattle.scorer.specs.Flip.{own-table}
 use Rattle.scorer.specs.Theorems.{words-behind}
@@ -53,12 +52,6 @@ text-left {w} {u} {n} {m} {t} {s} x f g c e q =
     let k : textLength w n ≡ length s = text-length w n (take (textLength w n) t) f ∙ same-length f g c e in
     rw (k, q) (take-append-seam s x)
 
--- a reading that succeeds is no refusal
-not-refused : (x : Reading) (l l′ : Slices) (a : Answer) (why : Refusal) → ReadCall x l l′ a → a .number ≡ 0 → x ≡ refuses why → ⊥
-not-refused x l l′ a why c z e =
-    let o = call-answer x l l′ a c (call-long-enough x l l′ a c z) in
-    refusal-number why (ap (λ (y : Reading). y .answer .number) (sym e) ∙ ap (λ (y : Answer). y .number) (sym o) ∙ z)
-
 -- Bytes that are read to STOP with a value left, nothing reachable from which contains itself, and whose plain write-out is f.
 module _ (p : List ℕ) (b : Bytes p) (s : State) (fits : length p ≤ pickleLimit) (stops : run Full p ≡ ok s) (left : 0 < length (s .stack)) (apart : NothingContainsItself (s .nodes) (last (s .stack))) (f : Forest) (w : WritesOut (s .nodes) (last (s .stack) ∷ []) f) (l l′ : Slices) (a : Answer) (z : a .number ≡ 0) where
   -- what the prefix reading left scores as the write-out does
@@ -70,7 +63,7 @@ module _ (p : List ℕ) (b : Bytes p) (s : State) (fits : length p ≤ pickleLim
       call = call-never-shows-sharing Full p s fits stops left apart f w l l′ a c
 
       go : (m : Res (Unit {0})) → measured f ≡ m → r ≡ q
-      go (no why) e = absurd (not-refused (told (consumed p s) f) l l′ a why call z (rw (e, told)))
+      go (no why) e = absurd (not-refused (told (consumed p s) f) l l′ a call why z (rw (e, told)))
       go (ok u) e =
           let g = settle f in
           let more = drop (length (table g 0)) (tableOf l) in
@@ -90,5 +83,5 @@ module _ (p : List ℕ) (b : Bytes p) (s : State) (fits : length p ≤ pickleLim
   whole-shared-scores {r} {q} c scored plain = go (leaves p (prefix p)) refl
     where
       go : (x : Bool) → leaves p (prefix p) ≡ x → r ≡ q
-      go true e = absurd (not-refused (whole p) l l′ a TrailingData c z (whole-trailing Full p e))
+      go true e = absurd (not-refused (whole p) l l′ a c TrailingData z (whole-trailing Full p e))
       go false e = shared-scores (c ∙ ap (λ (x : Reading). reading x l) (whole-prefix Full p e)) scored plain

@@ -28,6 +28,11 @@ unfolding Out
 weaken P Q (ok a) h k = k a h
 weaken P Q (no why) h k = tt
 
+pub both-out : {A : Type 0} (P Q : A → Type 0) (r : Res A) → Out P r → Out Q r → Out (λ (a : A). P a × Q a) r
+unfolding Out
+both-out P Q (ok a) p q = (p, q)
+both-out P Q (no why) p q = tt
+
 pub bind : {A B : Type 0} (P : A → Type 0) (Q : B → Type 0) (r : Res A) (f : A → Res B) → Out P r → ((a : A) → P a → Out Q (f a)) → Out Q (r >>= f)
 unfolding Out _>>=_
 bind P Q (ok a) f h k = k a h
