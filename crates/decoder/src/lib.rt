@@ -352,7 +352,8 @@ pub fn global(pickle: &[u8], c: Counts) -> Effect
                     Effect::Push(
                         read_to(c, to + 1),
                         value::GLOBAL
-                            + store::KIND_RADIX * (module as u64 * store::MODULE_LEN + c.at as u64),
+                            + store::KIND_RADIX
+                                * (module as u64 * store::MODULE_LEN_AT + c.at as u64),
                         text_word(from, name),
                     )
                 }
@@ -746,8 +747,8 @@ fn made_kind(pickle: &[u8], a: u64, b: u64, n: u64) -> u64
     if same_text(
         text_at(
             pickle,
-            (m % store::MODULE_LEN) as usize,
-            (m / store::MODULE_LEN) as usize,
+            (m % store::MODULE_LEN_AT) as usize,
+            (m / store::MODULE_LEN_AT) as usize,
         ),
         b"__builtin__",
     ) {
@@ -799,7 +800,7 @@ fn reduced(
     if made == value::OBJECT {
         return Effect::Push(
             rest,
-            value::OBJECT + 64 * class.0 as u64,
+            value::OBJECT + store::CLASS * class.0 as u64,
             arguments.0 as u64,
         );
     }
@@ -830,7 +831,7 @@ pub fn newobj(nodes: &[u64], stack: &[u16], c: Counts) -> Effect
         CallRead::None(why) => Effect::Refused(c, 0, 0, why),
         CallRead::Of(class, arguments) => Effect::Push(
             cut(c, c.at, c.stack - 2, c.marks),
-            value::OBJECT + 16 + 64 * class.0 as u64,
+            value::OBJECT + store::NEW + store::CLASS * class.0 as u64,
             arguments.0 as u64,
         ),
     }

@@ -250,7 +250,7 @@ fn with_state(a: u64) -> u64
     if a / store::STATE % 2 == 1 {
         return a;
     }
-    a + 32
+    a + store::STATE
 }
 
 // An Object's state, in place of any earlier one.

@@ -23,9 +23,13 @@ ghost use Rattle.resolve.specs.Known.{Learns};
 ghost use Rattle.resolve.specs.Ends.{Opens, Walks};
 ghost use Rattle.resolve.specs.Rooted.{Begins, Roots};
 
-// A measure: 0 for a fresh node, 1 for one taken out, 3 for an Object that is None for good, else a word: depth + 128 * values + 2^19 * text,
+// A measure: 0 for a fresh node, 1 for one taken out, 3 for an Object that is None for good, else a word, packed as store says: depth, values and text,
 // values capped at 2,049 and text at 65,537. The word of a leaf with a text is stored when the walk comes to it.
 
+// The word of a value without contents and text: one deep, one value.
+const LEAF: u64 = 1 + store::DEPTHS;
+
+// As the rooms of u16 hold it.
 const NOWHERE: u16 = store::NOWHERE as u16;
 
 pub enum Answer {
@@ -62,8 +66,8 @@ fn names_len(pickle: &[u8], a: u64, b: u64) -> usize
 {
     let module = repaired_len(value::cut(
         pickle,
-        a / store::KIND_RADIX % store::MODULE_LEN,
-        a / store::KIND_RADIX / store::MODULE_LEN,
+        a / store::KIND_RADIX % store::MODULE_LEN_AT,
+        a / store::KIND_RADIX / store::MODULE_LEN_AT,
     ));
     let name = repaired_len(value::cut(pickle, b % store::HALF, b / store::HALF));
     module + name
@@ -144,7 +148,7 @@ fn leaf_word(node: NodeId, pickle: &[u8], nodes: &[u64]) -> u64
     requires { ⌜ Readable (now pickle) (now nodes) (node .0) ⌝ }
     ensures { λ r. ⌜ r ≡ packW 1 1 (textLen (now (pickle .entry)) (now (nodes .entry)) (node .0)) ⌝ }
 {
-    129 + store::TEXT_AT * least(node_text_len(pickle, nodes, node) as u64, 65537)
+    LEAF + store::TEXT_AT * least(node_text_len(pickle, nodes, node) as u64, 65537)
 }
 
 // A node as far as no walk is needed for it.
@@ -157,7 +161,7 @@ fn known(node: NodeId, pickle: &[u8], nodes: &[u64], measures: &mut [u64]) -> Se
     let n = node.0;
     let kind = nodes[2 * n] % store::KIND_RADIX;
     if kind < value::BYTES {
-        return Seen::Word(129);
+        return Seen::Word(LEAF);
     }
     let m = measures[n];
     if m != 0 {
@@ -267,7 +271,7 @@ fn measure(
             return Answer::TooDeep;
         }
         let child = NodeId(sorted[i] as usize);
-        let mut w: u64 = 129;
+        let mut w: u64 = LEAF;
         match known(child, pickle, nodes, measures) {
             Seen::Word(k) => {
                 if levels <= k % store::DEPTHS {

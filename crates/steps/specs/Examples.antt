@@ -1,4 +1,4 @@
--- Worked pickles, of RULES A9.5, A10 and Ask 7.2, run to STOP.
+-- Worked pickles, of RULES A9.5, A10 and Ask 7.2, run.
 use mathlib.Core.List.{[], _∷_}
 use mathlib.Core.Path.{_≡_, refl}
 use Rattle.refusal.specs.declared.Refusal.the-variants.{EndOfInput, UnsupportedOpcode, IntegerTooLarge, Invalid, OutsideProfile}

@@ -9,10 +9,10 @@ use native.Mathlib.Omega.{arith}
 use Rattle.op.specs.declared.Edition.{Edition}
 use Rattle.value.specs.Value.{NoneL}
 use Rattle.steps.specs.State.{Node, State, ok, kidless, withInput, nodeAt, find, insert}
-use Rattle.steps.specs.Run.{Next, step, start}
+use Rattle.steps.specs.Run.{Next, step, start, run}
 use Rattle.steps.specs.Out.{Out, Every, every-append, every-take, every-at, every-more}
 use Rattle.steps.specs.Effect.{Known, stacked, kept, inside, Part, object-inside, Effect, same, marked, cut, again, new, grown, built, noted}
-use Rattle.steps.specs.Keeps.{after, step-keeps}
+use Rattle.steps.specs.Keeps.{after, step-keeps, run-keeps}
 
 -- numbers below n: in a list, in the memo's entries, in the nodes' contents
 abbrev pub Below : ℕ → List ℕ → Type 0
@@ -125,3 +125,6 @@ start-range p = record { on-stack = tt; in-memo = tt; in-nodes = tt }
 
 pub step-range : (ed : Edition) (s : State) → InRange s → Out (λ (n : Next). InRange (after n)) (step ed s)
 step-range = step-keeps InRange range-reads range-effect
+
+pub run-range : (ed : Edition) (p : List ℕ) → Out InRange (run ed p)
+run-range ed p = run-keeps InRange range-reads range-effect ed p (start-range p)

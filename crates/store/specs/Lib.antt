@@ -1,4 +1,5 @@
 -- What the machine's rooms say of its state, and what an effect does to them.
+pub mod NodeFits
 pub mod Rooms
 pub mod RoomExamples
 pub mod RoomLists

@@ -53,14 +53,17 @@ pub const KIND_UNICODE: u64 = 14;
 pub const NODE_KINDS: u64 = 15;
 
 // How a node's two words are packed (steps/specs/NodeWords.antt). The first: its kind is below KIND_RADIX; above it stand a Global's module,
-// place below MODULE_LEN and then length, or an Object's flags, STATE where it has a state, and from CLASS on the node of its class.
+// place below MODULE_LEN_AT and then length, or an Object's flags, NEW and STATE, and from CLASS on the node of its class. Kind and flags lie
+// as in a record's word 0, so that `value::head_of` reads them too.
 pub const KIND_RADIX: u64 = 16;
+
+pub const NEW: u64 = 16;
 
 pub const STATE: u64 = 32;
 
 pub const CLASS: u64 = 64;
 
-pub const MODULE_LEN: u64 = 0x100_0000;
+pub const MODULE_LEN_AT: u64 = 0x100_0000;
 
 // The second, where it has two parts, is two halves: place and length of a text, an Object's arguments and state, how many items a
 // container has and where its links begin.
@@ -84,7 +87,8 @@ pub const AHEAD: u64 = 0x200_0000_0000;
 // What the walk packs is below this, with AHEAD too.
 pub const MEASURED: u64 = 0x400_0000_0000;
 
-// A measure from here on is of a Set or Dict in order: where its list begins, below SHORTS, and how many it has, below SHORTS again.
+// A measure from here on, and below that of a decoded text (texts) or of what is written (emit), is of a Set or Dict in order: where its list
+// begins, below SHORTS, and how many it has, below SHORTS again.
 pub const IN_ORDER: u64 = 0x2000_0000_0000_0000;
 
 pub const SHORTS: u64 = 0x1_0000;

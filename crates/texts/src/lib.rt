@@ -61,8 +61,8 @@ fn module_place(first: u64) -> Place
     let word = first / store::KIND_RADIX;
     Place {
         decoded: false,
-        at: word % store::MODULE_LEN,
-        len: word / store::MODULE_LEN,
+        at: word % store::MODULE_LEN_AT,
+        len: word / store::MODULE_LEN_AT,
     }
 }
 
@@ -180,7 +180,11 @@ fn module_text(pickle: &[u8], first: u64) -> &[u8]
     ensures { λ r. ⌜ now r ≡ within 24 (first / 16) (now (pickle .entry)) ⌝ }
 {
     let word = first / store::KIND_RADIX;
-    value::cut(pickle, word % store::MODULE_LEN, word / store::MODULE_LEN)
+    value::cut(
+        pickle,
+        word % store::MODULE_LEN_AT,
+        word / store::MODULE_LEN_AT,
+    )
 }
 
 // The text of a node with this second word, as it stands in the pickle.

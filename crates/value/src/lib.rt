@@ -213,7 +213,7 @@ pub fn part(text: &[u8], at: usize, len: usize) -> &[u8]
     &text[at..end]
 }
 
-// The same, as far as there is any.
+// `len` bytes from `at` on, as far as there are any.
 pub fn cut(text: &[u8], at: u64, len: u64) -> &[u8]
     ensures { λ r. ⌜ now r ≡ take len (drop at (now (text .entry))) ⌝ }
 {

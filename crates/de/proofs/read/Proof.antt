@@ -7,7 +7,7 @@ use lib.Seq.{length-front}
 use Rattle.rooms.specs.Stated.{Slices, roomLengths, AllZero, filled, same, rooms-zero}
 use Rattle.store.specs.declared.Counts.{Counts}
 use Rattle.machine.specs.Ran.{countsOf}
-use Rattle.de.specs.Inner.{Runs, reads-long, back-fits, back-again, part-fits, part-cleared, machine-zero, working}
+use Rattle.de.specs.Inner.{reads-long, back-fits, back-again, part-fits, part-cleared, machine-zero, working}
 use Rattle.de.proofs.read.Statement.{statement}
 use Rattle.de.proofs.read.Tie as tie
 
@@ -26,9 +26,6 @@ fits c = c .before .before .before .before .before .before .before .before .befo
 -- the run's end
 abbrev start : tie.After-run-in → tie.Start
 start c = fits (c .before .before .before .before .before .before .before .before)
-
-abbrev left : (c : tie.After-run-in) → Runs (start c .args .edition) (c .run-in .result) (start c .args .pickle .now) (start c .args .nodes .now) (start c .args .owners .now) (start c .args .children .now) (start c .args .stack .now) (start c .args .marks .now) (c .run-in .last .1 .1 .0) (c .run-in .last .1 .1 .1 .0) (c .run-in .last .1 .1 .1 .1 .0) (c .run-in .last .1 .1 .1 .1 .1 .0) (c .run-in .last .1 .1 .1 .1 .1 .1 .0)
-left c = c .run-in .ensures .0
 
 -- the answer's
 abbrev run : tie.After-answer → tie.After-run-in
@@ -131,11 +128,11 @@ unfolding filled
 returns-2 c =
     record {
       answer = told c .answer .ensures .0 .answer;
-      slices = same (back-again (left (ran c) .nodes-back) _ (ap (λ (x : Counts). 2 * x .nodes) (counted (ended c))) _ (c .before .before .before .before .before .before .before .before .before .before .clear-words .ensures))
-          (same (part-cleared 8192 (start (ran c) .args .owners .now) (zero (start (ran c)) .1 .0) (ran c .run-in .last .1 .1 .1 .0) (told c .answer .last .1 .1 .1 .1 .1 .1 .0) (ran c .run-in .kept .1 .1 .1 .0) (left (ran c) .owners-behind) (told c .answer .ensures .1 .0 .0))
-          (same (part-cleared 8192 (start (ran c) .args .children .now) (zero (start (ran c)) .1 .1 .0) (ran c .run-in .last .1 .1 .1 .1 .0) (told c .answer .last .1 .1 .1 .1 .1 .1 .1 .0) (ran c .run-in .kept .1 .1 .1 .1 .0) (left (ran c) .children-behind) (told c .answer .ensures .1 .0 .1))
-          (same (back-again (left (ran c) .stack-back) _ (ap (λ (x : Counts). x .deepest) (counted (ended c))) _ (c .before .before .before .before .before .before .clear-shorts .ensures))
-          (same (back-again (left (ran c) .marks-back) _ (ap (λ (x : Counts). x .most) (counted (ended c))) _ (c .before .before .clear-shorts2 .ensures))
+      slices = same (back-again (ran c .run-in .ensures .0 .nodes-back) _ (ap (λ (x : Counts). 2 * x .nodes) (counted (ended c))) _ (c .before .before .before .before .before .before .before .before .before .before .clear-words .ensures))
+          (same (part-cleared 8192 (start (ran c) .args .owners .now) (zero (start (ran c)) .1 .0) (ran c .run-in .last .1 .1 .1 .0) (told c .answer .last .1 .1 .1 .1 .1 .1 .0) (ran c .run-in .kept .1 .1 .1 .0) (ran c .run-in .ensures .0 .owners-behind) (told c .answer .ensures .1 .0 .0))
+          (same (part-cleared 8192 (start (ran c) .args .children .now) (zero (start (ran c)) .1 .1 .0) (ran c .run-in .last .1 .1 .1 .1 .0) (told c .answer .last .1 .1 .1 .1 .1 .1 .1 .0) (ran c .run-in .kept .1 .1 .1 .1 .0) (ran c .run-in .ensures .0 .children-behind) (told c .answer .ensures .1 .0 .1))
+          (same (back-again (ran c .run-in .ensures .0 .stack-back) _ (ap (λ (x : Counts). x .deepest) (counted (ended c))) _ (c .before .before .before .before .before .before .clear-shorts .ensures))
+          (same (back-again (ran c .run-in .ensures .0 .marks-back) _ (ap (λ (x : Counts). x .most) (counted (ended c))) _ (c .before .before .clear-shorts2 .ensures))
           (same (told c .answer .ensures .1 .1 .0 ∙ ran c .run-in .ensures .1 .0)
           (same (ran c .run-in .ensures .1 .1)
           (same (told c .answer .ensures .1 .1 .1)

@@ -1,14 +1,11 @@
 -- `resolve::node_text_len` meets its contract: one law for each kind.
-use mir.Val.{Fits}
-use mir.Syntax.{w64}
-use mathlib.Core.List.{List}
 use Rattle.resolve.proofs.node_text_len.Statement.{statement}
 use Rattle.resolve.proofs.node_text_len.Tie as tie
-use Prim.Native.Nat.{ℕ, _+_, _*_, _^_, _/_, _%_, _<_}
+use Prim.Native.Nat.{_+_, _*_, _^_, _/_, _%_, _<_}
 use lib.ListN.{length, getD}
 use mathlib.Core.Path.{refl}
-use native.Mathlib.Omega.{arith}
 use Rattle.resolve.specs.Length.{cut-short, len-bytes, len-string, len-global, len-object, len-escaped, len-unicode, len-nothing, class-words}
+use Rattle.store.specs.NodeFits.{fits-first, fits-first-at, first-in, fits-second, fits-second-at}
 
 -- ---- the places: the node's words are read, and the tests behind that
 
@@ -21,24 +18,6 @@ second c = start (c .before .before)
 -- an Object's class is one of the nodes
 class : (c : tie.Then4) → let s = second (c .before .before) in 2 * (getD (s .args .nodes .now) (2 * s .args .node .0) 0 / 64) + 1 < length (s .args .nodes .now)
 class c = class-words _ _ _ _ _ refl refl (second (c .before .before) .pre) (c .if4 .taken)
-
--- ---- the numbers of a node whose words are in the room
-
-module _ (i : ℕ) (ws : List ℕ) (words : 2 * i + 1 < length ws) (room : length ws * 8 < 2 ^ 63) where
-  fits-first : Fits w64 (2 * i)
-  fits-first = omega arith
-
-  fits-first-at : Fits w64 (2 * i * 8)
-  fits-first-at = omega arith
-
-  first-in : 2 * i < length ws
-  first-in = omega arith
-
-  fits-second : Fits w64 (2 * i + 1)
-  fits-second = omega arith
-
-  fits-second-at : Fits w64 ((2 * i + 1) * 8)
-  fits-second-at = omega arith
 
 abbrev room : (s : tie.Start) → length (s .args .nodes .now) * 8 < 2 ^ 63
 room s = s .good .1 .0 .1

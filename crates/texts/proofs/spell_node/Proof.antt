@@ -1,8 +1,5 @@
 -- `texts::spell_node` meets its contract: each return by the law of its kind. Assumes nothing.
-use Prim.Native.Nat.{ℕ, _+_, _*_, _^_, _<_}
-use mir.Val.{Fits}
-use mir.Syntax.{w64}
-use mathlib.Core.List.{List}
+use Prim.Native.Nat.{ℕ, _*_, _^_, _<_}
 use lib.ListN.{length}
 use Rattle.texts.proofs.spell_node.Statement.{statement}
 use Rattle.texts.proofs.spell_node.Tie as tie
@@ -10,6 +7,7 @@ use native.Mathlib.Omega.{arith}
 use Rattle.value.specs.Shape.{kindIn}
 use Rattle.steps.specs.NodeWords.{first, classIn}
 use Rattle.texts.specs.Spell.{stands, fits-as, spells-as, word-at, texts-string, texts-global, texts-object, texts-line, texts-unicode, bytes-stay}
+use Rattle.store.specs.NodeFits.{fits-first, fits-first-at, first-in, fits-second, fits-second-at}
 
 -- ---- the places: the node's words are read, and the tests behind that
 
@@ -21,24 +19,6 @@ second c = c .before .before
 
 abbrev third : tie.Else3 → tie.After-shared-slice-known4
 third c = second (c .before)
-
--- ---- the numbers of a node whose words are in the room
-
-module _ (i : ℕ) (ws : List ℕ) (words : 2 * i + 1 < length ws) (room : length ws * 8 < 2 ^ 63) where
-  fits-first : Fits w64 (2 * i)
-  fits-first = omega arith
-
-  fits-first-at : Fits w64 (2 * i * 8)
-  fits-first-at = omega arith
-
-  first-in : 2 * i < length ws
-  first-in = omega arith
-
-  fits-second : Fits w64 (2 * i + 1)
-  fits-second = omega arith
-
-  fits-second-at : Fits w64 ((2 * i + 1) * 8)
-  fits-second-at = omega arith
 
 module _ (s : tie.Start) where
   abbrev room : length (s .args .nodes .now) * 8 < 2 ^ 63
