@@ -84,45 +84,6 @@ clear-shorts-requires c κs = let k = c .before .before .before .before .before 
 clear-shorts-requires-2 : tie.Need-clear-shorts-requires-2
 clear-shorts-requires-2 c κs = let k = c .before .before .before .before .before .before .before .before .before .before in back-fits (run (answer k) .run-in .ensures .0 .marks-back) _ (ap (λ (x : Counts). x .most) (counted k))
 
-same-length : tie.Need-same-length
-same-length c = c .before .before .before .before .before .before .before .before .before .before .clear-words .kept .0 ∙ ran c .run-in .kept .1 .1 .0
-
-same-length-2 : tie.Need-same-length-2
-same-length-2 c = length-front (ran c .run-in .last .1 .1 .1 .0) (told c .answer .last .1 .1 .1 .1 .1 .1 .0) 8192 (told c .answer .kept .1 .1 .1 .1 .1 .1 .0) ∙ ran c .run-in .kept .1 .1 .1 .0
-
-same-length-3 : tie.Need-same-length-3
-same-length-3 c = length-front (ran c .run-in .last .1 .1 .1 .1 .0) (told c .answer .last .1 .1 .1 .1 .1 .1 .1 .0) 8192 (told c .answer .kept .1 .1 .1 .1 .1 .1 .1 .0) ∙ ran c .run-in .kept .1 .1 .1 .1 .0
-
-same-length-4 : tie.Need-same-length-4
-same-length-4 c = c .before .before .before .before .before .before .clear-shorts .kept .0 ∙ ran c .run-in .kept .1 .1 .1 .1 .1 .0
-
-same-length-5 : tie.Need-same-length-5
-same-length-5 c = c .before .before .clear-shorts2 .kept .0 ∙ ran c .run-in .kept .1 .1 .1 .1 .1 .1 .0
-
-same-length-6 : tie.Need-same-length-6
-same-length-6 c = told c .answer .kept .1 .1 .1 .1 .1 .1 .1 .1 .0 ∙ ran c .run-in .kept .1 .1 .1 .1 .1 .1 .1 .0
-
-same-length-7 : tie.Need-same-length-7
-same-length-7 c = ran c .run-in .kept .1 .1 .1 .1 .1 .1 .1 .1 .0
-
-same-length-8 : tie.Need-same-length-8
-same-length-8 c = told c .answer .kept .1 .1 .1 .1 .1 .1 .1 .1 .1 .0
-
-same-length-9 : tie.Need-same-length-9
-same-length-9 c = told c .answer .kept .1 .1 .1 .1 .1 .1 .1 .1 .1 .1 .0
-
-same-length-10 : tie.Need-same-length-10
-same-length-10 c = told c .answer .kept .1 .1 .1 .1 .1 .1 .1 .1 .1 .1 .1 .0
-
-same-length-11 : tie.Need-same-length-11
-same-length-11 c = told c .answer .kept .1 .1 .1 .1 .1 .1 .1 .1 .1 .1 .1 .1 .0
-
-same-length-12 : tie.Need-same-length-12
-same-length-12 c = told c .answer .kept .1 .1 .1 .1 .1 .1 .1 .1 .1 .1 .1 .1 .1 .0
-
-same-length-13 : tie.Need-same-length-13
-same-length-13 c = told c .answer .kept .1 .1 .1 .1 .1 .1 .1 .1 .1 .1 .1 .1 .1 .1 .0
-
 returns-2 : tie.Need-returns-2
 unfolding filled
 returns-2 c =
@@ -147,7 +108,20 @@ pub read-spec : {M : Type 1} → statement M
 read-spec =
     tie.close
     (tie.spec
-    (λ c κs. tt) returns run-in-requires (λ c. zero-le) (λ c. zero-le) part-answer-end (λ c. zero-le) (λ c. zero-le) part-answer-end-2 (λ c. zero-le)
-    (λ c. zero-le) part-answer-end-3 (λ c. zero-le) (λ c. zero-le) part-answer-end-4 answer-requires (λ c κs. tt) mul-clear-words
-    clear-words-requires clear-shorts-requires clear-shorts-requires-2 same-length same-length-2 same-length-3 same-length-4 same-length-5 same-length-6
-    same-length-7 same-length-8 same-length-9 same-length-10 same-length-11 same-length-12 same-length-13 returns-2)
+    (λ c κs. tt) returns run-in-requires (λ c. zero-le) (λ c. zero-le) part-answer-end (λ c. zero-le) (λ c. zero-le) part-answer-end-2
+    (λ c. zero-le) (λ c. zero-le) part-answer-end-3 (λ c. zero-le) (λ c. zero-le) part-answer-end-4 answer-requires (λ c κs. tt) mul-clear-words
+    clear-words-requires clear-shorts-requires clear-shorts-requires-2
+    (λ c. c .before .before .before .before .before .before .before .before .before .before .clear-words .kept .0 ∙ ran c .run-in .kept .1 .1 .0)
+    (λ c. length-front (ran c .run-in .last .1 .1 .1 .0) (told c .answer .last .1 .1 .1 .1 .1 .1 .0) 8192 (told c .answer .kept .1 .1 .1 .1 .1 .1 .0) ∙ ran c .run-in .kept .1 .1 .1 .0)
+    (λ c. length-front (ran c .run-in .last .1 .1 .1 .1 .0) (told c .answer .last .1 .1 .1 .1 .1 .1 .1 .0) 8192 (told c .answer .kept .1 .1 .1 .1 .1 .1 .1 .0) ∙ ran c .run-in .kept .1 .1 .1 .1 .0)
+    (λ c. c .before .before .before .before .before .before .clear-shorts .kept .0 ∙ ran c .run-in .kept .1 .1 .1 .1 .1 .0)
+    (λ c. c .before .before .clear-shorts2 .kept .0 ∙ ran c .run-in .kept .1 .1 .1 .1 .1 .1 .0)
+    (λ c. told c .answer .kept .1 .1 .1 .1 .1 .1 .1 .1 .0 ∙ ran c .run-in .kept .1 .1 .1 .1 .1 .1 .1 .0)
+    (λ c. ran c .run-in .kept .1 .1 .1 .1 .1 .1 .1 .1 .0)
+    (λ c. told c .answer .kept .1 .1 .1 .1 .1 .1 .1 .1 .1 .0)
+    (λ c. told c .answer .kept .1 .1 .1 .1 .1 .1 .1 .1 .1 .1 .0)
+    (λ c. told c .answer .kept .1 .1 .1 .1 .1 .1 .1 .1 .1 .1 .1 .0)
+    (λ c. told c .answer .kept .1 .1 .1 .1 .1 .1 .1 .1 .1 .1 .1 .1 .0)
+    (λ c. told c .answer .kept .1 .1 .1 .1 .1 .1 .1 .1 .1 .1 .1 .1 .1 .0)
+    (λ c. told c .answer .kept .1 .1 .1 .1 .1 .1 .1 .1 .1 .1 .1 .1 .1 .1 .0)
+    returns-2)

@@ -59,27 +59,6 @@ clear-ints-requires c κs = back-fits (keys (c .before .before .before .before .
 clear-shorts-requires : tie.Need-clear-shorts-requires
 clear-shorts-requires c κs = back-fits (held (c .before .before .before .before .before .before .before .before .before .before .before .before .before .before .before .before .before .before .before .before)) _ (ap (λ (x : Counts). x .memo) (c .before .before .before .before .before .counts .ensures))
 
-same-length : tie.Need-same-length
-same-length c = length-front (start (called c) .args .nodes .now) (called c .run .last .1 .1 .0) 8192 (called c .run .kept .1 .1 .0)
-
-same-length-2 : tie.Need-same-length-2
-same-length-2 c = length-front (start (called c) .args .owners .now) (called c .run .last .1 .1 .1 .0) 8192 (called c .run .kept .1 .1 .1 .0)
-
-same-length-3 : tie.Need-same-length-3
-same-length-3 c = length-front (start (called c) .args .children .now) (called c .run .last .1 .1 .1 .1 .0) 8192 (called c .run .kept .1 .1 .1 .1 .0)
-
-same-length-4 : tie.Need-same-length-4
-same-length-4 c = length-front (start (called c) .args .stack .now) (called c .run .last .1 .1 .1 .1 .1 .0) 2048 (called c .run .kept .1 .1 .1 .1 .1 .0)
-
-same-length-5 : tie.Need-same-length-5
-same-length-5 c = length-front (start (called c) .args .marks .now) (called c .run .last .1 .1 .1 .1 .1 .1 .0) 256 (called c .run .kept .1 .1 .1 .1 .1 .1 .0)
-
-same-length-6 : tie.Need-same-length-6
-same-length-6 c = c .before .before .before .before .before .before .clear-ints .kept .0 ∙ length-front (start (called c) .args .keys .now) (called c .run .last .1 .1 .1 .1 .1 .1 .1 .0) 2048 (called c .run .kept .1 .1 .1 .1 .1 .1 .1 .0)
-
-same-length-7 : tie.Need-same-length-7
-same-length-7 c = c .before .before .clear-shorts .kept .0 ∙ length-front (start (called c) .args .held .now) (called c .run .last .1 .1 .1 .1 .1 .1 .1 .1 .0) 1024 (called c .run .kept .1 .1 .1 .1 .1 .1 .1 .1 .0)
-
 returns : tie.Need-returns
 returns c =
     let e = ap (λ (x : Counts). x .memo) (c .before .before .before .before .before .before .before .before .counts .ensures) in
@@ -89,7 +68,14 @@ pub run-in-spec : {M : Type 1} → statement M
 run-in-spec =
     tie.close
     (tie.spec
-    (λ c. zero-le) (λ c. zero-le) part-run-end (λ c. zero-le) (λ c. zero-le) part-run-end-2 (λ c. zero-le) (λ c. zero-le)
-    part-run-end-3 (λ c. zero-le) (λ c. zero-le) part-run-end-4 (λ c. zero-le) (λ c. zero-le) part-run-end-5 (λ c. zero-le)
-    (λ c. zero-le) part-run-end-6 (λ c. zero-le) (λ c. zero-le) part-run-end-7 run-requires (λ c κs. tt) clear-ints-requires
-    clear-shorts-requires same-length same-length-2 same-length-3 same-length-4 same-length-5 same-length-6 same-length-7 returns)
+    (λ c. zero-le) (λ c. zero-le) part-run-end (λ c. zero-le) (λ c. zero-le) part-run-end-2 (λ c. zero-le) (λ c. zero-le) part-run-end-3
+    (λ c. zero-le) (λ c. zero-le) part-run-end-4 (λ c. zero-le) (λ c. zero-le) part-run-end-5 (λ c. zero-le) (λ c. zero-le) part-run-end-6
+    (λ c. zero-le) (λ c. zero-le) part-run-end-7 run-requires (λ c κs. tt) clear-ints-requires clear-shorts-requires
+    (λ c. length-front (start (called c) .args .nodes .now) (called c .run .last .1 .1 .0) 8192 (called c .run .kept .1 .1 .0))
+    (λ c. length-front (start (called c) .args .owners .now) (called c .run .last .1 .1 .1 .0) 8192 (called c .run .kept .1 .1 .1 .0))
+    (λ c. length-front (start (called c) .args .children .now) (called c .run .last .1 .1 .1 .1 .0) 8192 (called c .run .kept .1 .1 .1 .1 .0))
+    (λ c. length-front (start (called c) .args .stack .now) (called c .run .last .1 .1 .1 .1 .1 .0) 2048 (called c .run .kept .1 .1 .1 .1 .1 .0))
+    (λ c. length-front (start (called c) .args .marks .now) (called c .run .last .1 .1 .1 .1 .1 .1 .0) 256 (called c .run .kept .1 .1 .1 .1 .1 .1 .0))
+    (λ c. c .before .before .before .before .before .before .clear-ints .kept .0 ∙ length-front (start (called c) .args .keys .now) (called c .run .last .1 .1 .1 .1 .1 .1 .1 .0) 2048 (called c .run .kept .1 .1 .1 .1 .1 .1 .1 .0))
+    (λ c. c .before .before .clear-shorts .kept .0 ∙ length-front (start (called c) .args .held .now) (called c .run .last .1 .1 .1 .1 .1 .1 .1 .1 .0) 1024 (called c .run .kept .1 .1 .1 .1 .1 .1 .1 .1 .0))
+    returns)

@@ -1,0 +1,18 @@
+-- `emit::write_again` meets its contract: the records copied, and their text behind what is written. The prover would find all of it by
+-- itself; the file names the needs, so that an edit is refused at the one that fails.
+use borrow.Author.Needs.{needs}
+use Rattle.emit.proofs.write_again.Statement.{statement}
+use Rattle.emit.proofs.write_again.Tie as tie
+
+copy-records-requires : tie.Need-copy-records-requires
+copy-records-requires c κs = search needs
+
+returns : tie.Need-returns
+returns c = search needs
+
+pub write-again-spec : {M : Type 1} → statement M
+write-again-spec =
+    tie.close
+    (tie.spec
+    copy-records-requires (λ c κs. search needs) (λ c. search needs) (λ c. search needs) (λ c. search needs) (λ c. search needs) (λ c. search needs)
+    returns)
