@@ -4,13 +4,14 @@ use mathlib.Core.Bool.{Bool, true, false, _&&_, _||_, Bool·beq, and-false, and-
 use mathlib.Core.List.{List, [], _∷_, _++_, reverse, reverse-append, reverse-reverse}
 use mathlib.Core.Logic.{⊎-elim}
 use mathlib.Core.Path.{_≡_, refl, sym, ap, _∙_}
-use native.Mathlib.Nat.{not-suc-le-zero, eq-or-lt-of-le}
+use native.Mathlib.Nat.{not-suc-le-zero, eq-or-lt-of-le, add-zero}
 use native.Mathlib.Omega.{arith}
 use borrow.Author.Tests.{ne-eqb}
 use lib.Dec.{T, eqb, leb}
 use lib.ListN.{length, getD, take, drop, length-drop, length-reverse, take-append-drop}
-use lib.Seq.{take-suc, take-all, drop-drop, drop-cons, take-take, drop-at, length-take-le}
+use lib.Seq.{take-suc, take-all, drop-drop, getD-drop, take-take, drop-at, length-take-le}
 use Rattle.utf8.specs.Utf8.{encode, trail}
+use Rattle.input.specs.Bytes.{lt-or-le}
 use Rattle.number.specs.Space.{whiteSpace, spaces, same, oneOf, space, width, strip}
 use Rattle.number.specs.Trims.{both, no-space, width-le, strip-more, strip-stop}
 
@@ -64,52 +65,89 @@ module _ (a b c : ℕ) where
   unfolding spelt
   three-rest h = simp (ne-eqb a 0xE2 h, and-false, and-true, or-false)
 
--- the width at a list of which so much is known
-module _ (read : List ℕ → List ℕ) where
-  pub width-none : space (read []) ≡ false → 0 ≡ width read []
-  unfolding width
-  width-none h = simp h
+-- the first k of the bytes that `byte` numbers
+abbrev pub firsts : (ℕ → ℕ) → ℕ → List ℕ
+firsts byte zero = []
+firsts byte (suc k) = byte 0 ∷ firsts (λ j. byte (suc j)) k
 
-  module _ (a : ℕ) where
-    pub width-1 : (s : List ℕ) → space (read (a ∷ [])) ≡ true → 1 ≡ width read (a ∷ s)
+firsts-is : (s : List ℕ) (byte : ℕ → ℕ) (k : ℕ) → k ≤ length s → ((j : ℕ) → j < k → getD s j 0 ≡ byte j) → take k s ≡ firsts byte k
+firsts-is s byte zero h e = refl
+firsts-is [] byte (suc k) h e = absurd (not-suc-le-zero h)
+firsts-is (a ∷ s) byte (suc k) h e =
+    let p : a ≡ byte 0 = e 0 (omega arith) in
+    let q : take k s ≡ firsts (λ j. byte (suc j)) k = firsts-is s (λ j. byte (suc j)) k (omega arith) (λ j l. e (suc j) (omega arith)) in
+    cc
+
+-- The n bytes of s, which `byte` numbers, are looked at one after the other: so far k, and none of these beginnings is a form.
+pub record Looked (read : List ℕ → List ℕ) (s : List ℕ) (n : ℕ) (byte : ℕ → ℕ) (k : ℕ) : Type 0 where
+  pub long : length s ≡ n
+  pub is : (j : ℕ) → j < n → getD s j 0 ≡ byte j
+  pub none : (j : ℕ) → j < suc k → space (read (take j s)) ≡ false
+
+-- the next was read, and r says whether they are a form with it
+pub record Asked (read : List ℕ → List ℕ) (s : List ℕ) (n : ℕ) (byte : ℕ → ℕ) (k : ℕ) (r : Bool) : Type 0 where
+  pub looked : Looked read s n byte k
+  pub is : r ≡ space (read (take (suc k) s))
+
+module _ {read : List ℕ → List ℕ} {s : List ℕ} {n : ℕ} {byte : ℕ → ℕ} where
+  module _ {k : ℕ} (l : Looked read s n byte k) where
+    pub asked : {r : Bool} → suc k ≤ n → r ≡ space (read (firsts byte (suc k))) → Asked read s n byte k r
+    asked h e = record { looked = l; is = rw (firsts-is s byte (suc k) (omega (arith, l .long)) (λ j g. l .is j (omega arith))) e }
+
+    -- no byte is left
+    pub looked-out : n < suc k → 0 ≡ width read s
     unfolding width
-    width-1 s h = simp h
+    looked-out h = simp (no 1, no 2, no 3)
+      where
+        no : (j : ℕ) → space (read (take j s)) ≡ false
+        no j = ⊎-elim (l .none j) (λ g. rw (take-all j s (omega (arith, l .long)), ← take-all k s (omega (arith, l .long))) (l .none k (omega arith))) (lt-or-le j (suc k))
 
-    module _ (h₁ : space (read (a ∷ [])) ≡ false) where
-      pub width-a : 0 ≡ width read (a ∷ [])
-      unfolding width
-      width-a = simp h₁
+  -- three bytes were looked at, and no form has more
+  pub looked-all : Looked read s n byte 3 → 0 ≡ width read s
+  unfolding width
+  looked-all l = simp (l .none 1 (omega arith), l .none 2 (omega arith), l .none 3 (omega arith))
 
-      module _ (b : ℕ) where
-        pub width-2 : (s : List ℕ) → space (read (a ∷ b ∷ [])) ≡ true → 2 ≡ width read (a ∷ b ∷ s)
-        unfolding width
-        width-2 s h = simp (h₁, h)
+  module _ {k : ℕ} {r : Bool} (a : Asked read s n byte k r) where
+    pub asked-no : r ≡ false → Looked read s n byte (suc k)
+    asked-no f = record {
+      long = a .looked .long;
+      is = a .looked .is;
+      none = λ j g. ⊎-elim (a .looked .none j) (λ m. let q : j ≡ suc k = omega arith in rw q (sym (a .is) ∙ f)) (lt-or-le j (suc k));
+    }
 
-        module _ (h₂ : space (read (a ∷ b ∷ [])) ≡ false) where
-          pub width-ab : 0 ≡ width read (a ∷ b ∷ [])
-          unfolding width
-          width-ab = simp (h₁, h₂)
+    pub asked-yes : k < 3 → r ≡ true → suc k ≡ width read s
+    unfolding width
+    asked-yes h t = go k h (a .looked .none) (sym (a .is) ∙ t)
+      where
+        go : (k : ℕ) → k < 3 → ((j : ℕ) → j < suc k → space (read (take j s)) ≡ false) → space (read (take (suc k) s)) ≡ true → suc k ≡ width read s
+        go zero h f t = simp t
+        go (suc zero) h f t = simp (f 1 (omega arith), t)
+        go (suc (suc zero)) h f t = simp (f 1 (omega arith), f 2 (omega arith), t)
+        go (suc (suc (suc k))) h f t = absurd (omega arith)
 
-          pub width-3 : (c : ℕ) (s : List ℕ) → space (read (a ∷ b ∷ c ∷ [])) ≡ true → 3 ≡ width read (a ∷ b ∷ c ∷ s)
-          unfolding width
-          width-3 c s h = simp (h₁, h₂, h)
+-- before the first byte: what is left of s from a place on, and a beginning of s from its end on
+no-byte : (read : List ℕ → List ℕ) (s : List ℕ) → read [] ≡ [] → (j : ℕ) → j < 1 → space (read (take j s)) ≡ false
+no-byte read s e j h = let z : j ≡ 0 = omega arith in rw (z, e) no-space
 
-          pub width-abc : (c : ℕ) (s : List ℕ) → space (read (a ∷ b ∷ c ∷ [])) ≡ false → 0 ≡ width read (a ∷ b ∷ c ∷ s)
-          unfolding width
-          width-abc c s h = simp (h₁, h₂, h)
+-- the place i + j as the code has it
+abbrev further : ℕ → ℕ → ℕ
+further i zero = i
+further i (suc j) = i + suc j
 
--- the byte at a place stands first in what is left from there
-pub ahead : (s : List ℕ) (i j : ℕ) → j ≡ suc i → i < length s → drop i s ≡ getD s i 0 ∷ drop j s
-ahead s i j e h = rw (e, drop-cons s i 0 h) refl
+further-is : (i j : ℕ) → i + j ≡ further i j
+further-is i zero = omega arith
+further-is i (suc j) = refl
 
-pub behind-none : (s : List ℕ) (e : ℕ) → e ≡ 0 → reverse (take e s) ≡ []
-behind-none s e h = rw h refl
+module _ (s : List ℕ) (i : ℕ) where
+  abbrev pub Ahead : ℕ → Bool → Type 0
+  Ahead = Asked (λ p. p) (drop i s) (length s - i) (λ j. getD s (further i j) 0)
 
--- the last byte of a beginning comes first when it is reversed
-pub behind : (s : List ℕ) (e f : ℕ) → e ≡ suc f → e ≤ length s → reverse (take e s) ≡ getD s f 0 ∷ reverse (take f s)
-behind s e f q h =
-    let l : f < length s = omega arith in
-    rw (q, take-suc s f 0 l, reverse-append (take f s) (getD s f 0 ∷ [])) refl
+  pub ahead : Looked (λ p. p) (drop i s) (length s - i) (λ j. getD s (further i j) 0) 0
+  ahead = record {
+    long = length-drop i s;
+    is = λ j h. getD-drop i s j 0 ∙ rw (further-is i j);
+    none = no-byte (λ p. p) (drop i s) refl;
+  }
 
 -- a beginning shorter by k, reversed, is the same less its first k
 pub drop-reverse : (s : List ℕ) (e k : ℕ) → e ≤ length s → k ≤ e → reverse (take (e - k) s) ≡ drop k (reverse (take e s))
@@ -118,6 +156,21 @@ drop-reverse s e k h l =
     let d : length (reverse (drop (e - k) (take e s))) ≡ k = simp (length-reverse, length-drop, length-take-le e s h) (omega arith) in
     let w : take (e - k) s ++ drop (e - k) (take e s) ≡ take e s = rw (← take-take (e - k) e s m) (take-append-drop (e - k) (take e s)) in
     sym (ap (drop k) (ap reverse (sym w) ∙ reverse-append (take (e - k) s) (drop (e - k) (take e s))) ∙ drop-at (reverse (drop (e - k) (take e s))) (reverse (take (e - k) s)) k d)
+
+module _ (s : List ℕ) (e : ℕ) where
+  abbrev pub Behind : ℕ → Bool → Type 0
+  Behind = Asked reverse (reverse (take e s)) e (λ j. getD s (e - suc j) 0)
+
+  pub behind : e ≤ length s → Looked reverse (reverse (take e s)) e (λ j. getD s (e - suc j) 0) 0
+  behind h = record { long = length-reverse (take e s) ∙ length-take-le e s h; is = at; none = no-byte reverse (reverse (take e s)) refl }
+    where
+      at : (j : ℕ) → j < e → getD (reverse (take e s)) j 0 ≡ getD s (e - suc j) 0
+      at j l =
+          let f : ℕ = e - suc j in
+          let q : e - j ≡ suc f = omega arith in
+          let g : f < length s = omega arith in
+          let first : getD (drop j (reverse (take e s))) 0 0 ≡ getD (reverse (take e s)) j 0 = simp (getD-drop, add-zero) in
+          sym first ∙ rw (← drop-reverse s e j h (omega arith), q, take-suc s f 0 g, reverse-append (take f s) (getD s f 0 ∷ [])) refl
 
 -- a turn of `trim_start`'s loop
 module _ (s : List ℕ) (i k : ℕ) (w : k ≡ width (λ p. p) (drop i s)) where

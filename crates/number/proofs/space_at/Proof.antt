@@ -1,99 +1,44 @@
--- `number::space_at` meets its contract: each answer knows as many bytes as it has read. Assumes nothing.
+-- `number::space_at` meets its contract: the bytes are looked at one after the other, from the place on. Assumes nothing.
 use borrow.Author.Needs.{needs}
-use Prim.Native.Nat.{_+_}
-use mathlib.Core.Path.{sym, _∙_}
+use Prim.Native.Nat.{ℕ}
+use mathlib.Core.Bool.{Bool}
 use native.Mathlib.Omega.{arith}
-use lib.ListN.{drop-of-length-le}
-use Rattle.number.specs.Trims.{no-space}
-use Rattle.number.proofs.Space.{width-none, width-1, width-a, width-2, width-ab, width-3, width-abc, ahead}
+use Rattle.number.proofs.Space.{Ahead, ahead, asked, asked-yes, asked-no, looked-out, looked-all}
 use Rattle.number.proofs.space_at.Statement.{statement}
 use Rattle.number.proofs.space_at.Tie as tie
 
-returns : tie.Need-returns
-returns c =
-    let start = c .before .before in
-    let s = start .args .line .now in
-    let at = start .args .at in
-    rw (drop-of-length-le s {i = at} (omega arith))
-    (width-none (λ p. p) no-space)
+abbrev Asked : tie.Start → ℕ → Bool → Type 0
+Asked c = Ahead (c .args .line .now) (c .args .at)
 
-returns-2 : tie.Need-returns-2
-returns-2 c =
-    let start = c .before .before .before .before .before in
-    let s = start .args .line .now in
-    let at = start .args .at in
-    rw (ahead s at (at + 1) (omega arith) (omega arith))
-    (width-1 (λ p. p) _ _ (sym (c .before .space-one .ensures) ∙ c .if2 .taken))
+abbrev start : tie.After-space-one → tie.Start
+start c = c .before .before .before .before
 
-returns-3 : tie.Need-returns-3
-returns-3 c =
-    let start = c .before .before .before .before .before .before in
-    let s = start .args .line .now in
-    let at = start .args .at in
-    rw (ahead s at (at + 1) (omega arith) (omega arith), drop-of-length-le s {i = at + 1} (omega arith))
-    (width-a (λ p. p) _ (sym (c .before .before .space-one .ensures) ∙ c .before .if2 .left))
+one : (c : tie.After-space-one) → Asked (start c) 0 (c .space-one .result)
+one c = asked (ahead (start c .args .line .now) (start c .args .at)) (c .before .before .if1 .left) (c .space-one .ensures)
 
-returns-4 : tie.Need-returns-4
-returns-4 c =
-    let at-if2 = c .before .before .before .before in
-    let at-space-one = at-if2 .before in
-    let start = at-space-one .before .before .before .before in
-    let s = start .args .line .now in
-    let at = start .args .at in
-    rw (ahead s at (at + 1) (omega arith) (omega arith), ahead s (at + 1) (at + 2) (omega arith) (omega arith))
-    (width-2 (λ p. p) _ (sym (at-space-one .space-one .ensures) ∙ at-if2 .if2 .left) _ _ (sym (c .before .space-two .ensures) ∙ c .if4 .taken))
+two : (c : tie.After-space-two) → Asked (start (c .before .before .before .before)) 1 (c .space-two .result)
+two c = let no = c .before .before .before in asked (asked-no (one (no .before)) (no .if2 .left)) (c .before .before .if3 .left) (c .space-two .ensures)
 
-returns-5 : tie.Need-returns-5
-returns-5 c =
-    let at-if2 = c .before .before .before .before .before in
-    let at-space-one = at-if2 .before in
-    let start = at-space-one .before .before .before .before in
-    let s = start .args .line .now in
-    let at = start .args .at in
-    rw (ahead s at (at + 1) (omega arith) (omega arith), ahead s (at + 1) (at + 2) (omega arith) (omega arith), drop-of-length-le s {i = at + 2} (omega arith))
-    (width-ab (λ p. p) _ (sym (at-space-one .space-one .ensures) ∙ at-if2 .if2 .left) _ (sym (c .before .before .space-two .ensures) ∙ c .before .if4 .left))
-
-returns-6 : tie.Need-returns-6
-returns-6 c =
-    let at-if4 = c .before .before .before .before in
-    let at-space-two = at-if4 .before in
-    let at-if2 = at-space-two .before .before .before in
-    let at-space-one = at-if2 .before in
-    let start = at-space-one .before .before .before .before in
-    let s = start .args .line .now in
-    let at = start .args .at in
-    rw (ahead s at (at + 1) (omega arith) (omega arith), ahead s (at + 1) (at + 2) (omega arith) (omega arith), ahead s (at + 2) (at + 3) (omega arith) (omega arith))
-    (width-3 (λ p. p) _ (sym (at-space-one .space-one .ensures) ∙ at-if2 .if2 .left) _ (sym (at-space-two .space-two .ensures) ∙ at-if4 .if4 .left) _ _ (sym (c .before .space-three .ensures) ∙ c .if6 .taken))
-
-returns-7 : tie.Need-returns-7
-returns-7 c =
-    let at-if4 = c .before .before .before .before in
-    let at-space-two = at-if4 .before in
-    let at-if2 = at-space-two .before .before .before in
-    let at-space-one = at-if2 .before in
-    let start = at-space-one .before .before .before .before in
-    let s = start .args .line .now in
-    let at = start .args .at in
-    rw (ahead s at (at + 1) (omega arith) (omega arith), ahead s (at + 1) (at + 2) (omega arith) (omega arith), ahead s (at + 2) (at + 3) (omega arith) (omega arith))
-    (width-abc (λ p. p) _ (sym (at-space-one .space-one .ensures) ∙ at-if2 .if2 .left) _ (sym (at-space-two .space-two .ensures) ∙ at-if4 .if4 .left) _ _ (sym (c .before .space-three .ensures) ∙ c .if6 .left))
+three : (c : tie.After-space-three) → Asked (start (c .before .before .before .before .before .before .before .before)) 2 (c .space-three .result)
+three c = let no = c .before .before .before in asked (asked-no (two (no .before)) (no .if4 .left)) (c .before .before .if5 .left) (c .space-three .ensures)
 
 pub space-at-spec : {M : Type 1} → statement M
 space-at-spec =
     tie.close
     (tie.spec
     (λ c. search needs)
-    returns
+    (λ c. looked-out (ahead (c .before .before .args .line .now) (c .before .before .args .at)) (c .if1 .taken))
     (λ c. search needs)
-    (λ c κs. search needs)
-    returns-2
-    returns-3
-    (λ c. search needs)
-    (λ c. search needs)
-    (λ c κs. search needs)
-    returns-4
-    returns-5
+    (λ c κs. tt)
+    (λ c. asked-yes (one (c .before)) (omega arith) (c .if2 .taken))
+    (λ c. looked-out (asked-no (one (c .before .before)) (c .before .if2 .left)) (c .if3 .taken))
     (λ c. search needs)
     (λ c. search needs)
-    (λ c κs. search needs)
-    returns-6
-    returns-7)
+    (λ c κs. tt)
+    (λ c. asked-yes (two (c .before)) (omega arith) (c .if4 .taken))
+    (λ c. looked-out (asked-no (two (c .before .before)) (c .before .if4 .left)) (c .if5 .taken))
+    (λ c. search needs)
+    (λ c. search needs)
+    (λ c κs. tt)
+    (λ c. asked-yes (three (c .before)) (omega arith) (c .if6 .taken))
+    (λ c. looked-all (asked-no (three (c .before)) (c .if6 .left))))
