@@ -1,25 +1,17 @@
 -- `table::word2` meets its contract. Assumes nothing.
-use borrow.Author.Needs.{needs}
+use mathlib.Core.Path.{refl}
+use Rattle.table.specs.Record.{right2}
+use Rattle.table.proofs.ByKind.{under, past}
 use Rattle.table.proofs.word2.Statement.{statement}
 use Rattle.table.proofs.word2.Tie as tie
-use borrow.Author.Tests.{lt-ltb, le-ltb}
-use Rattle.table.specs.Record.{right2}
-
-returns : tie.Need-returns
-unfolding right2
-returns c = rw (← c .before .kind .ensures, lt-ltb _ _ (c .if1 .taken))
-
-returns-2 : tie.Need-returns-2
-unfolding right2
-returns-2 c = rw (← c .before .before .kind .ensures, le-ltb _ _ (c .before .if1 .left), lt-ltb _ _ (c .if2 .taken))
-
-returns-3 : tie.Need-returns-3
-unfolding right2
-returns-3 c = rw (← c .before .before .before .kind .ensures, le-ltb _ _ (c .before .before .if1 .left), le-ltb _ _ (c .before .if2 .left), lt-ltb _ _ (c .if3 .taken))
-
-returns-4 : tie.Need-returns-4
-unfolding right2
-returns-4 c = rw (← c .before .before .before .kind .ensures, le-ltb _ _ (c .before .before .if1 .left), le-ltb _ _ (c .before .if2 .left), le-ltb _ _ (c .if3 .left))
 
 pub word2-spec : {M : Type 1} → statement M
-word2-spec = tie.close (tie.spec (λ c κs. search needs) returns returns-2 returns-3 returns-4)
+unfolding right2
+word2-spec =
+    tie.close
+    (tie.spec
+    (λ c κs. tt)
+    (λ c. under (c .before .kind .ensures) _ (c .if1 .taken))
+    (λ c. let e = c .before .before .kind .ensures in past e _ (c .before .if1 .left) (under e _ (c .if2 .taken)))
+    (λ c. let e = c .before .before .before .kind .ensures in past e _ (c .before .before .if1 .left) (past e _ (c .before .if2 .left) (under e _ (c .if3 .taken))))
+    (λ c. let e = c .before .before .before .kind .ensures in past e _ (c .before .before .if1 .left) (past e _ (c .before .if2 .left) (past e _ (c .if3 .left) refl))))
