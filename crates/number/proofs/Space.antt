@@ -79,45 +79,45 @@ firsts-is (a ∷ s) byte (suc k) h e =
     cc
 
 -- The n bytes of s, which `byte` numbers, are looked at one after the other: so far k, and none of these beginnings is a form.
-pub record Looked (read : List ℕ → List ℕ) (s : List ℕ) (n : ℕ) (byte : ℕ → ℕ) (k : ℕ) : Type 0 where
+pub record Formless (read : List ℕ → List ℕ) (s : List ℕ) (n : ℕ) (byte : ℕ → ℕ) (k : ℕ) : Type 0 where
   pub long : length s ≡ n
   pub is : (j : ℕ) → j < n → getD s j 0 ≡ byte j
   pub none : (j : ℕ) → j < suc k → space (read (take j s)) ≡ false
 
 -- the next was read, and r says whether they are a form with it
-pub record Asked (read : List ℕ → List ℕ) (s : List ℕ) (n : ℕ) (byte : ℕ → ℕ) (k : ℕ) (r : Bool) : Type 0 where
-  pub looked : Looked read s n byte k
+pub record Tested (read : List ℕ → List ℕ) (s : List ℕ) (n : ℕ) (byte : ℕ → ℕ) (k : ℕ) (r : Bool) : Type 0 where
+  pub looked : Formless read s n byte k
   pub is : r ≡ space (read (take (suc k) s))
 
 module _ {read : List ℕ → List ℕ} {s : List ℕ} {n : ℕ} {byte : ℕ → ℕ} where
-  module _ {k : ℕ} (l : Looked read s n byte k) where
-    pub asked : {r : Bool} → suc k ≤ n → r ≡ space (read (firsts byte (suc k))) → Asked read s n byte k r
-    asked h e = record { looked = l; is = rw (firsts-is s byte (suc k) (omega (arith, l .long)) (λ j g. l .is j (omega arith))) e }
+  module _ {k : ℕ} (l : Formless read s n byte k) where
+    pub tested : {r : Bool} → suc k ≤ n → r ≡ space (read (firsts byte (suc k))) → Tested read s n byte k r
+    tested h e = record { looked = l; is = rw (firsts-is s byte (suc k) (omega (arith, l .long)) (λ j g. l .is j (omega arith))) e }
 
     -- no byte is left
-    pub looked-out : n < suc k → 0 ≡ width read s
+    pub formless-out : n < suc k → 0 ≡ width read s
     unfolding width
-    looked-out h = simp (no 1, no 2, no 3)
+    formless-out h = simp (no 1, no 2, no 3)
       where
         no : (j : ℕ) → space (read (take j s)) ≡ false
         no j = ⊎-elim (l .none j) (λ g. rw (take-all j s (omega (arith, l .long)), ← take-all k s (omega (arith, l .long))) (l .none k (omega arith))) (lt-or-le j (suc k))
 
   -- three bytes were looked at, and no form has more
-  pub looked-all : Looked read s n byte 3 → 0 ≡ width read s
+  pub formless-all : Formless read s n byte 3 → 0 ≡ width read s
   unfolding width
-  looked-all l = simp (l .none 1 (omega arith), l .none 2 (omega arith), l .none 3 (omega arith))
+  formless-all l = simp (l .none 1 (omega arith), l .none 2 (omega arith), l .none 3 (omega arith))
 
-  module _ {k : ℕ} {r : Bool} (a : Asked read s n byte k r) where
-    pub asked-no : r ≡ false → Looked read s n byte (suc k)
-    asked-no f = record {
+  module _ {k : ℕ} {r : Bool} (a : Tested read s n byte k r) where
+    pub tested-no : r ≡ false → Formless read s n byte (suc k)
+    tested-no f = record {
       long = a .looked .long;
       is = a .looked .is;
       none = λ j g. ⊎-elim (a .looked .none j) (λ m. let q : j ≡ suc k = omega arith in rw q (sym (a .is) ∙ f)) (lt-or-le j (suc k));
     }
 
-    pub asked-yes : k < 3 → r ≡ true → suc k ≡ width read s
+    pub tested-yes : k < 3 → r ≡ true → suc k ≡ width read s
     unfolding width
-    asked-yes h t = go k h (a .looked .none) (sym (a .is) ∙ t)
+    tested-yes h t = go k h (a .looked .none) (sym (a .is) ∙ t)
       where
         go : (k : ℕ) → k < 3 → ((j : ℕ) → j < suc k → space (read (take j s)) ≡ false) → space (read (take (suc k) s)) ≡ true → suc k ≡ width read s
         go zero h f t = simp t
@@ -130,22 +130,22 @@ no-byte : (read : List ℕ → List ℕ) (s : List ℕ) → read [] ≡ [] → (
 no-byte read s e j h = let z : j ≡ 0 = omega arith in rw (z, e) no-space
 
 -- the place i + j as the code has it
-abbrev further : ℕ → ℕ → ℕ
-further i zero = i
-further i (suc j) = i + suc j
+abbrev place-on : ℕ → ℕ → ℕ
+place-on i zero = i
+place-on i (suc j) = i + suc j
 
-further-is : (i j : ℕ) → i + j ≡ further i j
-further-is i zero = omega arith
-further-is i (suc j) = refl
+place-on-is : (i j : ℕ) → i + j ≡ place-on i j
+place-on-is i zero = omega arith
+place-on-is i (suc j) = refl
 
 module _ (s : List ℕ) (i : ℕ) where
   abbrev pub Ahead : ℕ → Bool → Type 0
-  Ahead = Asked (λ p. p) (drop i s) (length s - i) (λ j. getD s (further i j) 0)
+  Ahead = Tested (λ p. p) (drop i s) (length s - i) (λ j. getD s (place-on i j) 0)
 
-  pub ahead : Looked (λ p. p) (drop i s) (length s - i) (λ j. getD s (further i j) 0) 0
+  pub ahead : Formless (λ p. p) (drop i s) (length s - i) (λ j. getD s (place-on i j) 0) 0
   ahead = record {
     long = length-drop i s;
-    is = λ j h. getD-drop i s j 0 ∙ rw (further-is i j);
+    is = λ j h. getD-drop i s j 0 ∙ rw (place-on-is i j);
     none = no-byte (λ p. p) (drop i s) refl;
   }
 
@@ -159,9 +159,9 @@ drop-reverse s e k h l =
 
 module _ (s : List ℕ) (e : ℕ) where
   abbrev pub Behind : ℕ → Bool → Type 0
-  Behind = Asked reverse (reverse (take e s)) e (λ j. getD s (e - suc j) 0)
+  Behind = Tested reverse (reverse (take e s)) e (λ j. getD s (e - suc j) 0)
 
-  pub behind : e ≤ length s → Looked reverse (reverse (take e s)) e (λ j. getD s (e - suc j) 0) 0
+  pub behind : e ≤ length s → Formless reverse (reverse (take e s)) e (λ j. getD s (e - suc j) 0) 0
   behind h = record { long = length-reverse (take e s) ∙ length-take-le e s h; is = at; none = no-byte reverse (reverse (take e s)) refl }
     where
       at : (j : ℕ) → j < e → getD (reverse (take e s)) j 0 ≡ getD s (e - suc j) 0
