@@ -2,8 +2,9 @@
 use native.Mathlib.Omega.{arith}
 use borrow.Author.Needs.{needs}
 use mathlib.Core.Path.{_≡_, refl, sym, _∙_}
-use Prim.Native.Nat.{_+_, _-_, _≤_}
+use Prim.Native.Nat.{ℕ, _+_, _-_, _≤_}
 use lib.ListN.{length, getD, drop}
+use Rattle.text.specs.declared.Piece.the-variants.{One}
 use Rattle.text.specs.Escapes.{stringHead}
 use Rattle.text.specs.Pieces.{texts, lengthOf}
 use Rattle.text.specs.Text.{byte, decodedSays}
@@ -21,24 +22,25 @@ Inv-loop text n₀ i₀ n i =
 abbrev μ-loop : tie.MeasureT-loop
 μ-loop text n₀ i₀ n i = length text - i
 
-plain : (c : tie.Then1 Inv-loop μ-loop)
-    → In-string (c .before .before .before .before .before .args .text .now) (c .before .before .before .loop .i)
-    (getD (c .before .before .before .before .before .args .text .now) (c .before .before .before .loop .i) 0) 0
-plain c =
-    let k = c .before .before .before .before .shared-slice-known .given in
-    let h = c .before .before .loop-test .taken in
-    in-string _ _ _ _ (λ j. omega (arith, k j)) h (sym (string-plain _ _ h (c .if1 .taken)))
+-- a turn of the loop, and what a piece read there is
+module _ (c : tie.In-loop Inv-loop μ-loop) where
+  abbrev start : tie.Start Inv-loop μ-loop
+  start = c .before .before .before
 
-escape : (c : tie.After-known-told Inv-loop μ-loop)
-    → In-string (c .before .before .before .before .before .before .before .before .before .args .text .now) (c .before .before .before .before .before .before .before .loop .i)
-    (c .before .more .given .0 .0) (c .before .more .given .0 .1 .0)
-escape c =
-    let k = c .before .before .before .before .before .before .before .before .shared-slice-known .given in
-    let h = c .before .before .before .before .before .before .loop-test .taken in
-    in-string _ _ _ _ (λ j. omega (arith, k j)) h (sym (c .before .before .before .string-piece .ensures) ∙ c .before .more .given .1)
+  piece : {v w : ℕ} → stringHead (drop (c .before .loop .i) (start .args .text .now)) ≡ One v w → In-string (start .args .text .now) (c .before .loop .i) v w
+  piece e = let k = c .before .before .shared-slice-known .given in in-string _ _ _ _ (λ j. omega (arith, k j)) (c .loop-test .taken) e
 
-loop-holds : tie.Need-loop-holds Inv-loop μ-loop
-loop-holds c = (more-none _, omega arith, omega arith)
+-- a byte that stands for itself
+plain : (c : tie.Then1 Inv-loop μ-loop) → let l = c .before .before in In-string (start l .args .text .now) (l .before .loop .i) (getD (start l .args .text .now) (l .before .loop .i) 0) 0
+plain c = let l = c .before .before in piece l (sym (string-plain _ _ (l .loop-test .taken) (c .if1 .taken)))
+
+-- an escape
+module _ (c : tie.After-known-told Inv-loop μ-loop) where
+  abbrev turn : tie.In-loop Inv-loop μ-loop
+  turn = c .before .before .before .before .before .before
+
+  escape : let v = c .before .more .given .0 in In-string (start turn .args .text .now) (turn .before .loop .i) (v .0) (v .1 .0)
+  escape = piece turn (sym (c .before .before .before .string-piece .ensures) ∙ c .before .more .given .1)
 
 loop-again : tie.Need-loop-again Inv-loop μ-loop
 unfolding byte
@@ -46,30 +48,18 @@ loop-again c =
     let l = c .before .before .before .loop in
     (counted byte (plain c) (l .i + 1) _ refl (l .n) ∙ l .inv .0, omega arith, omega arith)
 
-string-piece-requires : tie.Need-string-piece-requires Inv-loop μ-loop
-string-piece-requires c κs = c .before .before .loop-test .taken
-
-add-i-2 : tie.Need-add-i-2 Inv-loop μ-loop
-add-i-2 c = omega (arith, escape c .inside)
-
-add-i-3 : tie.Need-add-i-3 Inv-loop μ-loop
-add-i-3 c = omega (arith, escape c .inside)
-
-loop-less-2 : tie.Need-loop-less-2 Inv-loop μ-loop
-loop-less-2 c = omega (arith, escape c .inside)
-
 loop-again-2 : tie.Need-loop-again-2 Inv-loop μ-loop
 unfolding byte
 loop-again-2 c =
-    let l = c .before .before .before .before .before .before .before .loop in
+    let l = turn c .before .loop in
     (counted byte (escape c) (l .i + 1) _ (omega arith) (l .n) ∙ l .inv .0, escape c .inside, omega arith)
 
 returns : tie.Need-returns Inv-loop μ-loop
 unfolding decodedSays
 returns c =
     let e = sym (c .before .before .string-piece .ensures) ∙ c .enum-told .given .1 in
-    let bad = texts-bad stringHead byte _ _ _ (c .before .before .before .before .before .loop-test .taken) e in
-    more-bad _ _ bad ∙ c .before .before .before .before .before .before .loop .inv .0
+    let l = c .before .before .before .before .before in
+    more-bad _ _ (texts-bad stringHead byte _ _ _ (l .loop-test .taken) e) ∙ l .before .loop .inv .0
 
 returns-2 : tie.Need-returns-2 Inv-loop μ-loop
 unfolding decodedSays
@@ -81,18 +71,18 @@ inner-len-spec =
     (tie.spec
     Inv-loop
     μ-loop
-    loop-holds
+    (λ c. (more-none _, omega arith, omega arith))
     (λ c. omega arith)
     (λ c. omega arith)
     (λ c. omega arith)
     (λ c. omega arith)
     loop-again
-    string-piece-requires
+    (λ c κs. c .before .before .loop-test .taken)
     (λ c. search needs)
     (λ c. omega arith)
-    add-i-2
-    add-i-3
-    loop-less-2
+    (λ c. omega (arith, escape c .inside))
+    (λ c. omega (arith, escape c .inside))
+    (λ c. omega (arith, escape c .inside))
     loop-again-2
     (λ c. search needs)
     (λ c. omega arith)

@@ -56,19 +56,10 @@ loop-holds : tie.Need-loop-holds Inv-loop μ-loop
 unfolding unescapeUnicode
 loop-holds c = (write-none _ _ (c .before .before .pre .is), omega arith)
 
-slice-write-out : tie.Need-slice-write-out Inv-loop μ-loop
-slice-write-out c = omega (arith, room c, c .before .before .before .before .loop .inv .0 .long)
-
-add-n : tie.Need-add-n Inv-loop μ-loop
-add-n c = omega (arith, room c, c .before .before .before .before .loop .inv .0 .long)
-
 loop-again : tie.Need-loop-again Inv-loop μ-loop
 loop-again c =
     let l = c .before .before .before .before .loop in
     (rw (encode-one _ (c .before .if1 .taken)) at (written encode (plain c) (l .i) _ refl (l .inv .0)), omega arith)
-
-unicode-piece-requires : tie.Need-unicode-piece-requires Inv-loop μ-loop
-unicode-piece-requires c κs = c .before .before .loop-test .taken
 
 put-requires : tie.Need-put-requires Inv-loop μ-loop
 put-requires c κs =
@@ -77,15 +68,6 @@ put-requires c κs =
     let h = l .before .loop in
     (e .good .0, roomy encode e (h .i) _ refl (h .inv .0) (start l .pre .fits))
 
-add-i-2 : tie.Need-add-i-2 Inv-loop μ-loop
-add-i-2 c = omega (arith, escape (told c) .inside)
-
-add-i-3 : tie.Need-add-i-3 Inv-loop μ-loop
-add-i-3 c = omega (arith, escape (told c) .inside)
-
-loop-less-2 : tie.Need-loop-less-2 Inv-loop μ-loop
-loop-less-2 c = omega (arith, escape (told c) .inside)
-
 loop-again-2 : tie.Need-loop-again-2 Inv-loop μ-loop
 loop-again-2 c =
     let l = turn (told c) .before .loop in
@@ -93,17 +75,11 @@ loop-again-2 c =
     let p = c .before .before .put .ensures in
     (rw (p .0, p .1) (written encode e (l .i) _ refl (l .inv .0)), e .inside)
 
-same-length : tie.Need-same-length Inv-loop μ-loop
-same-length c = c .before .before .before .before .before .before .loop .inv .0 .long
-
 returns : tie.Need-returns Inv-loop μ-loop
 returns c =
     let e = sym (c .before .before .unicode-piece .ensures) ∙ c .enum-told .given .1 in
     let l = c .before .before .before .before .before in
     absurd (write-bad _ _ _ _ _ (texts-bad unicodeHead encode _ _ _ (l .loop-test .taken) e) (l .before .loop .inv .0))
-
-same-length-2 : tie.Need-same-length-2 Inv-loop μ-loop
-same-length-2 c = c .before .loop .inv .0 .long
 
 returns-2 : tie.Need-returns-2 Inv-loop μ-loop
 returns-2 c =
@@ -118,20 +94,20 @@ unescape-unicode-spec =
     μ-loop
     loop-holds
     (λ c. omega arith)
-    slice-write-out
-    add-n
+    (λ c. omega (arith, room c, c .before .before .before .before .loop .inv .0 .long))
+    (λ c. omega (arith, room c, c .before .before .before .before .loop .inv .0 .long))
     (λ c. omega arith)
     (λ c. omega arith)
     loop-again
-    unicode-piece-requires
+    (λ c κs. c .before .before .loop-test .taken)
     (λ c. search needs)
     put-requires
-    add-i-2
-    add-i-3
-    loop-less-2
+    (λ c. omega (arith, escape (told c) .inside))
+    (λ c. omega (arith, escape (told c) .inside))
+    (λ c. omega (arith, escape (told c) .inside))
     loop-again-2
     (λ c. search needs)
-    same-length
+    (λ c. c .before .before .before .before .before .before .loop .inv .0 .long)
     returns
-    same-length-2
+    (λ c. c .before .loop .inv .0 .long)
     returns-2)

@@ -2,11 +2,12 @@
 use native.Mathlib.Omega.{arith}
 use borrow.Author.Needs.{needs}
 use mathlib.Core.Path.{_≡_, refl, sym, _∙_}
-use Prim.Native.Nat.{_-_, _*_, _≤_}
+use Prim.Native.Nat.{ℕ, _-_, _*_, _≤_}
 use lib.ListN.{length, getD, drop}
 use borrow.Author.Tests.{eqb-false, not-true}
 use Rattle.utf8.specs.Utf8.{encode}
 use Rattle.utf8.specs.Encode.{encode-one}
+use Rattle.text.specs.declared.Piece.the-variants.{One}
 use Rattle.text.specs.Escapes.{unicodeHead}
 use Rattle.text.specs.Pieces.{texts, lengthOf}
 use Rattle.text.specs.Text.{unescapeUnicode, decodedSays}
@@ -24,25 +25,25 @@ Inv-loop line n₀ i₀ n i =
 abbrev μ-loop : tie.MeasureT-loop
 μ-loop line n₀ i₀ n i = length line - i
 
--- a turn of the loop
-abbrev start : tie.In-loop Inv-loop μ-loop → tie.Start Inv-loop μ-loop
-start c = c .before .before .before
+-- a turn of the loop, and what a piece read there is
+module _ (c : tie.In-loop Inv-loop μ-loop) where
+  abbrev start : tie.Start Inv-loop μ-loop
+  start = c .before .before .before
+
+  piece : {v w : ℕ} → unicodeHead (drop (c .before .loop .i) (start .args .line .now)) ≡ One v w → In-unicode (start .args .line .now) (c .before .loop .i) v w
+  piece e = let k = c .before .before .shared-slice-known .given in in-unicode _ _ _ _ (λ j. omega (arith, k j)) (c .loop-test .taken) e
 
 -- a byte that stands for itself
 plain : (c : tie.Then2 Inv-loop μ-loop) → let l = c .before .before .before in In-unicode (start l .args .line .now) (l .before .loop .i) (getD (start l .args .line .now) (l .before .loop .i) 0) 0
-plain c =
-    let l = c .before .before .before in
-    let k = l .before .before .shared-slice-known .given in
-    let h = l .loop-test .taken in
-    in-unicode _ _ _ _ (λ j. omega (arith, k j)) h (sym (unicode-plain _ _ h (eqb-false _ _ (not-true _ (c .if2 .taken)))))
+plain c = let l = c .before .before .before in piece l (sym (unicode-plain _ _ (l .loop-test .taken) (eqb-false _ _ (not-true _ (c .if2 .taken)))))
 
 -- an escape, and how long its bytes are
-escape : (c : tie.After-encoded-len Inv-loop μ-loop) → let l = c .before .before .before .before .before .before .before in let v = c .before .before .value .given .0 in In-unicode (start l .args .line .now) (l .before .loop .i) (v .0) (v .1 .0)
-escape c =
-    let u = c .before .before .before .before in
-    let l = u .before .before .before in
-    let k = l .before .before .shared-slice-known .given in
-    in-unicode _ _ _ _ (λ j. omega (arith, k j)) (l .loop-test .taken) (sym (u .unicode-piece .ensures) ∙ c .before .before .value .given .1)
+module _ (c : tie.After-encoded-len Inv-loop μ-loop) where
+  abbrev turn : tie.In-loop Inv-loop μ-loop
+  turn = c .before .before .before .before .before .before .before
+
+  escape : let v = c .before .before .value .given .0 in In-unicode (start turn .args .line .now) (turn .before .loop .i) (v .0) (v .1 .0)
+  escape = piece turn (sym (c .before .before .before .before .unicode-piece .ensures) ∙ c .before .before .value .given .1)
 
 loop-holds : tie.Need-loop-holds Inv-loop μ-loop
 unfolding unescapeUnicode
@@ -53,24 +54,9 @@ loop-again c =
     let l = c .before .before .before .before .loop in
     (rw (encode-one _ (c .before .if1 .taken)) at (counted encode (plain c) (l .i) _ refl (l .n) ∙ l .inv .0), omega arith, omega arith)
 
-unicode-piece-requires : tie.Need-unicode-piece-requires Inv-loop μ-loop
-unicode-piece-requires c κs = c .before .before .loop-test .taken
-
-add-n-2 : tie.Need-add-n-2 Inv-loop μ-loop
-add-n-2 c = omega (arith, escape c .inside, escape c .good .1, c .encoded-len .ensures)
-
-add-i-2 : tie.Need-add-i-2 Inv-loop μ-loop
-add-i-2 c = omega (arith, escape c .inside)
-
-add-i-3 : tie.Need-add-i-3 Inv-loop μ-loop
-add-i-3 c = omega (arith, escape c .inside)
-
-loop-less-2 : tie.Need-loop-less-2 Inv-loop μ-loop
-loop-less-2 c = omega (arith, escape c .inside)
-
 loop-again-2 : tie.Need-loop-again-2 Inv-loop μ-loop
 loop-again-2 c =
-    let l = c .before .before .before .before .before .before .before .before .loop in
+    let l = turn c .before .loop in
     let e = c .encoded-len .ensures in
     (rw e (counted encode (escape c) (l .i) _ refl (l .n) ∙ l .inv .0), escape c .inside, omega (arith, escape c .good .1))
 
@@ -97,13 +83,13 @@ unicode-len-spec =
     (λ c. omega arith)
     (λ c. omega arith)
     loop-again
-    unicode-piece-requires
+    (λ c κs. c .before .before .loop-test .taken)
     (λ c. search needs)
     (λ c κs. tt)
-    add-n-2
-    add-i-2
-    add-i-3
-    loop-less-2
+    (λ c. omega (arith, escape c .inside, escape c .good .1, c .encoded-len .ensures))
+    (λ c. omega (arith, escape c .inside))
+    (λ c. omega (arith, escape c .inside))
+    (λ c. omega (arith, escape c .inside))
     loop-again-2
     (λ c. search needs)
     returns

@@ -47,41 +47,11 @@ module _ (c : tie.After-known-told Inv-loop μ-loop) where
   escape : let v = c .before .value .given .0 in In-string (start turn .args .text .now) (turn .before .loop .i) (v .0) (v .1 .0)
   escape = piece turn (sym (c .before .before .before .string-piece .ensures) ∙ c .before .value .given .1)
 
-loop-holds : tie.Need-loop-holds Inv-loop μ-loop
-loop-holds c = (write-none _ _ (c .before .before .pre .is), omega arith)
-
-slice-write-out : tie.Need-slice-write-out Inv-loop μ-loop
-slice-write-out c = omega (arith, room (c .before .before) (plain c), c .before .before .before .loop .inv .0 .long)
-
-add-n : tie.Need-add-n Inv-loop μ-loop
-add-n c = omega (arith, room (c .before .before) (plain c), c .before .before .before .loop .inv .0 .long)
-
 loop-again : tie.Need-loop-again Inv-loop μ-loop
 unfolding byte
 loop-again c =
     let l = c .before .before .before .loop in
     (written byte (plain c) (l .i + 1) _ refl (l .inv .0), omega arith)
-
-string-piece-requires : tie.Need-string-piece-requires Inv-loop μ-loop
-string-piece-requires c κs = c .before .before .loop-test .taken
-
-cast-out : tie.Need-cast-out Inv-loop μ-loop
-cast-out c = omega (arith, escape c .good)
-
-slice-write-out-2 : tie.Need-slice-write-out-2 Inv-loop μ-loop
-slice-write-out-2 c = omega (arith, room (turn c) (escape c), turn c .before .loop .inv .0 .long)
-
-add-n-2 : tie.Need-add-n-2 Inv-loop μ-loop
-add-n-2 c = omega (arith, room (turn c) (escape c), turn c .before .loop .inv .0 .long)
-
-add-i-2 : tie.Need-add-i-2 Inv-loop μ-loop
-add-i-2 c = omega (arith, escape c .inside)
-
-add-i-3 : tie.Need-add-i-3 Inv-loop μ-loop
-add-i-3 c = omega (arith, escape c .inside)
-
-loop-less-2 : tie.Need-loop-less-2 Inv-loop μ-loop
-loop-less-2 c = omega (arith, escape c .inside)
 
 loop-again-2 : tie.Need-loop-again-2 Inv-loop μ-loop
 unfolding byte
@@ -89,17 +59,11 @@ loop-again-2 c =
     let l = turn c .before .loop in
     (written byte (escape c) (l .i + 1) _ (omega arith) (l .inv .0), escape c .inside)
 
-same-length : tie.Need-same-length Inv-loop μ-loop
-same-length c = c .before .before .before .before .before .before .loop .inv .0 .long
-
 returns : tie.Need-returns Inv-loop μ-loop
 returns c =
     let e = sym (c .before .before .string-piece .ensures) ∙ c .enum-told .given .1 in
     let l = c .before .before .before .before .before in
     absurd (write-bad _ _ _ _ _ (texts-bad stringHead byte _ _ _ (l .loop-test .taken) e) (l .before .loop .inv .0))
-
-same-length-2 : tie.Need-same-length-2 Inv-loop μ-loop
-same-length-2 c = c .before .loop .inv .0 .long
 
 returns-2 : tie.Need-returns-2 Inv-loop μ-loop
 returns-2 c =
@@ -112,24 +76,24 @@ write-inner-spec =
     (tie.spec
     Inv-loop
     μ-loop
-    loop-holds
+    (λ c. (write-none _ _ (c .before .before .pre .is), omega arith))
     (λ c. omega arith)
-    slice-write-out
-    add-n
+    (λ c. omega (arith, room (c .before .before) (plain c), c .before .before .before .loop .inv .0 .long))
+    (λ c. omega (arith, room (c .before .before) (plain c), c .before .before .before .loop .inv .0 .long))
     (λ c. omega arith)
     (λ c. omega arith)
     loop-again
-    string-piece-requires
+    (λ c κs. c .before .before .loop-test .taken)
     (λ c. search needs)
-    cast-out
-    slice-write-out-2
-    add-n-2
-    add-i-2
-    add-i-3
-    loop-less-2
+    (λ c. omega (arith, escape c .good))
+    (λ c. omega (arith, room (turn c) (escape c), turn c .before .loop .inv .0 .long))
+    (λ c. omega (arith, room (turn c) (escape c), turn c .before .loop .inv .0 .long))
+    (λ c. omega (arith, escape c .inside))
+    (λ c. omega (arith, escape c .inside))
+    (λ c. omega (arith, escape c .inside))
     loop-again-2
     (λ c. search needs)
-    same-length
+    (λ c. c .before .before .before .before .before .before .loop .inv .0 .long)
     returns
-    same-length-2
+    (λ c. c .before .loop .inv .0 .long)
     returns-2)
