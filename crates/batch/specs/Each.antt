@@ -4,14 +4,15 @@ use mathlib.Core.Bool.{Bool, true, false}
 use mathlib.Core.List.{List, [], _∷_, _++_, map}
 use mathlib.Core.Path.{_≡_, refl, sym, _∙_, ap}
 use lib.ListN.{length, getD, take, drop}
-use lib.Seq.{take-nil, drop-drop, take-take}
+use lib.Seq.{drop-drop, take-take}
 use lib.Dec.{ltb}
 use borrow.Author.Tests.{ltb-true, ltb-false}
-use native.Mathlib.Nat.{zero-add, suc-add}
+use native.Mathlib.Nat.{suc-add}
 use native.Mathlib.Omega.{arith}
 use Rattle.lengths.specs.Sum.{sum}
 use Rattle.rooms.specs.Stated.{Slices, tableOf, textOf, begun, filled, Ready, filled-ready, rooms-filled, table-again, text-again}
 use Rattle.reading.specs.Reading.{whole}
+use Rattle.resolved.specs.Written.{drop-take}
 use Rattle.batch.specs.Batch.{sheetsOf, four, answersOf, after}
 
 -- sheet i, from 0 on
@@ -61,12 +62,6 @@ four-at (p ∷ ps) r (suc i) h =
 
 -- ---- buffers that are alike but for one sheet
 
--- a part cut off at its end first, or at its start
-part : (a n : ℕ) (x : List ℕ) → drop a (take (a + n) x) ≡ take n (drop a x)
-part zero n x = rw zero-add
-part (suc a) n [] = rw (suc-add, take-nil n)
-part (suc a) n (y ∷ x) = rw suc-add (part a n x)
-
 -- alike up to where sheet i starts, and from where it ends
 pub record AlikeBut (ns : List ℕ) (i : ℕ) (s t : List ℕ) : Type 0 where
   pub front : take (startOf ns i) s ≡ take (startOf ns i) t
@@ -74,7 +69,7 @@ pub record AlikeBut (ns : List ℕ) (i : ℕ) (s t : List ℕ) : Type 0 where
 
 module _ (ns : List ℕ) (i : ℕ) (s t : List ℕ) (a : AlikeBut ns i s t) (j : ℕ) (h : j < length ns) where
   before : j < i → take (getD ns j 0) (drop (startOf ns j) s) ≡ take (getD ns j 0) (drop (startOf ns j) t)
-  before k = sym (part (startOf ns j) (getD ns j 0) s) ∙ ap (drop (startOf ns j)) same ∙ part (startOf ns j) (getD ns j 0) t
+  before k = sym (drop-take (startOf ns j) (getD ns j 0) s) ∙ ap (drop (startOf ns j)) same ∙ drop-take (startOf ns j) (getD ns j 0) t
     where
       inside : startOf ns j + getD ns j 0 ≤ startOf ns i
       inside = let e = start-next ns j h in let m = start-later ns (j + 1) i (omega arith) in omega arith

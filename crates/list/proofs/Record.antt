@@ -8,13 +8,14 @@ use native.Mathlib.Omega.{arith}
 use lib.Dec.{eqb, lit≤}
 use lib.ListN.{length, length-append, getD, take, drop}
 use lib.Seq.{drop-drop}
+use Rattle.utf8.specs.Encode.{by-lt}
 use Rattle.value.specs.declared.Head.{Head}
 use Rattle.value.specs.Value.{bit, half}
 use Rattle.value.specs.Shape.{kindIn, newIn, stateIn, headOf, labelOf, arityOf, namesEnd}
 use Rattle.value.specs.Stands.{wordAt, labelAt, arityAt, Reads}
 use Rattle.value.specs.Left.{kind-at}
 use Rattle.value.specs.Labels.{text-inside, names-inside}
-use Rattle.output.specs.Decimal.{decimalText, signedText, figures, either}
+use Rattle.output.specs.Decimal.{decimalText, signedText, figures}
 use Rattle.list.specs.Listing.{listedText, names, kindName, flag, listedNames, namesAt, contentOf, line, tab}
 use Rattle.output.specs.Put.{newline, Room, room-first}
 
@@ -25,7 +26,7 @@ Below P (suc n) = Below P n × P n
 
 below : (P : ℕ → Type 0) (n : ℕ) → Below P n → (k : ℕ) → k < n → P k
 below P zero b k h = absurd (omega arith)
-below P (suc n) b k h = either k n (below P n (b .0) k) (λ l. let e : n ≡ k = omega arith in subst P e (b .1))
+below P (suc n) b k h = by-lt k n (below P n (b .0) k) (λ l. let e : n ≡ k = omega arith in subst P e (b .1))
 
 pub beyond : {n k : ℕ} → n ≤ k → (k ≡ n → ⊥) → n < k
 beyond h x = omega arith
@@ -105,7 +106,7 @@ module _ {w t : List ℕ} {i : ℕ} {h : Head} (x : Opened w t i h) where
   -- None and Bool have one byte
   pub content-one : h .kind < 2 → 1 ≡ length content
   content-one g =
-      either (h .kind) 1 (λ l. sym (ap length (content-none (omega arith)))) (λ l. sym (ap length (content-bool (omega arith))))
+      by-lt (h .kind) 1 (λ l. sym (ap length (content-none (omega arith)))) (λ l. sym (ap length (content-bool (omega arith))))
 
   pub content-flags : 11 < h .kind → length content ≡ length (namesAt t (wordAt w i 1) (wordAt w i 2)) + 4
   content-flags g = ap length (content-object g) ∙ length-append (namesAt t (wordAt w i 1) (wordAt w i 2)) _
@@ -113,12 +114,12 @@ module _ {w t : List ℕ} {i : ℕ} {h : Head} (x : Opened w t i h) where
   -- a module and a name take no more
   pub names-few : 10 < h .kind → length (namesAt t (wordAt w i 1) (wordAt w i 2)) ≤ length content
   names-few g =
-      either (h .kind) 12 (λ l. omega (arith, ap length (content-global (omega arith)))) (λ l. omega (arith, content-flags l))
+      by-lt (h .kind) 12 (λ l. omega (arith, ap length (content-global (omega arith)))) (λ l. omega (arith, content-flags l))
 
   -- a module and a name stand first in both
   pub names-room : {o : List ℕ} {at : ℕ} → 10 < h .kind → Room o at content → Room o at (namesAt t (wordAt w i 1) (wordAt w i 2))
   names-room g m =
-      either (h .kind) 12 (λ l. rw (content-global (omega arith)) at m)
+      by-lt (h .kind) 12 (λ l. rw (content-global (omega arith)) at m)
       (λ l. room-first _ (rw (content-object l) at m))
 
   -- its line

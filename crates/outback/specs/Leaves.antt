@@ -8,6 +8,7 @@ use lib.Dec.{leb}
 use lib.IntN.{ℤ, pos, negsuc}
 use native.Mathlib.Omega.{arith}
 use borrow.Author.Tests.{leb-true, leb-false, le-leb, lt-ltb, le-ltb}
+use Rattle.utf8.specs.Encode.{by-lt}
 use Rattle.refusal.specs.Read.{got}
 use Rattle.op.specs.Table.{numberOf}
 use Rattle.op.specs.declared.Opcode.{Opcode}
@@ -19,7 +20,7 @@ use Rattle.input.specs.Long.{denotes, bits64, inI64, minus}
 use Rattle.number.specs.Space.{same}
 use Rattle.number.specs.Trims.{same-is}
 use Rattle.number.specs.Number.{whole, intLiteral, turned, parseI64, integer, natural, plus, digits, decimal}
-use Rattle.output.specs.Decimal.{signedText, signed-back, either}
+use Rattle.output.specs.Decimal.{signedText, signed-back}
 use Rattle.output.specs.Parse.{parse-back}
 use Rattle.output.specs.Put.{newline}
 use Rattle.value.specs.Value.{Label, NoneL, BoolL, I64L, F64L, BytesL, StringL, ListL, TupleL, DictL, GlobalL, nil}
@@ -50,7 +51,7 @@ low-length (suc k) n = ap suc (low-length k (n / 256))
 whole-of : (b : ℕ) → b < 2 ^ 64 → (z : ℤ) × (inI64 z ≡ true) × (bits64 z ≡ b)
 unfolding inI64 bits64
 whole-of b h =
-    either b (2 ^ 63) (λ l. (pos b, lt-ltb b (2 ^ 63) l, refl))
+    by-lt b (2 ^ 63) (λ l. (pos b, lt-ltb b (2 ^ 63) l, refl))
     (λ l. (negsuc (2 ^ 64 - suc b), rw (le-leb (2 ^ 64 - suc b) (2 ^ 63 - 1) (omega arith)), omega arith))
 
 -- INT's two texts for Bools are those of no number that INT is written for
@@ -79,7 +80,7 @@ literal-back b g h =
 four-back : (b : ℕ) → inI32 b ≡ true → b < 2 ^ 64 → bits64 (denotes (low 4 b)) ≡ b
 unfolding inI32 denotes low lowFirst lastByte bits64
 four-back b i h =
-    either b (2 ^ 31) (λ l. rw (lt-ltb (b / 256 / 256 / 256 % 256) 128 (omega arith)) (omega arith))
+    by-lt b (2 ^ 31) (λ l. rw (lt-ltb (b / 256 / 256 / 256 % 256) 128 (omega arith)) (omega arith))
     (λ l.
     let u : 2 ^ 64 - 2 ^ 31 ≤ b = leb-true (2 ^ 64 - 2 ^ 31) b (rw (le-ltb b (2 ^ 31) l) at i) in
     let n = b % 256 + 256 * (b / 256 % 256 + 256 * (b / 256 / 256 % 256 + 256 * (b / 256 / 256 / 256 % 256 + 256 * 0))) in

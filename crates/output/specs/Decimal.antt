@@ -10,8 +10,9 @@ use native.Mathlib.Omega.{arith}
 use lib.Dec.{eqb, ltb, leb, lit<}
 use lib.IntN.{ℤ, pos, negsuc}
 use lib.ListN.{length, length-append}
-use borrow.Author.Tests.{ltb-true, ltb-false, leb-true, lt-ltb, le-ltb, le-leb, ne-eqb}
+use borrow.Author.Tests.{ltb-true, leb-true, lt-ltb, le-ltb, le-leb, ne-eqb}
 use Rattle.refusal.specs.Read.{got}
+use Rattle.utf8.specs.Encode.{by-lt}
 use Rattle.input.specs.Long.{inI64, bits64}
 use Rattle.number.specs.Number.{digits, decimal, natural, turned, plus, integer}
 
@@ -59,13 +60,6 @@ unfolding noZeros
 no-zero c [] h = refl
 no-zero c (d ∷ s) h = rw (ne-eqb c 0x30 h)
 
-pub either : {P : Type 0} (a b : ℕ) → (a < b → P) → (b ≤ a → P) → P
-either {P} a b f g = go (ltb a b) refl
-  where
-    go : (t : Bool) → ltb a b ≡ t → P
-    go true e = f (ltb-true a b e)
-    go false e = g (ltb-false a b e)
-
 pow-next : (n j : ℕ) → n < 10 ^ suc j → n / 10 < 10 ^ j
 pow-next n j h = omega (arith, pow-suc 10 j)
 
@@ -77,7 +71,7 @@ front (suc j) m s p h =
     let x = figures 10 j (m / 10) in
     let c = figure (m % 10) in
     rw (append-assoc x)
-    (either m 10
+    (by-lt m 10
     (λ l.
     let e : m / 10 ≡ 0 = omega arith in
     let n : c ≡ 0x30 → ⊥ = λ q. let f = figure-low (m % 10) (omega arith) in omega arith in
@@ -161,7 +155,7 @@ text-figures : (j n : ℕ) → n < 10 ^ suc j → figures 10 (length (noZeros (f
 unfolding figures
 text-figures zero n h = few-figures 0 n (omega arith)
 text-figures (suc j) n h =
-    either n 10 (few-figures (suc j) n)
+    by-lt n 10 (few-figures (suc j) n)
     (λ l.
     let x = noZeros (figures 10 (suc j) (n / 10)) in
     let e : length (x ++ (figure (n % 10) ∷ [])) ≡ suc (length x) = length-append x _ ∙ add-one (length x) in
@@ -207,7 +201,7 @@ back-one j n l = let e = figure-low n l in rw (decimal-one j n l) (record { numb
 back : (j n : ℕ) → n < 10 ^ suc j → Back n (noZeros (figures 10 (suc j) n))
 back zero n h = back-one 0 n (omega arith)
 back (suc j) n h =
-    either n 10 (back-one (suc j) n)
+    by-lt n 10 (back-one (suc j) n)
     (λ l.
     let x = noZeros (figures 10 (suc j) (n / 10)) in
     let q = back j (n / 10) (pow-next n (suc j) h) in

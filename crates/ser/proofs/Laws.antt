@@ -10,6 +10,7 @@ use lib.Dec.{eqb, ltb}
 use borrow.Author.Tests.{le-leb, lt-leb, ne-eqb}
 use lib.ListN.{length, set, getD, take, drop}
 use lib.Seq.{sets, drop-drop}
+use Rattle.utf8.specs.Encode.{by-lt}
 use Rattle.output.specs.Put.{Put, Room, Left, left-more, left-room, left-none, room-first, sets-last}
 use Rattle.op.specs.Table.{numberOf, numberIn, isNamed, place}
 use Rattle.refusal.specs.Read.{Read, got, refused}
@@ -22,7 +23,7 @@ use Rattle.value.specs.declared.Head.{Head}
 use Rattle.value.specs.Shape.{kindIn, headOf, moduleOf, nameOf}
 use Rattle.table.specs.Record.{Below, below}
 use Rattle.value.specs.Stands.{wordAt, labelAt}
-use Rattle.output.specs.Decimal.{signedText, either, either-way}
+use Rattle.output.specs.Decimal.{signedText, either-way}
 use Rattle.output.specs.Put.{newline}
 use Rattle.ser.specs.Image.{low, high, inI32, int, float, bytes, string, global, builtin, setOpening, bool, joined, listBatch, dictBatch, batch, batchesUpTo, batches, appends, tupleOpcode, tupleMark, tuple, objectOpcode, built, object, framed}
 use Rattle.ser.specs.Short.{high-length}
@@ -224,7 +225,7 @@ head-kind w i h q = rw (add-zero, q)
 module _ (k b c : ℕ) where
   pub takes-low : k < 2 → openingTakes k b c ≡ 1
   unfolding openingTakes
-  takes-low h = either k 1 (λ l. let e : k ≡ 0 = omega arith in rw e) (λ l. let e : k ≡ 1 = omega arith in rw e)
+  takes-low h = by-lt k 1 (λ l. let e : k ≡ 0 = omega arith in rw e) (λ l. let e : k ≡ 1 = omega arith in rw e)
 
   pub takes-int : k ≡ 2 → openingTakes k b c ≡ length (int b)
   unfolding openingTakes
@@ -248,7 +249,7 @@ module _ (k b c : ℕ) where
 
   pub takes-held : 5 < k → k ≤ 10 → k ≢ 7 → k ≢ 8 → k ≢ 9 → openingTakes k b c ≡ 1
   unfolding openingTakes
-  takes-held g h x y z = either k 7 (λ l. let e : k ≡ 6 = omega arith in rw e) (λ l. let e : k ≡ 10 = omega arith in rw e)
+  takes-held g h x y z = by-lt k 7 (λ l. let e : k ≡ 6 = omega arith in rw e) (λ l. let e : k ≡ 10 = omega arith in rw e)
 
   pub takes-tuple : k ≡ 7 → openingTakes k b c ≡ 0
   unfolding openingTakes
@@ -264,7 +265,7 @@ module _ (k b c : ℕ) where
 
   pub takes-names : 10 < k → k < 13 → openingTakes k b c ≡ c / 2 ^ 32 + c % 2 ^ 32 + 3
   unfolding openingTakes
-  takes-names g h = either k 12 (λ l. let e : k ≡ 11 = omega arith in rw e) (λ l. let e : k ≡ 12 = omega arith in rw e)
+  takes-names g h = by-lt k 12 (λ l. let e : k ≡ 11 = omega arith in rw e) (λ l. let e : k ≡ 12 = omega arith in rw e)
 
 module _ (k n : ℕ) where
   pub around-leaf : k < 6 → around k n ≡ 0
@@ -281,7 +282,7 @@ module _ (k n : ℕ) where
 
   pub around-set : 7 < k → k < 10 → around k n ≡ appendsTake n + 2
   unfolding around
-  around-set g h = either k 9 (λ l. let e : k ≡ 8 = omega arith in rw e) (λ l. let e : k ≡ 9 = omega arith in rw e)
+  around-set g h = by-lt k 9 (λ l. let e : k ≡ 8 = omega arith in rw e) (λ l. let e : k ≡ 9 = omega arith in rw e)
 
   pub around-dict : k ≡ 10 → around k n ≡ batchesTake true n
   unfolding around
@@ -289,7 +290,7 @@ module _ (k n : ℕ) where
 
   pub around-names : 10 < k → k < 13 → around k n ≡ n
   unfolding around
-  around-names g h = either k 12 (λ l. let e : k ≡ 11 = omega arith in rw e) (λ l. let e : k ≡ 12 = omega arith in rw e)
+  around-names g h = by-lt k 12 (λ l. let e : k ≡ 11 = omega arith in rw e) (λ l. let e : k ≡ 12 = omega arith in rw e)
 
 pub appends-few : (n : ℕ) → n ≤ 2048 → appendsTake n < 4096
 unfolding appendsTake batchesTake

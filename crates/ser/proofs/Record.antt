@@ -8,12 +8,12 @@ use native.Mathlib.Nat.{add-zero}
 use native.Mathlib.Omega.{arith}
 use lib.Dec.{eqb, ltb, ltb→lt}
 use lib.ListN.{getD, take, drop}
+use Rattle.utf8.specs.Encode.{by-lt}
 use Rattle.value.specs.declared.Head.{Head}
 use Rattle.value.specs.Value.{Label, bit, NoneL}
 use Rattle.value.specs.Shape.{kindIn, newIn, stateIn, headOf, holding, labelsOf, labelOf, arityOf, moduleOf, nameOf, and-l, nothing-held}
 use Rattle.value.specs.Stands.{wordAt, labelAt, arityAt, Reads}
 use Rattle.table.specs.Record.{Below, below}
-use Rattle.output.specs.Decimal.{either}
 use Rattle.output.specs.Put.{Put}
 use Rattle.ser.specs.Image.{int, float, bytes, string, global, set, frozenset, setOpening, bool, opening, appends, tuple, object, batches, contents, joined}
 use Rattle.ser.specs.Parts.{Same, ahead, wrote-none, value-wrote}
@@ -42,14 +42,14 @@ module _ {w t : List ℕ} {i : ℕ} (r : Reads w t i) {h : Head} (q : h ≡ head
   pub opens-names : 10 < h .kind → names ≡ opening label
   unfolding opening labelAt labelOf
   opens-names g =
-      either (h .kind) 12 (λ l. let e : h .kind ≡ 11 = omega arith in sym (rw (kind₀, e)))
+      by-lt (h .kind) 12 (λ l. let e : h .kind ≡ 11 = omega arith in sym (rw (kind₀, e)))
       (λ l. let e : h .kind ≡ 12 = omega (arith, known) in sym (rw (kind₀, e)))
 
   -- whether they can be read back; no other label has any
   pub names-writable : 10 < h .kind → (writable (moduleOf (wordAt w i 2) (drop (wordAt w i 1) t)) && writable (nameOf (wordAt w i 2) (drop (wordAt w i 1) t))) ≡ writableLabel label
   unfolding writableLabel labelAt labelOf
   names-writable g =
-      either (h .kind) 12 (λ l. let e : h .kind ≡ 11 = omega arith in sym (rw (kind₀, e)))
+      by-lt (h .kind) 12 (λ l. let e : h .kind ≡ 11 = omega arith in sym (rw (kind₀, e)))
       (λ l. let e : h .kind ≡ 12 = omega (arith, known) in sym (rw (kind₀, e)))
 
   pub no-names : h .kind ≤ 10 → true ≡ writableLabel label
@@ -146,5 +146,5 @@ module _ {w t : List ℕ} {i : ℕ} (r : Reads w t i) {h : Head} (q : h ≡ head
     makes-set e object list tuple dict =
         let l = ltb→lt 5 (h .kind) (and-l (ltb 5 (h .kind)) (not (eqb (h .kind) 11)) (rw e tt)) in
         let global : h .kind ≢ 11 = λ f. never (sym (rw f at e)) in
-        either (h .kind) 9 (λ m. let f : h .kind ≡ 8 = omega arith in record { same = λ s u. rw (kind₀, f) })
+        by-lt (h .kind) 9 (λ m. let f : h .kind ≡ 8 = omega arith in record { same = λ s u. rw (kind₀, f) })
         (λ m. let f : h .kind ≡ 9 = omega (arith, known) in record { same = λ s u. rw (kind₀, f) })

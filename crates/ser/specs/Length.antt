@@ -9,6 +9,7 @@ use lib.Dec.{T, eqb, leb, ltb, eqb→eq, ltb→lt}
 use lib.ListN.{length, length-append, length-take, length-drop, getD, take, drop, take-append-drop}
 use lib.Seq.{length-take-le}
 use borrow.Author.Tests.{le-ltb, ne-eqb}
+use Rattle.utf8.specs.Encode.{by-lt}
 use Rattle.value.specs.Value.{Label, Forest, one, kind, count, size, NoneL, BoolL, I64L, F64L, BytesL, StringL, ListL, TupleL, SetL, FrozenSetL, DictL, GlobalL, ObjectL, nil, node}
 use Rattle.value.specs.Shape.{kindIn, labelsOf, labelOf, moduleOf, nameOf, namesEnd, fitting, shaped, and-l, and-r}
 use Rattle.value.specs.Stands.{wordAt, labelAt, arityAt, textEnd, Reads, Stands}
@@ -16,7 +17,6 @@ use Rattle.value.specs.Left.{kind-at}
 use Rattle.table.specs.Record.{Below, below}
 use Rattle.table.specs.Compare.{formed-stands}
 use Rattle.value.specs.WellFormed.{WellFormed}
-use Rattle.output.specs.Decimal.{either}
 use Rattle.op.specs.declared.Opcode.the-variants.{MARK, BINSTRING, «SHORT_BINSTRING», SETITEM, SETITEMS}
 use Rattle.ser.specs.Image.{op, low, int, float, bytes, string, global, setOpening, bool, opening, tupleOpcode, joined, listBatch, dictBatch, batch, batchSize, batchesUpTo, batches, appends, tupleMark, tuple, built, object, contents, images, framed, pickled}
 use Rattle.ser.specs.Parts.{images-length, size-some}
@@ -62,15 +62,15 @@ batch-length false s = rw (length-append (joined s)) (omega arith)
 take-more : (e : Bool) (n : ℕ) → 0 < n → batchesTake e n ≡ batchTakes e (min (batchSize e) n) + batchesTake e (n - batchSize e)
 unfolding batchesTake batchTakes batchSize
 take-more false n h = omega arith
-take-more true n h = either n 2001 few many
+take-more true n h = by-lt n 2001 few many
   where
     few : n < 2001 → batchesTake true n ≡ batchTakes true (min 2000 n) + batchesTake true (n - 2000)
     few l =
         let m : min 2000 n ≡ n = omega arith in
         let z : n - 2000 ≡ 0 = omega arith in
         rw (m, z)
-        (either n 2 (λ a. let e : n ≡ 1 = omega arith in rw e)
-        (λ a. either n 3 (λ b. let e : n ≡ 2 = omega arith in rw e) (λ b. rw (ne-eqb n 2 (λ q. omega arith), ne-eqb (n % 2000) 2 (λ q. omega arith)) (omega arith))))
+        (by-lt n 2 (λ a. let e : n ≡ 1 = omega arith in rw e)
+        (λ a. by-lt n 3 (λ b. let e : n ≡ 2 = omega arith in rw e) (λ b. rw (ne-eqb n 2 (λ q. omega arith), ne-eqb (n % 2000) 2 (λ q. omega arith)) (omega arith))))
 
     many : 2001 ≤ n → batchesTake true n ≡ batchTakes true (min 2000 n) + batchesTake true (n - 2000)
     many l =

@@ -7,9 +7,9 @@ use mathlib.Core.Path.{_≡_, refl, sym, _∙_, ap, subst}
 use native.Mathlib.Omega.{arith}
 use lib.ListN.{length, take, drop, length-drop, drop-of-length-le}
 use lib.Seq.{take-all, length-sets}
+use Rattle.utf8.specs.Encode.{by-lt}
 use Rattle.value.specs.Value.{Label, Forest, count, size, count-size, nil, node}
 use Rattle.value.specs.Stands.{labelAt, arityAt, Reads, Says, Stands}
-use Rattle.output.specs.Decimal.{either}
 use Rattle.output.specs.Put.{Put, Room, put-same, put-then, put-none, room-first, room-then}
 use Rattle.ser.specs.Image.{opening, contents, images, joined, batch, batchSize, batchesUpTo, batches}
 use Rattle.ser.specs.Walk.{Maker, Ready, Wrote}
@@ -299,11 +299,11 @@ module _ (e : Bool) where
 
   take-min : (b n : ℕ) (s : List (List ℕ)) → length s ≡ n → take (min b n) s ≡ take b s
   take-min b n s q =
-      either n b (λ l. let m : min b n ≡ n = omega arith in rw m (take-all n s (omega arith) ∙ sym (take-all b s (omega arith)))) (λ l. let m : min b n ≡ b = omega arith in rw m)
+      by-lt n b (λ l. let m : min b n ≡ n = omega arith in rw m (take-all n s (omega arith) ∙ sym (take-all b s (omega arith)))) (λ l. let m : min b n ≡ b = omega arith in rw m)
 
   drop-min : (b n : ℕ) (s : List (List ℕ)) → length s ≡ n → drop (min b n) s ≡ drop b s
   drop-min b n s q =
-      either n b (λ l. let m : min b n ≡ n = omega arith in rw m (drop-of-length-le s {i = n} (omega arith) ∙ sym (drop-of-length-le s {i = b} (omega arith)))) (λ l. let m : min b n ≡ b = omega arith in rw m)
+      by-lt n b (λ l. let m : min b n ≡ n = omega arith in rw m (drop-of-length-le s {i = n} (omega arith) ∙ sym (drop-of-length-le s {i = b} (omega arith)))) (λ l. let m : min b n ≡ b = omega arith in rw m)
 
   pub batches-cuts : (n : ℕ) → 0 < n → Cuts (min (batchSize e) n) n (n - min (batchSize e) n) (batches e) (batch e) (batches e)
   unfolding batches batchesUpTo
