@@ -7,8 +7,8 @@ use lib.Dec.{ltb}
 use borrow.Author.Tests.{lt-ltb, le-ltb}
 
 module _ {A : Type 0} {p k x : ℕ} (e : x ≡ k) where
-  pub under : {u : A} (v : A) → x < p → u ≡ cond (ltb k p) u v
-  under v h = rw (← e, lt-ltb x p h) refl
+  pub kind-under : {u : A} (v : A) → x < p → u ≡ cond (ltb k p) u v
+  kind-under v h = rw (← e, lt-ltb x p h) refl
 
-  pub past : (u : A) {v r : A} → p ≤ x → r ≡ v → r ≡ cond (ltb k p) u v
-  past u h i = rw (← e, le-ltb x p h) i
+  pub kind-past : (u : A) {v r : A} → p ≤ x → r ≡ v → r ≡ cond (ltb k p) u v
+  kind-past u h i = rw (← e, le-ltb x p h) i

@@ -1,6 +1,6 @@
 -- `pickle::qelemvir_from_bytes` meets its contract. Assumes nothing.
 use Rattle.build.specs.Given.{due}
-use Rattle.pickle.proofs.Lent.{each}
+use Rattle.pickle.proofs.Lent.{kept-each}
 use Rattle.pickle.proofs.qelemvir_from_bytes.Statement.{statement}
 use Rattle.pickle.proofs.qelemvir_from_bytes.Tie as tie
 
@@ -13,4 +13,4 @@ unfolding due
 returns c = called c .reading .ensures
 
 pub qelemvir-from-bytes-spec : {M : Type 1} → statement M
-qelemvir-from-bytes-spec = tie.close (each (λ c. called c .reading .kept .1 .1 .1) (tie.spec (λ c κs. tt)) returns)
+qelemvir-from-bytes-spec = tie.close (kept-each (λ c. called c .reading .kept .1 .1 .1) (tie.spec (λ c κs. tt)) returns)

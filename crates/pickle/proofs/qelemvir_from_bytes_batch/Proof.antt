@@ -1,5 +1,5 @@
 -- `pickle::qelemvir_from_bytes_batch` meets its contract. Assumes nothing.
-use Rattle.pickle.proofs.Lent.{each}
+use Rattle.pickle.proofs.Lent.{kept-each}
 use Rattle.pickle.proofs.qelemvir_from_bytes_batch.Statement.{statement}
 use Rattle.pickle.proofs.qelemvir_from_bytes_batch.Tie as tie
 
@@ -11,4 +11,4 @@ returns : tie.Need-returns
 returns c = called c .from-bytes-batch .ensures
 
 pub qelemvir-from-bytes-batch-spec : {M : Type 1} → statement M
-qelemvir-from-bytes-batch-spec = tie.close (each (λ c. called c .from-bytes-batch .kept .1 .1 .1) (tie.spec (λ c κs. tt) (λ c. called c .from-bytes-batch .kept .1 .1 .0)) returns)
+qelemvir-from-bytes-batch-spec = tie.close (kept-each (λ c. called c .from-bytes-batch .kept .1 .1 .1) (tie.spec (λ c κs. tt) (λ c. called c .from-bytes-batch .kept .1 .1 .0)) returns)
