@@ -5,23 +5,9 @@ use lib.ListN.{length}
 use Rattle.replay_reading.proofs.hold8.Statement.{statement}
 use Rattle.replay_reading.proofs.hold8.Tie as tie
 
-abbrev Inv-loop : tie.InvT-loop
-Inv-loop room from value i₀ i = from ≤ i
-
-abbrev μ-loop : tie.MeasureT-loop
-μ-loop room from value i₀ i = length room - i
-
 pub hold8-spec : {M : Type 1} → statement M
 hold8-spec =
     tie.close
-    (tie.spec
-    Inv-loop
-    μ-loop
-    (λ c. search needs)
-    (λ c. search needs)
-    (λ c κs. search needs)
-    (λ c. search needs)
-    (λ c. search needs)
-    (λ c. search needs)
-    (λ c. search needs)
-    (λ c. search needs))
+    (tie.spec (λ room from value i₀ i. from ≤ i) (λ room from value i₀ i. length room - i)
+    (λ c. search needs) (λ c. search needs) (λ c κs. search needs) (λ c. search needs) (λ c. search needs)
+    (λ c. search needs) (λ c. search needs) (λ c. search needs))

@@ -5,24 +5,9 @@ use lib.ListN.{length}
 use Rattle.replay_reading.proofs.show_bytes.Statement.{statement}
 use Rattle.replay_reading.proofs.show_bytes.Tie as tie
 
-abbrev Inv-loop : tie.InvT-loop
-Inv-loop bytes n i₀ i = i ≤ length bytes
-
-abbrev μ-loop : tie.MeasureT-loop
-μ-loop bytes n i₀ i = length bytes - i
-
 pub show-bytes-spec : {M : Type 1} → statement M
 show-bytes-spec =
     tie.close
-    (tie.spec
-    Inv-loop
-    μ-loop
-    (λ c. search needs)
-    (λ c. search needs)
-    (λ c. search needs)
-    (λ c κs. search needs)
-    (λ c κs. search needs)
-    (λ c. search needs)
-    (λ c. search needs)
-    (λ c. search needs)
-    (λ c. search needs))
+    (tie.spec (λ bytes n i₀ i. i ≤ length bytes) (λ bytes n i₀ i. length bytes - i)
+    (λ c. search needs) (λ c. search needs) (λ c. search needs) (λ c κs. search needs) (λ c κs. search needs)
+    (λ c. search needs) (λ c. search needs) (λ c. search needs) (λ c. search needs))

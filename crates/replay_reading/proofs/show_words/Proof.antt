@@ -5,24 +5,9 @@ use lib.ListN.{length}
 use Rattle.replay_reading.proofs.show_words.Statement.{statement}
 use Rattle.replay_reading.proofs.show_words.Tie as tie
 
-abbrev Inv-loop : tie.InvT-loop
-Inv-loop words n i₀ i = i ≤ length words
-
-abbrev μ-loop : tie.MeasureT-loop
-μ-loop words n i₀ i = length words - i
-
 pub show-words-spec : {M : Type 1} → statement M
 show-words-spec =
     tie.close
-    (tie.spec
-    Inv-loop
-    μ-loop
-    (λ c. search needs)
-    (λ c. search needs)
-    (λ c. search needs)
-    (λ c. search needs)
-    (λ c κs. search needs)
-    (λ c. search needs)
-    (λ c. search needs)
-    (λ c. search needs)
-    (λ c. search needs))
+    (tie.spec (λ words n i₀ i. i ≤ length words) (λ words n i₀ i. length words - i)
+    (λ c. search needs) (λ c. search needs) (λ c. search needs) (λ c. search needs) (λ c κs. search needs)
+    (λ c. search needs) (λ c. search needs) (λ c. search needs) (λ c. search needs))
