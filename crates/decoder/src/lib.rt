@@ -43,7 +43,7 @@ ghost use Rattle.decoder.specs.ReadsCalls.{Calls, ReadsCall, madeKind};
 ghost use Rattle.number.specs.Space.{same};
 
 // The counts with place, stack and marks moved.
-fn cut(c: Counts, at: usize, stack: usize, marks: usize) -> Counts
+fn cut_to(c: Counts, at: usize, stack: usize, marks: usize) -> Counts
     ensures { λ r. ⌜ r ≡ cutTo c at stack marks ⌝ }
 {
     Counts {
@@ -63,7 +63,7 @@ fn cut(c: Counts, at: usize, stack: usize, marks: usize) -> Counts
 fn read_to(c: Counts, at: usize) -> Counts
     ensures { λ r. ⌜ r ≡ cutTo c at (c .stack) (c .marks) ⌝ }
 {
-    cut(c, at, c.stack, c.marks)
+    cut_to(c, at, c.stack, c.marks)
 }
 
 // ---- values that stand in the pickle
@@ -393,7 +393,7 @@ pub fn pop(c: Counts) -> Effect
     if values == 0 {
         return Effect::Refused(c, 0, 0, Refusal::StackUnderflow);
     }
-    Effect::Go(cut(c, c.at, values - 1, c.marks))
+    Effect::Go(cut_to(c, c.at, values - 1, c.marks))
 }
 
 pub fn pop_mark(marks: &[u16], c: Counts) -> Effect
@@ -402,7 +402,7 @@ pub fn pop_mark(marks: &[u16], c: Counts) -> Effect
 {
     match above_mark(marks, c) {
         Taken::Short => Effect::Refused(c, 0, 0, Refusal::StackUnderflow),
-        Taken::From(m) => Effect::Go(cut(c, c.at, m, c.marks - 1)),
+        Taken::From(m) => Effect::Go(cut_to(c, c.at, m, c.marks - 1)),
     }
 }
 
@@ -427,7 +427,7 @@ fn gather(marks: &[u16], c: Counts, kind: u64) -> Effect
 {
     match above_mark(marks, c) {
         Taken::Short => Effect::Refused(c, 0, 0, Refusal::StackUnderflow),
-        Taken::From(m) => Effect::Make(cut(c, c.at, m, c.marks - 1), kind),
+        Taken::From(m) => Effect::Make(cut_to(c, c.at, m, c.marks - 1), kind),
     }
 }
 
@@ -454,7 +454,7 @@ pub fn small_tuple(c: Counts, code: u8) -> Effect
     if c.stack < n {
         return Effect::Refused(c, 0, 0, Refusal::StackUnderflow);
     }
-    Effect::Make(cut(c, c.at, c.stack - n, c.marks), value::TUPLE)
+    Effect::Make(cut_to(c, c.at, c.stack - n, c.marks), value::TUPLE)
 }
 
 pub fn dict(marks: &[u16], c: Counts) -> Effect
@@ -465,7 +465,7 @@ pub fn dict(marks: &[u16], c: Counts) -> Effect
         Taken::Short => Effect::Refused(c, 0, 0, Refusal::StackUnderflow),
         Taken::From(m) => {
             if (c.stack - m) % 2 == 0 {
-                Effect::Make(cut(c, c.at, m, c.marks - 1), value::DICT)
+                Effect::Make(cut_to(c, c.at, m, c.marks - 1), value::DICT)
             } else {
                 Effect::Refused(c, 0, 0, Refusal::Invalid(Wanted::DictItems))
             }
@@ -493,7 +493,7 @@ fn grown(
     let i = keep - 1;
     let owner = stack[i] as usize;
     if kind(nodes, NodeId(owner)) == container {
-        return Effect::Extend(cut(c, c.at, keep, marks), NodeId(owner));
+        return Effect::Extend(cut_to(c, c.at, keep, marks), NodeId(owner));
     }
     Effect::Refused(c, 0, 0, Refusal::Invalid(why))
 }
@@ -796,7 +796,7 @@ fn reduced(
         second_word(nodes, class),
         n,
     );
-    let rest = cut(c, c.at, c.stack - 2, c.marks);
+    let rest = cut_to(c, c.at, c.stack - 2, c.marks);
     if made == value::OBJECT {
         return Effect::Push(
             rest,
@@ -830,7 +830,7 @@ pub fn newobj(nodes: &[u64], stack: &[u16], c: Counts) -> Effect
     match class_and_arguments(nodes, stack, c) {
         CallRead::None(why) => Effect::Refused(c, 0, 0, why),
         CallRead::Of(class, arguments) => Effect::Push(
-            cut(c, c.at, c.stack - 2, c.marks),
+            cut_to(c, c.at, c.stack - 2, c.marks),
             value::OBJECT + store::NEW + store::CLASS * class.0 as u64,
             arguments.0 as u64,
         ),
@@ -852,5 +852,5 @@ pub fn build_state(nodes: &[u64], stack: &[u16], c: Counts) -> Effect
     if kind(nodes, object) != value::OBJECT {
         return Effect::Refused(c, 0, 0, Refusal::Invalid(Wanted::Object));
     }
-    Effect::Build(cut(c, c.at, j, c.marks), object, state)
+    Effect::Build(cut_to(c, c.at, j, c.marks), object, state)
 }

@@ -41,7 +41,7 @@ returns-2 c = λ r s q. says-no-object r _ s _ _ (q .0) (q .1) (omega arith) (λ
 
 returns-3 : tie.Need-returns-3
 unfolding Decides
-returns-3 c = λ r s q. says-build r _ s _ _ (q .0) (q .1) (omega arith) _ _ _ refl refl (sym (c .before .before .kind .ensures) ∙ c .before .if2 .left) (c .cut .ensures)
+returns-3 c = λ r s q. says-build r _ s _ _ (q .0) (q .1) (omega arith) _ _ _ refl refl (sym (c .before .before .kind .ensures) ∙ c .before .if2 .left) (c .cut-to .ensures)
 
 pub build-state-spec : {M : Type 1} → statement M
 build-state-spec = tie.close (tie.spec returns (λ c. search needs) (λ c. search needs) shared-slice-read-t12 cast-t13 (λ c. search needs) shared-slice-read-t12-2 cast-t13-2 (λ c κs. let t = two (read c) in omega arith) returns-2 (λ c κs. search needs) returns-3)

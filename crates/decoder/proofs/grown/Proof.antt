@@ -30,7 +30,7 @@ unfolding Adds
 returns-2 c =
     let e = c .before .before .before .before in
     let p = start e .pre .1 in
-    λ r s a b. rw (c .cut .ensures) (extends-lent _ _ _ r s a b _ _ _ _ (p .2) (p .0) (p .1) (e .if1 .left) (rw (c .before .before .kind .ensures) at (c .before .if2 .taken)))
+    λ r s a b. rw (c .cut-to .ensures) (extends-lent _ _ _ r s a b _ _ _ _ (p .2) (p .0) (p .1) (e .if1 .left) (rw (c .before .before .kind .ensures) at (c .before .if2 .taken)))
 
 returns-3 : tie.Need-returns-3
 unfolding Adds

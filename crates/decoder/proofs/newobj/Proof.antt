@@ -29,7 +29,7 @@ returns-2 : tie.Need-returns-2
 unfolding Decides newobj objectWord
 returns-2 c =
     let k = c .before .before .before in
-    λ r s q. says-object r _ s _ _ (call-of _ _ _ _ (k .before .before .class-and-arguments .ensures) r s (q .0) (q .1) _ _ (k .class .given .1)) (λ c args items. object c true args) true _ _ _ refl (c .cut .ensures) (omega arith) refl
+    λ r s q. says-object r _ s _ _ (call-of _ _ _ _ (k .before .before .class-and-arguments .ensures) r s (q .0) (q .1) _ _ (k .class .given .1)) (λ c args items. object c true args) true _ _ _ refl (c .cut-to .ensures) (omega arith) refl
 
 pub newobj-spec : {M : Type 1} → statement M
 newobj-spec = tie.close (tie.spec (λ c κs. search needs) (λ c. search needs) (λ c. search needs) (λ c. let m = small (c .before .before) in omega arith) (λ c κs. search needs) (λ c. search needs) (λ c. let m = small (c .before .before .before) in omega arith) (λ c. let m = small (c .before .before .before) in omega arith) returns returns-2)

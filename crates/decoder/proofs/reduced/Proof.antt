@@ -34,7 +34,7 @@ set c = c .before .before .before
 
 returns : tie.Need-returns
 unfolding Decides reduce objectWord
-returns c = λ r s q. let f = read (c .before .before .before) r s (q .0) (q .1) (q .3) in reduce-object r _ s _ _ (f .call) _ (f .kind) _ (c .before .cut .ensures) (c .if1 .taken) _ _ (omega arith) refl
+returns c = λ r s q. let f = read (c .before .before .before) r s (q .0) (q .1) (q .3) in reduce-object r _ s _ _ (f .call) _ (f .kind) _ (c .before .cut-to .ensures) (c .if1 .taken) _ _ (omega arith) refl
 
 returns-2 : tie.Need-returns-2
 unfolding Decides reduce objectWord
@@ -42,7 +42,7 @@ returns-2 c =
     let a = start (set (c .before)) .args in
     λ r s q.
     let f = read (set (c .before)) r s (q .0) (q .1) (q .3) in
-    reduce-set r _ s _ _ (f .call) _ (f .kind) _ (c .before .before .cut .ensures) (c .before .if1 .left) _ (first-none (kidsOf r (a .c) (a .arguments .0)) _ (sym (f .count) ∙ c .if2 .taken))
+    reduce-set r _ s _ _ (f .call) _ (f .kind) _ (c .before .before .cut-to .ensures) (c .before .if1 .left) _ (first-none (kidsOf r (a .c) (a .arguments .0)) _ (sym (f .count) ∙ c .if2 .taken))
 
 only-item-requires : tie.Need-only-item-requires
 only-item-requires c κs =
@@ -56,7 +56,7 @@ returns-3 c =
     λ r s q.
     let e = c .before .before in
     let f = read (set e) r s (q .0) (q .1) (q .3) in
-    reduce-set r _ s _ _ (f .call) _ (f .kind) _ (e .before .cut .ensures) (e .if1 .left) _ (c .only-item .ensures ∙ ap (λ l. getD l (set e .before .before .before .second-word .result / 0x1_0000_0000) 0) (sym (q .2)) ∙ item-there r _ _ _ _ _ s f (e .if1 .left) (c .before .if2 .left))
+    reduce-set r _ s _ _ (f .call) _ (f .kind) _ (e .before .cut-to .ensures) (e .if1 .left) _ (c .only-item .ensures ∙ ap (λ l. getD l (set e .before .before .before .second-word .result / 0x1_0000_0000) 0) (sym (q .2)) ∙ item-there r _ _ _ _ _ s f (e .if1 .left) (c .before .if2 .left))
 
 pub reduced-spec : {M : Type 1} → statement M
 reduced-spec = tie.close (tie.spec (λ c κs. let w = words (c .before .before .before) in omega arith) (λ c κs. let w = words (c .before .before .before .before) in omega arith) (λ c κs. let w = words (c .before .before .before .before .before) in omega arith) (λ c κs. search needs) (λ c. search needs) (λ c κs. search needs) (λ c. let w = words (start (c .before .before .before)) in omega arith) (λ c. let w = words (start (c .before .before .before)) in omega arith) returns returns-2 only-item-requires returns-3)

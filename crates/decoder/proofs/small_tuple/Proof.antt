@@ -11,7 +11,7 @@ returns c = λ r s q. says-refused _ r _ _ (tuple-n-underflow r _ s _ (c .if1 .t
 
 returns-2 : tie.Need-returns-2
 unfolding Decides
-returns-2 c = λ r s q. rw (c .cut .ensures) (tuple-n-makes r _ s _ (c .before .before .if1 .left))
+returns-2 c = λ r s q. rw (c .cut-to .ensures) (tuple-n-makes r _ s _ (c .before .before .if1 .left))
 
 pub small-tuple-spec : {M : Type 1} → statement M
 small-tuple-spec = tie.close (tie.spec (λ c. search needs) (λ c. search needs) returns (λ c κs. search needs) returns-2)
