@@ -60,7 +60,7 @@ fn most(x: u64, y: u64) -> u64
 // ---- how long a node's text is
 
 // Of a Global's module and name.
-fn names_len(pickle: &[u8], a: u64, b: u64) -> usize
+fn global_text_len(pickle: &[u8], a: u64, b: u64) -> usize
     requires { ⌜ length (now pickle) ≤ 65536 ⌝ }
     ensures { λ r. ⌜ r ≡ namesLen (now (pickle .entry)) a b ⌝ }
 {
@@ -74,7 +74,7 @@ fn names_len(pickle: &[u8], a: u64, b: u64) -> usize
 }
 
 // Of a line of STRING. One that is refused has no text.
-fn string_text(line: &[u8]) -> usize
+fn string_text_len(line: &[u8]) -> usize
     ensures { λ r. ⌜ r ≡ length (bytesOf (unescapeString (now (line .entry)))) ⌝ }
 {
     match string_len(line) {
@@ -85,7 +85,7 @@ fn string_text(line: &[u8]) -> usize
 }
 
 // Of a line of UNICODE, the same.
-fn unicode_text(line: &[u8]) -> usize
+fn unicode_text_len(line: &[u8]) -> usize
     ensures { λ r. ⌜ r ≡ length (bytesOf (unescapeUnicode (now (line .entry)))) ⌝ }
 {
     match unicode_len(line) {
@@ -113,17 +113,17 @@ fn node_text_len(pickle: &[u8], nodes: &[u64], node: NodeId) -> usize
         return repaired_len(value::cut(pickle, place, len));
     }
     if kind == value::GLOBAL {
-        return names_len(pickle, a, b);
+        return global_text_len(pickle, a, b);
     }
     if kind == value::OBJECT {
-        let class = (a / store::CLASS) as usize;
-        return names_len(pickle, nodes[2 * class], nodes[2 * class + 1]);
+        let class = NodeId((a / store::CLASS) as usize);
+        return global_text_len(pickle, nodes[2 * class.0], nodes[2 * class.0 + 1]);
     }
     if kind == store::KIND_ESCAPED {
-        return string_text(value::cut(pickle, place, len));
+        return string_text_len(value::cut(pickle, place, len));
     }
     if kind == store::KIND_UNICODE {
-        return unicode_text(value::cut(pickle, place, len));
+        return unicode_text_len(value::cut(pickle, place, len));
     }
     0
 }
@@ -184,7 +184,7 @@ fn known(node: NodeId, pickle: &[u8], nodes: &[u64], measures: &mut [u64]) -> Se
 }
 
 // How long a container's own text is: an Object's is its class's, which is measured once.
-fn own_text(kind: u64, node: NodeId, pickle: &[u8], nodes: &[u64], measures: &mut [u64]) -> u64
+fn own_text_len(kind: u64, node: NodeId, pickle: &[u8], nodes: &[u64], measures: &mut [u64]) -> u64
     requires { ⌜ Owned (now pickle) (now nodes) (now measures) (node .0) kind ⌝ }
     ensures { λ r.
         ⌜ Owns (now (pickle .entry)) (now (nodes .entry)) (now (measures .entry)) (now (measures .exit)) (node .0) r ⌝ }
@@ -193,13 +193,14 @@ fn own_text(kind: u64, node: NodeId, pickle: &[u8], nodes: &[u64], measures: &mu
         return 0;
     }
     let n = node.0;
-    let class = (nodes[2 * n] / store::CLASS) as usize;
-    let m = measures[class];
+    let class = NodeId((nodes[2 * n] / store::CLASS) as usize);
+    let c = class.0;
+    let m = measures[c];
     if m != 0 {
         return m / store::TEXT_AT % store::TEXTS;
     }
-    let w = leaf_word(NodeId(class), pickle, nodes);
-    measures[class] = w + store::AHEAD;
+    let w = leaf_word(class, pickle, nodes);
+    measures[c] = w + store::AHEAD;
     w / store::TEXT_AT % store::TEXTS
 }
 
@@ -261,7 +262,7 @@ fn measure(
         measures[n] = 3;
         return Answer::Empty;
     }
-    let mut texts = own_text(kind, node, pickle, nodes, measures);
+    let mut texts = own_text_len(kind, node, pickle, nodes, measures);
     measures[n] = 1;
     let mut deepest: u64 = 0;
     let mut values: u64 = 1;

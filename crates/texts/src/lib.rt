@@ -96,8 +96,8 @@ fn lead_place(node: NodeId, nodes: &[u64], measures: &[u64]) -> Place
         return module_place(first);
     }
     if kind == value::OBJECT {
-        let class = (first / store::CLASS) as usize;
-        return module_place(nodes[2 * class]);
+        let class = NodeId((first / store::CLASS) as usize);
+        return module_place(nodes[2 * class.0]);
     }
     text_place(nodes[2 * i + 1])
 }
@@ -121,8 +121,8 @@ fn trail_place(node: NodeId, nodes: &[u64], measures: &[u64]) -> Place
         return text_place(nodes[2 * i + 1]);
     }
     if kind == value::OBJECT {
-        let class = (first / store::CLASS) as usize;
-        return text_place(nodes[2 * class + 1]);
+        let class = NodeId((first / store::CLASS) as usize);
+        return text_place(nodes[2 * class.0 + 1]);
     }
     Place {
         decoded: false,
@@ -319,10 +319,10 @@ fn spell_node(
         );
     }
     if kind == value::OBJECT {
-        let class = (first / store::CLASS) as usize;
+        let class = NodeId((first / store::CLASS) as usize);
         return spell_names(
-            module_text(pickle, nodes[2 * class]),
-            own_text(pickle, nodes[2 * class + 1]),
+            module_text(pickle, nodes[2 * class.0]),
+            own_text(pickle, nodes[2 * class.0 + 1]),
             measure,
             decoded,
             used,

@@ -13,7 +13,7 @@ use Rattle.resolve.proofs.known.Reads as known-reads
 use Rattle.resolve.proofs.least.Reads as least-reads
 use Rattle.resolve.proofs.most.Reads as most-reads
 use Rattle.resolve.proofs.note.Reads as note-reads
-use Rattle.resolve.proofs.own_text.Reads as own-text-reads
+use Rattle.resolve.proofs.own_text_len.Reads as own-text-len-reads
 use Rattle.resolve.proofs.+measure.{statement}
 use Rattle.resolve.proofs.+measure.Tie.{close}
 use mathlib.Core.Bool.{false}
@@ -45,7 +45,7 @@ below t = and 6 kinds.ps (falls 6 kinds.ps _<_ μ t) reads.Pre
 
 -- what is known of the calls
 abbrev calls : ℕ → lts.Claims
-calls t = (blocked-reads.Asked, blocked-reads.Learnt, own-text-reads.Asked, own-text-reads.Learnt, known-reads.Asked, known-reads.Learnt, below t, reads.Post, most-reads.Asked, most-reads.Learnt, note-reads.Asked, note-reads.Learnt, least-reads.Asked, least-reads.Learnt)
+calls t = (blocked-reads.Asked, blocked-reads.Learnt, own-text-len-reads.Asked, own-text-len-reads.Learnt, known-reads.Asked, known-reads.Learnt, below t, reads.Post, most-reads.Asked, most-reads.Learnt, note-reads.Asked, note-reads.Learnt, least-reads.Asked, least-reads.Learnt)
 
 abbrev Inv-loop : lts.InvT-loop
 Inv-loop node levels starts sorted₀ pickle nodes measures₀ dues₀ n kind at end texts₀ deepest₀ values₀ i₀ sorted measures dues texts deepest values i =
@@ -188,7 +188,7 @@ module _ (t : ℕ) where
 
   -- the node's own text is measured
   abbrev Texted : Type 0
-  Texted = lts.After-own-text (calls t) (own t) reads.Post Inv-loop μ-loop
+  Texted = lts.After-own-text-len (calls t) (own t) reads.Post Inv-loop μ-loop
 
   abbrev Head : Type 0
   Head = lts.At-loop (calls t) (own t) reads.Post Inv-loop μ-loop
@@ -248,12 +248,12 @@ module _ (t : ℕ) where
   few c = let a = texted c .before .before .before .before .before .before in omega (arith, a .shared-slice-known6 .given (start (rooms (texted c)) .args .node .0 + 1))
 
   measures-long : (c : Head) → length (c .loop .measures) ≡ length (begin c .args .measures .now)
-  measures-long c = c .loop .inv .2 ∙ simp length-set (texted c .own-text .kept .1 .1 .1 .1 .0)
+  measures-long c = c .loop .inv .2 ∙ simp length-set (texted c .own-text-len .kept .1 .1 .1 .1 .0)
 
   -- the loop has come to a child
-  turn : (c : lts.In-loop (calls t) (own t) reads.Post Inv-loop μ-loop) → let h = c .before in let a = begin h .args in let x = texted h .own-text in
+  turn : (c : lts.In-loop (calls t) (own t) reads.Post Inv-loop μ-loop) → let h = c .before in let a = begin h .args in let x = texted h .own-text-len in
       Turn (a .pickle .now) (a .nodes .now) (a .starts .now) (a .measures .now) (a .sorted .now) (a .dues .now) (a .node .0) (a .levels) (x .last .1 .1 .1 .1 .0) (x .result) (h .loop .measures) (h .loop .sorted) (h .loop .dues) (h .loop .deepest) (h .loop .values) (h .loop .texts) (h .loop .i)
-  turn c = let h = c .before in record { owns = texted h .own-text .ensures; midway = h .loop .inv .6; child = c .loop-test .taken; level = begin h .pre .1 .0 .0 }
+  turn c = let h = c .before in record { owns = texted h .own-text-len .ensures; midway = h .loop .inv .6; child = c .loop-test .taken; level = begin h .pre .1 .0 .0 }
 
   -- the measures after the child is looked up
   abbrev looked : Known → List ℕ
@@ -327,19 +327,19 @@ module _ (t : ℕ) where
   unfolding Walks
   returns c o = ends-blocked o _ (start (c .before .before .before .before .before .before .before) .pre .1 .0 .0) (c .before .blocked .ensures) (c .if1 .taken)
 
-  own-text-requires : lts.Need-own-text-requires (calls t) (own t) reads.Post Inv-loop μ-loop
-  own-text-requires c κs = open-owned (opens (start (c .before .before .before .before .before .before .before .before)))
+  own-text-len-requires : lts.Need-own-text-len-requires (calls t) (own t) reads.Post Inv-loop μ-loop
+  own-text-len-requires c κs = open-owned (opens (start (c .before .before .before .before .before .before .before .before)))
 
   mul-measures-2 : lts.Need-mul-measures-2 (calls t) (own t) reads.Post Inv-loop μ-loop
-  mul-measures-2 c = omega (arith, open-measured (opens (start (rooms (c .before .before)))), c .before .before .own-text .kept .1 .1 .1 .1 .0)
+  mul-measures-2 c = omega (arith, open-measured (opens (start (rooms (c .before .before)))), c .before .before .own-text-len .kept .1 .1 .1 .1 .0)
 
   slice-write-measures-2 : lts.Need-slice-write-measures-2 (calls t) (own t) reads.Post Inv-loop μ-loop
-  slice-write-measures-2 c = omega (arith, open-measured (opens (start (rooms (c .before .before)))), c .before .before .own-text .kept .1 .1 .1 .1 .0)
+  slice-write-measures-2 c = omega (arith, open-measured (opens (start (rooms (c .before .before)))), c .before .before .own-text-len .kept .1 .1 .1 .1 .0)
 
   loop-holds : lts.Need-loop-holds (calls t) (own t) reads.Post Inv-loop μ-loop
   loop-holds c =
       let x = c .before .before in
-      (refl, refl, refl, omega arith, omega (arith, own-len (opens (start (rooms x))) _ _ (x .own-text .ensures)), omega arith, λ I. mid-start I _ _)
+      (refl, refl, refl, omega arith, omega (arith, own-len (opens (start (rooms x))) _ _ (x .own-text-len .ensures)), omega arith, λ I. mid-start I _ _)
 
   same-length-3 : lts.Need-same-length-3 (calls t) (own t) reads.Post Inv-loop μ-loop
   same-length-3 c = c .before .before .loop .inv .0
@@ -458,7 +458,7 @@ module _ (t : ℕ) where
   note-requires : lts.Need-note-requires (calls t) (own t) reads.Post Inv-loop μ-loop
   note-requires c κs =
       let h = c .before .before in
-      let I = enter (moved (opens (begin h)) _ _ (texted h .own-text .ensures)) in
+      let I = enter (moved (opens (begin h)) _ _ (texted h .own-text-len .ensures)) in
       mid-room I _ (h .loop .inv .6 I)
 
   add-w : lts.Need-add-w (calls t) (own t) reads.Post Inv-loop μ-loop
@@ -496,9 +496,9 @@ module _ (t : ℕ) where
   returns-5 c o =
       let h = c .before .before .before .before .before .before .before in
       let x = texted h in
-      let m = moved o _ _ (x .own-text .ensures) in
+      let m = moved o _ _ (x .own-text-len .ensures) in
       ends-done m _ (begin h .pre .1 .0 .0) (free x o) (h .loop .inv .6 (enter m)) _ _ (begin h .pre .1 .0 .1) (c .before .before .before .before .before .before .loop-test .left) (c .before .before .before .before .note .ensures)
-      (own-len o _ _ (x .own-text .ensures)) (omega (arith, c .before .least .ensures, c .least2 .ensures))
+      (own-len o _ _ (x .own-text-len .ensures)) (omega (arith, c .before .least .ensures, c .least2 .ensures))
 
 pub +measure-spec : {M : Type 1} → statement M
 +measure-spec =
@@ -506,7 +506,7 @@ pub +measure-spec : {M : Type 1} → statement M
     λ t. lts.spec (calls t) (own t) reads.Post Inv-loop μ-loop
     (mul-kind t) (mul-kind-2 t) (shared-slice-read-kind t) (mul-at t) (shared-slice-read-at t) (cast-at t) (add-end t) (mul-end t)
     (shared-slice-read-end t) (cast-end t) (blocked-requires t) (mul-measures t) (slice-write-measures t) (λ c. refl) (λ c. simp length-set)
-    (returns t) (own-text-requires t) (mul-measures-2 t) (slice-write-measures-2 t) (loop-holds t) (same-length-3 t) (same-length-4 t) (same-length-5 t)
+    (returns t) (own-text-len-requires t) (mul-measures-2 t) (slice-write-measures-2 t) (loop-holds t) (same-length-3 t) (same-length-4 t) (same-length-5 t)
     (returns-2 t) (mul-t40 t) (slice-read-t42 t) (cast-t43 t) (known-requires t) (λ c. c .match .keys1) (same-length-6 t) (same-length-7 t)
     (same-length-8 t) (returns-3 t) (λ c. c .match .keys2) (mul-sorted t) (slice-write-sorted t) (λ c. c .match .keys3) (sub-measure t)
     (measure-requires t) (λ c. c .match2 .keys1) (same-length-9 t) (same-length-10 t) (same-length-11 t) (returns-4 t) (λ c. c .match2 .keys2)

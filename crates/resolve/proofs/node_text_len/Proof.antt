@@ -15,9 +15,12 @@ start c = c .before .before .before .before
 abbrev second : tie.Else2 → tie.Start
 second c = start (c .before .before)
 
+abbrev object : tie.After-struct-known → tie.Start
+object c = second (c .before .before .before)
+
 -- an Object's class is one of the nodes
-class : (c : tie.Then4) → let s = second (c .before .before) in 2 * (getD (s .args .nodes .now) (2 * s .args .node .0) 0 / 64) + 1 < length (s .args .nodes .now)
-class c = class-words _ _ _ _ _ refl refl (second (c .before .before) .pre) (c .if4 .taken)
+class : (c : tie.After-struct-known) → let s = object c in 2 * (getD (s .args .nodes .now) (2 * s .args .node .0) 0 / 64) + 1 < length (s .args .nodes .now)
+class c = class-words _ _ _ _ _ refl refl (object c .pre) (c .before .if4 .taken)
 
 abbrev room : (s : tie.Start) → length (s .args .nodes .now) * 8 < 2 ^ 63
 room s = s .good .1 .0 .1
@@ -37,37 +40,37 @@ returns-2 : tie.Need-returns-2
 returns-2 c = len-string _ _ _ _ _ refl refl _ _ (c .before .before .if2 .taken) (c .before .cut2 .ensures) (c .repaired-len .ensures)
 
 returns-3 : tie.Need-returns-3
-returns-3 c = len-global _ _ _ _ _ refl refl _ (c .before .if3 .taken) (c .names-len .ensures)
+returns-3 c = len-global _ _ _ _ _ refl refl _ (c .before .if3 .taken) (c .global-text-len .ensures)
 
-mul-names-len : tie.Need-mul-names-len
-mul-names-len c = let s = second (c .before .before) in fits-first _ (s .args .nodes .now) (class c) (room s)
+mul-global-text-len : tie.Need-mul-global-text-len
+mul-global-text-len c = let s = object c in fits-first _ (s .args .nodes .now) (class c) (room s)
 
-mul-names-len-2 : tie.Need-mul-names-len-2
-mul-names-len-2 c = let s = second (c .before .before) in fits-first-at _ (s .args .nodes .now) (class c) (room s)
+mul-global-text-len-2 : tie.Need-mul-global-text-len-2
+mul-global-text-len-2 c = let s = object c in fits-first-at _ (s .args .nodes .now) (class c) (room s)
 
-shared-slice-read-names-len : tie.Need-shared-slice-read-names-len
-shared-slice-read-names-len c = let s = second (c .before .before .before) in first-in _ (s .args .nodes .now) (class (c .before)) (room s)
+shared-slice-read-global-text-len : tie.Need-shared-slice-read-global-text-len
+shared-slice-read-global-text-len c = let s = object (c .before) in first-in _ (s .args .nodes .now) (class (c .before)) (room s)
 
-mul-names-len-3 : tie.Need-mul-names-len-3
-mul-names-len-3 c = let s = second (c .before .before .before) in fits-first _ (s .args .nodes .now) (class (c .before)) (room s)
+mul-global-text-len-3 : tie.Need-mul-global-text-len-3
+mul-global-text-len-3 c = let s = object (c .before .before) in fits-first _ (s .args .nodes .now) (class (c .before .before)) (room s)
 
-add-names-len : tie.Need-add-names-len
-add-names-len c = let s = second (c .before .before .before) in fits-second _ (s .args .nodes .now) (class (c .before)) (room s)
+add-global-text-len : tie.Need-add-global-text-len
+add-global-text-len c = let s = object (c .before .before) in fits-second _ (s .args .nodes .now) (class (c .before .before)) (room s)
 
-mul-names-len-4 : tie.Need-mul-names-len-4
-mul-names-len-4 c = let s = second (c .before .before .before) in fits-second-at _ (s .args .nodes .now) (class (c .before)) (room s)
+mul-global-text-len-4 : tie.Need-mul-global-text-len-4
+mul-global-text-len-4 c = let s = object (c .before .before) in fits-second-at _ (s .args .nodes .now) (class (c .before .before)) (room s)
 
-shared-slice-read-names-len-2 : tie.Need-shared-slice-read-names-len-2
-shared-slice-read-names-len-2 c = class (c .before .before)
+shared-slice-read-global-text-len-2 : tie.Need-shared-slice-read-global-text-len-2
+shared-slice-read-global-text-len-2 c = class (c .before .before .before)
 
 returns-4 : tie.Need-returns-4
-returns-4 c = len-object _ _ _ _ _ refl refl _ (c .before .before .before .if4 .taken) (c .names-len2 .ensures)
+returns-4 c = len-object _ _ _ _ _ refl refl _ (c .before .before .before .before .before .if4 .taken) (c .global-text-len2 .ensures)
 
 returns-5 : tie.Need-returns-5
-returns-5 c = len-escaped _ _ _ _ _ refl refl _ _ (c .before .before .if5 .taken) (c .before .cut3 .ensures) (c .string-text .ensures)
+returns-5 c = len-escaped _ _ _ _ _ refl refl _ _ (c .before .before .if5 .taken) (c .before .cut3 .ensures) (c .string-text-len .ensures)
 
 returns-6 : tie.Need-returns-6
-returns-6 c = len-unicode _ _ _ _ _ refl refl _ _ (c .before .before .if6 .taken) (c .before .cut4 .ensures) (c .unicode-text .ensures)
+returns-6 c = len-unicode _ _ _ _ _ refl refl _ _ (c .before .before .if6 .taken) (c .before .cut4 .ensures) (c .unicode-text-len .ensures)
 
 returns-7 : tie.Need-returns-7
 returns-7 c =
@@ -79,6 +82,6 @@ node-text-len-spec =
     tie.close
     (tie.spec
     (λ c. let s = c .before .before in fits-first (s .args .node .0) (s .args .nodes .now) (s .pre .words) (room s)) (λ c. let s = c .before .before in fits-first-at (s .args .node .0) (s .args .nodes .now) (s .pre .words) (room s)) (λ c. let s = c .before .before .before in first-in (s .args .node .0) (s .args .nodes .now) (s .pre .words) (room s)) (λ c. let s = c .before .before .before in fits-first (s .args .node .0) (s .args .nodes .now) (s .pre .words) (room s)) (λ c. let s = c .before .before .before in fits-second (s .args .node .0) (s .args .nodes .now) (s .pre .words) (room s)) (λ c. let s = c .before .before .before in fits-second-at (s .args .node .0) (s .args .nodes .now) (s .pre .words) (room s)) (λ c. start c .pre .words)
-    (λ c κs. tt) returns (λ c κs. tt) repaired-len-requires returns-2 (λ c κs. start (c .before .before .before) .pre .short) returns-3 mul-names-len mul-names-len-2
-    shared-slice-read-names-len mul-names-len-3 add-names-len mul-names-len-4 shared-slice-read-names-len-2 (λ c κs. second (c .before .before .before .before) .pre .short) returns-4
+    (λ c κs. tt) returns (λ c κs. tt) repaired-len-requires returns-2 (λ c κs. start (c .before .before .before) .pre .short) returns-3 mul-global-text-len mul-global-text-len-2
+    shared-slice-read-global-text-len mul-global-text-len-3 add-global-text-len mul-global-text-len-4 shared-slice-read-global-text-len-2 (λ c κs. object (c .before .before .before) .pre .short) returns-4
     (λ c κs. tt) (λ c κs. tt) returns-5 (λ c κs. tt) (λ c κs. tt) returns-6 returns-7)

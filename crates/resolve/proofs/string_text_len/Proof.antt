@@ -1,7 +1,7 @@
--- `resolve::string_text` meets its contract.
+-- `resolve::string_text_len` meets its contract.
 use borrow.Author.Needs.{needs}
-use Rattle.resolve.proofs.string_text.Statement.{statement}
-use Rattle.resolve.proofs.string_text.Tie as tie
+use Rattle.resolve.proofs.string_text_len.Statement.{statement}
+use Rattle.resolve.proofs.string_text_len.Tie as tie
 use native.Mathlib.Omega.{arith}
 use Rattle.resolve.specs.Length.{plain-two, plain-len, escaped-len, unquoted-len}
 
@@ -17,5 +17,5 @@ returns-2 c = escaped-len _ _ (c .before .before .before .string-len .ensures) _
 returns-3 : tie.Need-returns-3
 returns-3 c = unquoted-len _ _ (c .before .before .string-len .ensures) _ (c .enum-told2 .given .1)
 
-pub string-text-spec : {M : Type 1} → statement M
-string-text-spec = tie.close (tie.spec (λ c κs. search needs) (λ c. search needs) sub-result (λ c. search needs) (λ c. search needs) returns returns-2 returns-3)
+pub string-text-len-spec : {M : Type 1} → statement M
+string-text-len-spec = tie.close (tie.spec (λ c κs. search needs) (λ c. search needs) sub-result (λ c. search needs) (λ c. search needs) returns returns-2 returns-3)

@@ -1,7 +1,7 @@
--- `resolve::names_len` meets its contract.
+-- `resolve::global_text_len` meets its contract.
 use borrow.Author.Needs.{needs}
-use Rattle.resolve.proofs.names_len.Statement.{statement}
-use Rattle.resolve.proofs.names_len.Tie as tie
+use Rattle.resolve.proofs.global_text_len.Statement.{statement}
+use Rattle.resolve.proofs.global_text_len.Tie as tie
 use Prim.Native.Nat.{_^_, _/_, _%_}
 use native.Mathlib.Omega.{arith}
 use Rattle.resolve.specs.Length.{cut-short, names-len, names-short}
@@ -30,5 +30,5 @@ returns c =
     let a = s .args in
     names-len (a .pickle .now) (a .a) (a .b) _ _ _ _ (c .before .before .before .cut .ensures) (c .before .before .repaired-len .ensures) (c .before .cut2 .ensures) (c .repaired-len2 .ensures)
 
-pub names-len-spec : {M : Type 1} → statement M
-names-len-spec = tie.close (tie.spec (λ c κs. search needs) repaired-len-requires (λ c κs. search needs) repaired-len-requires-2 add-result returns)
+pub global-text-len-spec : {M : Type 1} → statement M
+global-text-len-spec = tie.close (tie.spec (λ c κs. search needs) repaired-len-requires (λ c κs. search needs) repaired-len-requires-2 add-result returns)
