@@ -188,7 +188,7 @@ fn module_text(pickle: &[u8], first: u64) -> &[u8]
 }
 
 // The text of a node with this second word, as it stands in the pickle.
-fn own_text(pickle: &[u8], second: u64) -> &[u8]
+fn raw_text(pickle: &[u8], second: u64) -> &[u8]
     ensures { λ r. ⌜ now r ≡ within 32 second (now (pickle .entry)) ⌝ }
 {
     value::cut(pickle, second % store::HALF, second / store::HALF)
@@ -307,12 +307,12 @@ fn spell_node(
     let second = nodes[2 * i + 1];
     let kind = first % store::KIND_RADIX;
     if kind == value::STRING {
-        return spell_text(own_text(pickle, second), measure, decoded, used);
+        return spell_text(raw_text(pickle, second), measure, decoded, used);
     }
     if kind == value::GLOBAL {
         return spell_names(
             module_text(pickle, first),
-            own_text(pickle, second),
+            raw_text(pickle, second),
             measure,
             decoded,
             used,
@@ -322,17 +322,17 @@ fn spell_node(
         let class = NodeId((first / store::CLASS) as usize);
         return spell_names(
             module_text(pickle, nodes[2 * class.0]),
-            own_text(pickle, nodes[2 * class.0 + 1]),
+            raw_text(pickle, nodes[2 * class.0 + 1]),
             measure,
             decoded,
             used,
         );
     }
     if kind == store::KIND_ESCAPED {
-        return spell_string(own_text(pickle, second), decoded, used);
+        return spell_string(raw_text(pickle, second), decoded, used);
     }
     if kind == store::KIND_UNICODE {
-        return spell_unicode(own_text(pickle, second), decoded, used);
+        return spell_unicode(raw_text(pickle, second), decoded, used);
     }
     Spelling { measure, used }
 }

@@ -13,14 +13,31 @@ Inv-loop nodes count pickle decoded₀ measures₀ used₀ i₀ decoded measures
 abbrev μ-loop : tie.MeasureT-loop
 μ-loop nodes count pickle decoded₀ measures₀ used₀ i₀ decoded measures used i = count - i
 
+-- ---- the places: a turn, and where the loop stands
+
+abbrev head : tie.In-loop Inv-loop μ-loop → tie.At-loop Inv-loop μ-loop
+head c = c .before
+
+abbrev start : tie.At-loop Inv-loop μ-loop → tie.Start Inv-loop μ-loop
+start c = c .before .before .before .before .before
+
+-- ---- the needs
+
 loop-holds : tie.Need-loop-holds Inv-loop μ-loop
-loop-holds c = (omega arith, decodes-none (c .before .before .before .before .args .pickle .now) (c .before .before .before .before .args .nodes .now) (c .before .before .before .before .args .decoded .now) (c .before .before .before .before .args .measures .now))
+loop-holds c = (omega arith, decodes-none _ _ _ _)
 
 decode-one-requires : tie.Need-decode-one-requires Inv-loop μ-loop
-decode-one-requires c κs = turn-ready (c .before .before .before .before .before .before .before .before .args .pickle .now) (c .before .before .before .before .before .before .before .before .args .nodes .now) (c .before .before .before .before .before .before .before .before .args .decoded .now) (c .before .before .before .before .before .before .before .before .args .measures .now) (c .before .before .before .before .before .before .before .before .args .count) (c .before .before .before .before .before .before .before .before .pre) (c .before .before .before .loop .i) (c .before .before .loop-test .taken) _ _ _ (c .before .before .before .loop .inv .1)
+decode-one-requires c κs =
+    let t = c .before .before in
+    let h = head t in
+    turn-ready _ _ _ _ _ (start h .pre) (h .loop .i) (t .loop-test .taken) _ _ _ (h .loop .inv .1)
 
 loop-again : tie.Need-loop-again Inv-loop μ-loop
-loop-again c = (omega arith, rw (add-one (c .before .before .before .before .before .before .before .before .loop .i)) (turn-more (c .before .before .before .before .before .before .before .before .before .before .before .before .before .args .pickle .now) (c .before .before .before .before .before .before .before .before .before .before .before .before .before .args .nodes .now) (c .before .before .before .before .before .before .before .before .before .before .before .before .before .args .decoded .now) (c .before .before .before .before .before .before .before .before .before .before .before .before .before .args .measures .now) (c .before .before .before .before .before .before .before .before .before .before .before .before .before .args .count) (c .before .before .before .before .before .before .before .before .before .before .before .before .before .pre) (c .before .before .before .before .before .before .before .before .loop .i) (c .before .before .before .before .before .before .before .loop-test .taken) _ _ _ (c .before .before .before .before .before .before .before .before .loop .inv .1) _ _ _ (c .before .before .before .before .decode-one .ensures)))
+loop-again c =
+    let d = c .before .before .before .before in
+    let t = d .before .before .before in
+    let h = head t in
+    (omega arith, rw (add-one (h .loop .i)) (turn-more _ _ _ _ _ (start h .pre) (h .loop .i) (t .loop-test .taken) _ _ _ (h .loop .inv .1) _ _ _ (d .decode-one .ensures)))
 
 same-length : tie.Need-same-length Inv-loop μ-loop
 same-length c = c .before .loop .inv .1 .same-room
@@ -30,8 +47,9 @@ same-length-2 c = c .before .loop .inv .1 .same-measures
 
 returns : tie.Need-returns Inv-loop μ-loop
 returns c =
-    let e : c .before .loop .i ≡ c .before .before .before .before .before .before .args .count = omega arith in
-    rw e at (c .before .loop .inv .1)
+    let h = c .before in
+    let e : h .loop .i ≡ start h .args .count = omega arith in
+    rw e at (h .loop .inv .1)
 
 pub decode-all-spec : {M : Type 1} → statement M
 decode-all-spec = tie.close (tie.spec Inv-loop μ-loop loop-holds decode-one-requires (λ c. omega arith) (λ c. omega arith) loop-again same-length same-length-2 returns)
