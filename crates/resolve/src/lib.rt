@@ -9,7 +9,7 @@ use text::unicode_len;
 use utf8::repaired_len;
 ghost use mathlib.Core.Path.{_≡_};
 ghost use Prim.Native.Nat.{_+_, _*_, _<_, _≤_, min, max};
-ghost use lib.ListN.{length, getD, take, drop};
+ghost use lib.ListN.{length, getD};
 ghost use lib.Seq.{slice};
 ghost use Rattle.text.specs.Pieces.{bytesOf};
 ghost use Rattle.text.specs.Text.{unescapeString, unescapeUnicode};

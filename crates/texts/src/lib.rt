@@ -2,8 +2,8 @@
 // cannot be read straight off the pickle.
 ghost use mathlib.Core.Path.{_≡_};
 ghost use mathlib.Core.List.{List, []};
-ghost use Prim.Native.Nat.{ℕ, min, _+_, _/_, _≤_};
-ghost use lib.ListN.{length, take, drop};
+ghost use Prim.Native.Nat.{ℕ, _+_, _/_, _≤_};
+ghost use lib.ListN.{length};
 ghost use Rattle.utf8.specs.Utf8.{repair};
 ghost use Rattle.text.specs.Pieces.{bytesOf};
 ghost use Rattle.text.specs.Text.{pick, unescapeString, unescapeUnicode};
