@@ -21,8 +21,9 @@ use Rattle.resolved.specs.Moved.{moves, moved}
 use Rattle.resolved.specs.Written.{Part, Written, written-none, written-node, written-again}
 use Rattle.resolved.specs.Shown.{Shown, labelOf}
 use Rattle.texts.specs.Readable.{Readable, shown-readable, spelled-measure}
+use Rattle.lists.specs.Kinds.{kindOf, kind-same, containerKind, container-is}
 use Rattle.emit.specs.Stores.{sets-before, sets-behind, sets-there}
-use Rattle.emit.specs.Words.{place, recordIn, textIn, writtenW, written-record, written-size, written-text, written-long, kindOf, kind-same, boxed, recordFrom, container-is}
+use Rattle.emit.specs.Words.{place, recordIn, textIn, writtenW, written-record, written-size, written-text, written-long, recordFrom}
 use Rattle.emit.specs.Places.{written-copyable}
 use Rattle.emit.specs.Leaves.{TextReady, LeafReady, LeafPut, kindBelow, CopyReady, CopyPut, opened}
 use Rattle.emit.specs.Since.{Stored, Since, since-leaf, since-stored}
@@ -132,8 +133,8 @@ module _ {p d ws starts sorted log : List ℕ} {i to : ℕ} {measures table byte
   pub ready-label : i < 4096 → at (R .t) i .label ≡ labelOf p ws i
   ready-label h = R .begun .shown .labels-are i (ready-below h)
 
-  pub ready-boxed : i < 4096 → isContainer (at (R .t) i .label) ≡ boxed (kindOf (first ws i))
-  ready-boxed h = ap isContainer (ready-label h) ∙ container-is p ws i
+  pub ready-container : i < 4096 → isContainer (at (R .t) i .label) ≡ containerKind (kindOf (first ws i))
+  ready-container h = ap isContainer (ready-label h) ∙ container-is p ws i
 
   -- its text, where its measure is as it was
   pub ready-text : i < 4096 → getD measures i 0 ≡ getD (R .m) i 0 → textIn to + length (textOf (labelOf p ws i)) ≤ 65536 → TextReady p d ws measures i bytes (textIn to)
@@ -268,7 +269,7 @@ module _ {p d ws : List ℕ} {i to : ℕ} {measures table bytes : List ℕ} (F :
 
   module _ (u : i < 4096) where
     -- a container that is written
-    module _ (b : boxed (kindOf (first ws i)) ≡ true) where
+    module _ (b : containerKind (kindOf (first ws i)) ≡ true) where
       not-fresh : 2 ^ 63 ≤ getD measures i 0
       unfolding opened
       not-fresh = go (decLt (getD measures i 0) (2 ^ 63))
@@ -290,9 +291,9 @@ module _ {p d ws : List ℕ} {i to : ℕ} {measures table bytes : List ℕ} (F :
       flat-copied = let R = F .ready in stored-made (R .t) (R .h) (R .v) i to table bytes (getD measures i 0) (R .stands) (R .fits) flat-stored
 
     -- a leaf
-    module _ (b : boxed (kindOf (first ws i)) ≡ false) where
+    module _ (b : containerKind (kindOf (first ws i)) ≡ false) where
       flat-leaf : isContainer (at (F .ready .t) i .label) ≡ false
-      flat-leaf = ready-boxed (F .ready) u ∙ b
+      flat-leaf = ready-container (F .ready) u ∙ b
 
       flat-texts : textIn to + length (textOf (labelOf p ws i)) ≤ 65536
       flat-texts = let R = F .ready in let l : R .v .label ≡ labelOf p ws i = stand-label (R .stands) ∙ ready-label R u in rw (← l) (omega (arith, text-one (R .v), R .fits .texts))
@@ -337,23 +338,23 @@ module _ {p d ws starts sorted log : List ℕ} {i to : ℕ} {measures table byte
   pub below-kind : kindOf (first ws i) < n
   below-kind = rw below-same in-below
 
-  below-unboxed : boxed (kindOf (first ws i)) ≡ false
-  unfolding boxed
-  below-unboxed = rw (lt-ltb (kindOf (first ws i)) 6 (omega (arith, below-kind)))
+  below-leaf : containerKind (kindOf (first ws i)) ≡ false
+  unfolding containerKind
+  below-leaf = rw (lt-ltb (kindOf (first ws i)) 6 (omega (arith, below-kind)))
 
   below-closed : opened ws measures i ≡ false
   unfolding opened
-  below-closed = rw (ne-eqb i 4096 (λ q. omega (arith, below-small)), below-unboxed)
+  below-closed = rw (ne-eqb i 4096 (λ q. omega (arith, below-small)), below-leaf)
 
   below-flat : Flat p d ws i to measures table bytes
   below-flat = record { starts = starts; sorted = sorted; log = log; ready = R; closed = below-closed }
 
   pub below-ready : LeafReady p d ws measures i to table bytes
-  below-ready = flat-leaf-ready below-flat below-small below-unboxed
+  below-ready = flat-leaf-ready below-flat below-small below-leaf
 
   pub below-made : (table′ bytes′ : List ℕ) (r : ℕ) → LeafPut (labelOf p ws i) to table bytes table′ bytes′ r → Made (R .t) (R .h) (R .v) i to table bytes table′ bytes′ r
   unfolding below-flat
-  below-made table′ bytes′ r l = flat-made below-flat below-small below-unboxed table′ bytes′ r l
+  below-made table′ bytes′ r l = flat-made below-flat below-small below-leaf table′ bytes′ r l
 
   -- but not of one below m
   pub not-below : (m : ℕ) → kindBelow m ws i ≡ false → m ≤ kindOf (first ws i)

@@ -18,8 +18,9 @@ use Rattle.resolved.specs.Moved.{moves}
 use Rattle.resolved.specs.Shown.{labelOf, hasText, leading, trailing, leadText, trailText, Spelled}
 use Rattle.texts.specs.Readable.{Readable}
 use Rattle.utf8.specs.Stores.{sets-append}
+use Rattle.lists.specs.Kinds.{kindOf, kind-small, containerKind, kind-is}
 use Rattle.emit.specs.Copies.{Copyable}
-use Rattle.emit.specs.Words.{place, recordIn, textIn, writtenW, kindOf, boxed, lengthsOf, recordFrom, textBy, lengthsBy, spoken, text-by, lengths-by, has-text, lengths-all, kind-is, kind-small, record-is, from-text, from-names}
+use Rattle.emit.specs.Words.{place, recordIn, textIn, writtenW, lengthsOf, recordFrom, textBy, lengthsBy, spoken, text-by, lengths-by, has-text, lengths-all, record-is, from-text, from-names}
 
 -- ---- a node's text
 
@@ -59,18 +60,18 @@ module _ (p d ws measures : List ℕ) (i : ℕ) (bytes : List ℕ) (at : ℕ) (g
   unfolding textBy lengthsBy
   texts-small h = let l = lt-ltb k 4 h in none (text-is-by ∙ rw l) (lengths-is-by ∙ rw l)
 
-  texts-box : 4 ≤ k → 6 ≤ k → k < 11 → TextPut p ws i bytes at bytes 0
+  texts-container : 4 ≤ k → 6 ≤ k → k < 11 → TextPut p ws i bytes at bytes 0
   unfolding textBy lengthsBy
-  texts-box h₄ h₆ h = let a = le-ltb k 4 h₄ in let b = le-ltb k 6 h₆ in let l = lt-ltb k 11 h in none (text-is-by ∙ rw (a, b, l)) (lengths-is-by ∙ rw (a, b, l))
+  texts-container h₄ h₆ h = let a = le-ltb k 4 h₄ in let b = le-ltb k 6 h₆ in let l = lt-ltb k 11 h in none (text-is-by ∙ rw (a, b, l)) (lengths-is-by ∙ rw (a, b, l))
 
   -- a container that is no Object
-  pub texts-other : boxed k ≡ true → k ≢ 12 → TextPut p ws i bytes at bytes 0
-  unfolding boxed
+  pub texts-other : containerKind k ≡ true → k ≢ 12 → TextPut p ws i bytes at bytes 0
+  unfolding containerKind
   texts-other b n = go (decLt k 6) (decLt k 11)
     where
       go : Dec (k < 6) → Dec (k < 11) → TextPut p ws i bytes at bytes 0
       go (yes l) _ = absurd (let x : false ≡ true = rw (lt-ltb k 6 l) at b in let z : _≡_ {A = ℕ} 0 1 = cc in omega arith)
-      go (no l) (yes m) = texts-box (omega arith) (omega arith) m
+      go (no l) (yes m) = texts-container (omega arith) (omega arith) m
       go (no l) (no m) = absurd (let x : false ≡ true = rw (le-ltb k 6 (omega arith), le-ltb k 11 (omega arith), ne-eqb k 12 n) at b in let z : _≡_ {A = ℕ} 0 1 = cc in omega arith)
 
   -- Bytes or a String
@@ -192,9 +193,9 @@ module _ {p d ws measures : List ℕ} {i to : ℕ} {table bytes : List ℕ} (g :
         leaf-done p ws i to (length lead) table bytes table′ bytes′ _ r (g .texts) (text-put bytes′ s) (from-text (kindOf (first ws i)) _ _ _ _ _ _ _ (omega arith) (λ z. omega arith) (λ z. omega arith) h₀ (h .1)) t (n ∙ omega arith)
 
   -- a Global: its module and name
-  module _ (b : boxed (kindOf (first ws i)) ≡ false) (h : 6 ≤ kindOf (first ws i)) where
+  module _ (b : containerKind (kindOf (first ws i)) ≡ false) (h : 6 ≤ kindOf (first ws i)) where
     pub named-kind : kindOf (first ws i) ≡ 11
-    unfolding boxed
+    unfolding containerKind
     named-kind = go (decLt (kindOf (first ws i)) 11) (ℕ-discrete (kindOf (first ws i)) 12)
       where
         go : Dec (kindOf (first ws i) < 11) → Dec (kindOf (first ws i) ≡ 12) → kindOf (first ws i) ≡ 11
@@ -242,4 +243,4 @@ pub record FinishPut (ws : List ℕ) (i to next w values : ℕ) (table table′ 
 -- ---- whether a node is to be walked: a container that is not written yet
 
 unfoldable pub opened : List ℕ → List ℕ → ℕ → Bool
-opened ws measures i = cond (eqb i 4096) false (cond (boxed (kindOf (first ws i))) (ltb (getD measures i 0) (2 ^ 63)) false)
+opened ws measures i = cond (eqb i 4096) false (cond (containerKind (kindOf (first ws i))) (ltb (getD measures i 0) (2 ^ 63)) false)

@@ -24,12 +24,13 @@ use Rattle.resolved.specs.Written.{Part, part-stays, Written, written-none, wri
 use Rattle.resolved.specs.Shown.{labelOf, fromIn, manyIn, listOf, Inside}
 use Rattle.lists.specs.declared.Range.{Range}
 use Rattle.lists.specs.Listed.{Listed, shown-listed, Ranges, list-length, list-at}
+use Rattle.lists.specs.Kinds.{kindOf, containerKind, kind-is}
 use Rattle.emit.specs.Stores.{sets-before, sets-behind, sets-there, earlier, later, part-late}
-use Rattle.emit.specs.Words.{place, recordIn, textIn, writtenW, kindOf, boxed, lengthsOf, lengths-all, kind-is}
+use Rattle.emit.specs.Words.{place, recordIn, textIn, writtenW, lengthsOf, lengths-all}
 use Rattle.emit.specs.Forests.{text-append, append-none, append-next, depth-behind, written-join}
 use Rattle.emit.specs.Leaves.{TextReady, TextPut, kindBelow, LeafPut, record-at, FinishReady, FinishPut, opened}
 use Rattle.emit.specs.Since.{Since, since-then, since-late, since-measure, since-fresh}
-use Rattle.emit.specs.Calls.{ReadyNode, Flat, Open, Made, Wrote, size-one, text-one, ready-most, ready-below, ready-label, ready-boxed, ready-text, below-made}
+use Rattle.emit.specs.Calls.{ReadyNode, Flat, Open, Made, Wrote, size-one, text-one, ready-most, ready-below, ready-label, ready-container, ready-text, below-made}
 
 -- ---- a container that is to be walked
 
@@ -45,11 +46,11 @@ module _ {p d ws starts sorted log : List ℕ} {levels i to : ℕ} {measures tab
   not-nothing : i ≢ 4096
   not-nothing e = omega (arith, open-small)
 
-  pub open-boxed : boxed (kindOf (first ws i)) ≡ true
+  pub open-kind : containerKind (kindOf (first ws i)) ≡ true
   unfolding opened
-  open-boxed = go (boxed (kindOf (first ws i))) refl
+  open-kind = go (containerKind (kindOf (first ws i))) refl
     where
-      go : (b : Bool) → boxed (kindOf (first ws i)) ≡ b → boxed (kindOf (first ws i)) ≡ true
+      go : (b : Bool) → containerKind (kindOf (first ws i)) ≡ b → containerKind (kindOf (first ws i)) ≡ true
       go true e = e
       go false e = absurd (let x : false ≡ true = rw (ne-eqb i 4096 not-nothing, e) at (O .unclosed) in let z : _≡_ {A = ℕ} 0 1 = cc in omega arith)
 
@@ -59,13 +60,13 @@ module _ {p d ws starts sorted log : List ℕ} {levels i to : ℕ} {measures tab
     where
       go : Dec (getD measures i 0 < 2 ^ 63) → getD measures i 0 ≡ getD (O .ready .m) i 0
       go (yes l) = let R = O .ready in since-fresh (R .t) (R .h) table bytes 0 (recordIn to) (textIn to) (R .m) measures (R .since) i l
-      go (no l) = absurd (let x : false ≡ true = rw (ne-eqb i 4096 not-nothing, open-boxed, le-ltb (getD measures i 0) (2 ^ 63) (omega arith)) at (O .unclosed) in let z : _≡_ {A = ℕ} 0 1 = cc in omega arith)
+      go (no l) = absurd (let x : false ≡ true = rw (ne-eqb i 4096 not-nothing, open-kind, le-ltb (getD measures i 0) (2 ^ 63) (omega arith)) at (O .unclosed) in let z : _≡_ {A = ℕ} 0 1 = cc in omega arith)
 
   pub open-below : i < length (O .ready .t)
   open-below = ready-below (O .ready) open-small
 
   open-container : isContainer (at (O .ready .t) i .label) ≡ true
-  open-container = ready-boxed (O .ready) open-small ∙ open-boxed
+  open-container = ready-container (O .ready) open-small ∙ open-kind
 
   pub open-label : O .ready .v .label ≡ labelOf p ws i
   open-label = stand-label (O .ready .stands) ∙ ready-label (O .ready) open-small

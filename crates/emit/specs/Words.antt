@@ -4,17 +4,13 @@ use mathlib.Core.Bool.{Bool, true, false, cond}
 use mathlib.Core.List.{List, [], _∷_, _++_, map}
 use mathlib.Core.Path.{_≡_, refl, sym, _∙_}
 use mathlib.Core.Logic.{_≢_}
-use lib.ListN.{length, length-append, getD, List·getD-map, List·getD-append, List·getD-eq-default}
+use lib.ListN.{length, length-append, List·getD-map}
 use lib.Dec.{eqb, ltb}
 use borrow.Author.Tests.{lt-ltb, le-ltb, ne-eqb}
-use native.Mathlib.Decide.{decLt, ℕ-discrete}
 use native.Mathlib.Omega.{arith}
 use Rattle.value.specs.Value.{Label, bit, half, kind, textOf, recordOf, NoneL, BoolL, I64L, F64L, BytesL, StringL, ListL, TupleL, SetL, FrozenSetL, DictL, GlobalL, ObjectL}
 use Rattle.value.specs.Shape.{kindIn, newIn}
-use Rattle.store.specs.Rooms.{tab}
 use Rattle.steps.specs.NodeWords.{first, second}
-use Rattle.store.specs.RoomLists.{getD-tab}
-use Rattle.resolved.specs.Noted.{isContainer}
 use Rattle.resolved.specs.Shown.{labels, labelOf, hasText, leading, trailing}
 
 -- ---- a place: the next record, and 4,096 times where the next text begins
@@ -47,44 +43,6 @@ module _ (a z p n : ℕ) (ha : a < 2 ^ 12) (hz : z < 2 ^ 12) (hp : p < 2 ^ 17) (
   written-long = omega arith
 
 -- ---- a record by the kind of its label
-
--- the kinds of labels, for the kinds 0 to 14 of nodes
-abbrev kinds : List ℕ
-kinds = 0 ∷ 1 ∷ 2 ∷ 3 ∷ 4 ∷ 5 ∷ 6 ∷ 7 ∷ 8 ∷ 9 ∷ 10 ∷ 11 ∷ 12 ∷ 4 ∷ 5 ∷ []
-
--- the kind of a node's label, by the node's first word
-unfoldable pub kindOf : ℕ → ℕ
-kindOf a = getD kinds (kindIn a) 0
-
-module _ (a : ℕ) where
-  pub kind-same : kindIn a < 13 → kindOf a ≡ kindIn a
-  unfolding kindOf tab
-  kind-same h = List·getD-append (tab (λ i. i) 13) (4 ∷ 5 ∷ []) 0 (kindIn a) h ∙ getD-tab (λ i. i) 13 (kindIn a) 0 h
-
-  pub kind-bytes : kindIn a ≡ 13 → kindOf a ≡ 4
-  unfolding kindOf
-  kind-bytes e = rw e
-
-  pub kind-string : kindIn a ≡ 14 → kindOf a ≡ 5
-  unfolding kindOf
-  kind-string e = rw e
-
-  pub kind-none : 13 ≤ kindIn a → kindIn a ≢ 13 → kindIn a ≢ 14 → kindOf a ≡ 0
-  unfolding kindOf
-  kind-none h x y = List·getD-eq-default kinds 0 {n = kindIn a} (omega arith)
-
-  pub kind-small : kindOf a < 13
-  kind-small = go (decLt (kindIn a) 13) (ℕ-discrete (kindIn a) 13) (ℕ-discrete (kindIn a) 14)
-    where
-      go : Dec (kindIn a < 13) → Dec (kindIn a ≡ 13) → Dec (kindIn a ≡ 14) → kindOf a < 13
-      go (yes l) x y = rw (kind-same l) l
-      go (no l) (yes x) y = rw (kind-bytes x) (omega arith)
-      go (no l) (no x) (yes y) = rw (kind-string y) (omega arith)
-      go (no l) (no x) (no y) = rw (kind-none (omega arith) x y) (omega arith)
-
--- kinds of containers
-unfoldable pub boxed : ℕ → Bool
-boxed k = cond (ltb k 6) false (cond (ltb k 11) true (eqb k 12))
 
 -- the lengths of a label's text in one word: a name's below its module's
 abbrev pub lengthsOf : Label → ℕ
@@ -254,11 +212,3 @@ module _ (p ws : List ℕ) (i : ℕ) where
   pub record-is : (at n z : ℕ) → recordFrom (kind (labelOf p ws i)) (newIn (first ws i)) (second ws i) (lengthsOf (labelOf p ws i)) at n z ≡ recordOf (labelOf p ws i) at n z
   unfolding recordFrom
   record-is at n z = chosen (λ l. recordFrom (kind l) (newIn (first ws i)) (second ws i) (lengthsOf l) at n z) (λ l. recordOf l at n z) refl refl
-
-  pub kind-is : kind (labelOf p ws i) ≡ kindOf (first ws i)
-  unfolding labelOf kindOf
-  kind-is = sym (List·getD-map kind (labels p ws (first ws i) (second ws i)) (kindIn (first ws i)) NoneL)
-
-  pub container-is : isContainer (labelOf p ws i) ≡ boxed (kindOf (first ws i))
-  unfolding boxed
-  container-is = rw (← kind-is) (chosen isContainer (λ l. boxed (kind l)) refl refl)

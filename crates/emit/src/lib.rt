@@ -10,7 +10,8 @@ ghost use Rattle.value.specs.Shape.{newIn};
 ghost use Rattle.steps.specs.NodeWords.{first};
 ghost use Rattle.resolved.specs.Moved.{placed, moves};
 ghost use Rattle.emit.specs.Copies.{Copyable};
-ghost use Rattle.emit.specs.Words.{place, recordIn, textIn, writtenW, kindOf, boxed, recordFrom};
+ghost use Rattle.emit.specs.Words.{place, recordIn, textIn, writtenW, recordFrom};
+ghost use Rattle.lists.specs.Kinds.{kindOf, containerKind};
 ghost use Rattle.resolved.specs.Shown.{labelOf};
 ghost use Rattle.emit.specs.Leaves.{TextReady, TextPut, kindBelow, AtomReady, AtomPut, LeafReady, LeafPut, CopyReady, CopyPut, FinishReady, FinishPut, opened};
 ghost use Rattle.emit.specs.Calls.{Flat, FlatWrites, Open};
@@ -113,36 +114,6 @@ fn copy_records(
     }
 }
 
-// The kind of a record, by its node's first word: 13 are Bytes too, 14 is a String.
-fn kind_of(first: u64) -> u64
-    ensures { λ r. ⌜ r ≡ kindOf first ⌝ }
-{
-    let kind = first % store::KIND_RADIX;
-    if kind < store::KIND_ESCAPED {
-        return kind;
-    }
-    if kind == store::KIND_ESCAPED {
-        return value::BYTES;
-    }
-    if kind == store::KIND_UNICODE {
-        return value::STRING;
-    }
-    value::NONE
-}
-
-// Is it the kind of a container?
-fn is_box(kind: u64) -> bool
-    ensures { λ r. ⌜ r ≡ boxed kind ⌝ }
-{
-    if kind < value::LIST {
-        return false;
-    }
-    if kind < value::GLOBAL {
-        return true;
-    }
-    kind == value::OBJECT
-}
-
 // Word 0 of a record that is no Object's.
 fn plain_word(kind: u64) -> u64
     requires { ⌜ kind < 16 ⌝ }
@@ -160,7 +131,7 @@ fn record_of(first: u64, second: u64, lengths: u64, at: u64, values: u64, size: 
     requires { ⌜ (kindOf first ≡ 12 → values ≤ 2) ⌝ }
     ensures { λ r. ⌜ r .0 ∷ r .1 ∷ r .2 ∷ r .3 ∷ [] ≡ recordFrom (kindOf first) (newIn first) second lengths at values size ⌝ }
 {
-    let kind = kind_of(first);
+    let kind = lists::value_kind(first);
     if kind == value::OBJECT {
         let head = value::head_of(first);
         let word = value::word_of(Head {
@@ -224,11 +195,11 @@ fn put_class<'a>(
     at: usize,
 ) -> u64
     requires { ⌜ TextReady (now pickle) (now decoded) (now nodes) (now measures) (node .0) (now text) at ⌝ }
-    requires { ⌜ boxed (kindOf (first (now nodes) (node .0))) ≡ true ⌝ }
+    requires { ⌜ containerKind (kindOf (first (now nodes) (node .0))) ≡ true ⌝ }
     ensures { λ r. ⌜ TextPut (now (pickle .entry)) (now (nodes .entry)) (node .0) (now (text .entry)) at (now (text .exit)) r ⌝ }
 {
     let i = node.0;
-    if kind_of(nodes[2 * i]) == value::OBJECT {
+    if lists::value_kind(nodes[2 * i]) == value::OBJECT {
         return put_names(node, pickle, decoded, nodes, measures, text, at);
     }
     0
@@ -288,7 +259,7 @@ fn write_text<'a>(
     let bytes = texts::lead_part(node, pickle, decoded, nodes, measures);
     put_bytes(bytes, text, at as usize);
     let len = bytes.len() as u64;
-    let words = Record(plain_word(kind_of(nodes[2 * i])), at, len, 0);
+    let words = Record(plain_word(lists::value_kind(nodes[2 * i])), at, len, 0);
     put_record(table, (to % 0x1000) as usize, words);
     to + 1 + 0x1000 * len
 }
@@ -305,13 +276,13 @@ fn write_leaf<'a>(
     text: &mut [u8],
 ) -> u64
     requires { ⌜ LeafReady (now pickle) (now decoded) (now nodes) (now measures) (node .0) to (now table) (now text) ⌝ }
-    requires { ⌜ boxed (kindOf (first (now nodes) (node .0))) ≡ false ⌝ }
+    requires { ⌜ containerKind (kindOf (first (now nodes) (node .0))) ≡ false ⌝ }
     ensures { λ r. ⌜ LeafPut
         (labelOf (now (pickle .entry)) (now (nodes .entry)) (node .0)) to (now (table .entry))
         (now (text .entry)) (now (table .exit)) (now (text .exit)) r ⌝ }
 {
     let i = node.0;
-    let kind = kind_of(nodes[2 * i]);
+    let kind = lists::value_kind(nodes[2 * i]);
     if kind < value::BYTES {
         return write_atom(node, to, nodes, table);
     }
@@ -359,7 +330,7 @@ fn is_open(node: NodeId, nodes: &[u64], measures: &[u64]) -> bool
     if i == store::NOWHERE {
         return false;
     }
-    if is_box(kind_of(nodes[2 * i])) {
+    if lists::is_container(lists::value_kind(nodes[2 * i])) {
         return measures[i] < WRITTEN;
     }
     false
@@ -387,7 +358,7 @@ fn write_flat<'a>(
         put_record(table, (to % 0x1000) as usize, words);
         return to + 1;
     }
-    if is_box(kind_of(nodes[2 * i])) {
+    if lists::is_container(lists::value_kind(nodes[2 * i])) {
         return write_again(measures[i], to, table, text);
     }
     write_leaf(node, to, pickle, decoded, nodes, measures, table, text)

@@ -1,2 +1,3 @@
--- The lists of nodes, where they stand.
+-- The kinds of nodes, and their lists, where they stand.
+pub mod Kinds
 pub mod Listed

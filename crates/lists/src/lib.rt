@@ -1,11 +1,43 @@
-// The lists of nodes after STOP: where a node's list stands, among the children or in the log, and its numbers one by one.
+// What the passes behind STOP ask of a node but its text: its value's kind, whether that has contents, where its list stands, among the children
+// or in the log, and the list's numbers one by one.
 ghost use mathlib.Core.Path.{_≡_};
 ghost use mathlib.Core.Bool.{cond};
 ghost use Prim.Native.Nat.{_<_};
 ghost use lib.ListN.{length, getD};
 ghost use Rattle.resolved.specs.Shown.{isSorted};
+ghost use Rattle.lists.specs.Kinds.{kindOf, containerKind};
 ghost use Rattle.lists.specs.Listed.{Listed, Ranges};
 use store::NodeId;
+
+// From a node's kind to its value's: 13 are Bytes too, 14 is a String.
+const TO_VALUE: u64 = store::KIND_ESCAPED - value::BYTES;
+
+// The kind of a node's value, by the node's first word.
+pub fn value_kind(first: u64) -> u64
+    ensures { λ r. ⌜ r ≡ kindOf first ⌝ }
+{
+    let kind = first % store::KIND_RADIX;
+    if kind < store::KIND_ESCAPED {
+        return kind;
+    }
+    if kind < store::NODE_KINDS {
+        return kind - TO_VALUE;
+    }
+    value::NONE
+}
+
+// Has a value, or a node, of this kind contents?
+pub fn is_container(kind: u64) -> bool
+    ensures { λ r. ⌜ r ≡ containerKind kind ⌝ }
+{
+    if kind < value::LIST {
+        return false;
+    }
+    if kind < value::GLOBAL {
+        return true;
+    }
+    kind == value::OBJECT
+}
 
 // The numbers from `at` to `end`, in the log or among the children.
 pub struct Range {

@@ -13,7 +13,8 @@ use Rattle.resolve.specs.Length.{namesLen, textLen, Readable, len-global
 use Rattle.resolve.specs.Word.{packW, textsW, texts-pack}
 use Rattle.resolved.specs.Walk.{State}
 use Rattle.resolved.specs.Noted.{isContainer, isTextLeaf, ahead, leafOf, LeafNoted, unseen, early, reached, Noted, noted-early}
-use Rattle.resolve.specs.Facts.{wordOf, containerKind, kindAt, classAt, Facts}
+use Rattle.lists.specs.Kinds.{containerKind}
+use Rattle.resolve.specs.Facts.{wordOf, kindAt, classAt, Facts}
 use Rattle.resolve.specs.Known.{word-big, leaf-word, no-text}
 
 -- what the code needs

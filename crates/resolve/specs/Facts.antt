@@ -22,16 +22,13 @@ use Rattle.resolved.specs.Fits.{FitsState}
 use Rattle.resolved.specs.Resolves.{open-not-done}
 use Rattle.resolved.specs.Sums.{apartNext, ordered-apart, apart-short}
 use Rattle.resolved.specs.Listed.{Lists, lists-count, lists-length}
+use Rattle.lists.specs.Kinds.{containerKind}
 
 -- the word of a value
 abbrev pub wordOf : Value → ℕ
 wordOf v = word (value v)
 
 -- ---- the node table
-
--- the kinds of nodes with children
-unfoldable pub containerKind : ℕ → Bool
-containerKind k = cond (ltb k 6) false (cond (ltb k 11) true (eqb k 12))
 
 -- the kinds of Sets and Dicts
 unfoldable pub dueKind : ℕ → Bool

@@ -19,7 +19,8 @@ use Rattle.resolved.specs.Walk.{State, Made, View, copied, inside, stuck, enter
 use Rattle.resolved.specs.Resolves.{Resolves}
 use Rattle.resolved.specs.Dues.{isDue, dues}
 use Rattle.resolved.specs.Noted.{isContainer, ahead, leafOf, LeafNoted, unseen, early, reached, Noted, Stamped, stamp-store, stamp-there, stamp-textless, leaf-walk, Reads, is-fresh, is-taken, is-gone, is-kept, reads}
-use Rattle.resolve.specs.Facts.{wordOf, containerKind, kindAt, Facts, Shallow}
+use Rattle.lists.specs.Kinds.{containerKind}
+use Rattle.resolve.specs.Facts.{wordOf, kindAt, Facts, Shallow}
 use Rattle.resolve.specs.declared.Seen.{Seen}
 use Rattle.resolve.specs.declared.Seen.the-variants.{Open, Empty, Word}
 

@@ -21,7 +21,8 @@ use Rattle.resolved.specs.Noted.{isContainer, isTextLeaf}
 use Rattle.resolved.specs.Dues.{isDue}
 use Rattle.resolved.specs.Ranges.{graph-inside}
 use Rattle.resolve.specs.Length.{textLen}
-use Rattle.resolve.specs.Facts.{containerKind, dueKind, kindAt, Facts}
+use Rattle.lists.specs.Kinds.{containerKind}
+use Rattle.resolve.specs.Facts.{dueKind, kindAt, Facts}
 
 -- the nodes t are those that the pickle p and the words ws say
 pub record SaysNodes (p ws : List ℕ) (t : List Node) : Type 0 where

@@ -16,7 +16,6 @@ ghost use Rattle.text.specs.Text.{unescapeString, unescapeUnicode};
 ghost use Rattle.resolve.specs.Length.{namesLen, textLen, Readable};
 ghost use Rattle.resolve.specs.Word.{packW};
 ghost use Rattle.resolve.specs.Blocked.{held};
-ghost use Rattle.resolve.specs.Facts.{containerKind};
 ghost use Rattle.resolve.specs.Noting.{Notes};
 ghost use Rattle.resolve.specs.Class.{Owned, Owns};
 ghost use Rattle.resolve.specs.Known.{Learns};
@@ -130,19 +129,6 @@ fn node_text_len(pickle: &[u8], nodes: &[u64], node: NodeId) -> usize
 
 // ---- the walk
 
-// Has a node of this kind children?
-fn is_container(kind: u64) -> bool
-    ensures { λ r. ⌜ r ≡ containerKind kind ⌝ }
-{
-    if kind < value::LIST {
-        return false;
-    }
-    if kind < value::GLOBAL {
-        return true;
-    }
-    kind == value::OBJECT
-}
-
 // The word of a leaf.
 fn leaf_word(node: NodeId, pickle: &[u8], nodes: &[u64]) -> u64
     requires { ⌜ Readable (now pickle) (now nodes) (node .0) ⌝ }
@@ -175,7 +161,7 @@ fn known(node: NodeId, pickle: &[u8], nodes: &[u64], measures: &mut [u64]) -> Se
         measures[n] = w;
         return Seen::Word(w);
     }
-    if is_container(kind) {
+    if lists::is_container(kind) {
         return Seen::Open;
     }
     let w = leaf_word(node, pickle, nodes);

@@ -27,7 +27,7 @@ use lib.ListN.{length, length-set, getD}
 use Rattle.resolved.specs.Shown.{labelOf}
 use Rattle.emit.specs.Leaves.{kindBelow, AtomPut, LeafPut, opened, atom-ready, atom-leaf}
 use Rattle.emit.specs.Calls.{Open, ReadyNode, FlatWrites, ready-most, ready-inside, below-kind, below-ready, not-below}
-use Rattle.emit.specs.Turns.{open-small, open-boxed, open-text, open-behind, open-levels, open-listed, list-end, list-room, Entered, enter, Turn, turn-start, turn-left, turn-over, turn-item, turn-finish, turn-ready, child-open, child-flat, next-walked, next-flat, next-leaf, turn-same, open-done, Writes}
+use Rattle.emit.specs.Turns.{open-small, open-kind, open-text, open-behind, open-levels, open-listed, list-end, list-room, Entered, enter, Turn, turn-start, turn-left, turn-over, turn-item, turn-finish, turn-ready, child-open, child-flat, next-walked, next-flat, next-leaf, turn-same, open-done, Writes}
 
 abbrev μ : Measures 8 kinds.ps ℕ
 μ κs a = a .1 .0
@@ -171,7 +171,7 @@ module _ (t : ℕ) where
   range-of-requires c κs = open-listed (opens (c .before .before .before .before .before .before .before .before .before .before))
 
   put-class-requires : lts.Need-put-class-requires (calls t) (own t) reads.Post Inv-loop μ-loop
-  put-class-requires c κs = let o = opens (start (c .before .before)) in (open-text o, open-boxed o)
+  put-class-requires c κs = let o = opens (start (c .before .before)) in (open-text o, open-kind o)
 
   behind-requires : lts.Need-behind-requires (calls t) (own t) reads.Post Inv-loop μ-loop
   behind-requires c κs = let p = c .before .before in open-behind (opens (start (ranged p))) _ (p .put-class .ensures .lengths)

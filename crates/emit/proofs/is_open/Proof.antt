@@ -15,15 +15,15 @@ returns c = rw (c .if1 .taken)
 returns-2 : tie.Need-returns-2
 unfolding opened first
 returns-2 c =
-    let k = (c .before .before .before .kind-of .ensures) in
-    let b = rw k at (sym (c .before .before .is-box .ensures) ∙ (c .before .if2 .taken)) in
+    let k = (c .before .before .before .value-kind .ensures) in
+    let b = rw k at (sym (c .before .before .is-container .ensures) ∙ (c .before .if2 .taken)) in
     rw (ne-eqb _ 4096 (c .before .before .before .before .before .if1 .left), b)
 
 returns-3 : tie.Need-returns-3
 unfolding opened first
 returns-3 c =
-    let k = (c .before .before .kind-of .ensures) in
-    let b = rw k at (sym (c .before .is-box .ensures) ∙ (c .if2 .left)) in
+    let k = (c .before .before .value-kind .ensures) in
+    let b = rw k at (sym (c .before .is-container .ensures) ∙ (c .if2 .left)) in
     rw (ne-eqb _ 4096 (c .before .before .before .before .if1 .left), b)
 
 pub is-open-spec : {M : Type 1} → statement M

@@ -8,15 +8,15 @@ use mathlib.Core.Path.{_≡_, refl, sym, _∙_}
 use native.Mathlib.Omega.{arith}
 use lib.ListN.{length}
 use Rattle.steps.specs.NodeWords.{first}
-use Rattle.emit.specs.Words.{kindOf, boxed}
+use Rattle.lists.specs.Kinds.{kindOf, containerKind}
 use Rattle.emit.specs.Calls.{Flat, size-one, ready-most, ready-inside, flat-none, flat-copy, flat-copied, flat-leaf-ready, flat-made}
 
--- ---- the places: the node is one of the nodes, and whether it is a box
+-- ---- the places: the node is one of the nodes, and whether it is a container
 
 abbrev start : tie.Else1 → tie.Start
 start c = c .before .before .before .before .before .before .before
 
-abbrev some : tie.After-is-box → tie.Else1
+abbrev some : tie.After-is-container → tie.Else1
 some c = c .before .before .before
 
 -- ---- what is known there
@@ -30,13 +30,13 @@ small c f = omega (arith, ready-most (f .ready), c .if1 .left)
 inside : (c : tie.Else1) → let a = start c .args in (2 * a .node .0 < length (a .nodes .now)) × (a .node .0 < length (a .measures .now))
 inside c = ready-inside (start c .pre .ready) (small c (start c .pre))
 
-box : (c : tie.Then2) → let a = start (some (c .before)) .args in boxed (kindOf (first (a .nodes .now) (a .node .0))) ≡ true
+container : (c : tie.Then2) → let a = start (some (c .before)) .args in containerKind (kindOf (first (a .nodes .now) (a .node .0))) ≡ true
 unfolding first
-box c = rw (c .before .before .kind-of .ensures) at (sym (c .before .is-box .ensures) ∙ c .if2 .taken)
+container c = rw (c .before .before .value-kind .ensures) at (sym (c .before .is-container .ensures) ∙ c .if2 .taken)
 
-no-box : (c : tie.Else2) → let a = start (some (c .before)) .args in boxed (kindOf (first (a .nodes .now) (a .node .0))) ≡ false
+leaf : (c : tie.Else2) → let a = start (some (c .before)) .args in containerKind (kindOf (first (a .nodes .now) (a .node .0))) ≡ false
 unfolding first
-no-box c = rw (c .before .before .kind-of .ensures) at (sym (c .before .is-box .ensures) ∙ c .if2 .left)
+leaf c = rw (c .before .before .value-kind .ensures) at (sym (c .before .is-container .ensures) ∙ c .if2 .left)
 
 -- ---- the needs
 
@@ -46,14 +46,14 @@ put-record-requires c κs = let r = c .before .before .before .before .before .b
 returns : tie.Need-returns
 returns c F = flat-none F _ _ _ (c .before .before .before .before .before .if1 .taken) (c .before .before .before .before .record-of .ensures) (c .before .before .put-record .ensures) refl
 
-mul-kind-of : tie.Need-mul-kind-of
-mul-kind-of c = omega (arith, inside c .0)
+mul-value-kind : tie.Need-mul-value-kind
+mul-value-kind c = omega (arith, inside c .0)
 
-mul-kind-of-2 : tie.Need-mul-kind-of-2
-mul-kind-of-2 c = omega (arith, inside c .0)
+mul-value-kind-2 : tie.Need-mul-value-kind-2
+mul-value-kind-2 c = omega (arith, inside c .0)
 
-shared-slice-read-kind-of : tie.Need-shared-slice-read-kind-of
-shared-slice-read-kind-of c = inside (c .before) .0
+shared-slice-read-value-kind : tie.Need-shared-slice-read-value-kind
+shared-slice-read-value-kind c = inside (c .before) .0
 
 mul-write-again : tie.Need-mul-write-again
 mul-write-again c = omega (arith, inside (some (c .before)) .1)
@@ -62,21 +62,21 @@ shared-slice-read-write-again : tie.Need-shared-slice-read-write-again
 shared-slice-read-write-again c = inside (some (c .before .before)) .1
 
 write-again-requires : tie.Need-write-again-requires
-write-again-requires c κs = let b = c .before .before .before in let e = some (b .before) in flat-copy (start e .pre) (small e (start e .pre)) (box b)
+write-again-requires c κs = let b = c .before .before .before in let e = some (b .before) in flat-copy (start e .pre) (small e (start e .pre)) (container b)
 
 returns-2 : tie.Need-returns-2
-returns-2 c F = let w = c .before .before .before .before in let b = w .before .before .before .before in flat-copied F (small (some (b .before)) F) (box b) _ _ _ (w .write-again .ensures)
+returns-2 c F = let w = c .before .before .before .before in let b = w .before .before .before .before in flat-copied F (small (some (b .before)) F) (container b) _ _ _ (w .write-again .ensures)
 
 write-leaf-requires : tie.Need-write-leaf-requires
-write-leaf-requires c κs = let b = c .before .before in let e = some (b .before) in (flat-leaf-ready (start e .pre) (small e (start e .pre)) (no-box b), no-box b)
+write-leaf-requires c κs = let b = c .before .before in let e = some (b .before) in (flat-leaf-ready (start e .pre) (small e (start e .pre)) (leaf b), leaf b)
 
 returns-3 : tie.Need-returns-3
-returns-3 c F = let w = c .before .before .before .before in let b = w .before .before .before in flat-made F (small (some (b .before)) F) (no-box b) _ _ _ (w .write-leaf .ensures)
+returns-3 c F = let w = c .before .before .before .before in let b = w .before .before .before in flat-made F (small (some (b .before)) F) (leaf b) _ _ _ (w .write-leaf .ensures)
 
 pub write-flat-spec : {M : Type 1} → statement M
 write-flat-spec =
     tie.close
     (tie.spec
-    (λ c κs. search needs) put-record-requires (λ c. search needs) (λ c. search needs) returns mul-kind-of mul-kind-of-2 shared-slice-read-kind-of
+    (λ c κs. search needs) put-record-requires (λ c. search needs) (λ c. search needs) returns mul-value-kind mul-value-kind-2 shared-slice-read-value-kind
     (λ c κs. search needs) (λ c κs. search needs) mul-write-again shared-slice-read-write-again write-again-requires (λ c. search needs) (λ c. search needs)
     returns-2 write-leaf-requires (λ c. search needs) (λ c. search needs) returns-3)

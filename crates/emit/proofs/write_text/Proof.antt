@@ -6,7 +6,7 @@ use Prim.Native.Nat.{ℕ, _<_}
 use mathlib.Core.Path.{_≡_, _∙_}
 use native.Mathlib.Omega.{arith}
 use Rattle.steps.specs.NodeWords.{first}
-use Rattle.emit.specs.Words.{kind-small}
+use Rattle.lists.specs.Kinds.{kind-small}
 use Rattle.emit.specs.Leaves.{text-room, text-fits, text-leaf}
 
 small : (r k : ℕ) → r ≡ k → k < 13 → r < 16
@@ -20,7 +20,7 @@ put-bytes-requires : tie.Need-put-bytes-requires
 put-bytes-requires c κs = let l = c .before in text-room (start l .pre .0) (start l .pre .1) _ (l .lead-part .ensures)
 
 plain-word-requires : tie.Need-plain-word-requires
-plain-word-requires c κs = small _ _ (c .kind-of .ensures) (kind-small _)
+plain-word-requires c κs = small _ _ (c .value-kind .ensures) (kind-small _)
 
 mul-result : tie.Need-mul-result
 mul-result c = let l = c .before .before .before .before .before .before .before .before .before .before .before in let f = text-fits (start l .pre .0) (start l .pre .1) _ (l .lead-part .ensures) in omega arith
@@ -32,7 +32,7 @@ returns : tie.Need-returns
 unfolding first
 returns c =
     let l = c .before .before .before .before .before .before .before .before .before .before .before in
-    let k = c .before .before .before .before .plain-word .ensures ∙ c .before .before .before .before .before .kind-of .ensures in
+    let k = c .before .before .before .before .plain-word .ensures ∙ c .before .before .before .before .before .value-kind .ensures in
     text-leaf (start l .pre .0) (start l .pre .1) _ (l .lead-part .ensures) _ _ _ (c .before .before .before .before .before .before .before .before .before .put-bytes .ensures) (rw k at (c .before .before .put-record .ensures)) (omega arith)
 
 pub write-text-spec : {M : Type 1} → statement M

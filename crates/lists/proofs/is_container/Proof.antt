@@ -1,8 +1,8 @@
--- `resolve::is_container` meets its contract.
-use Rattle.resolve.proofs.is_container.Statement.{statement}
-use Rattle.resolve.proofs.is_container.Tie as tie
+-- `lists::is_container` meets its contract.
+use Rattle.lists.proofs.is_container.Statement.{statement}
+use Rattle.lists.proofs.is_container.Tie as tie
 use borrow.Author.Tests.{lt-ltb, le-ltb}
-use Rattle.resolve.specs.Facts.{containerKind}
+use Rattle.lists.specs.Kinds.{containerKind}
 
 returns : tie.Need-returns
 unfolding containerKind
