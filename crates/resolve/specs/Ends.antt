@@ -30,23 +30,15 @@ use Rattle.resolve.specs.Facts.{wordOf, kindAt, classAt, Facts, Shallow,
 use Rattle.resolve.specs.Noting.{Notes}
 use Rattle.resolve.specs.Class.{Owned, Owns}
 use Rattle.resolve.specs.Known.{word-big, Yields, Knows, k-open, k-empty, k-word, Learns}
-use Rattle.resolve.specs.Loop.{Entered, Back, Midway, mid-start, called, child-below, too-deep, mid-same, mid-none, mid-word, mid-shallow, mid-finish}
+use Rattle.resolve.specs.Loop.{AtStage, Entered, Back, Midway, mid-start, called, child-below, too-deep, mid-same, mid-none, mid-word, mid-shallow, mid-finish}
 use Rattle.resolve.specs.declared.Answer.{Answer}
 use Rattle.resolve.specs.declared.Answer.the-variants as answer
 use Rattle.resolve.specs.declared.Seen.{Seen}
 use Rattle.resolve.specs.declared.Seen.the-variants.{Open, Empty, Word}
 
--- the rooms hold some state of a walk over some nodes, and node n is a container that is fresh in it
-pub record Opens (p ws starts measures sorted room : List ℕ) (n : ℕ) : Type 0 where
-  pub nodes : List Node
-  pub facts : Facts p ws starts nodes
-  pub state : State
-  pub lent : List ℕ
-  pub roomy : length nodes < length lent
-  pub holds : HoldsWalk nodes (facts .beyond) starts lent measures sorted room state
-  pub below : n < length nodes
-  pub container : isContainer (at nodes n .label) ≡ true
-  pub fresh-is : state .stages n ≡ fresh
+-- node n is a container that the walk comes to for the first time
+abbrev pub Opens : List ℕ → List ℕ → List ℕ → List ℕ → List ℕ → List ℕ → ℕ → Type 0
+Opens = AtStage fresh
 
 -- what an answer says of m, which the walk makes of n, and of the rooms after
 pub data Ends (t : List Node) (beyond : length t ≤ 4096) (starts lent : List ℕ) (levels n : ℕ) (m : Made) (measures sorted room : List ℕ) : Answer → Type 0 where
@@ -94,7 +86,7 @@ head-taken t measures s (x ∷ l) n b = go (isContainer (at t x .label)) refl
 
 module _ {p ws starts measures sorted room : List ℕ} {n : ℕ} (o : Opens p ws starts measures sorted room n) where
   kids-at : slice (getD starts n 0) (getD starts (suc n) 0) sorted ≡ at (o .nodes) n .kids
-  kids-at = o .holds .fits .lies .lists n (o .below) ∙ o .holds .fits .resolves .fresh-is n (o .fresh-is)
+  kids-at = o .holds .fits .lies .lists n (o .below) ∙ o .kids-are
 
   held-is : held (kindAt ws n) (slice (getD starts n 0) (getD starts (n + 1) 0) sorted) measures ≡ blocked (o .nodes) (o .state .stages) n
   unfolding held blocked
@@ -118,15 +110,15 @@ module _ {p ws starts measures sorted room : List ℕ} {n : ℕ} (o : Opens p ws
     lent = o .lent;
     roomy = o .roomy;
     holds = record {
-      fits = fits-take (o .nodes) 4096 (o .facts .beyond) wordOf starts measures sorted (o .state) (o .holds .fits) n (o .below) (o .container) (o .fresh-is);
+      fits = fits-take (o .nodes) 4096 (o .facts .beyond) wordOf starts measures sorted (o .state) (o .holds .fits) n (o .below) (o .container) (o .stage-is);
       small = λ j v x. small-taken j v x (staged n taken (o .state .stages) j);
       within = o .holds .within;
       listed = o .holds .listed;
     };
     below = o .below;
     container = o .container;
-    taken-is = stage-own n taken (o .state .stages);
-    kids-are = o .holds .fits .resolves .fresh-is n (o .fresh-is);
+    stage-is = stage-own n taken (o .state .stages);
+    kids-are = o .kids-are;
   }
     where
       small-taken : (j : ℕ) (v : Value) → stage n taken (o .state .stages) j ≡ kept v → Staged n taken (o .state .stages) j → value v .deep ≤ 64
@@ -142,7 +134,7 @@ module _ {p ws starts measures sorted room : List ℕ} {n : ℕ} (o : Opens p ws
       where
         go : (k : ℕ) → 1 ≤ k → walk (o .nodes) 4096 k n (o .state) ≡ record { slot = 4096; value = none; after = stageR n (kept none) (o .state) }
         go zero q = absurd (omega arith)
-        go (suc k) q = let e = o .fresh-is in rw (e, b, walk)
+        go (suc k) q = let e = o .stage-is in rw (e, b, walk)
 
     walk-entered : blocked (o .nodes) (o .state .stages) n ≡ false
         → walk (o .nodes) 4096 levels n (o .state) ≡ finishR (o .nodes) n (eachR (walk (o .nodes) 4096 (levels - 1)) n [] (at (o .nodes) n .kids) (stageR n taken (o .state)))
@@ -152,7 +144,7 @@ module _ {p ws starts measures sorted room : List ℕ} {n : ℕ} (o : Opens p ws
         go : (k : ℕ) → 1 ≤ k
             → walk (o .nodes) 4096 k n (o .state) ≡ finishR (o .nodes) n (eachR (walk (o .nodes) 4096 (k - 1)) n [] (at (o .nodes) n .kids) (stageR n taken (o .state)))
         go zero q = absurd (omega arith)
-        go (suc k) q = let e = o .fresh-is in rw (e, b, walk, sub-one)
+        go (suc k) q = let e = o .stage-is in rw (e, b, walk, sub-one)
 
     -- measures[n] = 3
     pub ends-blocked : {r : Bool} → r ≡ held (kindAt ws n) (slice (getD starts n 0) (getD starts (n + 1) 0) sorted) measures → r ≡ true
@@ -160,7 +152,7 @@ module _ {p ws starts measures sorted room : List ℕ} {n : ℕ} (o : Opens p ws
     unfolding blocked measure
     ends-blocked e h =
         let b : blocked (o .nodes) (o .state .stages) n ≡ true = sym held-is ∙ (sym e ∙ h) in
-        let f = fits-block (o .nodes) 4096 (o .facts .beyond) wordOf starts measures sorted (o .state) (o .holds .fits) n (o .below) (o .container) (o .fresh-is) (and-left _ _ b) in
+        let f = fits-block (o .nodes) 4096 (o .facts .beyond) wordOf starts measures sorted (o .state) (o .holds .fits) n (o .below) (o .container) (o .stage-is) (and-left _ _ b) in
         rw (walk-stuck b) (ends-empty refl refl (record { fits = f; small = small-none; within = o .holds .within; listed = o .holds .listed }))
       where
         small-none : Shallow (stageR n (kept none) (o .state))
@@ -264,7 +256,7 @@ module _ {p ws starts measures₀ sorted₀ room₀ : List ℕ} {n : ℕ} (I : E
   module _ (a : Learns p ws measures measures′ (getD sorted i 0) Open) where
     opened : Knows (I .nodes) measures measures′ (T .state) (getD sorted i 0) Open → Opens p ws starts measures′ sorted room (getD sorted i 0)
     opened (k-open c f e) =
-        record { nodes = I .nodes; facts = I .facts; state = T .state; lent = I .lent; roomy = I .roomy; holds = same-holds measures′ e; below = child-below I k T h′; container = c; fresh-is = f }
+        record { nodes = I .nodes; facts = I .facts; state = T .state; lent = I .lent; roomy = I .roomy; holds = same-holds measures′ e; below = child-below I k T h′; container = c; stage-is = f; kids-are = T .holds .fits .resolves .fresh-is _ f }
 
     pub known-open : Opens p ws starts measures′ sorted room (getD sorted i 0)
     known-open = opened (learns Open a)
@@ -366,7 +358,8 @@ module _ {p ws starts measures sorted room : List ℕ} {n : ℕ} (o : Opens p ws
       };
       below = o .below;
       container = o .container;
-      fresh-is = o .fresh-is;
+      stage-is = o .stage-is;
+      kids-are = o .kids-are;
     }
 
     pub own-len : r ≡ min (length (textOf (at (o .nodes) n .label))) 65537

@@ -8,7 +8,7 @@ use lib.Seq.{slice, length-slice, getD-append-seam, getD-drop, getD-take}
 use native.Mathlib.Omega.{arith}
 use Rattle.value.specs.Value.{Value, textOf}
 use Rattle.steps.specs.State.{Node}
-use Rattle.reading.specs.Build.{taken, kept, stage, at}
+use Rattle.reading.specs.Build.{Stage, taken, kept, stage, at}
 use Rattle.reading.specs.Unfold.{In, here, there, Staged, same, other, staged}
 use Rattle.reading.specs.Measures.{Measure, nilM, pushM, value, measure}
 use Rattle.resolve.specs.Word.{packW, deepW, valuesW, textsW, deep-pack, values-pack, texts-pack}
@@ -22,8 +22,9 @@ use Rattle.resolved.specs.Fits.{FitsState, fits-put, fits-same, fits-finish}
 use Rattle.resolve.specs.Facts.{wordOf, kindAt, Facts, Shallow, HoldsWalk, one-more, note-fits}
 use Rattle.resolve.specs.Noting.{Notes}
 
--- what the rooms say where the loop begins: node n is taken, its children are as they were, and the room of dues, lent as it was, has room
-pub record Entered (p ws starts measures sorted room : List ℕ) (n : ℕ) : Type 0 where
+-- the rooms hold some state of a walk over some nodes, in which container n is at stage m with its children as they were; the room of dues, lent
+-- as it was, has room
+pub record AtStage (m : Stage) (p ws starts measures sorted room : List ℕ) (n : ℕ) : Type 0 where
   pub nodes : List Node
   pub facts : Facts p ws starts nodes
   pub state : State
@@ -32,8 +33,12 @@ pub record Entered (p ws starts measures sorted room : List ℕ) (n : ℕ) : Typ
   pub holds : HoldsWalk nodes (facts .beyond) starts lent measures sorted room state
   pub below : n < length nodes
   pub container : isContainer (at nodes n .label) ≡ true
-  pub taken-is : state .stages n ≡ taken
+  pub stage-is : state .stages n ≡ m
   pub kids-are : state .kids n ≡ at nodes n .kids
+
+-- where the loop begins
+abbrev pub Entered : List ℕ → List ℕ → List ℕ → List ℕ → List ℕ → List ℕ → ℕ → Type 0
+Entered = AtStage taken
 
 -- a child is done: w is the word of what the walk made of it, and the rooms hold the state after
 pub record Back (t : List Node) (beyond : length t ≤ 4096) (starts lent : List ℕ) (k : ℕ) (m : Made) (w : ℕ) (measures sorted room : List ℕ) : Type 0 where
@@ -93,7 +98,7 @@ module _ {p ws starts measures₀ sorted₀ room₀ : List ℕ} {n : ℕ} (I : E
         todo = at (I .nodes) n .kids;
         state = I .state;
         sum = nilM;
-        turn = record { resolves = I .holds .fits .resolves; open-still = I .taken-is; held = I .kids-are; rest = refl; sum = sym (push-nil _) };
+        turn = record { resolves = I .holds .fits .resolves; open-still = I .stage-is; held = I .kids-are; rest = refl; sum = sym (push-nil _) };
         holds = I .holds;
         place = omega arith;
         below = λ j m. I .facts .inside n j m;
@@ -208,7 +213,7 @@ module _ {p ws starts measures₀ sorted₀ room₀ : List ℕ} {n : ℕ} (I : E
       mid-finish w room′ b c e =
           let q = ended .0 in
           let s = eachR (walk (I .nodes) 4096 k) n [] (at (I .nodes) n .kids) (I .state) in
-          let r : Resolved (I .nodes) 4096 (I .facts .beyond) n [] (I .state) s = each-resolves (I .nodes) 4096 (I .facts .beyond) (walk (I .nodes) 4096 k) (λ j c. walk-resolves (I .nodes) 4096 (I .facts .beyond) k j c) n [] (at (I .nodes) n .kids) (I .state) (I .holds .fits .resolves) (I .taken-is) (I .kids-are) in
+          let r : Resolved (I .nodes) 4096 (I .facts .beyond) n [] (I .state) s = each-resolves (I .nodes) 4096 (I .facts .beyond) (walk (I .nodes) 4096 k) (λ j c. walk-resolves (I .nodes) 4096 (I .facts .beyond) k j c) n [] (at (I .nodes) n .kids) (I .state) (I .holds .fits .resolves) (I .stage-is) (I .kids-are) in
           let f : FitsState (I .nodes) 4096 (I .facts .beyond) wordOf starts measures sorted (s .1) = rw q (T .holds .fits) in
           let o : s .1 .stages n ≡ taken = rw q (T .turn .open-still) in
           let g = r .held in

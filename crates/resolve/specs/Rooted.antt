@@ -258,7 +258,7 @@ module _ {p ws starts sorted measures room : List ℕ} {root : ℕ} (b : Begins 
     -- a container: it is walked
     opened : Knows (b .nodes) measures measures′ (start (b .nodes)) root seen.Open → Opens p ws starts measures′ sorted room root
     opened (k-open c f e) =
-        record { nodes = b .nodes; facts = facts-at; state = start (b .nodes); lent = room; roomy = b .roomy; holds = same-holds measures′ e; below = b .below; container = c; fresh-is = f }
+        record { nodes = b .nodes; facts = facts-at; state = start (b .nodes); lent = room; roomy = b .roomy; holds = same-holds measures′ e; below = b .below; container = c; stage-is = f; kids-are = holds-start .fits .resolves .fresh-is _ f }
 
     pub root-open : Learns p ws measures measures′ root seen.Open → Opens p ws starts measures′ sorted room root
     root-open a = opened (learns seen.Open a)
