@@ -1,10 +1,11 @@
 -- The kind of a node's value, by the node's first word, and the kinds that have contents.
-use Prim.Native.Nat.{ℕ, _-_, _<_, _≤_}
+use Prim.Native.Nat.{ℕ, suc, zero, _-_, _<_, _≤_}
 use mathlib.Core.Bool.{Bool, true, false, cond}
 use mathlib.Core.List.{List, [], _∷_}
 use mathlib.Core.Path.{_≡_, refl, sym, _∙_, ap}
 use lib.ListN.{getD, List·getD-map, List·getD-append, List·getD-eq-default}
 use lib.Dec.{eqb, ltb}
+use borrow.Author.Tests.{le-ltb, ne-eqb}
 use native.Mathlib.Decide.{decLt, ℕ-discrete}
 use native.Mathlib.Omega.{arith}
 use Rattle.value.specs.Value.{Label, kind, NoneL, BoolL, I64L, F64L, BytesL, StringL, ListL, TupleL, SetL, FrozenSetL, DictL, GlobalL, ObjectL}
@@ -13,7 +14,8 @@ use Rattle.store.specs.Rooms.{tab}
 use Rattle.store.specs.RoomLists.{getD-tab}
 use Rattle.steps.specs.NodeWords.{first, second}
 use Rattle.resolved.specs.Noted.{isContainer}
-use Rattle.resolved.specs.Shown.{labels, labelOf}
+use Rattle.resolved.specs.Dues.{isDue}
+use Rattle.resolved.specs.Shown.{labels, labelOf, isSorted}
 
 -- ---- a value's kind
 
@@ -83,12 +85,53 @@ container-kind DictL = refl
 container-kind (GlobalL m n) = refl
 container-kind (ObjectL m n b) = refl
 
+-- ---- every kind
+
+-- what holds of each kind that has a label of its own and of all other numbers holds of every number
+pub by-kind : (Q : ℕ → Type 0) → Q 0 → Q 1 → Q 2 → Q 3 → Q 4 → Q 5 → Q 6 → Q 7 → Q 8 → Q 9 → Q 10 → Q 11 → Q 12 → Q 13 → Q 14 → ((k : ℕ) → 15 ≤ k → Q k) → (k : ℕ) → Q k
+by-kind Q q0 q1 q2 q3 q4 q5 q6 q7 q8 q9 q10 q11 q12 q13 q14 r zero = q0
+by-kind Q q0 q1 q2 q3 q4 q5 q6 q7 q8 q9 q10 q11 q12 q13 q14 r (suc zero) = q1
+by-kind Q q0 q1 q2 q3 q4 q5 q6 q7 q8 q9 q10 q11 q12 q13 q14 r (suc (suc zero)) = q2
+by-kind Q q0 q1 q2 q3 q4 q5 q6 q7 q8 q9 q10 q11 q12 q13 q14 r (suc (suc (suc zero))) = q3
+by-kind Q q0 q1 q2 q3 q4 q5 q6 q7 q8 q9 q10 q11 q12 q13 q14 r (suc (suc (suc (suc zero)))) = q4
+by-kind Q q0 q1 q2 q3 q4 q5 q6 q7 q8 q9 q10 q11 q12 q13 q14 r (suc (suc (suc (suc (suc zero))))) = q5
+by-kind Q q0 q1 q2 q3 q4 q5 q6 q7 q8 q9 q10 q11 q12 q13 q14 r (suc (suc (suc (suc (suc (suc zero)))))) = q6
+by-kind Q q0 q1 q2 q3 q4 q5 q6 q7 q8 q9 q10 q11 q12 q13 q14 r (suc (suc (suc (suc (suc (suc (suc zero))))))) = q7
+by-kind Q q0 q1 q2 q3 q4 q5 q6 q7 q8 q9 q10 q11 q12 q13 q14 r (suc (suc (suc (suc (suc (suc (suc (suc zero)))))))) = q8
+by-kind Q q0 q1 q2 q3 q4 q5 q6 q7 q8 q9 q10 q11 q12 q13 q14 r (suc (suc (suc (suc (suc (suc (suc (suc (suc zero))))))))) = q9
+by-kind Q q0 q1 q2 q3 q4 q5 q6 q7 q8 q9 q10 q11 q12 q13 q14 r (suc (suc (suc (suc (suc (suc (suc (suc (suc (suc zero)))))))))) = q10
+by-kind Q q0 q1 q2 q3 q4 q5 q6 q7 q8 q9 q10 q11 q12 q13 q14 r (suc (suc (suc (suc (suc (suc (suc (suc (suc (suc (suc zero))))))))))) = q11
+by-kind Q q0 q1 q2 q3 q4 q5 q6 q7 q8 q9 q10 q11 q12 q13 q14 r (suc (suc (suc (suc (suc (suc (suc (suc (suc (suc (suc (suc zero)))))))))))) = q12
+by-kind Q q0 q1 q2 q3 q4 q5 q6 q7 q8 q9 q10 q11 q12 q13 q14 r (suc (suc (suc (suc (suc (suc (suc (suc (suc (suc (suc (suc (suc zero))))))))))))) = q13
+by-kind Q q0 q1 q2 q3 q4 q5 q6 q7 q8 q9 q10 q11 q12 q13 q14 r (suc (suc (suc (suc (suc (suc (suc (suc (suc (suc (suc (suc (suc (suc zero)))))))))))))) = q14
+by-kind Q q0 q1 q2 q3 q4 q5 q6 q7 q8 q9 q10 q11 q12 q13 q14 r (suc (suc (suc (suc (suc (suc (suc (suc (suc (suc (suc (suc (suc (suc (suc k))))))))))))))) = r (suc (suc (suc (suc (suc (suc (suc (suc (suc (suc (suc (suc (suc (suc (suc k))))))))))))))) (omega arith)
+
 -- ---- the label of a node, by its first word
 
 module _ (p ws : List ℕ) (i : ℕ) where
+  abbrev all : List Label
+  all = labels p ws (first ws i) (second ws i)
+
   pub kind-is : kind (labelOf p ws i) ≡ kindOf (first ws i)
   unfolding labelOf kindOf
-  kind-is = sym (List·getD-map kind (labels p ws (first ws i) (second ws i)) (kindIn (first ws i)) NoneL)
+  kind-is = sym (List·getD-map kind all (kindIn (first ws i)) NoneL)
 
   pub container-is : isContainer (labelOf p ws i) ≡ containerKind (kindOf (first ws i))
   container-is = container-kind (labelOf p ws i) ∙ ap containerKind kind-is
+
+  -- a container by its node's kind, and a Set or a Dict
+  pub container-node : isContainer (labelOf p ws i) ≡ containerKind (kindIn (first ws i))
+  unfolding labelOf containerKind
+  container-node =
+      by-kind (λ k. isContainer (getD all k NoneL) ≡ containerKind k)
+      refl refl refl refl refl refl refl refl refl refl refl refl refl refl refl
+      (λ k l. rw (List·getD-eq-default all NoneL l, le-ltb k 6 (omega arith), le-ltb k 11 (omega arith), ne-eqb k 12 (λ e. omega arith)))
+      (kindIn (first ws i))
+
+  pub sorted-due : isDue (labelOf p ws i) ≡ isSorted (kindIn (first ws i))
+  unfolding labelOf isSorted
+  sorted-due =
+      by-kind (λ k. isDue (getD all k NoneL) ≡ isSorted k)
+      refl refl refl refl refl refl refl refl refl refl refl refl refl refl refl
+      (λ k l. rw (List·getD-eq-default all NoneL l, ne-eqb k 8 (λ e. omega arith), ne-eqb k 9 (λ e. omega arith), ne-eqb k 10 (λ e. omega arith)))
+      (kindIn (first ws i))

@@ -47,7 +47,7 @@ pub struct Range {
 }
 
 // Whether lists of a kind are put in order.
-fn is_sorted(kind: u64) -> bool
+pub fn is_sorted(kind: u64) -> bool
     ensures { λ r. ⌜ r ≡ isSorted kind ⌝ }
 {
     if kind < value::SET {

@@ -26,7 +26,7 @@ use Rattle.resolved.specs.Noted.{isContainer, leafOf, LeafNoted, unseen, early,
 use Rattle.resolved.specs.Ranges.{Lies}
 use Rattle.resolved.specs.Resolving.{walk-resolves}
 use Rattle.resolved.specs.Fits.{fits-take, fits-block}
-use Rattle.resolve.specs.Facts.{wordOf, kindAt, classAt, Facts, Shallow, HoldsWalk}
+use Rattle.resolve.specs.Facts.{wordOf, kindAt, classAt, Shallow, HoldsWalk}
 use Rattle.resolve.specs.Noting.{Notes}
 use Rattle.resolve.specs.Class.{Owned, Owns}
 use Rattle.resolve.specs.Known.{word-big, Yields, Knows, k-open, k-empty, k-word, Learns}

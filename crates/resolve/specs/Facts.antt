@@ -4,7 +4,7 @@ use mathlib.Core.Bool.{Bool, true, false, cond}
 use mathlib.Core.List.{List, [], _∷_}
 use mathlib.Core.Path.{_≡_, refl}
 use lib.ListN.{length, getD}
-use lib.Dec.{eqb, ltb}
+use lib.Dec.{eqb}
 use native.Mathlib.Omega.{arith}
 use Rattle.value.specs.Value.{Value, textOf}
 use Rattle.steps.specs.State.{Node}
@@ -22,6 +22,7 @@ use Rattle.resolved.specs.Fits.{FitsState}
 use Rattle.resolved.specs.Resolves.{open-not-done}
 use Rattle.resolved.specs.Sums.{apartNext, ordered-apart, apart-short}
 use Rattle.resolved.specs.Listed.{Lists, lists-count, lists-length}
+use Rattle.resolved.specs.Shown.{isSorted}
 use Rattle.lists.specs.Kinds.{containerKind}
 
 -- the word of a value
@@ -29,10 +30,6 @@ abbrev pub wordOf : Value → ℕ
 wordOf v = word (value v)
 
 -- ---- the node table
-
--- the kinds of Sets and Dicts
-unfoldable pub dueKind : ℕ → Bool
-dueKind k = cond (ltb k 8) false (ltb k 11)
 
 abbrev pub kindAt : List ℕ → ℕ → ℕ
 kindAt ws i = getD ws (2 * i) 0 % 16
@@ -50,7 +47,7 @@ pub record Facts (p ws starts : List ℕ) (t : List Node) : Type 0 where
   pub lens-are : (i : ℕ) → i < length t → textLen p ws i ≡ length (textOf (at t i .label))
   pub objects : (i : ℕ) → i < length t → isObject (at t i .label) ≡ eqb (kindAt ws i) 12
   pub containers : (i : ℕ) → i < length t → isContainer (at t i .label) ≡ containerKind (kindAt ws i)
-  pub due-are : (i : ℕ) → i < length t → isDue (at t i .label) ≡ dueKind (kindAt ws i)
+  pub due-are : (i : ℕ) → i < length t → isDue (at t i .label) ≡ isSorted (kindAt ws i)
   pub textless : (i : ℕ) → i < length t → kindAt ws i < 4 → isTextLeaf (at t i .label) ≡ false
   pub classes : (i : ℕ) → i < length t → kindAt ws i ≡ 12 → (classAt ws i < length t) × (kindAt ws (classAt ws i) ≡ 11)
   pub leafless : (i : ℕ) → i < length t → isContainer (at t i .label) ≡ false → at t i .kids ≡ []

@@ -3,8 +3,7 @@ use Prim.Native.Nat.{ℕ, suc, zero, _*_, _<_, _≤_}
 use mathlib.Core.Bool.{true, false}
 use mathlib.Core.List.{List, []}
 use mathlib.Core.Path.{_≡_, refl, sym, _∙_, ap}
-use lib.ListN.{length, getD, List·getD-map}
-use borrow.Author.Tests.{le-ltb, ne-eqb}
+use lib.ListN.{length, getD, List·getD-map, List·getD-eq-default}
 use native.Mathlib.Omega.{arith}
 use Rattle.value.specs.Value.{Label, NoneL, textOf}
 use Rattle.value.specs.Shape.{kindIn}
@@ -16,13 +15,13 @@ use Rattle.store.specs.RoomReads.{node-at, nodes-length}
 use Rattle.store.specs.Effects.{Firm, Sound}
 use Rattle.reading.specs.Build.{at}
 use Rattle.reading.specs.Graph.{Graph}
-use Rattle.resolved.specs.Shown.{labelOf}
+use Rattle.resolved.specs.Shown.{labels, labelOf}
 use Rattle.resolved.specs.Noted.{isContainer, isTextLeaf}
 use Rattle.resolved.specs.Dues.{isDue}
 use Rattle.resolved.specs.Ranges.{graph-inside}
 use Rattle.resolve.specs.Length.{textLen}
-use Rattle.lists.specs.Kinds.{containerKind}
-use Rattle.resolve.specs.Facts.{dueKind, kindAt, Facts}
+use Rattle.lists.specs.Kinds.{by-kind, container-node, sorted-due}
+use Rattle.resolve.specs.Facts.{Facts}
 
 -- the nodes t are those that the pickle p and the words ws say
 pub record SaysNodes (p ws : List ℕ) (t : List Node) : Type 0 where
@@ -33,47 +32,23 @@ pub record SaysNodes (p ws : List ℕ) (t : List Node) : Type 0 where
   pub words : rooms .nodes ≡ ws
   pub nodes : t ≡ stateOf rooms counts .nodes
 
--- a node of kind k
-record Suits (k : ℕ) (n : Node) : Type 0 where
-  containers : isContainer (n .label) ≡ containerKind k
-  due-are : isDue (n .label) ≡ dueKind k
-  textless : k < 4 → isTextLeaf (n .label) ≡ false
-  leafless : isContainer (n .label) ≡ false → n .kids ≡ []
+-- kinds below 4 have no text
+textless : (p ws : List ℕ) (a b k : ℕ) → k < 4 → isTextLeaf (getD (labels p ws a b) k NoneL) ≡ false
+textless p ws a b zero h = refl
+textless p ws a b (suc zero) h = refl
+textless p ws a b (suc (suc zero)) h = refl
+textless p ws a b (suc (suc (suc zero))) h = refl
+textless p ws a b (suc (suc (suc (suc k)))) h = absurd (omega arith)
 
-leaf : {k : ℕ} {n : Node} → containerKind k ≡ false → isContainer (n .label) ≡ false → dueKind k ≡ false → isDue (n .label) ≡ false → n .kids ≡ []
-    → (k < 4 → isTextLeaf (n .label) ≡ false) → Suits k n
-leaf a b c d e f = record { containers = b ∙ sym a; due-are = d ∙ sym c; textless = f; leafless = λ x. e }
+contained : {A : Type 0} → true ≡ false → A
+contained e = absurd (let z : _≡_ {A = ℕ} 0 1 = cc in omega arith)
 
-container : {k : ℕ} {n : Node} → containerKind k ≡ true → isContainer (n .label) ≡ true → isDue (n .label) ≡ dueKind k → 4 ≤ k → Suits k n
-container a b c d = record { containers = b ∙ sym a; due-are = c; textless = λ h. absurd (omega arith); leafless = λ x. absurd (let z : _≡_ {A = ℕ} 0 1 = cc in omega arith) }
-
-far : (k : ℕ) → 15 ≤ k → containerKind k ≡ false
-unfolding containerKind
-far k h = let a : 6 ≤ k = omega arith in let b : 11 ≤ k = omega arith in rw (le-ltb k 6 a, le-ltb k 11 b, ne-eqb k 12 (λ q. omega arith))
-
-far-due : (k : ℕ) → 15 ≤ k → dueKind k ≡ false
-unfolding dueKind
-far-due k h = let a : 8 ≤ k = omega arith in let b : 11 ≤ k = omega arith in rw (le-ltb k 8 a, le-ltb k 11 b)
-
-module _ (p ws ks : List ℕ) (a b : ℕ) where
-  suits : (k : ℕ) → Suits k (getD (choices p ws ks a b) k (kidless NoneL))
-  unfolding containerKind dueKind
-  suits zero = leaf refl refl refl refl refl (λ h. refl)
-  suits (suc zero) = leaf refl refl refl refl refl (λ h. refl)
-  suits (suc (suc zero)) = leaf refl refl refl refl refl (λ h. refl)
-  suits (suc (suc (suc zero))) = leaf refl refl refl refl refl (λ h. refl)
-  suits (suc (suc (suc (suc zero)))) = leaf refl refl refl refl refl (λ h. absurd (omega arith))
-  suits (suc (suc (suc (suc (suc zero))))) = leaf refl refl refl refl refl (λ h. absurd (omega arith))
-  suits (suc (suc (suc (suc (suc (suc zero)))))) = container refl refl refl (omega arith)
-  suits (suc (suc (suc (suc (suc (suc (suc zero))))))) = container refl refl refl (omega arith)
-  suits (suc (suc (suc (suc (suc (suc (suc (suc zero)))))))) = container refl refl refl (omega arith)
-  suits (suc (suc (suc (suc (suc (suc (suc (suc (suc zero))))))))) = container refl refl refl (omega arith)
-  suits (suc (suc (suc (suc (suc (suc (suc (suc (suc (suc zero)))))))))) = container refl refl refl (omega arith)
-  suits (suc (suc (suc (suc (suc (suc (suc (suc (suc (suc (suc zero))))))))))) = leaf refl refl refl refl refl (λ h. absurd (omega arith))
-  suits (suc (suc (suc (suc (suc (suc (suc (suc (suc (suc (suc (suc zero)))))))))))) = container refl refl refl (omega arith)
-  suits (suc (suc (suc (suc (suc (suc (suc (suc (suc (suc (suc (suc (suc zero))))))))))))) = leaf refl refl refl refl refl (λ h. absurd (omega arith))
-  suits (suc (suc (suc (suc (suc (suc (suc (suc (suc (suc (suc (suc (suc (suc zero)))))))))))))) = leaf refl refl refl refl refl (λ h. absurd (omega arith))
-  suits (suc (suc (suc (suc (suc (suc (suc (suc (suc (suc (suc (suc (suc (suc (suc k))))))))))))))) = leaf (far (suc (suc (suc (suc (suc (suc (suc (suc (suc (suc (suc (suc (suc (suc (suc k))))))))))))))) (omega arith)) refl (far-due (suc (suc (suc (suc (suc (suc (suc (suc (suc (suc (suc (suc (suc (suc (suc k))))))))))))))) (omega arith)) refl refl (λ h. refl)
+-- what is no container has no children
+leafless : (p ws ks : List ℕ) (a b k : ℕ) → isContainer (getD (choices p ws ks a b) k (kidless NoneL) .label) ≡ false → getD (choices p ws ks a b) k (kidless NoneL) .kids ≡ []
+leafless p ws ks a b =
+    by-kind (λ k. isContainer (getD (choices p ws ks a b) k (kidless NoneL) .label) ≡ false → getD (choices p ws ks a b) k (kidless NoneL) .kids ≡ [])
+    (λ e. refl) (λ e. refl) (λ e. refl) (λ e. refl) (λ e. refl) (λ e. refl) contained contained contained contained contained (λ e. refl) contained (λ e. refl) (λ e. refl)
+    (λ k l e. rw (List·getD-eq-default (choices p ws ks a b) (kidless NoneL) l))
 
 module _ (p ws : List ℕ) (t : List Node) (s : SaysNodes p ws t) where
   many-nodes : s .counts .nodes ≡ length t
@@ -91,7 +66,7 @@ module _ (p ws : List ℕ) (t : List Node) (s : SaysNodes p ws t) where
         (sym (List·getD-map (λ (n : Node). n .label) (choices (s .rooms .pickle) (s .rooms .nodes) (kidsOf (s .rooms) (s .counts) i) (first (s .rooms .nodes) i) (second (s .rooms .nodes) i)) (kindIn (first (s .rooms .nodes) i)) (kidless NoneL)))
 
 pub facts : (p ws : List ℕ) (t : List Node) (starts sorted : List ℕ) → SaysNodes p ws t → Graph t starts sorted → length t ≤ 4096 → Facts p ws starts t
-unfolding nodeIs kindIn first classIn Classed Class textLen
+unfolding nodeIs labelOf kindIn first classIn Classed Class textLen
 facts p ws t starts sorted s g b =
     record {
       beyond = b;
@@ -100,11 +75,11 @@ facts p ws t starts sorted s g b =
       readable = λ i l. record { short = omega (arith, f .lengths .pickle, ap length (s .pickle)); words = omega (arith, long); class = λ e. omega (arith, long, classed i l e .0) };
       lens-are = λ i l. ap (λ (x : Label). length (textOf x)) (sym (label-is p ws t s i l));
       objects = λ i l. rw (node-is p ws t s i l, ← s .words) (object-kind (s .rooms .pickle) (s .rooms .nodes) (kidsOf (s .rooms) (s .counts) i) (first (s .rooms .nodes) i) (second (s .rooms .nodes) i));
-      containers = λ i l. suit i l .containers;
-      due-are = λ i l. suit i l .due-are;
-      textless = λ i l. suit i l .textless;
+      containers = λ i l. ap isContainer (label-is p ws t s i l) ∙ container-node p ws i;
+      due-are = λ i l. ap isDue (label-is p ws t s i l) ∙ sorted-due p ws i;
+      textless = λ i l h. ap isTextLeaf (label-is p ws t s i l) ∙ textless p ws (first ws i) (second ws i) _ h;
       classes = λ i l e. classed i l e;
-      leafless = λ i l. suit i l .leafless;
+      leafless = bare;
       inside = λ i j m. graph-inside t starts sorted g i j m;
     }
   where
@@ -117,7 +92,5 @@ facts p ws t starts sorted s g b =
     classed : Classed ws (length t)
     classed = rw (s .words, many-nodes p ws t s) at (f .kept .classed)
 
-    suit : (i : ℕ) → i < length t → Suits (kindAt ws i) (at t i)
-    suit i l =
-        rw (node-is p ws t s i l, ← s .words)
-        (suits (s .rooms .pickle) (s .rooms .nodes) (kidsOf (s .rooms) (s .counts) i) (first (s .rooms .nodes) i) (second (s .rooms .nodes) i) (kindIn (first (s .rooms .nodes) i)))
+    bare : (i : ℕ) → i < length t → isContainer (at t i .label) ≡ false → at t i .kids ≡ []
+    bare i l = rw (node-is p ws t s i l) (leafless (s .rooms .pickle) (s .rooms .nodes) (kidsOf (s .rooms) (s .counts) i) (first (s .rooms .nodes) i) (second (s .rooms .nodes) i) (kindIn (first (s .rooms .nodes) i)))

@@ -211,10 +211,7 @@ fn note(kind: u64, node: NodeId, dues: &mut [u16])
     requires { ⌜ (node .0 < 65536) × (getD (now dues) 0 0 < 65535) × (getD (now dues) 0 0 + 1 < length (now dues)) ⌝ }
     ensures { λ r. ⌜ Notes kind (node .0) (now (dues .entry)) (now (dues .exit)) ⌝ }
 {
-    if kind < value::SET {
-        return;
-    }
-    if value::DICT < kind {
+    if !lists::is_sorted(kind) {
         return;
     }
     let count = dues[0] as usize + 1;
