@@ -2,9 +2,9 @@
 use Prim.Native.Nat.{ℕ, suc, _+_, _-_, _*_, _^_, _<_, _≤_}
 use mathlib.Core.Bool.{true, cond}
 use mathlib.Core.List.{List, [], _∷_}
-use mathlib.Core.Path.{_≡_, refl, _∙_, ap}
-use lib.ListN.{length, length-set, getD, take, drop, set}
-use lib.Seq.{sets, length-sets, drop-cons, drop-length}
+use mathlib.Core.Path.{_≡_, refl, sym, _∙_, ap}
+use lib.ListN.{length, length-set, length-drop, getD, take, drop, set}
+use lib.Seq.{sets, length-sets, drop-cons, drop-length, length-take-le, getD-take, getD-drop}
 use native.Mathlib.Nat.{add-zero}
 use native.Mathlib.Numerals.{add-one}
 use native.Mathlib.Omega.{arith}
@@ -32,38 +32,29 @@ module _ (s o₀ : List ℕ) (at : ℕ) where
   pub putting-all : (i : ℕ) (o : List ℕ) → Putting s o₀ at i o → length s ≤ i → o ≡ sets o₀ at s
   putting-all i o h l = let e : i ≡ length s = omega (arith, h .below) in let m = h .rest in rw (e, drop-length s) at m
 
--- ---- a part of a text once more, behind it
+-- ---- a part of a text once more, behind it: that part is put, and stands as it did
 
 pub record Repeating (o₀ : List ℕ) (from n at k : ℕ) (o : List ℕ) : Type 0 where
-  pub below : k ≤ n
-  pub long : length o ≡ length o₀
+  pub putting : Putting (take n (drop from o₀)) o₀ at k o
   pub same : take at o ≡ take at o₀
-  pub rest : sets o (at + k) (take (n - k) (drop (from + k) o₀)) ≡ sets o₀ at (take n (drop from o₀))
-
--- n elements, of which one is there
-one-of : (l : List ℕ) (j m : ℕ) → j < length l → take (suc m) (drop j l) ≡ getD l j 0 ∷ take m (drop (suc j) l)
-one-of l j m h = rw (drop-cons l j 0 h)
 
 module _ (o₀ : List ℕ) (from n at : ℕ) (apart : from + n ≤ at) (room : at + n ≤ length o₀) where
+  long-part : length (take n (drop from o₀)) ≡ n
+  long-part = length-take-le n (drop from o₀) (simp length-drop (omega arith))
+
   pub repeating-none : Repeating o₀ from n at 0 o₀
-  repeating-none = let e : n - 0 ≡ n = omega arith in record { below = omega arith; long = refl; same = refl; rest = rw (e, add-zero from, add-zero at) }
+  repeating-none = record { putting = putting-none _ o₀ at; same = refl }
 
   pub repeating-next : (k : ℕ) (o : List ℕ) → Repeating o₀ from n at k o → k < n → Repeating o₀ from n at (k + 1) (set o (at + k) (getD o (from + k) 0))
   repeating-next k o h l =
-      let x : getD o (from + k) 0 ≡ getD o₀ (from + k) 0 = early o₀ o at (from + k) (h .same) (omega arith) in
-      let e : at + (k + 1) ≡ suc (at + k) = omega arith in
-      let f : from + (k + 1) ≡ suc (from + k) = omega arith in
-      let g : n - k ≡ suc (n - (k + 1)) = omega arith in
-      let m = h .rest in
+      let x : getD o (from + k) 0 ≡ getD (take n (drop from o₀)) k 0 = early o₀ o at (from + k) (h .same) (omega arith) ∙ sym (getD-take n (drop from o₀) k 0 l ∙ getD-drop from o₀ k 0) in
       record {
-        below = omega arith;
-        long = length-set o (at + k) (getD o (from + k) 0) ∙ h .long;
+        putting = rw x (putting-next _ o₀ at k o (h .putting) (omega (arith, long-part)));
         same = sets-before o (at + k) (getD o (from + k) 0 ∷ []) at (omega arith) ∙ h .same;
-        rest = rw (x, e, f) (rw (g, one-of o₀ (from + k) (n - (k + 1)) (omega arith)) at m);
       }
 
   pub repeating-all : (k : ℕ) (o : List ℕ) → Repeating o₀ from n at k o → n ≤ k → o ≡ sets o₀ at (take n (drop from o₀))
-  repeating-all k o h l = let e : n - k ≡ 0 = omega arith in let m = h .rest in rw e at m
+  repeating-all k o h l = putting-all _ o₀ at k o (h .putting) (omega (arith, long-part))
 
 -- ---- records once more, behind them, with texts from q on that were from p on
 

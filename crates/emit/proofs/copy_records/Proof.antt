@@ -11,11 +11,37 @@ Inv-loop table₀ from size at origin target k₀ table k = Copying table₀ fro
 abbrev μ-loop : tie.MeasureT-loop
 μ-loop table₀ from size at origin target k₀ table k = size - k
 
+-- ---- the places: a turn, and where the loop stands
+
+abbrev head : tie.In-loop Inv-loop μ-loop → tie.At-loop Inv-loop μ-loop
+head c = c .before
+
+abbrev start : tie.At-loop Inv-loop μ-loop → tie.Start Inv-loop μ-loop
+start c = c .before .before
+
+-- ---- the needs
+
+loop-holds : tie.Need-loop-holds Inv-loop μ-loop
+loop-holds c = copying-none _ _ _ _ _ _ (c .before .pre)
+
 moved-word-requires : tie.Need-moved-word-requires Inv-loop μ-loop
-moved-word-requires c κs = let a = (c .before .before .before .before .before .args) in let f = (c .before .before .before .before .before .pre) in let l = (c .before .before .before .loop) in moved-fits (a .table .now) (a .from) (a .size) (a .at) (a .origin) (a .target) f (l .k) (l .table) (l .inv) (c .before .before .loop-test .taken)
+moved-word-requires c κs = let t = c .before .before in let h = head t in moved-fits _ _ _ _ _ _ (start h .pre) (h .loop .k) _ (h .loop .inv) (t .loop-test .taken)
 
 loop-again : tie.Need-loop-again Inv-loop μ-loop
-loop-again c = let a = (c .before .before .before .before .before .before .before .before .before .before .before .before .args) in let f = (c .before .before .before .before .before .before .before .before .before .before .before .before .pre) in let l = (c .before .before .before .before .before .before .before .before .before .before .loop) in copying-next (a .table .now) (a .from) (a .size) (a .at) (a .origin) (a .target) f (l .k) (l .table) (l .inv) (c .before .before .before .before .before .before .before .before .before .loop-test .taken) _ (c .before .before .before .before .before .before .moved-word .result) (c .before .before .before .before .before .before .moved-word .ensures) (c .before .before .put-record .ensures)
+loop-again c =
+    let m = c .before .before .before .before .before .before in
+    let t = m .before .before .before in
+    let h = head t in
+    copying-next _ _ _ _ _ _ (start h .pre) (h .loop .k) _ (h .loop .inv) (t .loop-test .taken) _ (m .moved-word .result) (m .moved-word .ensures) (c .before .before .put-record .ensures)
+
+returns : tie.Need-returns Inv-loop μ-loop
+returns c = let h = c .before in copying-all _ _ _ _ _ _ (start h .pre) (h .loop .k) _ (h .loop .inv) (c .loop-test .left)
 
 pub copy-records-spec : {M : Type 1} → statement M
-copy-records-spec = tie.close (tie.spec Inv-loop μ-loop (λ c. let a = (c .before .args) in let f = (c .before .pre) in copying-none (a .table .now) (a .from) (a .size) (a .at) (a .origin) (a .target) f) (λ c. search needs) (λ c. search needs) (λ c. search needs) (λ c. search needs) (λ c. search needs) (λ c. search needs) (λ c. search needs) moved-word-requires (λ c. search needs) (λ c. search needs) (λ c. search needs) (λ c. search needs) (λ c. search needs) (λ c. search needs) (λ c. search needs) (λ c κs. search needs) (λ c. search needs) (λ c. search needs) loop-again (λ c. (c .before .loop .inv .long)) (λ c. let a = (c .before .before .before .args) in let f = (c .before .before .before .pre) in let l = (c .before .loop) in copying-all (a .table .now) (a .from) (a .size) (a .at) (a .origin) (a .target) f (l .k) (l .table) (l .inv) (c .loop-test .left)))
+copy-records-spec =
+    tie.close
+    (tie.spec
+    Inv-loop μ-loop loop-holds (λ c. search needs) (λ c. search needs) (λ c. search needs) (λ c. search needs) (λ c. search needs) (λ c. search needs)
+    (λ c. search needs) moved-word-requires (λ c. search needs) (λ c. search needs) (λ c. search needs) (λ c. search needs) (λ c. search needs)
+    (λ c. search needs) (λ c. search needs) (λ c κs. search needs) (λ c. search needs) (λ c. search needs) loop-again
+    (λ c. c .before .loop .inv .long) returns)

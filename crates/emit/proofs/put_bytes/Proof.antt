@@ -12,5 +12,18 @@ Inv-loop bytes text₀ at i₀ text i = Putting bytes text₀ at i text
 abbrev μ-loop : tie.MeasureT-loop
 μ-loop bytes text₀ at i₀ text i = length bytes - i
 
+loop-holds : tie.Need-loop-holds Inv-loop μ-loop
+loop-holds c = putting-none _ _ _
+
+loop-again : tie.Need-loop-again Inv-loop μ-loop
+loop-again c = let h = c .before .before in putting-next _ _ _ (h .loop .i) _ (h .loop .inv) (c .before .loop-test .taken)
+
+returns : tie.Need-returns Inv-loop μ-loop
+returns c = let h = c .before in putting-all _ _ _ (h .loop .i) _ (h .loop .inv) (c .loop-test .left)
+
 pub put-bytes-spec : {M : Type 1} → statement M
-put-bytes-spec = tie.close (tie.spec Inv-loop μ-loop (λ c. let a = (c .args) in putting-none (a .bytes .now) (a .text .now) (a .at)) (λ c. search needs) (λ c. search needs) (λ c. search needs) (λ c. search needs) (λ c. search needs) (λ c. let a = (c .before .before .before .args) in let l = (c .before .before .loop) in putting-next (a .bytes .now) (a .text .now) (a .at) (l .i) (l .text) (l .inv) (c .before .loop-test .taken)) (λ c. (c .before .loop .inv .long)) (λ c. let a = (c .before .before .args) in let l = (c .before .loop) in putting-all (a .bytes .now) (a .text .now) (a .at) (l .i) (l .text) (l .inv) (c .loop-test .left)))
+put-bytes-spec =
+    tie.close
+    (tie.spec
+    Inv-loop μ-loop loop-holds (λ c. search needs) (λ c. search needs) (λ c. search needs) (λ c. search needs) (λ c. search needs)
+    loop-again (λ c. c .before .loop .inv .long) returns)
