@@ -1,5 +1,4 @@
 -- `resolve::global_text_len` meets its contract.
-use borrow.Author.Needs.{needs}
 use Rattle.resolve.proofs.global_text_len.Statement.{statement}
 use Rattle.resolve.proofs.global_text_len.Tie as tie
 use Prim.Native.Nat.{_^_, _/_, _%_}
@@ -31,4 +30,4 @@ returns c =
     names-len (a .pickle .now) (a .a) (a .b) _ _ _ _ (c .before .before .before .cut .ensures) (c .before .before .repaired-len .ensures) (c .before .cut2 .ensures) (c .repaired-len2 .ensures)
 
 pub global-text-len-spec : {M : Type 1} → statement M
-global-text-len-spec = tie.close (tie.spec (λ c κs. search needs) repaired-len-requires (λ c κs. search needs) repaired-len-requires-2 add-result returns)
+global-text-len-spec = tie.close (tie.spec (λ c κs. tt) repaired-len-requires (λ c κs. tt) repaired-len-requires-2 add-result returns)

@@ -34,5 +34,5 @@ known-spec =
     tie.close
     (tie.spec
     (λ c. search needs) (λ c. search needs) (λ c. search needs) returns (λ c. search needs) (λ c. search needs) returns-2 returns-3 (λ c. search needs)
-    (λ c. search needs) (λ c. search needs) returns-4 (λ c κs. search needs) returns-5 (λ c κs. search needs) (λ c. search needs) (λ c. search needs)
+    (λ c. search needs) (λ c. search needs) returns-4 (λ c κs. tt) returns-5 (λ c κs. search needs) (λ c. search needs) (λ c. search needs)
     (λ c. search needs) returns-6)

@@ -31,4 +31,4 @@ returns-2 : tie.Need-returns-2
 returns-2 c = passed (sym (due (c .before)) ∙ c .if1 .left) refl refl refl
 
 pub decode-one-spec : {M : Type 1} → statement M
-decode-one-spec = tie.close (tie.spec (λ c. search needs) (λ c. search needs) (λ c. search needs) (λ c. search needs) (λ c. search needs) (λ c κs. search needs) spell-node-requires (λ c. search needs) (λ c. search needs) (λ c. search needs) (λ c. search needs) returns returns-2)
+decode-one-spec = tie.close (tie.spec (λ c. search needs) (λ c. search needs) (λ c. search needs) (λ c. search needs) (λ c. search needs) (λ c κs. tt) spell-node-requires (λ c. search needs) (λ c. search needs) (λ c. search needs) (λ c. search needs) returns returns-2)

@@ -1,5 +1,4 @@
 -- `texts::is_due` meets its contract. Assumes nothing.
-use borrow.Author.Needs.{needs}
 use Rattle.texts.proofs.is_due.Statement.{statement}
 use Rattle.texts.proofs.is_due.Tie as tie
 use mathlib.Core.Path.{_∙_}
@@ -22,4 +21,4 @@ unfolding kindIn
 returns-4 c = c .has-text .ensures ∙ due-leaf (c .before .before .before .before .args .first) (c .before .before .before .before .args .measure) (c .before .before .before .if1 .left) (c .before .before .if2 .left) (c .before .if3 .left)
 
 pub is-due-spec : {M : Type 1} → statement M
-is-due-spec = tie.close (tie.spec returns returns-2 returns-3 (λ c κs. search needs) returns-4)
+is-due-spec = tie.close (tie.spec returns returns-2 returns-3 (λ c κs. tt) returns-4)

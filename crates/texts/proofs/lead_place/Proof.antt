@@ -50,4 +50,4 @@ unfolding kindIn first second
 returns-4 c = λ p d. let e = c .before .before in c .text-place .ensures p d ∙ rw add-one (lead-leaf p d _ _ _ (kinded (e .before) .if1 .left) (e .before .if2 .left) (e .if3 .left))
 
 pub lead-place-spec : {M : Type 1} → statement M
-lead-place-spec = tie.close (tie.spec (λ c. search needs) (λ c. search needs) returns (λ c. search needs) (λ c. search needs) (λ c. search needs) (λ c κs. search needs) returns-2 mul-module-place mul-module-place-2 shared-slice-read-module-place (λ c κs. search needs) returns-3 (λ c. search needs) (λ c. search needs) (λ c. search needs) (λ c. search needs) (λ c κs. search needs) returns-4)
+lead-place-spec = tie.close (tie.spec (λ c. search needs) (λ c. search needs) returns (λ c. search needs) (λ c. search needs) (λ c. search needs) (λ c κs. tt) returns-2 mul-module-place mul-module-place-2 shared-slice-read-module-place (λ c κs. tt) returns-3 (λ c. search needs) (λ c. search needs) (λ c. search needs) (λ c. search needs) (λ c κs. tt) returns-4)

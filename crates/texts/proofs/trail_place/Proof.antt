@@ -54,4 +54,4 @@ unfolding kindIn first
 returns-4 c = λ p d. trail-leaf p d _ _ _ (kinded (c .before) .if1 .left) (c .before .if2 .left) (c .if3 .left)
 
 pub trail-place-spec : {M : Type 1} → statement M
-trail-place-spec = tie.close (tie.spec (λ c. search needs) (λ c. search needs) (λ c. search needs) returns (λ c. search needs) (λ c. search needs) (λ c. search needs) (λ c. search needs) (λ c. search needs) (λ c. search needs) (λ c. search needs) (λ c κs. search needs) returns-2 mul-text-place-3 add-text-place-2 mul-text-place-4 shared-slice-read-text-place-2 (λ c κs. search needs) returns-3 returns-4)
+trail-place-spec = tie.close (tie.spec (λ c. search needs) (λ c. search needs) (λ c. search needs) returns (λ c. search needs) (λ c. search needs) (λ c. search needs) (λ c. search needs) (λ c. search needs) (λ c. search needs) (λ c. search needs) (λ c κs. tt) returns-2 mul-text-place-3 add-text-place-2 mul-text-place-4 shared-slice-read-text-place-2 (λ c κs. tt) returns-3 returns-4)
