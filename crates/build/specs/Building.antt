@@ -17,7 +17,7 @@ use Rattle.reading.specs.Build.{tree}
 use Rattle.resolve.specs.Standing.{SaysNodes}
 use Rattle.reading.specs.Measure.{measured}
 use Rattle.reading.specs.Settle.{settle}
-use Rattle.children.specs.Children.{Ended, Stopped, SideBySide}
+use Rattle.siblings.specs.SideBySide.{Ended, Stopped, SideBySide}
 use Rattle.resolve.specs.Rooted.{Begins}
 use Rattle.machine.specs.Clear.{UsedTo, zeroed, owners-used, children-used}
 use Rattle.produce.specs.Rooms.{Zeros, zeros-long, zeros-all, front-cleared}

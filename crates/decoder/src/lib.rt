@@ -518,7 +518,8 @@ pub fn append(nodes: &[u64], stack: &[u16], c: Counts) -> Effect
 
 pub fn appends(nodes: &[u64], stack: &[u16], marks: &[u16], c: Counts) -> Effect
     requires { ⌜ SomeRooms c (λ r. (r .nodes ≡ now nodes) × (r .stack ≡ now stack) × (r .marks ≡ now marks)) ⌝ }
-    ensures { λ e. ⌜ Decides c (λ r. (r .nodes ≡ now (nodes .entry)) × (r .stack ≡ now (stack .entry)) × (r .marks ≡ now (marks .entry))) (λ s. going (appends s)) e ⌝ }
+    ensures { λ e. ⌜ Decides c (λ r. (r .nodes ≡ now (nodes .entry)) × (r .stack ≡ now (stack .entry)) × (r .marks ≡ now (marks .entry)))
+        (λ s. going (appends s)) e ⌝ }
 {
     match above_mark(marks, c) {
         Taken::Short => Effect::Refused(c, 0, 0, Refusal::StackUnderflow),
@@ -546,7 +547,8 @@ pub fn setitem(nodes: &[u64], stack: &[u16], c: Counts) -> Effect
 
 pub fn setitems(nodes: &[u64], stack: &[u16], marks: &[u16], c: Counts) -> Effect
     requires { ⌜ SomeRooms c (λ r. (r .nodes ≡ now nodes) × (r .stack ≡ now stack) × (r .marks ≡ now marks)) ⌝ }
-    ensures { λ e. ⌜ Decides c (λ r. (r .nodes ≡ now (nodes .entry)) × (r .stack ≡ now (stack .entry)) × (r .marks ≡ now (marks .entry))) (λ s. going (setitems s)) e ⌝ }
+    ensures { λ e. ⌜ Decides c (λ r. (r .nodes ≡ now (nodes .entry)) × (r .stack ≡ now (stack .entry)) × (r .marks ≡ now (marks .entry)))
+        (λ s. going (setitems s)) e ⌝ }
 {
     match above_mark(marks, c) {
         Taken::Short => Effect::Refused(c, 0, 0, Refusal::StackUnderflow),
@@ -785,8 +787,11 @@ fn reduced(
     class: NodeId,
     arguments: NodeId,
 ) -> Effect
-    requires { ⌜ SomeRooms c (λ r. (r .pickle ≡ now pickle) × (r .nodes ≡ now nodes) × (r .children ≡ now children) × Calls c r (class .0) (arguments .0)) ⌝ }
-    ensures { λ e. ⌜ Decides c (λ r. (r .pickle ≡ now (pickle .entry)) × (r .nodes ≡ now (nodes .entry)) × (r .children ≡ now (children .entry)) × Calls c r (class .0) (arguments .0)) (λ s. going (reduce s)) e ⌝ }
+    requires { ⌜ SomeRooms c (λ r. (r .pickle ≡ now pickle) × (r .nodes ≡ now nodes) × (r .children ≡ now children)
+        × Calls c r (class .0) (arguments .0)) ⌝ }
+    ensures { λ e. ⌜ Decides c (λ r. (r .pickle ≡ now (pickle .entry)) × (r .nodes ≡ now (nodes .entry)) × (r .children ≡ now (children .entry))
+        × Calls c r (class .0) (arguments .0))
+        (λ s. going (reduce s)) e ⌝ }
 {
     let word = second_word(nodes, arguments);
     let n = word % store::HALF;
@@ -814,7 +819,9 @@ fn reduced(
 
 pub fn reduce(pickle: &[u8], nodes: &[u64], children: &[u16], stack: &[u16], c: Counts) -> Effect
     requires { ⌜ SomeRooms c (λ r. (r .pickle ≡ now pickle) × (r .nodes ≡ now nodes) × (r .children ≡ now children) × (r .stack ≡ now stack)) ⌝ }
-    ensures { λ e. ⌜ Decides c (λ r. (r .pickle ≡ now (pickle .entry)) × (r .nodes ≡ now (nodes .entry)) × (r .children ≡ now (children .entry)) × (r .stack ≡ now (stack .entry))) (λ s. going (reduce s)) e ⌝ }
+    ensures { λ e. ⌜ Decides c (λ r. (r .pickle ≡ now (pickle .entry)) × (r .nodes ≡ now (nodes .entry)) × (r .children ≡ now (children .entry))
+        × (r .stack ≡ now (stack .entry)))
+        (λ s. going (reduce s)) e ⌝ }
 {
     match class_and_arguments(nodes, stack, c) {
         CallRead::None(why) => Effect::Refused(c, 0, 0, why),

@@ -7,7 +7,7 @@ use store::NodeId;
 use store::slot;
 ghost use mathlib.Core.Bool.{cond};
 ghost use mathlib.Core.Path.{_≡_};
-ghost use Prim.Native.Nat.{_+_, _-_, _*_, _^_, _%_, _<_, _≤_, max};
+ghost use Prim.Native.Nat.{_+_, _-_, _*_, _^_, _%_, _<_, _≤_};
 ghost use lib.ListN.{length, getD};
 ghost use Rattle.value.specs.Shape.{stateIn};
 ghost use Rattle.effects.specs.Done.{pushedTo};
@@ -159,7 +159,9 @@ fn link_all(
     owner: NodeId,
 ) -> usize
     requires { ⌜ Linkable (now nodes) (now owners) (now children) (now stack) from to links (owner .0) ⌝ }
-    ensures { λ n. ⌜ (n ≡ links + (to - from)) × LinkAll (now (nodes .entry)) (now (owners .entry)) (now (children .entry)) (now (stack .entry)) from links (owner .0) to (now (nodes .exit)) (now (owners .exit)) (now (children .exit)) n ⌝ }
+    ensures { λ n. ⌜ (n ≡ links + (to - from)) × LinkAll
+        (now (nodes .entry)) (now (owners .entry)) (now (children .entry)) (now (stack .entry)) from links (owner .0) to
+        (now (nodes .exit)) (now (owners .exit)) (now (children .exit)) n ⌝ }
 {
     let n = to - from;
     fill_owners(owners, links, n, owner);
@@ -180,7 +182,9 @@ pub fn make(
     had: usize,
 ) -> Step
     requires { ⌜ Makeable (now nodes) (now owners) (now children) (now stack) c kind had ⌝ }
-    ensures { λ t. ⌜ MakesNode (now (nodes .entry)) (now (owners .entry)) (now (children .entry)) (now (stack .entry)) c kind had (now (nodes .exit)) (now (owners .exit)) (now (children .exit)) (now (stack .exit)) t ⌝ }
+    ensures { λ t. ⌜ MakesNode
+        (now (nodes .entry)) (now (owners .entry)) (now (children .entry)) (now (stack .entry)) c kind had
+        (now (nodes .exit)) (now (owners .exit)) (now (children .exit)) (now (stack .exit)) t ⌝ }
 {
     let items = had - c.stack;
     if LINKS - c.links < items {
@@ -223,7 +227,9 @@ pub fn extend(
     had: usize,
 ) -> Step
     requires { ⌜ Extendable (now nodes) (now owners) (now children) (now stack) c (owner .0) had ⌝ }
-    ensures { λ t. ⌜ Extends (now (nodes .entry)) (now (owners .entry)) (now (children .entry)) (now (stack .entry)) c (owner .0) had (now (nodes .exit)) (now (owners .exit)) (now (children .exit)) t ⌝ }
+    ensures { λ t. ⌜ Extends
+        (now (nodes .entry)) (now (owners .entry)) (now (children .entry)) (now (stack .entry)) c (owner .0) had
+        (now (nodes .exit)) (now (owners .exit)) (now (children .exit)) t ⌝ }
 {
     if LINKS - c.links < had - c.stack {
         return Step::Refused(c, Refusal::LinksFull);

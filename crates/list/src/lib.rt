@@ -270,7 +270,9 @@ fn content_len(words: &[u64], text: &[u8], i: usize) -> usize
 fn put_content(words: &[u64], text: &[u8], i: usize, output: &mut [u8], at: usize) -> usize
     requires { ⌜ Reads (now words) (now text) i ⌝ }
     requires { ⌜ Room (now output) at (contentOf (labelAt (now words) (now text) i) (arityAt (now words) i)) ⌝ }
-    ensures { λ r. ⌜ Put (now (output .entry)) at (contentOf (labelAt (now (words .entry)) (now (text .entry)) i) (arityAt (now (words .entry)) i)) (now (output .exit)) r ⌝ }
+    ensures { λ r. ⌜ Put (now (output .entry)) at
+        (contentOf (labelAt (now (words .entry)) (now (text .entry)) i) (arityAt (now (words .entry)) i))
+        (now (output .exit)) r ⌝ }
 {
     let head = value::head_of(words[4 * i]);
     let kind = head.kind;
@@ -314,7 +316,9 @@ fn line_len(words: &[u64], text: &[u8], i: usize, depth: u64) -> usize
 fn put_line(words: &[u64], text: &[u8], i: usize, depth: u64, output: &mut [u8], at: usize) -> usize
     requires { ⌜ Reads (now words) (now text) i ⌝ }
     requires { ⌜ Room (now output) at (line depth (labelAt (now words) (now text) i) (arityAt (now words) i)) ⌝ }
-    ensures { λ r. ⌜ Put (now (output .entry)) at (line depth (labelAt (now (words .entry)) (now (text .entry)) i) (arityAt (now (words .entry)) i)) (now (output .exit)) r ⌝ }
+    ensures { λ r. ⌜ Put (now (output .entry)) at
+        (line depth (labelAt (now (words .entry)) (now (text .entry)) i) (arityAt (now (words .entry)) i))
+        (now (output .exit)) r ⌝ }
 {
     let head = value::head_of(words[4 * i]);
     let a = output::put_decimal(depth, output, at);

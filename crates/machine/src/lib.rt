@@ -36,8 +36,10 @@ fn apply(
         (now nodes) (now owners) (now children) (now stack) (now marks) (now keys) (now held)) ⌝ }
     ensures { λ t.
         ⌜ Applies e had t
-        (λ p. roomsOf p (now (nodes .entry)) (now (owners .entry)) (now (children .entry)) (now (stack .entry)) (now (marks .entry)) (now (keys .entry)) (now (held .entry)))
-        (λ p. roomsOf p (now (nodes .exit)) (now (owners .exit)) (now (children .exit)) (now (stack .exit)) (now (marks .exit)) (now (keys .exit)) (now (held .exit))) ⌝ }
+        (λ p. roomsOf p (now (nodes .entry)) (now (owners .entry)) (now (children .entry)) (now (stack .entry))
+        (now (marks .entry)) (now (keys .entry)) (now (held .entry)))
+        (λ p. roomsOf p (now (nodes .exit)) (now (owners .exit)) (now (children .exit)) (now (stack .exit))
+        (now (marks .exit)) (now (keys .exit)) (now (held .exit))) ⌝ }
 {
     match e {
         Effect::Push(c, a, b) => push_node(nodes, stack, c, a, b),
@@ -158,8 +160,10 @@ pub fn take_step(
         (now nodes) (now owners) (now children) (now stack) (now marks) (now keys) (now held)) c ⌝ }
     ensures { λ t.
         ⌜ Stepped edition t c
-        (roomsOf (now (pickle .entry)) (now (nodes .entry)) (now (owners .entry)) (now (children .entry)) (now (stack .entry)) (now (marks .entry)) (now (keys .entry)) (now (held .entry)))
-        (roomsOf (now (pickle .entry)) (now (nodes .exit)) (now (owners .exit)) (now (children .exit)) (now (stack .exit)) (now (marks .exit)) (now (keys .exit)) (now (held .exit))) ⌝ }
+        (roomsOf (now (pickle .entry)) (now (nodes .entry)) (now (owners .entry)) (now (children .entry)) (now (stack .entry))
+        (now (marks .entry)) (now (keys .entry)) (now (held .entry)))
+        (roomsOf (now (pickle .entry)) (now (nodes .exit)) (now (owners .exit)) (now (children .exit)) (now (stack .exit))
+        (now (marks .exit)) (now (keys .exit)) (now (held .exit))) ⌝ }
 {
     let e = decide(
         edition,
@@ -207,7 +211,8 @@ pub fn run(
         (now nodes) (now owners) (now children) (now stack) (now marks) (now keys) (now held)) start ⌝ }
     ensures { λ o.
         ⌜ Ran edition o (now (pickle .entry))
-        (roomsOf (now (pickle .entry)) (now (nodes .exit)) (now (owners .exit)) (now (children .exit)) (now (stack .exit)) (now (marks .exit)) (now (keys .exit)) (now (held .exit))) ⌝ }
+        (roomsOf (now (pickle .entry)) (now (nodes .exit)) (now (owners .exit)) (now (children .exit)) (now (stack .exit))
+        (now (marks .exit)) (now (keys .exit)) (now (held .exit))) ⌝ }
 {
     let mut c = Counts {
         at: 0,

@@ -274,7 +274,9 @@ pub extern "C" fn qelemvir_compare(
     second_count: usize,
     second_text: &[u8],
 ) -> Compared
-    ensures { λ r. ⌜ Compares (now (first .entry)) «first_count» (now («first_text» .entry)) (now (second .entry)) «second_count» (now («second_text» .entry)) r ⌝ }
+    ensures { λ r. ⌜ Compares
+        (now (first .entry)) «first_count» (now («first_text» .entry))
+        (now (second .entry)) «second_count» (now («second_text» .entry)) r ⌝ }
 {
     table::compare(
         first,

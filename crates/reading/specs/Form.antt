@@ -55,27 +55,27 @@ module _
     Sound : Stages → Type 0
     Sound d = (j : ℕ) (v : Value) → d j ≡ kept v → All P (one v) × (T (isTuple (at t j .label)) → T (isTuple (v .label)))
 
-    record Built (i : ℕ) (d : Stages) (v : Value) (d′ : Stages) : Type 0 where
+    record HasForm (i : ℕ) (d : Stages) (v : Value) (d′ : Stages) : Type 0 where
       formed : All P (one v)
       tuple : isTaken (d i) ≡ false → T (isTuple (at t i .label)) → T (isTuple (v .label))
       sound : Sound d′
       less : left d′ (length t) ≤ left d (length t)
 
-    record BuiltEach (is : List ℕ) (d : Stages) (f : Forest) (d′ : Stages) : Type 0 where
+    record HaveForm (is : List ℕ) (d : Stages) (f : Forest) (d′ : Stages) : Type 0 where
       formed : All P f
       counted : count f ≡ length is
       first : 0 < length is → firstTaken d is ≡ false → T (isTuple (at t (getD is 0 0) .label)) → T (firstIsTuple f)
       sound : Sound d′
       less : left d′ (length t) ≤ left d (length t)
 
-    each-built : (k : ℕ) (g : ℕ → Stages → Value × Stages) → ((i : ℕ) (d : Stages) → left d (length t) < k → Sound d → Built i d (g i d .0) (g i d .1))
-        → (is : List ℕ) (d : Stages) → left d (length t) < k → Sound d → BuiltEach is d (each g is d .0) (each g is d .1)
+    each-built : (k : ℕ) (g : ℕ → Stages → Value × Stages) → ((i : ℕ) (d : Stages) → left d (length t) < k → Sound d → HasForm i d (g i d .0) (g i d .1))
+        → (is : List ℕ) (d : Stages) → left d (length t) < k → Sound d → HaveForm is d (each g is d .0) (each g is d .1)
     unfolding each All count firstTaken
     each-built k g h [] d l s = record { formed = tt; counted = refl; first = λ z. absurd (omega arith); sound = s; less = omega arith }
     each-built k g h (i ∷ is) d l s =
-        let a : Built i d (g i d .0) (g i d .1) = h i d l s in
+        let a : HasForm i d (g i d .0) (g i d .1) = h i d l s in
         let m = a .less in
-        let b : BuiltEach is (g i d .1) (each g is (g i d .1) .0) (each g is (g i d .1) .1) = each-built k g h is (g i d .1) (omega arith) (a .sound) in
+        let b : HaveForm is (g i d .1) (each g is (g i d .1) .0) (each g is (g i d .1) .1) = each-built k g h is (g i d .1) (omega arith) (a .sound) in
         let n = b .less in
         record { formed = (a .formed .0, a .formed .1, b .formed); counted = ap suc (b .counted); first = λ z u v. a .tuple u v; sound = b .sound; less = omega arith }
 
@@ -110,7 +110,7 @@ module _
             at-a (same p q) = absurd (tuple-object (at t i .label) (rw p at is-tuple) o)
             at-a (other p q) = rw q f
 
-    finish-built : (i : ℕ) (d : Stages) (p : Forest × Stages) → blocked t d i ≡ false → BuiltEach (at t i .kids) (stage i taken d) (p .0) (p .1) → Built i d (finish t i p .0) (finish t i p .1)
+    finish-built : (i : ℕ) (d : Stages) (p : Forest × Stages) → blocked t d i ≡ false → HaveForm (at t i .kids) (stage i taken d) (p .0) (p .1) → HasForm i d (finish t i p .0) (finish t i p .1)
     unfolding finish freshness All
     finish-built i d p b m =
         let v : Value = record { label = at t i .label; contents = p .0 } in
@@ -122,12 +122,12 @@ module _
           less = omega (arith, m .less, left-stage (p .1) i (kept v) (length t) refl, left-stage d i taken (length t) refl);
         }
 
-    build-built : (k i : ℕ) (d : Stages) → left d (length t) < k → Sound d → Built i d (build t k i d .0) (build t k i d .1)
+    build-built : (k i : ℕ) (d : Stages) → left d (length t) < k → Sound d → HasForm i d (build t k i d .0) (build t k i d .1)
     unfolding each freshness blocked All count Sound
     build-built zero i d l s = absurd (omega arith)
     build-built (suc k) i d l s = go (view t i d) (build-built k)
       where
-        go : View t i d → ((j : ℕ) (c : Stages) → left c (length t) < k → Sound c → Built j c (build t k j c .0) (build t k j c .1)) → Built i d (build t (suc k) i d .0) (build t (suc k) i d .1)
+        go : View t i d → ((j : ℕ) (c : Stages) → left c (length t) < k → Sound c → HasForm j c (build t k j c .0) (build t k j c .1)) → HasForm i d (build t (suc k) i d .0) (build t (suc k) i d .1)
         go (copied v e f) ih = rw (f k) (record { formed = s i v e .0; tuple = λ u. s i v e .1; sound = s; less = omega arith })
         go (inside e f) ih = rw (f k) (record { formed = none-formed; tuple = λ u. absurd (let w : isTaken taken ≡ false = rw e at u in let z : _≡_ {A = ℕ} 0 1 = cc in omega arith); sound = s; less = omega arith })
         go (stuck e b f) ih = rw (f k) (record { formed = none-formed; tuple = λ u. no-tuple; sound = staged-sound i (kept none) d (λ v q. let r : none ≡ v = cc in rw (← r) (none-formed, no-tuple)) s; less = left-stage d i (kept none) (length t) refl })
@@ -136,7 +136,7 @@ module _
             no-tuple h = tuple-object (at t i .label) h (and-left (isObject (at t i .label)) (firstTaken d (at t i .kids)) b)
         go (entered e b f) ih = rw (f k) (finish-built i d _ b (contents (decLt i (length t))))
           where
-            contents : Dec (i < length t) → BuiltEach (at t i .kids) (stage i taken d) (each (build t k) (at t i .kids) (stage i taken d) .0) (each (build t k) (at t i .kids) (stage i taken d) .1)
+            contents : Dec (i < length t) → HaveForm (at t i .kids) (stage i taken d) (each (build t k) (at t i .kids) (stage i taken d) .0) (each (build t k) (at t i .kids) (stage i taken d) .1)
             contents (yes h) = each-built k (build t k) ih (at t i .kids) (stage i taken d) (let u = left-less d i taken (length t) refl e h in omega arith) (taken-sound i d s)
             contents (no h) = rw (outside t i h) (record { formed = tt; counted = refl; first = λ z. absurd (omega arith); sound = taken-sound i d s; less = omega arith })
 

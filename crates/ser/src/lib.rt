@@ -161,7 +161,9 @@ fn encode_set(name: &[u8], output: &mut [u8], at: usize) -> usize
 fn encode_names(text: &[u8], from: u64, lengths: u64, output: &mut [u8], at: usize) -> usize
     requires { ⌜ namesEnd from lengths ≤ length (now text) ⌝ }
     requires { ⌜ Room (now output) at (global (moduleOf lengths (drop from (now text))) (nameOf lengths (drop from (now text)))) ⌝ }
-    ensures { λ r. ⌜ Put (now (output .entry)) at (global (moduleOf lengths (drop from (now (text .entry)))) (nameOf lengths (drop from (now (text .entry))))) (now (output .exit)) r ⌝ }
+    ensures { λ r. ⌜ Put (now (output .entry)) at
+        (global (moduleOf lengths (drop from (now (text .entry)))) (nameOf lengths (drop from (now (text .entry)))))
+        (now (output .exit)) r ⌝ }
 {
     let start = from as usize;
     let first = (lengths / 0x1_0000_0000) as usize;
@@ -330,7 +332,8 @@ fn encode_batch(
     at: usize,
 ) -> Place
     requires { ⌜ Ready (batch entries) (now words) (now text) from count (now output) at ⌝ }
-    ensures { λ r. ⌜ Wrote (batch entries) (now (words .entry)) (now (text .entry)) from count (now (output .entry)) at (now (output .exit)) (r .record) (r .at) ⌝ }
+    ensures { λ r. ⌜ Wrote (batch entries) (now (words .entry)) (now (text .entry)) from count
+        (now (output .entry)) at (now (output .exit)) (r .record) (r .at) ⌝ }
 {
     if entries {
         if count == 2 {
@@ -366,7 +369,8 @@ fn encode_batches(
     at: usize,
 ) -> Place
     requires { ⌜ Ready (batches entries) (now words) (now text) from count (now output) at ⌝ }
-    ensures { λ r. ⌜ Wrote (batches entries) (now (words .entry)) (now (text .entry)) from count (now (output .entry)) at (now (output .exit)) (r .record) (r .at) ⌝ }
+    ensures { λ r. ⌜ Wrote (batches entries) (now (words .entry)) (now (text .entry)) from count
+        (now (output .entry)) at (now (output .exit)) (r .record) (r .at) ⌝ }
 {
     let mut i = from;
     let mut left = count;
@@ -473,7 +477,8 @@ fn encode_object(
     at: usize,
 ) -> Place
     requires { ⌜ Ready (object new) (now words) (now text) from (suc (bit state)) (now output) at ⌝ }
-    ensures { λ r. ⌜ Wrote (object new) (now (words .entry)) (now (text .entry)) from (suc (bit state)) (now (output .entry)) at (now (output .exit)) (r .record) (r .at) ⌝ }
+    ensures { λ r. ⌜ Wrote (object new) (now (words .entry)) (now (text .entry)) from (suc (bit state))
+        (now (output .entry)) at (now (output .exit)) (r .record) (r .at) ⌝ }
 {
     let args = encode(words, text, from, output, at);
     let made = output::put_byte(object_opcode(new), output, args.at);

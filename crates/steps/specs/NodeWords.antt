@@ -101,7 +101,7 @@ abbrev pub labelIn : ℕ → Label
 labelIn a = nodeIs [] [] [] a 0 .label
 
 -- the words a′ and b′ are those of an Object with a and b, but that its state is i
-pub record Built (a b a′ b′ i : ℕ) : Type 0 where
+pub record WithState (a b a′ b′ i : ℕ) : Type 0 where
   pub kind : kindIn a′ ≡ 12
   pub new : newIn a′ ≡ newIn a
   pub state : stateIn a′ ≡ true
@@ -207,14 +207,14 @@ object-node p ws ks new class args h =
     rw (m .0, m .1, m .2, m .3, e)
 
 -- an Object's words with the state i
-pub state-set : (a b i : ℕ) → kindIn a ≡ 12 → Built a b (cond (stateIn a) a (a + 32)) (i * 2 ^ 32 + b % 2 ^ 32) i
+pub state-set : (a b i : ℕ) → kindIn a ≡ 12 → WithState a b (cond (stateIn a) a (a + 32)) (i * 2 ^ 32 + b % 2 ^ 32) i
 unfolding kindIn newIn stateIn classIn
 state-set a b i k = go (eqb (a / 32 % 2) 1) refl
   where
     place : b % 2 ^ 32 < 2 ^ 32
     place = omega arith
 
-    go : (t : Bool) → eqb (a / 32 % 2) 1 ≡ t → Built a b (cond t a (a + 32)) (i * 2 ^ 32 + b % 2 ^ 32) i
+    go : (t : Bool) → eqb (a / 32 % 2) 1 ≡ t → WithState a b (cond t a (a + 32)) (i * 2 ^ 32 + b % 2 ^ 32) i
     go true e = record { kind = k; new = refl; state = e; class = refl; arguments = low i 32 place; item = high i 32 place }
     go false e =
         let z = eqb-false (a / 32 % 2) 1 e in
@@ -267,9 +267,9 @@ module _ (p : List ℕ) (a b : ℕ) where
   node-count ks ws b′ (aDict e) = rw e
 
   -- an Object with a state
-  pub node-built : (ks ws : List ℕ) (a′ b′ i : ℕ) → kindIn a ≡ 12 → Built a b a′ b′ i → nodeIs p ws ks a′ b′ ≡ record { label = nodeIs p ws ks a b .label; kids = getD (nodeIs p ws ks a b .kids) 0 0 ∷ i ∷ [] }
+  pub node-with-state : (ks ws : List ℕ) (a′ b′ i : ℕ) → kindIn a ≡ 12 → WithState a b a′ b′ i → nodeIs p ws ks a′ b′ ≡ record { label = nodeIs p ws ks a b .label; kids = getD (nodeIs p ws ks a b .kids) 0 0 ∷ i ∷ [] }
   unfolding nodeIs partsOf
-  node-built ks ws a′ b′ i k h = rw (k, h .kind, h .new, h .state, h .class, h .arguments, h .item)
+  node-with-state ks ws a′ b′ i k h = rw (k, h .kind, h .new, h .state, h .class, h .arguments, h .item)
 
 -- words set for node n leave a node whose class is not n
 pub words-other : (p ks ws : List ℕ) (n a b i : ℕ) → i ≢ n → (kindIn (first ws i) ≡ 12 → classIn (first ws i) ≢ n)

@@ -10,7 +10,7 @@ use native.Mathlib.Decide.{ℕ-discrete}
 use native.Mathlib.Omega.{arith}
 use Rattle.value.specs.Shape.{kindIn}
 use Rattle.store.specs.Rooms.{items, Owned, Holding, Class, Classed, Counted, Together, Placed, Kept}
-use Rattle.steps.specs.NodeWords.{first, second, wordsSet, classIn, HoldsLinks, aList, aTuple, aDict, Built, first-other, second-other, first-set, second-set, words-second, holds-below, objectWord, object-made}
+use Rattle.steps.specs.NodeWords.{first, second, wordsSet, classIn, HoldsLinks, aList, aTuple, aDict, WithState, first-other, second-other, first-set, second-set, words-second, holds-below, objectWord, object-made}
 use Rattle.store.specs.RoomLists.{items-own, items-other, items-new}
 
 -- ---- owners
@@ -256,7 +256,7 @@ module _ (ws owners children : List ℕ) (links n : ℕ) (h : Kept ws owners chi
   }
 
   -- BUILD
-  pub kept-build : (o a b i : ℕ) → suc (2 * o) < length ws → kindIn (first ws o) ≡ 12 → Built (first ws o) (second ws o) a b i → Kept (wordsSet ws o a b) owners children links n
+  pub kept-build : (o a b i : ℕ) → suc (2 * o) < length ws → kindIn (first ws o) ≡ 12 → WithState (first ws o) (second ws o) a b i → Kept (wordsSet ws o a b) owners children links n
   kept-build o a b i room k new =
       let e = new .kind in
       record {

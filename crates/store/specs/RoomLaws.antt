@@ -11,7 +11,7 @@ use Rattle.value.specs.Value.{NoneL}
 use Rattle.value.specs.Shape.{kindIn}
 use Rattle.steps.specs.State.{Node, kidless, withInput, withNodes, withStack, withMarks, withMemo, withLinks, nodeAt, extend, insert}
 use Rattle.store.specs.RoomLists.{getD-tab, tab-same, tab-set, items-own, items-other, items-new}
-use Rattle.steps.specs.NodeWords.{first-other, second-other, first-set, second-set, words-second, holds-below, first, second, wordsSet, classIn, nodeIs, HoldsLinks, Built, node-grown, node-count, node-built, node-words, words-other}
+use Rattle.steps.specs.NodeWords.{first-other, second-other, first-set, second-set, words-second, holds-below, first, second, wordsSet, classIn, nodeIs, HoldsLinks, WithState, node-grown, node-count, node-with-state, node-words, words-other}
 use Rattle.store.specs.RoomMemo.{insert-absent, insert-present}
 use Rattle.store.specs.Rooms.{Rooms, Counts, tab, kidsOf, nodeOf, nodesOf, stateOf, wordsIn, logIn, stackIn, marksIn, memoIn, atTo, nodesTo, linksTo, stackTo, marksTo, memoTo, Owned, Class, Classed, Absent}
 
@@ -132,7 +132,7 @@ module _ (r : Rooms) (c : Counts) where
           ∙ node-count (r .pickle) a (second (r .nodes) o) (kidsOf r c o) (r .nodes) b t)
 
   -- BUILD
-  pub build-set : (o a b i : ℕ) → o < c .nodes → suc (2 * o) < length (r .nodes) → Classed (r .nodes) (c .nodes) → kindIn (first (r .nodes) o) ≡ 12 → Built (first (r .nodes) o) (second (r .nodes) o) a b i
+  pub build-set : (o a b i : ℕ) → o < c .nodes → suc (2 * o) < length (r .nodes) → Classed (r .nodes) (c .nodes) → kindIn (first (r .nodes) o) ≡ 12 → WithState (first (r .nodes) o) (second (r .nodes) o) a b i
       → stateOf (wordsIn r (wordsSet (r .nodes) o a b)) c ≡ withNodes (stateOf r c) (set (stateOf r c .nodes) o (record { label = nodeAt (stateOf r c) o .label; kids = getD (nodeAt (stateOf r c) o .kids) 0 0 ∷ i ∷ [] }))
   unfolding stateOf Classed Class
   build-set o a b i l h cl t new = ap (withNodes (stateOf r c)) (tab-set (nodeOf r c) (nodeOf r₁ c) (c .nodes) o (kidless NoneL) l other ∙ ap (set (nodesOf r c) o) own)
@@ -156,4 +156,4 @@ module _ (r : Rooms) (c : Counts) where
       own =
           rw (getD-tab (nodeOf r c) (c .nodes) o (kidless NoneL) l, first-set (r .nodes) o a b h, second-set (r .nodes) o a b h)
           (node-words (r .pickle) a b (kidsOf r c o) (r .nodes) ws (λ k. (first-other (r .nodes) o a b (classIn a) apart, second-other (r .nodes) o a b (classIn a) apart))
-          ∙ node-built (r .pickle) (first (r .nodes) o) (second (r .nodes) o) (kidsOf r c o) (r .nodes) a b i t new)
+          ∙ node-with-state (r .pickle) (first (r .nodes) o) (second (r .nodes) o) (kidsOf r c o) (r .nodes) a b i t new)

@@ -312,7 +312,10 @@ fn compare_items(words: &[u64], text: &[u8], p: usize, q: usize) -> Order
     requires { ⌜ Reads (now words) (now text) q ⌝ }
     requires { ⌜ Begins (now words) (now text) p ⌝ }
     requires { ⌜ Begins (now words) (now text) q ⌝ }
-    ensures { λ r. ⌜ ((v u : Value) → Stands (now (words .entry)) (now (text .entry)) p (one v) → Stands (now (words .entry)) (now (text .entry)) q (one u) → told r ≡ order v u) ⌝ }
+    ensures { λ r. ⌜ ((v u : Value)
+        → Stands (now (words .entry)) (now (text .entry)) p (one v)
+        → Stands (now (words .entry)) (now (text .entry)) q (one u)
+        → told r ≡ order v u) ⌝ }
 {
     let k = kind(words[4 * p]);
     if k == kind(words[4 * q]) {
@@ -615,7 +618,9 @@ pub fn compare(
     second_count: usize,
     second_text: &[u8],
 ) -> Compared
-    ensures { λ r. ⌜ Compares (now (first .entry)) «first_count» (now («first_text» .entry)) (now (second .entry)) «second_count» (now («second_text» .entry)) r ⌝ }
+    ensures { λ r. ⌜ Compares
+        (now (first .entry)) «first_count» (now («first_text» .entry))
+        (now (second .entry)) «second_count» (now («second_text» .entry)) r ⌝ }
 {
     if !well_formed(first, first_count, first_text) {
         return bad_table(Which::First);

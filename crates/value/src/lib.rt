@@ -225,7 +225,9 @@ pub fn cut(text: &[u8], at: u64, len: u64) -> &[u8]
 fn compare_names(s: &[u8], x: usize, p: u64, t: &[u8], y: usize, q: u64) -> Order
     requires { ⌜ namesEnd x p ≤ length (now s) ⌝ }
     requires { ⌜ namesEnd y q ≤ length (now t) ⌝ }
-    ensures { λ r. ⌜ told r ≡ (lex (moduleOf p (drop x (now (s .entry)))) (moduleOf q (drop y (now (t .entry)))) then lex (nameOf p (drop x (now (s .entry)))) (nameOf q (drop y (now (t .entry))))) ⌝ }
+    ensures { λ r. ⌜ told r
+        ≡ (lex (moduleOf p (drop x (now (s .entry)))) (moduleOf q (drop y (now (t .entry))))
+        then lex (nameOf p (drop x (now (s .entry)))) (nameOf q (drop y (now (t .entry))))) ⌝ }
 {
     let m = (p / 0x1_0000_0000) as usize;
     let k = (q / 0x1_0000_0000) as usize;
@@ -358,7 +360,9 @@ fn next(walk: Walk, n: usize, m: usize, new: bool, other: bool) -> Walk
 // After two records of one kind with equal labels: most have nothing in them.
 fn step(walk: Walk, a: &[u64], k: usize, b: &[u64], l: usize) -> Walk
     requires { ⌜ Matched (now a) (now b) k l (walk .left) ⌝ }
-    ensures { λ r. ⌜ Next (walk .left) (told (walk .verdict)) (arityAt (now (a .entry)) k) (arityAt (now (b .entry)) l) (newAt (now (a .entry)) k) (newAt (now (b .entry)) l) (r .left) (told (r .verdict)) ⌝ }
+    ensures { λ r. ⌜ Next (walk .left) (told (walk .verdict))
+        (arityAt (now (a .entry)) k) (arityAt (now (b .entry)) l) (newAt (now (a .entry)) k) (newAt (now (b .entry)) l)
+        (r .left) (told (r .verdict)) ⌝ }
 {
     if holds(head_of(a[4 * k]).kind) {
         return next(walk, arity(a, k), arity(b, l), is_new(a, k), is_new(b, l));
@@ -375,7 +379,10 @@ fn step(walk: Walk, a: &[u64], k: usize, b: &[u64], l: usize) -> Walk
 pub fn compare_at(a: &[u64], i: usize, s: &[u8], b: &[u64], j: usize, t: &[u8]) -> Order
     requires { ⌜ Begins (now a) (now s) i ⌝ }
     requires { ⌜ Begins (now b) (now t) j ⌝ }
-    ensures { λ r. ⌜ ((v w : Value) → Stands (now (a .entry)) (now (s .entry)) i (one v) → Stands (now (b .entry)) (now (t .entry)) j (one w) → told r ≡ order v w) ⌝ }
+    ensures { λ r. ⌜ ((v w : Value)
+        → Stands (now (a .entry)) (now (s .entry)) i (one v)
+        → Stands (now (b .entry)) (now (t .entry)) j (one w)
+        → told r ≡ order v w) ⌝ }
 {
     let mut walk = Walk {
         left: 1,

@@ -5,5 +5,5 @@ pub mod Store
 pub mod Words
 pub mod Layout
 pub mod Runs
-pub mod Children
+pub mod SideBySide
 pub mod Examples
