@@ -124,7 +124,7 @@ module _ {p ws owners log : List ℕ} {count links root : ℕ} (k : AtStop p ws 
       omega (arith, nodes-few (k .at), zeros-long owners-zeros),
     )
 
-    -- the parts lent to `make`: the owners' room is for the dues
+    -- the parts lent to `build_laid`: the owners' room is for the dues
     abbrev begins : (r : Rooms) (c : Counts) → At p ws owners log count links r c
         → Begins p ws starts′ (take (used - 0) sorted′) (take (count - 0) measures) (take (count + 1 - 0) owners′) root
     begins r c a =
@@ -140,8 +140,8 @@ module _ {p ws owners log : List ℕ} {count links root : ℕ} (k : AtStop p ws 
           below = omega (arith, k .known, nodes-many a);
         }
 
-    pub make-begins : Begins p ws starts′ (take (used - 0) sorted′) (take (count - 0) measures) (take (count + 1 - 0) owners′) root
-    make-begins = begins (k .rooms) (k .counts) (k .at)
+    pub laid-begins : Begins p ws starts′ (take (used - 0) sorted′) (take (count - 0) measures) (take (count + 1 - 0) owners′) root
+    laid-begins = begins (k .rooms) (k .counts) (k .at)
 
     pub build-comes : (left : Bool) (b : Built) (o′ q′ : List ℕ) → BuildsLaid p ws starts′ (take (used - 0) sorted′) (take (count - 0) measures) (take (count + 1 - 0) owners′) root left b o q o′ q′
         → Builds p ws owners log count links root left b o q o′ q′

@@ -2,5 +2,5 @@
 pub mod Parts
 pub mod Building
 pub mod Limits
-pub mod Making
+pub mod Laid
 pub mod Given

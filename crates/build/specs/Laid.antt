@@ -97,9 +97,9 @@ module _ (p ws starts sorted measures dues sorted′ measures′ dues′ : List 
   told k = T (k .nodes) (k .beyond) starts dues measures′ sorted′ dues′ root (R k)
 
   -- a refusal
-  pub make-refused : (why : Refusal) → d ≡ due.Refused why → (o q : List ℕ) → BuildsLaid p ws starts sorted measures dues root left (built.Refused why) o q o q
+  pub laid-refused : (why : Refusal) → d ≡ due.Refused why → (o q : List ℕ) → BuildsLaid p ws starts sorted measures dues root left (built.Refused why) o q o q
   unfolding BuildsLaid Comes said
-  make-refused why e o q k = (told k ∙ ap said e, refl, refl)
+  laid-refused why e o q k = (told k ∙ ap said e, refl, refl)
 
   -- nothing
   module _ (e : d ≡ due.Nothing) where
@@ -122,9 +122,9 @@ module _ (p ws starts sorted measures dues sorted′ measures′ dues′ : List 
           holds = h;
         }
 
-    pub make-measured : Begins p ws starts sorted measures dues root → Measured p ws starts sorted′ dues′ measures′ root
-    make-measured k = record { nodes = k .nodes; are = measured-as k }
+    pub laid-measured : Begins p ws starts sorted measures dues root → Measured p ws starts sorted′ dues′ measures′ root
+    laid-measured k = record { nodes = k .nodes; are = measured-as k }
 
-    pub make-made : (o q o′ q′ : List ℕ) (n : ℕ) → Produces p ws starts sorted′ dues′ measures′ root o q o′ q′ n → BuildsLaid p ws starts sorted measures dues root left (built.Made n) o q o′ q′
+    pub laid-made : (o q o′ q′ : List ℕ) (n : ℕ) → Produces p ws starts sorted′ dues′ measures′ root o q o′ q′ n → BuildsLaid p ws starts sorted measures dues root left (built.Made n) o q o′ q′
     unfolding BuildsLaid Comes
-    make-made o q o′ q′ n P k = let x = P (k .nodes) (measured-as k) in (free k, x .counted, x .table-is, x .text-is)
+    laid-made o q o′ q′ n P k = let x = P (k .nodes) (measured-as k) in (free k, x .counted, x .table-is, x .text-is)

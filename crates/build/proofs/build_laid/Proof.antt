@@ -1,8 +1,8 @@
--- `build::make` meets its contract: a refusal, or what is produced.
-use Rattle.build.proofs.make.Statement.{statement}
-use Rattle.build.proofs.make.Tie as tie
+-- `build::build_laid` meets its contract: a refusal, or what is produced.
+use Rattle.build.proofs.build_laid.Statement.{statement}
+use Rattle.build.proofs.build_laid.Tie as tie
 use mathlib.Core.Path.{refl, _∙_}
-use Rattle.build.specs.Making.{make-refused, make-measured, make-made}
+use Rattle.build.specs.Laid.{laid-refused, laid-measured, laid-made}
 
 -- from the ends back to what is due, to the measuring and to the beginning
 abbrev start : tie.After-measure-root → tie.Start
@@ -26,19 +26,19 @@ told c = c .before .before .before .before .before .before .before .before .befo
 produce-requires : tie.Need-produce-requires
 produce-requires c κs =
     let e = c .before .before .before .before .before .before .before .before in
-    (make-measured _ _ _ _ _ _ _ _ _ _ _ (measured (due e) .measure-root .ensures) _ _ (due e .due-of .ensures) (e .enum-told .given .1) (start (measured (due e)) .pre .0), start (measured (due e)) .pre .1)
+    (laid-measured _ _ _ _ _ _ _ _ _ _ _ (measured (due e) .measure-root .ensures) _ _ (due e .due-of .ensures) (e .enum-told .given .1) (start (measured (due e)) .pre .0), start (measured (due e)) .pre .1)
 
 returns : tie.Need-returns
-returns c = (make-refused _ _ _ _ _ _ _ _ _ _ _ (measured (refused c) .measure-root .ensures) _ _ (refused c .due-of .ensures) _ (c .before .why .given .1) _ _, record { decoded-same = refl; log-same = refl; list-same = refl })
+returns c = (laid-refused _ _ _ _ _ _ _ _ _ _ _ (measured (refused c) .measure-root .ensures) _ _ (refused c .due-of .ensures) _ (c .before .why .given .1) _ _, record { decoded-same = refl; log-same = refl; list-same = refl })
 
 returns-2 : tie.Need-returns-2
 returns-2 c =
     let r = produced c in
     let e = told r in
-    (make-made _ _ _ _ _ _ _ _ _ _ _ (measured (due e) .measure-root .ensures) _ _ (due e .due-of .ensures) (e .enum-told .given .1) _ _ _ _ _ (r .produce .ensures .0), r .produce .ensures .1)
+    (laid-made _ _ _ _ _ _ _ _ _ _ _ (measured (due e) .measure-root .ensures) _ _ (due e .due-of .ensures) (e .enum-told .given .1) _ _ _ _ _ (r .produce .ensures .0), r .produce .ensures .1)
 
-pub make-spec : {M : Type 1} → statement M
-make-spec =
+pub build-laid-spec : {M : Type 1} → statement M
+build-laid-spec =
     tie.close
     (tie.spec
     (λ c κs. c .before .before .before .before .before .before .before .before .before .before .before .before .before .before .pre .0) (λ c κs. tt) (λ c. c .match .keys1) (λ c. c .match .keys2) produce-requires
