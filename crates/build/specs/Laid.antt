@@ -19,7 +19,7 @@ use Rattle.reading.specs.Measure.{measured, measured-within}
 use Rattle.resolve.specs.Facts.{Facts}
 use Rattle.resolve.specs.Standing.{node-is, label-is, facts}
 use Rattle.resolve.specs.Rooted.{Begins, Rooted, r-deep, r-word, Roots}
-use Rattle.resolve.specs.declared.Answer.{Answer}
+use Rattle.resolve.specs.declared.WalkAnswer.{WalkAnswer}
 use Rattle.produce.specs.Measured.{Worded, MeasuredAs, Measured, Produces}
 use Rattle.build.specs.Building.{dueOf, Comes, BuildsLaid}
 use Rattle.build.specs.Limits.{said, Tells}
@@ -91,7 +91,7 @@ due-within left f e = go (measured f) refl e
     go (ok u) q e = q
     go (no why) q e = absurd (let z : _≡_ {A = ℕ} 0 1 = cc in omega arith)
 
-module _ (p ws starts sorted measures dues sorted′ measures′ dues′ : List ℕ) (root : ℕ) (a : Answer) (R : Roots p ws starts sorted measures dues sorted′ measures′ dues′ root a) (left : Bool) (d : Due) (T : Tells a left d) where
+module _ (p ws starts sorted measures dues sorted′ measures′ dues′ : List ℕ) (root : ℕ) (a : WalkAnswer) (R : Roots p ws starts sorted measures dues sorted′ measures′ dues′ root a) (left : Bool) (d : Due) (T : Tells a left d) where
   told : (k : Begins p ws starts sorted measures dues root) → dueOf left (one (tree (k .nodes) root)) ≡ said d
   unfolding Roots Tells
   told k = T (k .nodes) (k .beyond) starts dues measures′ sorted′ dues′ root (R k)
@@ -114,7 +114,7 @@ module _ (p ws starts sorted measures dues sorted′ measures′ dues′ : List 
         within : (depth (one (tree (k .nodes) root)) ≤ 64) × (size (one (tree (k .nodes) root)) ≤ 2048) × (length (text (one (tree (k .nodes) root))) ≤ 65536)
         within = measured-within (one (tree (k .nodes) root)) (due-within left (one (tree (k .nodes) root)) (free k))
 
-        go : (a : Answer) → Rooted (k .nodes) (k .beyond) starts dues measures′ sorted′ dues′ root a → MeasuredAs p ws starts sorted′ dues′ measures′ (k .nodes) root
+        go : (a : WalkAnswer) → Rooted (k .nodes) (k .beyond) starts dues measures′ sorted′ dues′ root a → MeasuredAs p ws starts sorted′ dues′ measures′ (k .nodes) root
         go _ (r-deep h) = absurd (omega (arith, within .0))
         go _ (r-word w m x h) = record {
           limited = record { worded = worded k; before = sorted; graph = k .graph; below = k .below; deep = within .0; records = within .1; texts = within .2 };

@@ -12,8 +12,8 @@ use Rattle.reading.specs.Build.{tree}
 use Rattle.reading.specs.Measure.{measured, too-deep, too-many-values, text-full, within-limits}
 use Rattle.resolve.specs.Word.{valuesW, textsW, values-pack, texts-pack}
 use Rattle.resolve.specs.Rooted.{Measured, Rooted, r-deep, r-word}
-use Rattle.resolve.specs.declared.Answer.{Answer}
-use Rattle.resolve.specs.declared.Answer.the-variants as answer
+use Rattle.resolve.specs.declared.WalkAnswer.{WalkAnswer}
+use Rattle.resolve.specs.declared.WalkAnswer.the-variants as answer
 use Rattle.build.specs.Building.{dueOf}
 use Rattle.build.specs.declared.Due.{Due}
 use Rattle.build.specs.declared.Due.the-variants as due
@@ -23,7 +23,7 @@ said due.Nothing = ok tt
 said (due.Refused why) = no why
 
 -- whatever tree the answer is of
-unfoldable pub Tells : Answer → Bool → Due → Type 0
+unfoldable pub Tells : WalkAnswer → Bool → Due → Type 0
 Tells a left d =
     (t : List Node) (beyond : length t ≤ 4096) (starts lent measures sorted room : List ℕ) (root : ℕ) → Rooted t beyond starts lent measures sorted room root a
     → dueOf left (one (tree t root)) ≡ said d

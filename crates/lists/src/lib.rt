@@ -10,7 +10,7 @@ ghost use Rattle.lists.specs.Listed.{Listed, Ranges};
 use store::NodeId;
 
 // From a node's kind to its value's: 13 are Bytes too, 14 is a String.
-const TO_VALUE: u64 = store::KIND_ESCAPED - value::BYTES;
+pub const TO_VALUE: u64 = store::KIND_ESCAPED - value::BYTES;
 
 // The kind of a node's value, by the node's first word.
 pub fn value_kind(first: u64) -> u64

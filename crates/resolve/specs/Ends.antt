@@ -31,8 +31,8 @@ use Rattle.resolve.specs.Noting.{Notes}
 use Rattle.resolve.specs.Class.{Owned, Owns}
 use Rattle.resolve.specs.Known.{word-big, Yields, Knows, k-open, k-empty, k-word, Learns}
 use Rattle.resolve.specs.Loop.{AtStage, Entered, Back, Midway, mid-start, called, child-below, too-deep, mid-same, mid-none, mid-word, mid-shallow, mid-finish}
-use Rattle.resolve.specs.declared.Answer.{Answer}
-use Rattle.resolve.specs.declared.Answer.the-variants as answer
+use Rattle.resolve.specs.declared.WalkAnswer.{WalkAnswer}
+use Rattle.resolve.specs.declared.WalkAnswer.the-variants as answer
 use Rattle.resolve.specs.declared.Seen.{Seen}
 use Rattle.resolve.specs.declared.Seen.the-variants.{Open, Empty, Word}
 
@@ -41,7 +41,7 @@ abbrev pub Opens : List ℕ → List ℕ → List ℕ → List ℕ → List ℕ 
 Opens = AtStage fresh
 
 -- what an answer says of m, which the walk makes of n, and of the rooms after
-pub data Ends (t : List Node) (beyond : length t ≤ 4096) (starts lent : List ℕ) (levels n : ℕ) (m : Made) (measures sorted room : List ℕ) : Answer → Type 0 where
+pub data Ends (t : List Node) (beyond : length t ≤ 4096) (starts lent : List ℕ) (levels n : ℕ) (m : Made) (measures sorted room : List ℕ) : WalkAnswer → Type 0 where
   ends-deep : levels < value (m .value) .deep → Ends t beyond starts lent levels n m measures sorted room answer.TooDeep
   ends-empty : m .slot ≡ 4096 → m .value ≡ none → HoldsWalk t beyond starts lent measures sorted room (m .after)
       → Ends t beyond starts lent levels n m measures sorted room answer.Empty
@@ -50,7 +50,7 @@ pub data Ends (t : List Node) (beyond : length t ≤ 4096) (starts lent : List �
       → Ends t beyond starts lent levels n m measures sorted room (answer.Word w)
 
 -- whatever nodes and state they are
-unfoldable pub Walks : List ℕ → List ℕ → List ℕ → ℕ → ℕ → List ℕ → List ℕ → List ℕ → List ℕ → List ℕ → List ℕ → Answer → Type 0
+unfoldable pub Walks : List ℕ → List ℕ → List ℕ → ℕ → ℕ → List ℕ → List ℕ → List ℕ → List ℕ → List ℕ → List ℕ → WalkAnswer → Type 0
 Walks p ws starts levels n measures sorted room measures′ sorted′ room′ r =
     (o : Opens p ws starts measures sorted room n) → Ends (o .nodes) (o .facts .beyond) starts (o .lent) levels n (walk (o .nodes) 4096 levels n (o .state)) measures′ sorted′ room′ r
 
@@ -262,7 +262,7 @@ module _ {p ws starts measures₀ sorted₀ room₀ : List ℕ} {n : ℕ} (I : E
     known-open = opened (learns Open a)
 
     module _ (measures″ sorted″ room″ : List ℕ) where
-      walks : (r : Answer) → Walks p ws starts k (getD sorted i 0) measures′ sorted room measures″ sorted″ room″ r
+      walks : (r : WalkAnswer) → Walks p ws starts k (getD sorted i 0) measures′ sorted room measures″ sorted″ room″ r
           → Ends (I .nodes) (I .facts .beyond) starts (I .lent) k (getD sorted i 0) (called I k T) measures″ sorted″ room″ r
       unfolding Walks opened
       walks r b = go (learns Open a)

@@ -37,8 +37,8 @@ use Rattle.resolve.specs.Facts.{wordOf, Facts, Shallow, HoldsWalk}
 use Rattle.resolve.specs.Known.{word-big, word-low, leaf-deep, Knows, k-open, k-empty, k-word, Learns}
 use Rattle.resolve.specs.Ends.{Opens, Ends, ends-deep, ends-empty, ends-word, Walks}
 use Rattle.resolve.specs.Standing.{facts}
-use Rattle.resolve.specs.declared.Answer.{Answer}
-use Rattle.resolve.specs.declared.Answer.the-variants as answer
+use Rattle.resolve.specs.declared.WalkAnswer.{WalkAnswer}
+use Rattle.resolve.specs.declared.WalkAnswer.the-variants as answer
 use Rattle.resolve.specs.declared.Seen.{Seen}
 use Rattle.resolve.specs.declared.Seen.the-variants as seen
 
@@ -64,7 +64,7 @@ pub record Begins (p ws starts sorted measures room : List ℕ) (root : ℕ) : T
   pub below : root < length nodes
 
 -- what the answer says of the tree and of the rooms after; `lent` is the room of dues before
-pub data Rooted (t : List Node) (beyond : length t ≤ 4096) (starts lent measures sorted room : List ℕ) (root : ℕ) : Answer → Type 0 where
+pub data Rooted (t : List Node) (beyond : length t ≤ 4096) (starts lent measures sorted room : List ℕ) (root : ℕ) : WalkAnswer → Type 0 where
   r-deep : 64 < depth (one (tree t root)) → Rooted t beyond starts lent measures sorted room root answer.TooDeep
   r-word : (w : ℕ)
       → Measured (tree t root) w
@@ -72,7 +72,7 @@ pub data Rooted (t : List Node) (beyond : length t ≤ 4096) (starts lent measur
       → HoldsWalk t beyond starts lent measures sorted room (walked t 4096 64 root .after)
       → Rooted t beyond starts lent measures sorted room root (answer.Word w)
 
-unfoldable pub Roots : List ℕ → List ℕ → List ℕ → List ℕ → List ℕ → List ℕ → List ℕ → List ℕ → List ℕ → ℕ → Answer → Type 0
+unfoldable pub Roots : List ℕ → List ℕ → List ℕ → List ℕ → List ℕ → List ℕ → List ℕ → List ℕ → List ℕ → ℕ → WalkAnswer → Type 0
 Roots p ws starts sorted measures room sorted′ measures′ room′ root r =
     (b : Begins p ws starts sorted measures room root) → Rooted (b .nodes) (b .beyond) starts room measures′ sorted′ room′ root r
 
@@ -289,13 +289,13 @@ module _ {p ws starts sorted measures room : List ℕ} {root : ℕ} (b : Begins 
         go : Knows (b .nodes) measures measures′ (start (b .nodes)) root seen.Empty → ⊥
         go (k-empty q) = let x = q 63 .slot-is in omega (arith, root-own, b .below, b .beyond)
 
-    pub root-walk : (a : Learns p ws measures measures′ root seen.Open) (measures″ sorted″ room″ : List ℕ) (r : Answer)
+    pub root-walk : (a : Learns p ws measures measures′ root seen.Open) (measures″ sorted″ room″ : List ℕ) (r : WalkAnswer)
         → Walks p ws starts 64 root measures′ sorted room measures″ sorted″ room″ r
         → Rooted (b .nodes) (b .beyond) starts room measures″ sorted″ room″ root r
     unfolding Walks opened
     root-walk a measures″ sorted″ room″ r q = pick (learns seen.Open a)
       where
-        go : (r : Answer) → Ends (b .nodes) (b .beyond) starts room 64 root (walked (b .nodes) 4096 64 root) measures″ sorted″ room″ r
+        go : (r : WalkAnswer) → Ends (b .nodes) (b .beyond) starts room 64 root (walked (b .nodes) 4096 64 root) measures″ sorted″ room″ r
             → Rooted (b .nodes) (b .beyond) starts room measures″ sorted″ room″ root r
         go _ (ends-deep d) = rooted-deep measures″ sorted″ room″ d
         go _ (ends-empty e v h) = absurd (omega (arith, root-own, e, b .below, b .beyond))

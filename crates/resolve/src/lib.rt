@@ -31,7 +31,7 @@ const LEAF: u64 = 1 + store::DEPTHS;
 // As the rooms of u16 hold it.
 const NOWHERE: u16 = store::NOWHERE as u16;
 
-pub enum Answer {
+pub enum WalkAnswer {
     TooDeep,
     Empty,
     Word(u64),
@@ -229,7 +229,7 @@ fn measure(
     nodes: &[u64],
     measures: &mut [u64],
     dues: &mut [u16],
-) -> Answer
+) -> WalkAnswer
     requires { ⌜ (1 ≤ levels) × (levels ≤ 64) ⌝ }
     requires { ⌜ Opens (now pickle) (now nodes) (now starts) (now measures) (now sorted) (now dues) (node .0) ⌝ }
     ensures { λ r.
@@ -243,7 +243,7 @@ fn measure(
     let end = starts[n + 1] as usize;
     if blocked(kind, at, end, sorted, measures) {
         measures[n] = 3;
-        return Answer::Empty;
+        return WalkAnswer::Empty;
     }
     let mut texts = own_text_len(kind, node, pickle, nodes, measures);
     measures[n] = 1;
@@ -252,14 +252,14 @@ fn measure(
     let mut i = at;
     while i < end {
         if levels == 1 {
-            return Answer::TooDeep;
+            return WalkAnswer::TooDeep;
         }
         let child = NodeId(sorted[i] as usize);
         let mut w: u64 = LEAF;
         match known(child, pickle, nodes, measures) {
             Seen::Word(k) => {
                 if levels <= k % store::DEPTHS {
-                    return Answer::TooDeep;
+                    return WalkAnswer::TooDeep;
                 }
                 w = k;
             }
@@ -276,11 +276,11 @@ fn measure(
                 measures,
                 dues,
             ) {
-                Answer::TooDeep => return Answer::TooDeep,
-                Answer::Empty => {
+                WalkAnswer::TooDeep => return WalkAnswer::TooDeep,
+                WalkAnswer::Empty => {
                     sorted[i] = NOWHERE;
                 }
-                Answer::Word(k) => {
+                WalkAnswer::Word(k) => {
                     w = k;
                 }
             },
@@ -296,7 +296,7 @@ fn measure(
         + store::DEPTHS * least(values, 2049)
         + store::TEXT_AT * least(texts, 65537);
     measures[n] = w;
-    Answer::Word(w)
+    WalkAnswer::Word(w)
 }
 
 // The root's tree: too deep where it has more than 64 levels, else its word, and a graph in which the root stands for it.
@@ -308,7 +308,7 @@ pub fn measure_root(
     nodes: &[u64],
     measures: &mut [u64],
     dues: &mut [u16],
-) -> Answer
+) -> WalkAnswer
     requires { ⌜ Begins (now pickle) (now nodes) (now starts) (now sorted) (now measures) (now dues) (node .0) ⌝ }
     ensures { λ r.
         ⌜ Roots (now (pickle .entry)) (now (nodes .entry)) (now (starts .entry))
@@ -316,8 +316,8 @@ pub fn measure_root(
         (now (sorted .exit)) (now (measures .exit)) (now (dues .exit)) (node .0) r ⌝ }
 {
     match known(node, pickle, nodes, measures) {
-        Seen::Word(w) => Answer::Word(w),
-        Seen::Empty => Answer::Empty,
+        Seen::Word(w) => WalkAnswer::Word(w),
+        Seen::Empty => WalkAnswer::Empty,
         Seen::Open => measure(node, 64, starts, sorted, pickle, nodes, measures, dues),
     }
 }

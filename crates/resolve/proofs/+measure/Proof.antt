@@ -26,8 +26,8 @@ use Rattle.reading.specs.Build.{blocked}
 use Rattle.resolve.specs.Known.{Learns}
 use Rattle.resolve.specs.declared.Seen.{Seen}
 use Rattle.resolve.specs.declared.Seen.the-variants as seen
-use Rattle.resolve.specs.declared.Answer.{Answer}
-use Rattle.resolve.specs.declared.Answer.the-variants as answer
+use Rattle.resolve.specs.declared.WalkAnswer.{WalkAnswer}
+use Rattle.resolve.specs.declared.WalkAnswer.the-variants as answer
 use Rattle.resolve.specs.Class.{Owns}
 use Rattle.resolve.specs.Word.{deepW, valuesW, textsW}
 use Rattle.resolve.specs.Loop.{Entered, Midway, mid-start, mid-room}
@@ -111,9 +111,9 @@ module _ {p ws starts measures sorted room : List ℕ} {n levels : ℕ} {after :
           }
 
       -- the child is walked
-      module _ (ms₂ ss₂ rs₂ : List ℕ) (r : Answer) (walks : Walks p ws starts (levels - 1) (getD ss i 0) ms₁ ss rs ms₂ ss₂ rs₂ r) (fresh : a ≡ seen.Open)
+      module _ (ms₂ ss₂ rs₂ : List ℕ) (r : WalkAnswer) (walks : Walks p ws starts (levels - 1) (getD ss i 0) ms₁ ss rs ms₂ ss₂ rs₂ r) (fresh : a ≡ seen.Open)
           (kept-ms : length ms₂ ≡ length ms₁) (kept-ss : length ss₂ ≡ length ss) (kept-rs : length rs₂ ≡ length rs) where
-        walked : (b : Answer) → r ≡ b → Walks p ws starts (levels - 1) (getD ss i 0) ms₁ ss rs ms₂ ss₂ rs₂ b
+        walked : (b : WalkAnswer) → r ≡ b → Walks p ws starts (levels - 1) (getD ss i 0) ms₁ ss rs ms₂ ss₂ rs₂ b
         walked b f = subst (Walks p ws starts (levels - 1) (getD ss i 0) ms₁ ss rs ms₂ ss₂ rs₂) f walks
 
         word-walked : (v : ℕ) → r ≡ answer.Word v → ss′ ≡ ss₂ → ms′ ≡ ms₂ → rs′ ≡ rs₂ → w ≡ v → Done ms′ ss′ rs′ w d
@@ -148,7 +148,7 @@ module _ {p ws starts measures sorted room : List ℕ} {n levels : ℕ} {after :
           let w = known-deep (into o) (levels - 1) left (T .midway (into o)) (T .child) ms₁ v (learns-as left ms₁ a learns (seen.Word v) e) in
           ends-too (moves o) levels (T .level) free (T .midway (into o)) ms′ ss′ rs′ (T .child) (omega (arith, w))
 
-      walk-too : (ms₂ ss₂ rs₂ : List ℕ) (r : Answer) → Walks p ws starts (levels - 1) (getD ss i 0) ms₁ ss rs ms₂ ss₂ rs₂ r → a ≡ seen.Open → r ≡ answer.TooDeep → Deep
+      walk-too : (ms₂ ss₂ rs₂ : List ℕ) (r : WalkAnswer) → Walks p ws starts (levels - 1) (getD ss i 0) ms₁ ss rs ms₂ ss₂ rs₂ r → a ≡ seen.Open → r ≡ answer.TooDeep → Deep
       walk-too ms₂ ss₂ rs₂ r b e q =
           let w = walk-deep (into o) (levels - 1) left (T .midway (into o)) (T .child) ms₁ (learns-as left ms₁ a learns seen.Open e) ms₂ ss₂ rs₂ (subst (Walks p ws starts (levels - 1) (getD ss i 0) ms₁ ss rs ms₂ ss₂ rs₂) q b) in
           ends-too (moves o) levels (T .level) free (T .midway (into o)) ms′ ss′ rs′ (T .child) (omega (arith, w, left))
