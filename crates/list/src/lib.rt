@@ -1,5 +1,6 @@
 // The list call: one line a record of a table (RULES A9.1 to A9.3, Ask 2.1). The lines are measured first,
 // `.._len` by `.._len`; then every `put_` function writes one field from `at` on, and answers the next place.
+use output::Place;
 use refusal::Answer;
 use refusal::Refusal;
 use refusal::Which;
@@ -327,12 +328,6 @@ fn put_line(words: &[u64], text: &[u8], i: usize, depth: u64, output: &mut [u8],
     let d = output::put_byte(b'\t', output, c);
     let e = put_content(words, text, i, output, d);
     output::put_byte(b'\n', output, e)
-}
-
-// The next record and the next place of the output.
-struct Place {
-    record: usize,
-    at: usize,
 }
 
 // `count` values that stand side by side from record `from` on: the line of each, and its contents one deeper. The places from `at` on

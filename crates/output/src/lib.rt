@@ -7,6 +7,12 @@ ghost use lib.ListN.{length};
 ghost use Rattle.output.specs.Decimal.{figure, figures, decimalText, signedText};
 ghost use Rattle.output.specs.Put.{Put, Room};
 
+// The next record of the table that is written and the next place of the output.
+pub struct Place {
+    pub record: usize,
+    pub at: usize,
+}
+
 pub fn put_byte(byte: u8, output: &mut [u8], at: usize) -> usize
     requires { ⌜ Room (now output) at (byte ∷ []) ⌝ }
     ensures { λ r. ⌜ Put (now (output .entry)) at (byte ∷ []) (now (output .exit)) r ⌝ }

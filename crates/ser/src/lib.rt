@@ -2,6 +2,7 @@
 // and what is written then has room; as in crate `output`, a function writes from `at` on and answers the next place. `to_writer`
 // is left out.
 use input::LineEnd;
+use output::Place;
 use refusal::Answer;
 use refusal::Refusal;
 use refusal::Which;
@@ -220,12 +221,6 @@ fn encode_opening(words: &[u64], text: &[u8], i: usize, output: &mut [u8], at: u
         return encode_bytes(value, output, at);
     }
     encode_string(value, output, at)
-}
-
-// The next record and the next place of the output.
-struct Place {
-    record: usize,
-    at: usize,
 }
 
 // How many items Python appends or sets at once.
