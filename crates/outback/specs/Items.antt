@@ -11,6 +11,7 @@ use Rattle.op.specs.Table.{numberOf}
 use Rattle.op.specs.declared.Opcode.the-variants.{MARK, APPEND, APPENDS, SETITEM, SETITEMS}
 use Rattle.value.specs.Value.{Label, Forest, count, ListL, DictL, nil, node}
 use Rattle.value.specs.Stands.{_⊕_}
+use Rattle.value.specs.Walk.{first}
 use Rattle.steps.specs.State.{State}
 use Rattle.ser.specs.Image.{opening, contents, images, joined, listBatch, dictBatch, batch, batchSize, batchesUpTo, batches, appends}
 use Rattle.ser.specs.Parts.{images-length, size-some}
@@ -39,21 +40,16 @@ many-back (node l c r) h s rest e =
 
 -- ---- the first k values, and those behind them
 
-unfoldable taken : ℕ → Forest → Forest
-taken zero f = nil
-taken (suc k) nil = nil
-taken (suc k) (node l c r) = node l c (taken k r)
-
 unfoldable dropped : ℕ → Forest → Forest
 dropped zero f = f
 dropped (suc k) nil = nil
 dropped (suc k) (node l c r) = dropped k r
 
-taken-images : (k : ℕ) (f : Forest) → images (taken k f) ≡ take k (images f)
-unfolding taken images
-taken-images zero f = refl
-taken-images (suc k) nil = refl
-taken-images (suc k) (node l c r) = ap (λ (x : List (List ℕ)). (opening l ++ contents l (images c)) ∷ x) (taken-images k r)
+first-images : (k : ℕ) (f : Forest) → images (first k f) ≡ take k (images f)
+unfolding first images
+first-images zero f = refl
+first-images (suc k) nil = refl
+first-images (suc k) (node l c r) = ap (λ (x : List (List ℕ)). (opening l ++ contents l (images c)) ∷ x) (first-images k r)
 
 dropped-images : (k : ℕ) (f : Forest) → images (dropped k f) ≡ drop k (images f)
 unfolding dropped images
@@ -61,11 +57,11 @@ dropped-images zero f = refl
 dropped-images (suc k) nil = refl
 dropped-images (suc k) (node l c r) = dropped-images k r
 
-taken-return : (k : ℕ) (f : Forest) → AllReturn f → AllReturn (taken k f)
-unfolding taken AllReturn
-taken-return zero f h = tt
-taken-return (suc k) nil h = tt
-taken-return (suc k) (node l c r) h = (h .0, taken-return k r (h .1))
+first-return : (k : ℕ) (f : Forest) → AllReturn f → AllReturn (first k f)
+unfolding first AllReturn
+first-return zero f h = tt
+first-return (suc k) nil h = tt
+first-return (suc k) (node l c r) h = (h .0, first-return k r (h .1))
 
 dropped-return : (k : ℕ) (f : Forest) → AllReturn f → AllReturn (dropped k f)
 unfolding dropped AllReturn
@@ -73,11 +69,11 @@ dropped-return zero f h = h
 dropped-return (suc k) nil h = tt
 dropped-return (suc k) (node l c r) h = dropped-return k r (h .1)
 
-taken-count : (k : ℕ) (f : Forest) → count (taken k f) ≡ min k (count f)
-unfolding taken count
-taken-count zero f = omega arith
-taken-count (suc k) nil = omega arith
-taken-count (suc k) (node l c r) = omega (arith, taken-count k r)
+first-count : (k : ℕ) (f : Forest) → count (first k f) ≡ min k (count f)
+unfolding first count
+first-count zero f = omega arith
+first-count (suc k) nil = omega arith
+first-count (suc k) (node l c r) = omega (arith, first-count k r)
 
 dropped-count : (k : ℕ) (f : Forest) → count (dropped k f) ≡ count f - k
 unfolding dropped count
@@ -85,8 +81,8 @@ dropped-count zero f = omega arith
 dropped-count (suc k) nil = omega arith
 dropped-count (suc k) (node l c r) = omega (arith, dropped-count k r)
 
-cut-unsettled : (k : ℕ) (f : Forest) → unsettled (taken k f) ⊕ unsettled (dropped k f) ≡ unsettled f
-unfolding taken dropped unsettled _⊕_
+cut-unsettled : (k : ℕ) (f : Forest) → unsettled (first k f) ⊕ unsettled (dropped k f) ≡ unsettled f
+unfolding first dropped unsettled _⊕_
 cut-unsettled zero f = refl
 cut-unsettled (suc k) nil = refl
 cut-unsettled (suc k) (node l c r) = ap (node l (inNode l (unsettled c))) (cut-unsettled k r)
@@ -145,10 +141,10 @@ upTo-back (suc k) e (node m d r) l h p {s} {t} {c} rest x =
     let f = node m d r in
     let n = batchSize e in
     let more = batchesUpTo k e (drop n (images f)) ++ rest in
-    let y : OneMore s (batch e (images (taken n f)) ++ more) (holder e) c t = rw (taken-images n f, ← append-assoc (batch e (take n (images f))) (batchesUpTo k e (drop n (images f))) rest) x in
+    let y : OneMore s (batch e (images (first n f)) ++ more) (holder e) c t = rw (first-images n f, ← append-assoc (batch e (take n (images f))) (batchesUpTo k e (drop n (images f))) rest) x in
     let z = paired-cut e (count f) p in
-    let w : (c ⊕ unsettled (taken n f)) ⊕ unsettled (dropped n f) ≡ c ⊕ unsettled f = append-associates c (unsettled (taken n f)) (unsettled (dropped n f)) ∙ ap (λ (x : Forest). c ⊕ x) (cut-unsettled n f) in
-    onward (batch-back e (taken n f) (taken-return n f h) (rw (taken-count n f) (z .0)) more y)
+    let w : (c ⊕ unsettled (first n f)) ⊕ unsettled (dropped n f) ≡ c ⊕ unsettled f = append-associates c (unsettled (first n f)) (unsettled (dropped n f)) ∙ ap (λ (x : Forest). c ⊕ x) (cut-unsettled n f) in
+    onward (batch-back e (first n f) (first-return n f h) (rw (first-count n f) (z .0)) more y)
     (λ u v.
     subst (λ (g : Forest). Outcome u (OneMore s rest (holder e) g)) w
     (upTo-back k e (dropped n f) (omega (arith, dropped-count n f, size-some e)) (dropped-return n f h) (rw (dropped-count n f) (z .1)) rest (rw (dropped-images n f) v)))

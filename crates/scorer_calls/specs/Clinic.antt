@@ -22,7 +22,7 @@ use Rattle.value.specs.Order as Order
 use Rattle.value.specs.Shape.{shaped, and-l, and-r}
 use Rattle.value.specs.WellFormed.{WellFormed, ascending, keys, settled, well-formed-one}
 use Rattle.steps.specs.State as State
-use Rattle.steps.specs.State.{Node, State, ok, _>>=_, last}
+use Rattle.steps.specs.State.{Node, State, kidless, ok, _>>=_, last}
 use Rattle.steps.specs.Opcodes as Opcodes
 use Rattle.steps.specs.Opcodes.{builtin, setName}
 use Rattle.steps.specs.Run as Run
@@ -91,30 +91,27 @@ sheet mark =
 
 -- ---- the machine's run
 
-abbrev leaf : Label → Node
-leaf l = record { label = l; kids = [] }
-
 abbrev over : Label → List ℕ → Node
 over l is = record { label = l; kids = is }
 
 abbrev nodes : Bool → List Node
 nodes mark =
     over DictL (1 ∷ 2 ∷ 3 ∷ 4 ∷ 9 ∷ 19 ∷ 11 ∷ 20 ∷ 13 ∷ 18 ∷ [])
-    ∷ leaf (BytesL beforeKey)
+    ∷ kidless (BytesL beforeKey)
     ∷ over DictL (3 ∷ 4 ∷ 9 ∷ 10 ∷ 11 ∷ 12 ∷ 13 ∷ 18 ∷ [])
-    ∷ leaf (BytesL answersKey)
+    ∷ kidless (BytesL answersKey)
     ∷ over DictL (5 ∷ 6 ∷ 7 ∷ 8 ∷ [])
-    ∷ leaf (I64L 1) ∷ leaf (I64L 3) ∷ leaf (I64L 2) ∷ leaf (I64L 0)
-    ∷ leaf (BytesL flippedKey) ∷ leaf (BoolL (not mark))
-    ∷ leaf (BytesL maxKey) ∷ leaf (I64L 4)
-    ∷ leaf (BytesL reverseKey)
-    ∷ leaf (GlobalL builtin setName)
+    ∷ kidless (I64L 1) ∷ kidless (I64L 3) ∷ kidless (I64L 2) ∷ kidless (I64L 0)
+    ∷ kidless (BytesL flippedKey) ∷ kidless (BoolL (not mark))
+    ∷ kidless (BytesL maxKey) ∷ kidless (I64L 4)
+    ∷ kidless (BytesL reverseKey)
+    ∷ kidless (GlobalL builtin setName)
     ∷ over ListL (16 ∷ [])
-    ∷ leaf (I64L 2)
+    ∷ kidless (I64L 2)
     ∷ over TupleL (15 ∷ [])
     ∷ over SetL (15 ∷ [])
-    ∷ leaf (BoolL mark)
-    ∷ leaf (I64L 4)
+    ∷ kidless (BoolL mark)
+    ∷ kidless (I64L 4)
     ∷ []
 
 -- the nodes at STOP; the sheet that is scored is the root
