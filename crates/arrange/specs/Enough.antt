@@ -12,7 +12,7 @@ use Rattle.reading.specs.Build.{Stages, at, tree}
 use Rattle.reading.specs.Settle.{items}
 use Rattle.reading.specs.Unfold.{In, here, there}
 use Rattle.resolved.specs.Resolved.{stand-label, stand-in}
-use Rattle.resolved.specs.Walk.{State, start, walk-build}
+use Rattle.resolved.specs.Walk.{WalkState, walkStart, walk-build}
 use Rattle.resolved.specs.Resolves.{Resolves, childless}
 use Rattle.resolved.specs.Resolving.{walk-resolves}
 use Rattle.resolved.specs.Tree.{walked, start-resolves, levels-enough}
@@ -29,13 +29,13 @@ use Rattle.arrange.specs.Turn.{Roomy}
 
 -- ---- contents and items, each counted once
 
-abbrev contents : Label → Forest → ℕ
-contents l c = count c
+abbrev contentsCount : Label → Forest → ℕ
+contentsCount l c = count c
 
 abbrev contentItems : Label → Forest → ℕ
 contentItems l c = count (items c)
 
-contents-size : (f : Forest) → weighs contents f + count f ≡ size f
+contents-size : (f : Forest) → weighs contentsCount f + count f ≡ size f
 unfolding weighs count size
 contents-size nil = refl
 contents-size (node l c r) = let a = contents-size c in let b = contents-size r in omega arith
@@ -48,7 +48,7 @@ few-items l c r = go (isList l || isTuple l)
     go true = omega arith
     go false = omega arith
 
-items-fewer : (f : Forest) → weighs contentItems f + count (items f) ≤ weighs contents f
+items-fewer : (f : Forest) → weighs contentItems f + count (items f) ≤ weighs contentsCount f
 unfolding weighs items count
 items-fewer nil = omega arith
 items-fewer (node l c r) =
@@ -65,7 +65,7 @@ one-spent weight d (j ∷ l) i (there m) = let a = one-spent weight d l i m in o
 
 -- ---- the Sets' items
 
-module _ (t : List Node) (s : State) (r : Resolves t 4096 s) where
+module _ (t : List Node) (s : WalkState) (r : Resolves t 4096 s) where
   its-items : (i : ℕ) → In i (s .done) → cond (isDue (at t i .label)) (cond (isDict (at t i .label)) 0 (length (itemsN t (s .kids) (s .kids i)))) 0 ≤ weightOf ownItems (s .stages i)
   its-items i m =
       let o = r .done-stands i m in
@@ -101,21 +101,21 @@ module _ (t : List Node) (s : State) (r : Resolves t 4096 s) where
 -- ---- the walk from a root
 
 module _ (t : List Node) (inside : (i j : ℕ) → In j (at t i .kids) → j < length t) (beyond : length t ≤ 4096) (root : ℕ) (is-node : root < length t) where
-  abbrev after : State
+  abbrev after : WalkState
   after = walked t 4096 64 root .after
 
   resolves : Resolves t 4096 after
-  resolves = walk-resolves t 4096 beyond 64 root (start t) (start-resolves t 4096 beyond) .resolves
+  resolves = walk-resolves t 4096 beyond 64 root (walkStart t) (start-resolves t 4096 beyond) .resolves
 
   -- it is over, where the tree is not too deep; leaves have no children
   pub walk-over : depth (one (tree t root)) ≤ 64 → ((i : ℕ) → isContainer (at t i .label) ≡ false → at t i .kids ≡ []) → Walked t after
   walk-over l k =
-      let e : walked t 4096 64 root .value ≡ tree t root = walk-build t 4096 64 root (start t) .value ∙ levels-enough t 4096 beyond 64 root l in
+      let e : walked t 4096 64 root .value ≡ tree t root = walk-build t 4096 64 root (walkStart t) .value ∙ levels-enough t 4096 beyond 64 root l in
       record {
         beyond = beyond;
         resolves = resolves;
-        within = walk-within t inside 4096 64 root (start t) is-node (λ j m. elim m [ ]);
-        deep = walk-bounded t 4096 64 64 root (start t) (λ j m. elim m [ ]) (rw e l);
+        within = walk-within t inside 4096 64 root (walkStart t) is-node (λ j m. elim m [ ]);
+        deep = walk-bounded t 4096 64 64 root (walkStart t) (λ j m. elim m [ ]) (rw e l);
         leaves = λ i m c. childless t 4096 beyond resolves i (k i c);
       }
 
@@ -135,18 +135,18 @@ module _ (t : List Node) (inside : (i j : ℕ) → In j (at t i .kids) → j < l
       its-contents : (i : ℕ) → In i (after .done) → length (after .kids i) ≤ size (one v)
       its-contents i m =
           let o = resolves .done-stands i m in
-          let a = one-spent contents (after .stages) (after .done) i m in
-          let b = walk-spent contents t 4096 beyond 64 root (start t) (start-resolves t 4096 beyond) in
+          let a = one-spent contentsCount (after .stages) (after .done) i m in
+          let b = walk-spent contentsCount t 4096 beyond 64 root (walkStart t) (start-resolves t 4096 beyond) in
           let c = contents-size (one v) in
           let d : count (o .value .contents) ≡ length (after .kids i) = stand-count (stand-in (o .stands)) in
-          let e : weightOf contents (after .stages i) ≡ count (o .value .contents) = ap (weightOf contents) (o .keeps) in
+          let e : weightOf contentsCount (after .stages i) ≡ count (o .value .contents) = ap (weightOf contentsCount) (o .keeps) in
           omega arith
 
       its-content-items : (i : ℕ) → In i (after .done) → length (itemsN t (after .kids) (after .kids i)) ≤ size (one v)
       its-content-items i m =
           let o = resolves .done-stands i m in
           let a = one-spent contentItems (after .stages) (after .done) i m in
-          let b = walk-spent contentItems t 4096 beyond 64 root (start t) (start-resolves t 4096 beyond) in
+          let b = walk-spent contentItems t 4096 beyond 64 root (walkStart t) (start-resolves t 4096 beyond) in
           let c = contents-size (one v) in
           let g = items-fewer (one v) in
           let d : count (items (o .value .contents)) ≡ length (itemsN t (after .kids) (after .kids i)) = items-count (stand-in (o .stands)) in

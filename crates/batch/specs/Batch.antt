@@ -36,7 +36,7 @@ after [] l = l
 after (p ∷ ps) l = after ps (filled (whole p .words) (whole p .bytes) l)
 
 -- what the call answers, and what it leaves of the slice for the answers and of the slices of a reading
-pub record Left : Type 0 where
+pub record BatchLeft : Type 0 where
   pub answer : Answer
   pub answers : List ℕ
   pub slices : Slices
@@ -47,7 +47,7 @@ bare x = record { number = x .0; detail = x .1; length = 0; count = 0 }
 
 -- 1 where a slice of a reading is short, or the one for the answers has fewer than four places a sheet; then 23 where the lengths do not add
 -- up to the buffer's; neither touches anything. Else the rooms are zero, and every sheet is read.
-unfoldable pub batch : List ℕ → List ℕ → List ℕ → Slices → Left
+unfoldable pub batch : List ℕ → List ℕ → List ℕ → Slices → BatchLeft
 batch s ns o l =
     cond (short stated l || ltb (length o) (4 * length ns))
     (record { answer = refusedAnswer ShortRoom; answers = o; slices = l })
@@ -62,7 +62,7 @@ BatchCall s ns o l o′ l′ a = record { answer = a; answers = o′; slices = l
 module _ (s ns o : List ℕ) (l : Slices) where
   -- answer, answers and slices are determined
   pub batch-one : (o′ o″ : List ℕ) (l′ l″ : Slices) (a b : Answer) → BatchCall s ns o l o′ l′ a → BatchCall s ns o l o″ l″ b → (a ≡ b) × (o′ ≡ o″) × (l′ ≡ l″)
-  batch-one o′ o″ l′ l″ a b e f = (ap (λ (y : Left). y .answer) (e ∙ sym f), ap (λ (y : Left). y .answers) (e ∙ sym f), ap (λ (y : Left). y .slices) (e ∙ sym f))
+  batch-one o′ o″ l′ l″ a b e f = (ap (λ (y : BatchLeft). y .answer) (e ∙ sym f), ap (λ (y : BatchLeft). y .answers) (e ∙ sym f), ap (λ (y : BatchLeft). y .slices) (e ∙ sym f))
 
   -- ---- the call, case by case
 

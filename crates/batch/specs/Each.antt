@@ -10,7 +10,7 @@ use borrow.Author.Tests.{ltb-true, ltb-false}
 use native.Mathlib.Nat.{suc-add}
 use native.Mathlib.Omega.{arith}
 use Rattle.lengths.specs.Sum.{sum}
-use Rattle.rooms.specs.Stated.{Slices, tableOf, textOf, begun, filled, Ready, filled-ready, rooms-filled, table-again, text-again}
+use Rattle.rooms.specs.Stated.{Slices, tableSlice, textSlice, begun, filled, Ready, filled-ready, rooms-filled, table-again, text-again}
 use Rattle.reading.specs.Reading.{whole}
 use Rattle.resolved.specs.Written.{drop-take}
 use Rattle.batch.specs.Batch.{sheetsOf, four, answersOf, after}
@@ -124,15 +124,15 @@ three-begun = refl
 abbrev pub tables : List (List ℕ) → List (List ℕ)
 tables ps = map (λ (p : List ℕ). whole p .words) ps
 
-abbrev pub texts : List (List ℕ) → List (List ℕ)
-texts ps = map (λ (p : List ℕ). whole p .bytes) ps
+abbrev pub sheetTexts : List (List ℕ) → List (List ℕ)
+sheetTexts ps = map (λ (p : List ℕ). whole p .bytes) ps
 
-pub after-table : (ps : List (List ℕ)) (l : Slices) → Ready l → tableOf (after ps l) ≡ begunAll (tables ps) (tableOf l)
+pub after-table : (ps : List (List ℕ)) (l : Slices) → Ready l → tableSlice (after ps l) ≡ begunAll (tables ps) (tableSlice l)
 unfolding after begunAll
 after-table [] l r = refl
 after-table (p ∷ ps) l r = after-table ps (filled (whole p .words) (whole p .bytes) l) (filled-ready (whole p .words) (whole p .bytes) l r) ∙ ap (begunAll (tables ps)) (table-again (whole p .words) (whole p .bytes) l r)
 
-pub after-text : (ps : List (List ℕ)) (l : Slices) → Ready l → textOf (after ps l) ≡ begunAll (texts ps) (textOf l)
+pub after-text : (ps : List (List ℕ)) (l : Slices) → Ready l → textSlice (after ps l) ≡ begunAll (sheetTexts ps) (textSlice l)
 unfolding after begunAll
 after-text [] l r = refl
-after-text (p ∷ ps) l r = after-text ps (filled (whole p .words) (whole p .bytes) l) (filled-ready (whole p .words) (whole p .bytes) l r) ∙ ap (begunAll (texts ps)) (text-again (whole p .words) (whole p .bytes) l r)
+after-text (p ∷ ps) l r = after-text ps (filled (whole p .words) (whole p .bytes) l) (filled-ready (whole p .words) (whole p .bytes) l r) ∙ ap (begunAll (sheetTexts ps)) (text-again (whole p .words) (whole p .bytes) l r)

@@ -11,7 +11,7 @@ use Rattle.op.specs.declared.Edition.the-variants.{Full}
 use Rattle.lengths.specs.Sum.{sum}
 use Rattle.rooms.specs.Stated.{Slices, roomLengths, stated, short, blank, filled, filled-none}
 use Rattle.value.specs.Value.{BoolL, nil, node, size, text, table}
-use Rattle.reading.specs.Reading.{Reading, refuses, reads, told, consumed, prefix, whole, leaves, whole-prefix}
+use Rattle.reading.specs.Reading.{Reading, refuses, reads, readingOf, consumed, prefix, whole, leaves, whole-prefix}
 use Rattle.reading.specs.Bench.{bench-holds, building-holds}
 use Rattle.de.specs.Shared.{shared, shared-stops, shared-apart, shared-forest, shared-written}
 use Rattle.batch.specs.Batch.{sheetsOf, four, answersOf, after, bare, batch, BatchCall}
@@ -64,7 +64,7 @@ three-sheets l e = rw (e, shared-read, stop-refused, yes-read, filled-none) refl
 -- ---- by demand 3
 
 -- the first sheet meets the premise: its numbers are those of the list written out twice
-pub first-plain : (o : List ℕ) (l : Slices) (o′ : List ℕ) (l′ : Slices) (a : Answer) → BatchCall night nightLengths o l o′ l′ a → a .number ≡ 0 → fourAt o′ 0 ≡ four (orTrailing shared (told 12 shared-forest) .answer)
+pub first-plain : (o : List ℕ) (l : Slices) (o′ : List ℕ) (l′ : Slices) (a : Answer) → BatchCall night nightLengths o l o′ l′ a → a .number ≡ 0 → fourAt o′ 0 ≡ four (orTrailing shared (readingOf 12 shared-forest) .answer)
 unfolding sheetsOf
 first-plain o l o′ l′ a c z =
     let x = shared-stops in

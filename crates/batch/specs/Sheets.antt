@@ -14,7 +14,7 @@ use Rattle.op.specs.declared.Edition.the-variants.{Full}
 use Rattle.rooms.specs.Stated.{Slices, begun, filled, Ready, filled-ready}
 use Rattle.reading.specs.Reading.{Reading, whole}
 use Rattle.build.specs.Given.{due}
-use Rattle.de.specs.Inner.{Reads}
+use Rattle.de.specs.Inner.{InnerReads}
 use Rattle.batch.specs.Batch.{sheetsOf, four, answersOf, after}
 
 -- every sheet of the buffer s read: o, lent for the answers, has become o′, and the slices l have become l′
@@ -37,7 +37,7 @@ answers-count (p ∷ ps) = let e = answers-count ps in omega arith
 -- ---- a turn
 
 -- i sheets are read, which end at the place `at`: what is left of the buffer, put behind them, makes what all of it makes
-pub record Going (s ns o₀ : List ℕ) (l₀ : Slices) (at i : ℕ) (o : List ℕ) (l : Slices) : Type 0 where
+pub record ReadSoFar (s ns o₀ : List ℕ) (l₀ : Slices) (at i : ℕ) (o : List ℕ) (l : Slices) : Type 0 where
   pub place : at + sum (drop i ns) ≡ length s
   pub room : length o ≡ length o₀
   pub ready : Ready l
@@ -57,10 +57,10 @@ four-behind : (o : List ℕ) (i : ℕ) (a : Answer) (r : List ℕ) → sets (set
 four-behind o i a r = ap (λ (k : ℕ). sets (sets o (4 * i) (four a)) k r) (omega arith)
 
 module _ (s ns o₀ : List ℕ) (l₀ : Slices) where
-  pub going-start : length s ≡ sum ns → Ready l₀ → Going s ns o₀ l₀ 0 0 o₀ l₀
+  pub going-start : length s ≡ sum ns → Ready l₀ → ReadSoFar s ns o₀ l₀ 0 0 o₀ l₀
   going-start e r = record { place = omega arith; room = refl; ready = r; answers = refl; slices = refl }
 
-  module _ (at i : ℕ) (o : List ℕ) (l : Slices) (g : Going s ns o₀ l₀ at i o l) where
+  module _ (at i : ℕ) (o : List ℕ) (l : Slices) (g : ReadSoFar s ns o₀ l₀ at i o l) where
     pub going-end : length ns ≤ i → 4 * length ns ≤ length o₀ → ReadAll s ns o₀ o l₀ l
     unfolding sheetsOf answersOf after
     going-end h k =
@@ -84,7 +84,7 @@ module _ (s ns o₀ : List ℕ) (l₀ : Slices) where
       pub going-inside : at + getD ns i 0 ≤ length s
       going-inside = let e = sum-drop ns i h in let f = g .place in omega arith
 
-      pub going-more : (a : Answer) (o′ : List ℕ) (l′ : Slices) → Reads (whole (take (at + getD ns i 0 - at) (drop at s))) l l′ a → o′ ≡ sets o (4 * i) (four a) → Going s ns o₀ l₀ (at + getD ns i 0) (i + 1) o′ l′
+      pub going-more : (a : Answer) (o′ : List ℕ) (l′ : Slices) → InnerReads (whole (take (at + getD ns i 0 - at) (drop at s))) l l′ a → o′ ≡ sets o (4 * i) (four a) → ReadSoFar s ns o₀ l₀ (at + getD ns i 0) (i + 1) o′ l′
       unfolding answersOf after
       going-more a o′ l′ r k =
           let more : List (List ℕ) = sheetsOf (drop (at + getD ns i 0) s) (drop (i + 1) ns) in
@@ -112,22 +112,22 @@ module _ (s ns o₀ : List ℕ) (l₀ : Slices) where
 -- ---- one sheet
 
 -- the inner reading's own is the whole reading
-pub sheet-read : (p : List ℕ) (l l′ : Slices) (a : Answer) → Reads (due Full true p) l l′ a → Reads (whole p) l l′ a
+pub sheet-read : (p : List ℕ) (l l′ : Slices) (a : Answer) → InnerReads (due Full true p) l l′ a → InnerReads (whole p) l l′ a
 unfolding due
 sheet-read p l l′ a r = r
 
 -- ---- slices as long as they were
 
-abbrev pub AsLong : Slices → Slices → Type 0
-AsLong [] [] = Unit {0}
-AsLong [] (t ∷ m) = ⊥
-AsLong (s ∷ l) [] = ⊥
-AsLong (s ∷ l) (t ∷ m) = (length s ≡ length t) × AsLong l m
+abbrev pub SlicesAsLong : Slices → Slices → Type 0
+SlicesAsLong [] [] = Unit {0}
+SlicesAsLong [] (t ∷ m) = ⊥
+SlicesAsLong (s ∷ l) [] = ⊥
+SlicesAsLong (s ∷ l) (t ∷ m) = (length s ≡ length t) × SlicesAsLong l m
 
-pub as-long : (l : Slices) → AsLong l l
-as-long [] = tt
-as-long (s ∷ l) = (refl, as-long l)
+pub slices-as-long : (l : Slices) → SlicesAsLong l l
+slices-as-long [] = tt
+slices-as-long (s ∷ l) = (refl, slices-as-long l)
 
-pub as-long-still : (l m n : Slices) → AsLong l m → AsLong m n → AsLong l n
+pub as-long-still : (l m n : Slices) → SlicesAsLong l m → SlicesAsLong m n → SlicesAsLong l n
 as-long-still [] [] [] a b = tt
 as-long-still (s ∷ l) (t ∷ m) (u ∷ n) a b = (a .0 ∙ b .0, as-long-still l m n (a .1) (b .1))

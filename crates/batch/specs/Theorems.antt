@@ -14,18 +14,18 @@ use Rattle.refusal.specs.declared.Refusal.the-variants.{ShortRoom, TrailingData
 use Rattle.refusal.specs.declared.Answer.{Answer}
 use Rattle.refusal.specs.Numbers.{refusedAnswer}
 use Rattle.lengths.specs.Sum.{badLengths, sum}
-use Rattle.rooms.specs.Stated.{Slices, roomLengths, stated, tableOf, textOf, short, blank, begun, filled, Ready, ready, filled-none, filled-ready, table-filled, text-filled}
+use Rattle.rooms.specs.Stated.{Slices, roomLengths, stated, tableSlice, textSlice, short, blank, begun, filled, Ready, ready, filled-none, filled-ready, table-filled, text-filled}
 use Rattle.op.specs.declared.Edition.the-variants.{Full}
 use Rattle.value.specs.Value.{Forest}
 use Rattle.steps.specs.State.{State, ok, last}
 use Rattle.steps.specs.Run.{run}
 use Rattle.reading.specs.Unfold.{WritesOut, NothingContainsItself}
-use Rattle.reading.specs.Reading.{Reading, refuses, told, consumed, whole, wholeIn, leaves, pickleLimit, sharing-never-shows}
+use Rattle.reading.specs.Reading.{Reading, refuses, readingOf, consumed, whole, wholeIn, leaves, pickleLimit, sharing-never-shows}
 use Rattle.de.specs.Call.{ReadCall, call-reads}
 use Rattle.de.specs.Theorems.{call-answer, call-slices, call-table, call-text, Ends, refused, read, whole-ends}
-use Rattle.batch.specs.Batch.{sheetsOf, four, answersOf, after, Left, bare, batch, BatchCall, batch-one, batch-long, batch-places, batch-read}
+use Rattle.batch.specs.Batch.{sheetsOf, four, answersOf, after, BatchLeft, bare, batch, BatchCall, batch-one, batch-long, batch-places, batch-read}
 use Rattle.batch.specs.Sheets.{sheets-count}
-use Rattle.batch.specs.Each.{sheetAt, fourAt, four-at, AlikeBut, other-sheet, after-append, after-ready, after-rooms, begunAll, tables, texts, after-table, after-text}
+use Rattle.batch.specs.Each.{sheetAt, fourAt, four-at, AlikeBut, other-sheet, after-append, after-ready, after-rooms, begunAll, tables, sheetTexts, after-table, after-text}
 
 -- ---- how the call ends
 
@@ -39,40 +39,40 @@ pub record Succeeds (s ns o : List ℕ) (l : Slices) (o′ : List ℕ) (l′ : S
   pub slices : l′ ≡ after (sheetsOf s ns) (blank roomLengths l)
 
 -- or nothing is touched: 1 or 23
-pub record Untouched (o : List ℕ) (l : Slices) (o′ : List ℕ) (l′ : Slices) (a : Answer) : Type 0 where
+pub record NothingTouched (o : List ℕ) (l : Slices) (o′ : List ℕ) (l′ : Slices) (a : Answer) : Type 0 where
   pub why : (a ≡ refusedAnswer ShortRoom) ⊎ (a ≡ bare badLengths)
   pub answers : o′ ≡ o
   pub slices : l′ ≡ l
 
 module _ (s ns o : List ℕ) (l : Slices) (o′ : List ℕ) (l′ : Slices) (a : Answer) (c : BatchCall s ns o l o′ l′ a) where
-  pub batch-ends : Succeeds s ns o l o′ l′ a ⊎ Untouched o l o′ l′ a
+  pub batch-ends : Succeeds s ns o l o′ l′ a ⊎ NothingTouched o l o′ l′ a
   unfolding batch
   batch-ends = go (short stated l || ltb (length o) (4 * length ns)) refl (eqb (length s) (sum ns)) refl
     where
-      go : (x : Bool) → (short stated l || ltb (length o) (4 * length ns)) ≡ x → (y : Bool) → eqb (length s) (sum ns) ≡ y → Succeeds s ns o l o′ l′ a ⊎ Untouched o l o′ l′ a
+      go : (x : Bool) → (short stated l || ltb (length o) (4 * length ns)) ≡ x → (y : Bool) → eqb (length s) (sum ns) ≡ y → Succeeds s ns o l o′ l′ a ⊎ NothingTouched o l o′ l′ a
       go true e y f =
-          let q : _≡_ {A = Left} (record { answer = a; answers = o′; slices = l′ }) (record { answer = refusedAnswer ShortRoom; answers = o; slices = l }) = c ∙ rw e in
-          inr (record { why = inl (ap (λ (z : Left). z .answer) q); answers = ap (λ (z : Left). z .answers) q; slices = ap (λ (z : Left). z .slices) q })
+          let q : _≡_ {A = BatchLeft} (record { answer = a; answers = o′; slices = l′ }) (record { answer = refusedAnswer ShortRoom; answers = o; slices = l }) = c ∙ rw e in
+          inr (record { why = inl (ap (λ (z : BatchLeft). z .answer) q); answers = ap (λ (z : BatchLeft). z .answers) q; slices = ap (λ (z : BatchLeft). z .slices) q })
       go false e false f =
-          let q : _≡_ {A = Left} (record { answer = a; answers = o′; slices = l′ }) (record { answer = bare badLengths; answers = o; slices = l }) = c ∙ rw (e, f) in
-          inr (record { why = inr (ap (λ (z : Left). z .answer) q); answers = ap (λ (z : Left). z .answers) q; slices = ap (λ (z : Left). z .slices) q })
+          let q : _≡_ {A = BatchLeft} (record { answer = a; answers = o′; slices = l′ }) (record { answer = bare badLengths; answers = o; slices = l }) = c ∙ rw (e, f) in
+          inr (record { why = inr (ap (λ (z : BatchLeft). z .answer) q); answers = ap (λ (z : BatchLeft). z .answers) q; slices = ap (λ (z : BatchLeft). z .slices) q })
       go false e true f =
-          let q : _≡_ {A = Left} (record { answer = a; answers = o′; slices = l′ }) (record { answer = bare (0, 0); answers = begun (answersOf (sheetsOf s ns)) o; slices = after (sheetsOf s ns) (blank roomLengths l) }) = c ∙ rw (e, f) in
+          let q : _≡_ {A = BatchLeft} (record { answer = a; answers = o′; slices = l′ }) (record { answer = bare (0, 0); answers = begun (answersOf (sheetsOf s ns)) o; slices = after (sheetsOf s ns) (blank roomLengths l) }) = c ∙ rw (e, f) in
           inl
           (record {
             long = batch-long s ns o l e;
             places = batch-places s ns o l e;
             adds-up = eqb-true (length s) (sum ns) f;
-            answer = ap (λ (z : Left). z .answer) q;
-            answers = ap (λ (z : Left). z .answers) q;
-            slices = ap (λ (z : Left). z .slices) q;
+            answer = ap (λ (z : BatchLeft). z .answer) q;
+            answers = ap (λ (z : BatchLeft). z .answers) q;
+            slices = ap (λ (z : BatchLeft). z .slices) q;
           })
 
   -- number 0 says that every sheet was read
   pub batch-succeeds : a .number ≡ 0 → Succeeds s ns o l o′ l′ a
   batch-succeeds z = go batch-ends
     where
-      go : Succeeds s ns o l o′ l′ a ⊎ Untouched o l o′ l′ a → Succeeds s ns o l o′ l′ a
+      go : Succeeds s ns o l o′ l′ a ⊎ NothingTouched o l o′ l′ a → Succeeds s ns o l o′ l′ a
       go (inl r) = r
       go (inr u) = told (u .why)
         where
@@ -160,12 +160,12 @@ orTrailing p x = cond (leaves p x) (refuses TrailingData) x
 -- A sheet that is read to STOP with a value left, nothing reachable from which contains itself: its reading is that of the value written out
 -- plainly, or 11, whatever is shared.
 module _ (p : List ℕ) (st : State) (fits : length p ≤ pickleLimit) (stops : run Full p ≡ ok st) (left : 0 < length (st .stack)) (apart : NothingContainsItself (st .nodes) (last (st .stack))) (f : Forest) (w : WritesOut (st .nodes) (last (st .stack) ∷ []) f) where
-  pub whole-never-shows-sharing : whole p ≡ orTrailing p (told (consumed p st) f)
+  pub whole-never-shows-sharing : whole p ≡ orTrailing p (readingOf (consumed p st) f)
   unfolding wholeIn orTrailing
   whole-never-shows-sharing = ap (λ (x : Reading). cond (leaves p x) (refuses TrailingData) x) (sharing-never-shows Full p st fits stops left f apart w)
 
   -- so are its four numbers
-  pub sheet-never-shows-sharing : {s ns o : List ℕ} {l : Slices} {o′ : List ℕ} {l′ : Slices} {a : Answer} → Succeeds s ns o l o′ l′ a → (i : ℕ) → i < length ns → sheetAt s ns i ≡ p → fourAt o′ i ≡ four (orTrailing p (told (consumed p st) f) .answer)
+  pub sheet-never-shows-sharing : {s ns o : List ℕ} {l : Slices} {o′ : List ℕ} {l′ : Slices} {a : Answer} → Succeeds s ns o l o′ l′ a → (i : ℕ) → i < length ns → sheetAt s ns i ≡ p → fourAt o′ i ≡ four (orTrailing p (readingOf (consumed p st) f) .answer)
   sheet-never-shows-sharing r i h e = four-numbers r i h ∙ ap (λ (q : List ℕ). four (whole q .answer)) e ∙ ap (λ (x : Reading). four (x .answer)) whole-never-shows-sharing
 
 -- ---- table and text
@@ -194,17 +194,17 @@ module _ {s ns o : List ℕ} {l : Slices} {o′ : List ℕ} {l′ : Slices} {a :
   count : length (sheetsOf s ns) ≡ length ns
   count = sheets-count s ns
 
-  table-kept : tableOf (blank roomLengths l) ≡ tableOf l
-  table-kept = ap tableOf (sym (filled-none (blank roomLengths l))) ∙ table-filled [] [] l (r .long)
+  table-kept : tableSlice (blank roomLengths l) ≡ tableSlice l
+  table-kept = ap tableSlice (sym (filled-none (blank roomLengths l))) ∙ table-filled [] [] l (r .long)
 
-  text-kept : textOf (blank roomLengths l) ≡ textOf l
-  text-kept = ap textOf (sym (filled-none (blank roomLengths l))) ∙ text-filled [] [] l (r .long)
+  text-kept : textSlice (blank roomLengths l) ≡ textSlice l
+  text-kept = ap textSlice (sym (filled-none (blank roomLengths l))) ∙ text-filled [] [] l (r .long)
 
   -- none accepted: table and text as before
-  pub none-accepted : ((j : ℕ) → j < length ns → Refuses (sheetAt s ns j)) → (tableOf l′ ≡ tableOf l) × (textOf l′ ≡ textOf l)
+  pub none-accepted : ((j : ℕ) → j < length ns → Refuses (sheetAt s ns j)) → (tableSlice l′ ≡ tableSlice l) × (textSlice l′ ≡ textSlice l)
   none-accepted d =
       let e : l′ ≡ blank roomLengths l = r .slices ∙ all-refused (sheetsOf s ns) (blank roomLengths l) (λ j h. d j (rw (← count) h)) in
-      (ap tableOf e ∙ table-kept, ap textOf e ∙ text-kept)
+      (ap tableSlice e ∙ table-kept, ap textSlice e ∙ text-kept)
 
   -- sheet i, behind which none is accepted
   module _ (i : ℕ) (h : i < length ns) (later : (j : ℕ) → i < j → j < length ns → Refuses (sheetAt s ns j)) where
@@ -237,7 +237,7 @@ module _ {s ns o : List ℕ} {l : Slices} {o′ : List ℕ} {l′ : Slices} {a :
     ends-as = call-reads (whole (sheetAt s ns i)) leftBefore leftBefore l′ (whole (sheetAt s ns i) .answer) (before .long) (sym (before .zero)) refl (r .slices ∙ cut ∙ rest)
 
     -- table and text begin with that sheet's, and behind it stands what the sheets before it left, each begun in turn
-    pub last-accepted : (tableOf l′ ≡ begun (whole (sheetAt s ns i) .words) (begunAll (tables (take i (sheetsOf s ns))) (tableOf l))) × (textOf l′ ≡ begun (whole (sheetAt s ns i) .bytes) (begunAll (texts (take i (sheetsOf s ns))) (textOf l)))
+    pub last-accepted : (tableSlice l′ ≡ begun (whole (sheetAt s ns i) .words) (begunAll (tables (take i (sheetsOf s ns))) (tableSlice l))) × (textSlice l′ ≡ begun (whole (sheetAt s ns i) .bytes) (begunAll (sheetTexts (take i (sheetsOf s ns))) (textSlice l)))
     last-accepted =
         let x = whole (sheetAt s ns i) in
-        (call-table x leftBefore l′ (x .answer) ends-as (before .long) ∙ ap (begun (x .words)) (after-table (take i (sheetsOf s ns)) (blank roomLengths l) clear ∙ ap (begunAll (tables (take i (sheetsOf s ns)))) table-kept), call-text x leftBefore l′ (x .answer) ends-as (before .long) ∙ ap (begun (x .bytes)) (after-text (take i (sheetsOf s ns)) (blank roomLengths l) clear ∙ ap (begunAll (texts (take i (sheetsOf s ns)))) text-kept))
+        (call-table x leftBefore l′ (x .answer) ends-as (before .long) ∙ ap (begun (x .words)) (after-table (take i (sheetsOf s ns)) (blank roomLengths l) clear ∙ ap (begunAll (tables (take i (sheetsOf s ns)))) table-kept), call-text x leftBefore l′ (x .answer) ends-as (before .long) ∙ ap (begun (x .bytes)) (after-text (take i (sheetsOf s ns)) (blank roomLengths l) clear ∙ ap (begunAll (sheetTexts (take i (sheetsOf s ns)))) text-kept))

@@ -17,12 +17,12 @@ use Rattle.reading.specs.Build.{tree}
 use Rattle.resolve.specs.Standing.{SaysNodes}
 use Rattle.reading.specs.Measure.{measured}
 use Rattle.reading.specs.Settle.{settle}
-use Rattle.siblings.specs.SideBySide.{Ended, Stopped, SideBySide}
-use Rattle.resolve.specs.Rooted.{Begins}
+use Rattle.siblings.specs.SideBySide.{Ended, SomeEnded, SideBySide}
+use Rattle.resolve.specs.Rooted.{ReadyToResolve}
 use Rattle.machine.specs.Clear.{UsedTo, zeroed, owners-used, children-used}
 use Rattle.produce.specs.Rooms.{Zeros, zeros-long, zeros-all, front-cleared}
 use Rattle.produce.specs.Measured.{WorkRooms}
-use Rattle.build.specs.Parts.{whole, part-length, part-behind, zeros-at, part-back}
+use Rattle.build.specs.Parts.{minus-none, part-length, part-behind, zeros-at, part-back}
 use Rattle.build.specs.declared.Built.{Built}
 use Rattle.build.specs.declared.Built.the-variants as built
 
@@ -63,7 +63,7 @@ Builds p ws owners log count links root left b o q o′ q′ = (r : Rooms) (c : 
 
 -- of whatever nodes the rooms say, once the children of each stand side by side
 unfoldable pub BuildsLaid : List ℕ → List ℕ → List ℕ → List ℕ → List ℕ → List ℕ → ℕ → Bool → Built → List ℕ → List ℕ → List ℕ → List ℕ → Type 0
-BuildsLaid p ws starts sorted measures dues root left b o q o′ q′ = (k : Begins p ws starts sorted measures dues root) → Comes left (one (tree (k .nodes) root)) b o q o′ q′
+BuildsLaid p ws starts sorted measures dues root left b o q o′ q′ = (k : ReadyToResolve p ws starts sorted measures dues root) → Comes left (one (tree (k .nodes) root)) b o q o′ q′
 
 -- ---- at STOP
 
@@ -83,7 +83,7 @@ module _ {p ws owners log : List ℕ} {count links : ℕ} {r : Rooms} {c : Count
       (omega (arith, l .owners, ap length (a .ended .owners-are)), omega (arith, l .children, ap length (a .ended .log-is)))
 
 -- of the log, its links are used
-pub log-used : {ws owners log : List ℕ} {count links : ℕ} → Stopped ws owners log count links → UsedTo links owners × UsedTo links log
+pub log-used : {ws owners log : List ℕ} {count links : ℕ} → SomeEnded ws owners log count links → UsedTo links owners × UsedTo links log
 log-used t =
     let e = t .ended in
     (rw (e .links-are, e .owners-are) at (owners-used (t .rooms) (t .counts) (e .sound .firm)), rw (e .links-are, e .log-is) at (children-used (t .rooms) (t .counts) (e .sound .firm)))
@@ -91,7 +91,7 @@ log-used t =
 -- ---- from each step of `build` to the next
 
 module _ {p ws owners log : List ℕ} {count links root : ℕ} (k : AtStop p ws owners log count links root) {list decoded starts sorted measures o q : List ℕ} (w : Working list decoded starts sorted measures o q) where
-  pub stopped : Stopped ws owners log count links
+  pub stopped : SomeEnded ws owners log count links
   stopped = record { rooms = k .rooms; counts = k .counts; ended = k .at .ended }
 
   pub count-few : count ≤ 4096
@@ -126,21 +126,21 @@ module _ {p ws owners log : List ℕ} {count links root : ℕ} (k : AtStop p ws 
 
     -- the parts lent to `build_laid`: the owners' room is for the dues
     abbrev begins : (r : Rooms) (c : Counts) → At p ws owners log count links r c
-        → Begins p ws starts′ (take (used - 0) sorted′) (take (count - 0) measures) (take (count + 1 - 0) owners′) root
+        → ReadyToResolve p ws starts′ (take (used - 0) sorted′) (take (count - 0) measures) (take (count + 1 - 0) owners′) root
     begins r c a =
         record {
           nodes = stateOf r c .nodes;
           stands = stands a;
-          graph = rw (whole used) (S .graph r c (a .ended));
+          graph = rw (minus-none used) (S .graph r c (a .ended));
           beyond = omega (arith, nodes-many a, nodes-few a);
           many = part-length count measures (parts-fit .1) ∙ sym (nodes-many a);
-          blank = λ i l. rw (whole count) (getD-take count measures i 0 (omega (arith, nodes-many a)) ∙ zeros-at (w .measures-zero) i (omega (arith, nodes-many a, nodes-few a)));
+          blank = λ i l. rw (minus-none count) (getD-take count measures i 0 (omega (arith, nodes-many a)) ∙ zeros-at (w .measures-zero) i (omega (arith, nodes-many a, nodes-few a)));
           roomy = omega (arith, nodes-many a, part-length (count + 1) owners′ (parts-fit .2));
-          no-dues = rw (whole (count + 1)) (getD-take (count + 1) owners′ 0 0 (omega arith) ∙ zeros-at owners-zeros 0 (omega arith));
+          no-dues = rw (minus-none (count + 1)) (getD-take (count + 1) owners′ 0 0 (omega arith) ∙ zeros-at owners-zeros 0 (omega arith));
           below = omega (arith, k .known, nodes-many a);
         }
 
-    pub laid-begins : Begins p ws starts′ (take (used - 0) sorted′) (take (count - 0) measures) (take (count + 1 - 0) owners′) root
+    pub laid-begins : ReadyToResolve p ws starts′ (take (used - 0) sorted′) (take (count - 0) measures) (take (count + 1 - 0) owners′) root
     laid-begins = begins (k .rooms) (k .counts) (k .at)
 
     pub build-comes : (left : Bool) (b : Built) (o′ q′ : List ℕ) → BuildsLaid p ws starts′ (take (used - 0) sorted′) (take (count - 0) measures) (take (count + 1 - 0) owners′) root left b o q o′ q′

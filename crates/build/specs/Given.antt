@@ -29,7 +29,7 @@ use Rattle.machine.specs.declared.Outcome.the-variants as outcome
 use Rattle.reading.specs.Build.{tree}
 use Rattle.reading.specs.Settle.{settle}
 use Rattle.reading.specs.Measure.{measured}
-use Rattle.reading.specs.Reading.{Reading, refuses, reads, told, consumed, leaves, prefixIn, wholeIn, pickleLimit, stopped-refused, stopped-empty, stopped-with, prefix-refused, prefix-told}
+use Rattle.reading.specs.Reading.{Reading, refuses, reads, readingOf, consumed, leaves, prefixIn, wholeIn, pickleLimit, stopped-refused, stopped-empty, stopped-with, prefix-refused, prefix-told}
 use Rattle.reading.specs.Success.{refusal-number}
 use Rattle.build.specs.Building.{At, AtStop, dueOf, Comes, Builds}
 use Rattle.build.specs.declared.Built.{Built}
@@ -79,13 +79,13 @@ module _ (n : ℕ) (f : Forest) where
   unfolding dueOf _>>=_ need
   within m = left-read false n f (rw m)
 
-  told-over : (why : Refusal) → measured f ≡ no why → told n f ≡ refuses why
-  unfolding told
-  told-over why m = rw (m, told)
+  told-over : (why : Refusal) → measured f ≡ no why → readingOf n f ≡ refuses why
+  unfolding readingOf
+  told-over why m = rw (m, readingOf)
 
-  told-within : measured f ≡ ok tt → told n f ≡ reads n (settle f)
-  unfolding told
-  told-within m = rw (m, told)
+  told-within : measured f ≡ ok tt → readingOf n f ≡ reads n (settle f)
+  unfolding readingOf
+  told-within m = rw (m, readingOf)
 
 module _ (ed : Edition) (p : List ℕ) where
   pub due-refused : (all : Bool) (why : Refusal) → prefixIn ed p ≡ refuses why → due ed all p ≡ refuses why
@@ -97,7 +97,7 @@ module _ (ed : Edition) (p : List ℕ) where
   unfolding wholeIn leaves
   whole-reads n f e = rw e
 
-  pub due-told : (all : Bool) (n : ℕ) (f : Forest) → prefixIn ed p ≡ told n f → due ed all p ≡ toldLeft (all && ltb n (length p)) n f
+  pub due-told : (all : Bool) (n : ℕ) (f : Forest) → prefixIn ed p ≡ readingOf n f → due ed all p ≡ toldLeft (all && ltb n (length p)) n f
   unfolding due
   due-told all n f e = go (measured f) refl
     where
@@ -188,10 +188,10 @@ module _ {ed : Edition} {p nodes owners children stack : List ℕ} where
       consumed-at : consumed p (stateOf (rooms h) c) ≡ c .at
       consumed-at = rw (input-of (rooms h) c, length-drop) (omega (arith, firm .at))
 
-      reads-to : prefixIn ed p ≡ told (c .at) (one (tree (stateOf (rooms h) c .nodes) root))
+      reads-to : prefixIn ed p ≡ readingOf (c .at) (one (tree (stateOf (rooms h) c .nodes) root))
       reads-to =
           prefix-told ed p (stateOf (rooms h) c) (last (stateOf (rooms h) c .stack)) (stopped-with ed p (stateOf (rooms h) c) short stops (omega (arith, deep)))
-          ∙ ap₂ (λ (n i : ℕ). told n (one (tree (stateOf (rooms h) c .nodes) i))) consumed-at top-is
+          ∙ ap₂ (λ (n i : ℕ). readingOf n (one (tree (stateOf (rooms h) c .nodes) i))) consumed-at top-is
 
       module _ (all : Bool) (o q o′ q′ : List ℕ) (b : Built) (B : Builds p nodes owners children (c .nodes) (c .links) root (all && ltb (c .at) (length p)) b o q o′ q′) where
         pub gives-built-refused : (why : Refusal) → b ≡ built.Refused why → Gives (due ed all p) (refusedAnswer why) o q o′ q′

@@ -18,7 +18,7 @@ use Rattle.reading.specs.Build.{at, tree}
 use Rattle.reading.specs.Measure.{measured, measured-within}
 use Rattle.resolve.specs.Facts.{Facts}
 use Rattle.resolve.specs.Standing.{node-is, label-is, facts}
-use Rattle.resolve.specs.Rooted.{Begins, Rooted, r-deep, r-word, Roots}
+use Rattle.resolve.specs.Rooted.{ReadyToResolve, RootEnds, r-deep, r-word, Roots}
 use Rattle.resolve.specs.declared.WalkAnswer.{WalkAnswer}
 use Rattle.produce.specs.Measured.{Worded, MeasuredAs, Measured, Produces}
 use Rattle.build.specs.Building.{dueOf, Comes, BuildsLaid}
@@ -53,7 +53,7 @@ is-object DictL e = absurd (omega arith)
 is-object (GlobalL m n) e = absurd (omega arith)
 is-object (ObjectL m n b) e = refl
 
-module _ {p ws starts sorted measures dues : List ℕ} {root : ℕ} (k : Begins p ws starts sorted measures dues root) where
+module _ {p ws starts sorted measures dues : List ℕ} {root : ℕ} (k : ReadyToResolve p ws starts sorted measures dues root) where
   facts-are : Facts p ws starts (k .nodes)
   facts-are = facts p ws (k .nodes) starts sorted (k .stands) (k .graph) (k .beyond)
 
@@ -92,7 +92,7 @@ due-within left f e = go (measured f) refl e
     go (no why) q e = absurd (let z : _≡_ {A = ℕ} 0 1 = cc in omega arith)
 
 module _ (p ws starts sorted measures dues sorted′ measures′ dues′ : List ℕ) (root : ℕ) (a : WalkAnswer) (R : Roots p ws starts sorted measures dues sorted′ measures′ dues′ root a) (left : Bool) (d : Due) (T : Tells a left d) where
-  told : (k : Begins p ws starts sorted measures dues root) → dueOf left (one (tree (k .nodes) root)) ≡ said d
+  told : (k : ReadyToResolve p ws starts sorted measures dues root) → dueOf left (one (tree (k .nodes) root)) ≡ said d
   unfolding Roots Tells
   told k = T (k .nodes) (k .beyond) starts dues measures′ sorted′ dues′ root (R k)
 
@@ -103,18 +103,18 @@ module _ (p ws starts sorted measures dues sorted′ measures′ dues′ : List 
 
   -- nothing
   module _ (e : d ≡ due.Nothing) where
-    free : (k : Begins p ws starts sorted measures dues root) → dueOf left (one (tree (k .nodes) root)) ≡ ok tt
+    free : (k : ReadyToResolve p ws starts sorted measures dues root) → dueOf left (one (tree (k .nodes) root)) ≡ ok tt
     unfolding said
     free k = told k ∙ ap said e
 
-    measured-as : (k : Begins p ws starts sorted measures dues root) → MeasuredAs p ws starts sorted′ dues′ measures′ (k .nodes) root
+    measured-as : (k : ReadyToResolve p ws starts sorted measures dues root) → MeasuredAs p ws starts sorted′ dues′ measures′ (k .nodes) root
     unfolding Roots
     measured-as k = go a (R k)
       where
         within : (depth (one (tree (k .nodes) root)) ≤ 64) × (size (one (tree (k .nodes) root)) ≤ 2048) × (length (text (one (tree (k .nodes) root))) ≤ 65536)
         within = measured-within (one (tree (k .nodes) root)) (due-within left (one (tree (k .nodes) root)) (free k))
 
-        go : (a : WalkAnswer) → Rooted (k .nodes) (k .beyond) starts dues measures′ sorted′ dues′ root a → MeasuredAs p ws starts sorted′ dues′ measures′ (k .nodes) root
+        go : (a : WalkAnswer) → RootEnds (k .nodes) (k .beyond) starts dues measures′ sorted′ dues′ root a → MeasuredAs p ws starts sorted′ dues′ measures′ (k .nodes) root
         go _ (r-deep h) = absurd (omega (arith, within .0))
         go _ (r-word w m x h) = record {
           limited = record { worded = worded k; before = sorted; graph = k .graph; below = k .below; deep = within .0; records = within .1; texts = within .2 };
@@ -122,7 +122,7 @@ module _ (p ws starts sorted measures dues sorted′ measures′ dues′ : List 
           holds = h;
         }
 
-    pub laid-measured : Begins p ws starts sorted measures dues root → Measured p ws starts sorted′ dues′ measures′ root
+    pub laid-measured : ReadyToResolve p ws starts sorted measures dues root → Measured p ws starts sorted′ dues′ measures′ root
     laid-measured k = record { nodes = k .nodes; are = measured-as k }
 
     pub laid-made : (o q o′ q′ : List ℕ) (n : ℕ) → Produces p ws starts sorted′ dues′ measures′ root o q o′ q′ n → BuildsLaid p ws starts sorted measures dues root left (built.Made n) o q o′ q′

@@ -11,7 +11,7 @@ use Rattle.steps.specs.State.{Node, Res, ok, no, _>>=_, need}
 use Rattle.reading.specs.Build.{tree}
 use Rattle.reading.specs.Measure.{measured, too-deep, too-many-values, text-full, within-limits}
 use Rattle.resolve.specs.Word.{valuesW, textsW, values-pack, texts-pack}
-use Rattle.resolve.specs.Rooted.{Measured, Rooted, r-deep, r-word}
+use Rattle.resolve.specs.Rooted.{MeasuresTo, RootEnds, r-deep, r-word}
 use Rattle.resolve.specs.declared.WalkAnswer.{WalkAnswer}
 use Rattle.resolve.specs.declared.WalkAnswer.the-variants as answer
 use Rattle.build.specs.Building.{dueOf}
@@ -25,12 +25,12 @@ said (due.Refused why) = no why
 -- whatever tree the answer is of
 unfoldable pub Tells : WalkAnswer → Bool → Due → Type 0
 Tells a left d =
-    (t : List Node) (beyond : length t ≤ 4096) (starts lent measures sorted room : List ℕ) (root : ℕ) → Rooted t beyond starts lent measures sorted room root a
+    (t : List Node) (beyond : length t ≤ 4096) (starts lent measures sorted room : List ℕ) (root : ℕ) → RootEnds t beyond starts lent measures sorted room root a
     → dueOf left (one (tree t root)) ≡ said d
 
 -- ---- a tree's word
 
-module _ {v : Value} {w : ℕ} (m : Measured v w) where
+module _ {v : Value} {w : ℕ} (m : MeasuresTo v w) where
   values-are : valuesW w ≡ min (size (one v)) 2049
   values-are = ap valuesW (m .is) ∙ values-pack (depth (one v)) (size (one v)) (length (text (one v))) (omega (arith, m .shallow))
 

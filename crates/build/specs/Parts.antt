@@ -9,15 +9,15 @@ use Rattle.rooms.specs.Cleared.{cleared}
 use Rattle.produce.specs.Rooms.{Zeros, zeros-long, front-cleared}
 
 -- as many as up to m
-pub whole : (m : ℕ) → m - 0 ≡ m
-whole m = omega arith
+pub minus-none : (m : ℕ) → m - 0 ≡ m
+minus-none m = omega arith
 
 pub part-length : (m : ℕ) (l : List ℕ) → m ≤ length l → length (take (m - 0) l) ≡ m
-part-length m l h = rw (whole m) (length-take-le m l h)
+part-length m l h = rw (minus-none m) (length-take-le m l h)
 
 -- behind a part, the room is as it was
 pub part-behind : (m : ℕ) (l d : List ℕ) → m ≤ length l → length d ≡ length (take (m - 0) l) → drop m (d ++ drop (m - 0) l) ≡ drop m l
-part-behind m l d h e = rw (whole m) (drop-at d (drop m l) m (e ∙ part-length m l h))
+part-behind m l d h e = rw (minus-none m) (drop-at d (drop m l) m (e ∙ part-length m l h))
 
 module _ {n : ℕ} {l : List ℕ} (z : Zeros n l) where
   pub zeros-at : (i : ℕ) → i < n → getD l i 0 ≡ 0

@@ -49,24 +49,24 @@ fn check(sheets: &[u8], lengths: &[u64], answers: &mut [u64]) -> Answer {
 }
 
 // A number of the input, or its end.
-enum Next {
+enum NumberOrEnd {
     Number(u64),
     End,
 }
 
-fn read_number() -> Next {
+fn read_number() -> NumberOrEnd {
     let mut four = [0u8; 4];
     if io::read_full(0, &mut four) < 4 {
-        return Next::End;
+        return NumberOrEnd::End;
     }
-    Next::Number(input::u32_at(&four, 0) as u64)
+    NumberOrEnd::Number(input::u32_at(&four, 0) as u64)
 }
 
 // The sheets' lengths; false where the input ends before.
 fn read_lengths(lengths: &mut [u64]) -> bool {
     let mut i = 0;
     while i < lengths.len() {
-        let Next::Number(n) = read_number() else {
+        let NumberOrEnd::Number(n) = read_number() else {
             return false;
         };
         lengths[i] = n;
@@ -153,7 +153,7 @@ fn check_night(edition: Edition, lengths: &mut [u64], answers: &mut [u64]) {
 fn main() {
     let mut lengths = [0u64; 1024];
     let mut answers = [0u64; 4096];
-    let Next::Number(count) = read_number() else {
+    let NumberOrEnd::Number(count) = read_number() else {
         console::show_refusal(BAD_LENGTHS, 0);
         return;
     };

@@ -14,7 +14,7 @@ use Rattle.rooms.specs.Cleared.{cleared}
 use Rattle.rooms.specs.Stated.{Slices, machineLengths, stated, AllZero, Ready, filled, filled-none, long, rooms-zero}
 use Rattle.store.specs.Effects.{Sound, Firm}
 use Rattle.machine.specs.RoomsOf.{roomsOf}
-use Rattle.machine.specs.Ran.{Ran, start, countsOf}
+use Rattle.machine.specs.Ran.{Ran, startCounts, countsOf}
 use Rattle.machine.specs.Fresh.{fresh}
 use Rattle.machine.specs.Clear.{UsedTo, zeroed, used-cleared, nodes-used, stack-used, marks-used, keys-used, held-used}
 use Rattle.machine.specs.declared.Outcome.{Outcome}
@@ -24,21 +24,21 @@ use Rattle.build.specs.Building.{Working}
 use Rattle.build.specs.Given.{RanIn, due, due-refused}
 
 -- the inner reading x in the slices l leaves l′ and answers a
-pub record Reads (x : Reading) (l l′ : Slices) (a : Answer) : Type 0 where
+pub record InnerReads (x : Reading) (l l′ : Slices) (a : Answer) : Type 0 where
   pub answer : a ≡ x .answer
   pub slices : l′ ≡ filled (x .words) (x .bytes) l
 
 -- a pickle that is too long: 2, and every slice as it came
-pub reads-long : (ed : Edition) (all : Bool) (p : List ℕ) (l : Slices) (a : Answer) → pickleLimit < length p → a ≡ refusedAnswer TooLong → Reads (due ed all p) l l a
+pub reads-long : (ed : Edition) (all : Bool) (p : List ℕ) (l : Slices) (a : Answer) → pickleLimit < length p → a ≡ refusedAnswer TooLong → InnerReads (due ed all p) l l a
 reads-long ed all p l a h e =
     rw (due-refused ed p all TooLong (prefix-refused ed p TooLong (stopped-long ed p h))) (record { answer = e; slices = sym (filled-none l) })
 
 -- a room that has become s′: its first k cleared, it is s again
-pub record Back (k : ℕ) (s s′ : List ℕ) : Type 0 where
+pub record ClearsTo (k : ℕ) (s s′ : List ℕ) : Type 0 where
   pub fits : k ≤ length s′
   pub again : cleared k s′ ≡ s
 
-module _ {k : ℕ} {s s′ : List ℕ} (b : Back k s s′) (j : ℕ) (e : j ≡ k) where
+module _ {k : ℕ} {s s′ : List ℕ} (b : ClearsTo k s s′) (j : ℕ) (e : j ≡ k) where
   pub back-fits : j ≤ length s′
   back-fits = rw e (b .fits)
 
@@ -50,9 +50,9 @@ pub record Runs (ed : Edition) (o : Outcome) (p nodes owners children stack mark
   pub ran : RanIn ed o p (take 8192 nodes′) (take 8192 owners′) (take 8192 children′) (take 2048 stack′)
   pub owners-behind : drop 8192 owners′ ≡ drop 8192 owners
   pub children-behind : drop 8192 children′ ≡ drop 8192 children
-  pub nodes-back : Back (2 * countsOf o .nodes) nodes nodes′
-  pub stack-back : Back (countsOf o .deepest) stack stack′
-  pub marks-back : Back (countsOf o .most) marks marks′
+  pub nodes-back : ClearsTo (2 * countsOf o .nodes) nodes nodes′
+  pub stack-back : ClearsTo (countsOf o .deepest) stack stack′
+  pub marks-back : ClearsTo (countsOf o .most) marks marks′
 
 -- ---- a stated part, lent and put back
 
@@ -72,7 +72,7 @@ module _ (n : ℕ) (s : List ℕ) (z : take n s ≡ replicate n 0) where
     part-behind = drop-at e (drop n s) n (h ∙ part-length)
 
     -- of which the first k were used
-    part-used : (k : ℕ) → UsedTo k e → Back k s (e ++ drop n s)
+    part-used : (k : ℕ) → UsedTo k e → ClearsTo k s (e ++ drop n s)
     unfolding cleared zeroed
     part-used k u = record {
       fits = rw length-append (let x = u .room in omega arith);
@@ -92,7 +92,7 @@ module _ (n : ℕ) (s : List ℕ) (z : take n s ≡ replicate n 0) where
 
 module _ (p nodes owners children stack marks keys held : List ℕ) (z : AllZero machineLengths (nodes ∷ owners ∷ children ∷ stack ∷ marks ∷ keys ∷ held ∷ [])) where
   -- what it asks
-  pub begins : length p ≤ 65536 → Sound (roomsOf p (take 8192 nodes) (take 8192 owners) (take 8192 children) (take 2048 stack) (take 256 marks) (take 2048 keys) (take 1024 held)) start
+  pub begins : length p ≤ 65536 → Sound (roomsOf p (take 8192 nodes) (take 8192 owners) (take 8192 children) (take 2048 stack) (take 256 marks) (take 2048 keys) (take 1024 held)) startCounts
   begins h =
       rw (z .0, z .1 .0, z .1 .1 .0, z .1 .1 .1 .0, z .1 .1 .1 .1 .0, z .1 .1 .1 .1 .1 .0, z .1 .1 .1 .1 .1 .1 .0)
       (fresh p 8192 8192 8192 2048 256 2048 1024 h (omega arith) (omega arith) (omega arith) (omega arith) (omega arith) (omega arith) (omega arith))
@@ -113,10 +113,10 @@ module _ (p nodes owners children stack marks keys held : List ℕ) (z : AllZero
       marks-back = part-used 256 marks (z .1 .1 .1 .1 .0) m em (countsOf o .most) (marks-used _ _ firm);
     }
 
-    pub keys-back : length k ≡ length (take 2048 keys) → Back (countsOf o .memo) keys (k ++ drop 2048 keys)
+    pub keys-back : length k ≡ length (take 2048 keys) → ClearsTo (countsOf o .memo) keys (k ++ drop 2048 keys)
     keys-back e = part-used 2048 keys (z .1 .1 .1 .1 .1 .0) k e (countsOf o .memo) (keys-used _ _ firm)
 
-    pub held-back : length h ≡ length (take 1024 held) → Back (countsOf o .memo) held (h ++ drop 1024 held)
+    pub held-back : length h ≡ length (take 1024 held) → ClearsTo (countsOf o .memo) held (h ++ drop 1024 held)
     held-back e = part-used 1024 held (z .1 .1 .1 .1 .1 .1 .0) h e (countsOf o .memo) (held-used _ _ firm)
 
 -- ---- the answer

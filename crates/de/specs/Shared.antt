@@ -13,16 +13,16 @@ use Rattle.op.specs.Edition.{evaluates as edition-evaluates}
 use Rattle.op.specs.declared.Edition.the-variants.{Full}
 use Rattle.input.specs.Bytes.{lowFirst}
 use Rattle.value.specs.Value.{Label, Forest, I64L, ListL, TupleL, nil, node}
-use Rattle.steps.specs.State.{Node, State, ok, _>>=_, need, bytes, byte, pop, top, popMany, pushId, pushNode, push, link, extend, find, has, insert, get, put}
+use Rattle.steps.specs.State.{Node, State, ok, _>>=_, need, bytes, byte, pop, top, popMany, pushId, pushNode, push, link, extend, memoFind, memoHas, memoInsert, get, put}
 use Rattle.steps.specs.Out.{Every}
-use Rattle.steps.specs.Opcodes.{proto, lowBytes, binint1, made, tupleN, added, append, getBytes, putBytes}
+use Rattle.steps.specs.Opcodes.{proto, lowBytes, binint1, made, tupleN, addItems, append, getBytes, putBytes}
 use Rattle.steps.specs.Run.{going, does, decide, admit, step, runs, start, run}
 use Rattle.reading.specs.Build.{at}
 use Rattle.reading.specs.Unfold.{WritesOut, nothing, afresh, In, here, there, Contains, direct, through, Reachable, NothingContainsItself}
-use Rattle.reading.specs.Reading.{Reading, told, consumed, prefix}
+use Rattle.reading.specs.Reading.{Reading, readingOf, consumed, prefix}
 use Rattle.reading.specs.Bench.{Line, ReadAs, bench, bench-holds}
 use Rattle.de.specs.Call.{reading, ReadCall}
-use Rattle.de.specs.Theorems.{Place, shown-here, shown-inside, shown-after, call-never-shows-sharing}
+use Rattle.de.specs.Theorems.{ShownIn, shown-here, shown-inside, shown-after, call-never-shows-sharing}
 
 abbrev firstOf : Reading → List Reading → Reading
 firstOf d [] = d
@@ -33,7 +33,7 @@ rest [] = []
 rest (x ∷ l) = l
 
 unfoldable machine : Unit {0}
-unfolding lowFirst rowIn rowOf knownName opcodeOf edition-evaluates _>>=_ need bytes byte pop top popMany pushId pushNode push link extend find has insert get put proto lowBytes binint1 made tupleN added append getBytes putBytes going does decide admit step runs start run
+unfolding lowFirst rowIn rowOf knownName opcodeOf edition-evaluates _>>=_ need bytes byte pop top popMany pushId pushNode push link extend memoFind memoHas memoInsert get put proto lowBytes binint1 made tupleN addItems append getBytes putBytes going does decide admit step runs start run
 machine = tt
 
 abbrev node-of : Label → List ℕ → Node
@@ -88,11 +88,11 @@ abbrev pub shared-written : WritesOut shared-nodes (2 ∷ []) shared-forest
 shared-written = afresh (afresh (afresh nothing nothing) (afresh (afresh nothing nothing) nothing)) nothing
 
 -- at both places of the list stands the 5, which was added after it was placed
-pub shared-places : Place 0 (node (I64L 5) nil nil) (2 ∷ []) shared-forest shared-written × Place 0 (node (I64L 5) nil nil) (2 ∷ []) shared-forest shared-written
+pub shared-places : ShownIn 0 (node (I64L 5) nil nil) (2 ∷ []) shared-forest shared-written × ShownIn 0 (node (I64L 5) nil nil) (2 ∷ []) shared-forest shared-written
 shared-places = (shown-inside shown-here, shown-inside (shown-after shown-here))
 
 -- so the call gives that write-out, by demand 3
-pub shared-read : (l l′ : Slices) (a : Answer) → ReadCall (prefix shared) l l′ a → ReadCall (told 12 shared-forest) l l′ a
+pub shared-read : (l l′ : Slices) (a : Answer) → ReadCall (prefix shared) l l′ a → ReadCall (readingOf 12 shared-forest) l l′ a
 shared-read l l′ a c =
     let x = shared-stops in
     let e : consumed shared (x .0) ≡ 12 = rw (x .4) refl in

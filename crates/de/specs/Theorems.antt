@@ -14,7 +14,7 @@ use Rattle.refusal.specs.declared.Refusal.{Refusal}
 use Rattle.refusal.specs.declared.Refusal.the-variants.{ShortRoom, TooLong, StackUnderflow, TrailingData}
 use Rattle.refusal.specs.declared.Answer.{Answer}
 use Rattle.refusal.specs.Numbers.{refusedAnswer}
-use Rattle.rooms.specs.Stated.{Slices, roomLengths, stated, tableOf, textOf, begun, short, blank, filled, filled-none, table-filled, text-filled}
+use Rattle.rooms.specs.Stated.{Slices, roomLengths, stated, tableSlice, textSlice, begun, short, blank, filled, filled-none, table-filled, text-filled}
 use Rattle.op.specs.declared.Edition.{Edition}
 use Rattle.input.specs.Bytes.{Bytes}
 use Rattle.value.specs.Value.{Forest, node, one}
@@ -26,7 +26,7 @@ use Rattle.reading.specs.Build.{at, tree}
 use Rattle.reading.specs.Measure.{measured}
 use Rattle.reading.specs.Settle.{settle}
 use Rattle.reading.specs.Unfold.{WritesOut, afresh, In, here, there, Contains, direct, through, Reachable, NothingContainsItself, write-out-unique, write-out}
-use Rattle.reading.specs.Reading.{Reading, refuses, reads, told, consumed, consumed-rest, prefixIn, wholeIn, leaves, whole-trailing, whole-prefix, pickleLimit, stopped-long, stopped-refused, stopped-empty, stopped-with, prefix-refused, prefix-told, told-fits, sharing-never-shows}
+use Rattle.reading.specs.Reading.{Reading, refuses, reads, readingOf, consumed, consumed-rest, prefixIn, wholeIn, leaves, whole-trailing, whole-prefix, pickleLimit, stopped-long, stopped-refused, stopped-empty, stopped-with, prefix-refused, prefix-told, told-fits, sharing-never-shows}
 use Rattle.reading.specs.Success.{Formed, refusal-number, prefix-well-formed, whole-well-formed}
 use Rattle.de.specs.Call.{Left, reading, ReadCall}
 
@@ -35,7 +35,7 @@ use Rattle.de.specs.Call.{Left, reading, ReadCall}
 -- A pickle read to STOP with a value left, nothing reachable from which contains itself: number, detail, length, count and every slice
 -- are those of the value written out plainly, whatever is shared.
 module _ (ed : Edition) (p : List ℕ) (s : State) (fits : length p ≤ pickleLimit) (stops : run ed p ≡ ok s) (left : 0 < length (s .stack)) (apart : NothingContainsItself (s .nodes) (last (s .stack))) where
-  pub call-never-shows-sharing : (f : Forest) → WritesOut (s .nodes) (last (s .stack) ∷ []) f → (l l′ : Slices) (a : Answer) → ReadCall (prefixIn ed p) l l′ a → ReadCall (told (consumed p s) f) l l′ a
+  pub call-never-shows-sharing : (f : Forest) → WritesOut (s .nodes) (last (s .stack) ∷ []) f → (l l′ : Slices) (a : Answer) → ReadCall (prefixIn ed p) l l′ a → ReadCall (readingOf (consumed p s) f) l l′ a
   call-never-shows-sharing f w l l′ a c = c ∙ ap (λ (x : Reading). reading x l) (sharing-never-shows ed p s fits stops left f apart w)
 
   -- there is one plain write-out, and only one
@@ -45,28 +45,28 @@ module _ (ed : Edition) (p : List ℕ) (s : State) (fits : length p ≤ pickleLi
 -- ---- 2. items added late
 
 -- somewhere in a write-out stands the node i, with the contents c
-pub data Place {t : List Node} (i : ℕ) (c : Forest) : (is : List ℕ) (f : Forest) → WritesOut t is f → Type 0 where
-  shown-here : {is : List ℕ} {r : Forest} {w : WritesOut t (at t i .kids) c} {x : WritesOut t is r} → Place i c (i ∷ is) (node (at t i .label) c r) (afresh w x)
-  shown-inside : {j : ℕ} {is : List ℕ} {d r : Forest} {w : WritesOut t (at t j .kids) d} {x : WritesOut t is r} → Place i c (at t j .kids) d w → Place i c (j ∷ is) (node (at t j .label) d r) (afresh w x)
-  shown-after : {j : ℕ} {is : List ℕ} {d r : Forest} {w : WritesOut t (at t j .kids) d} {x : WritesOut t is r} → Place i c is r x → Place i c (j ∷ is) (node (at t j .label) d r) (afresh w x)
+pub data ShownIn {t : List Node} (i : ℕ) (c : Forest) : (is : List ℕ) (f : Forest) → WritesOut t is f → Type 0 where
+  shown-here : {is : List ℕ} {r : Forest} {w : WritesOut t (at t i .kids) c} {x : WritesOut t is r} → ShownIn i c (i ∷ is) (node (at t i .label) c r) (afresh w x)
+  shown-inside : {j : ℕ} {is : List ℕ} {d r : Forest} {w : WritesOut t (at t j .kids) d} {x : WritesOut t is r} → ShownIn i c (at t j .kids) d w → ShownIn i c (j ∷ is) (node (at t j .label) d r) (afresh w x)
+  shown-after : {j : ℕ} {is : List ℕ} {d r : Forest} {w : WritesOut t (at t j .kids) d} {x : WritesOut t is r} → ShownIn i c is r x → ShownIn i c (j ∷ is) (node (at t j .label) d r) (afresh w x)
 
 -- the contents at a place are the write-out of all that the node has at STOP
-pub place-shows : {t : List Node} (i : ℕ) (c : Forest) {is : List ℕ} {f : Forest} {w : WritesOut t is f} → Place i c is f w → WritesOut t (at t i .kids) c
+pub place-shows : {t : List Node} (i : ℕ) (c : Forest) {is : List ℕ} {f : Forest} {w : WritesOut t is f} → ShownIn i c is f w → WritesOut t (at t i .kids) c
 place-shows i c (shown-here {w = w}) = w
 place-shows i c (shown-inside p) = place-shows i c p
 place-shows i c (shown-after p) = place-shows i c p
 
 -- so any two places of a node show the same
-pub same-at-each-place : {t : List Node} (i : ℕ) (c d : Forest) {is js : List ℕ} {f g : Forest} {w : WritesOut t is f} {x : WritesOut t js g} → Place i c is f w → Place i d js g x → c ≡ d
+pub same-at-each-place : {t : List Node} (i : ℕ) (c d : Forest) {is js : List ℕ} {f g : Forest} {w : WritesOut t is f} {x : WritesOut t js g} → ShownIn i c is f w → ShownIn i d js g x → c ≡ d
 same-at-each-place i c d p q = write-out-unique (place-shows i c p) (place-shows i d q)
 
 -- a node that is listed has a place
-listed-placed : {t : List Node} (i : ℕ) (is : List ℕ) (f : Forest) → In i is → (w : WritesOut t is f) → (c : Forest) × Place i c is f w
+listed-placed : {t : List Node} (i : ℕ) (is : List ℕ) (f : Forest) → In i is → (w : WritesOut t is f) → (c : Forest) × ShownIn i c is f w
 listed-placed i _ _ here (afresh {c = c} w x) = (c, shown-here)
 listed-placed i _ _ (there m) (afresh w x) = let p = listed-placed i _ _ m x in (p .0, shown-after (p .1))
 
 -- and so has a node that a listed one contains
-contained-placed : {t : List Node} (j i : ℕ) (is : List ℕ) (f : Forest) → In j is → Contains t j i → (w : WritesOut t is f) → (c : Forest) × Place i c is f w
+contained-placed : {t : List Node} (j i : ℕ) (is : List ℕ) (f : Forest) → In j is → Contains t j i → (w : WritesOut t is f) → (c : Forest) × ShownIn i c is f w
 contained-placed j i _ _ (there m) r (afresh w x) = let p = contained-placed j i _ _ m r x in (p .0, shown-after (p .1))
 contained-placed j i _ _ here (direct k) (afresh w x) = let p = listed-placed i _ _ k w in (p .0, shown-inside (p .1))
 contained-placed j i _ _ here (through k r) (afresh w x) = let p = contained-placed _ i _ _ k r w in (p .0, shown-inside (p .1))
@@ -76,9 +76,9 @@ contained-placed j i _ _ here (through k r) (afresh w x) = let p = contained-pla
 pub record LateItems (p : List ℕ) (s : State) (l l′ : Slices) (a : Answer) : Type 0 where
   pub forest : Forest
   pub written : WritesOut (s .nodes) (last (s .stack) ∷ []) forest
-  pub called : ReadCall (told (consumed p s) forest) l l′ a
-  pub placed : (i : ℕ) → Reachable (s .nodes) (last (s .stack)) i → (c : Forest) × Place i c (last (s .stack) ∷ []) forest written
-  pub shown : (i : ℕ) (c : Forest) → Place i c (last (s .stack) ∷ []) forest written → WritesOut (s .nodes) (at (s .nodes) i .kids) c
+  pub called : ReadCall (readingOf (consumed p s) forest) l l′ a
+  pub placed : (i : ℕ) → Reachable (s .nodes) (last (s .stack)) i → (c : Forest) × ShownIn i c (last (s .stack) ∷ []) forest written
+  pub shown : (i : ℕ) (c : Forest) → ShownIn i c (last (s .stack) ∷ []) forest written → WritesOut (s .nodes) (at (s .nodes) i .kids) c
 
 pub late-items-show : (ed : Edition) (p : List ℕ) (s : State) → length p ≤ pickleLimit → run ed p ≡ ok s → 0 < length (s .stack) → NothingContainsItself (s .nodes) (last (s .stack)) → (l l′ : Slices) (a : Answer) → ReadCall (prefixIn ed p) l l′ a → LateItems p s l l′ a
 unfolding Reachable
@@ -92,7 +92,7 @@ late-items-show ed p s fits stops left apart l l′ a c =
       shown = λ i d q. place-shows i d q;
     }
   where
-    from : (i : ℕ) (f : Forest) (w : WritesOut (s .nodes) (last (s .stack) ∷ []) f) → (i ≡ last (s .stack)) ⊎ Contains (s .nodes) (last (s .stack)) i → (d : Forest) × Place i d (last (s .stack) ∷ []) f w
+    from : (i : ℕ) (f : Forest) (w : WritesOut (s .nodes) (last (s .stack) ∷ []) f) → (i ≡ last (s .stack)) ⊎ Contains (s .nodes) (last (s .stack)) i → (d : Forest) × ShownIn i d (last (s .stack) ∷ []) f w
     from i f w (inl e) = listed-placed i _ f (rw e here) w
     from i f w (inr r) = contained-placed (last (s .stack)) i _ f here r w
 
@@ -116,11 +116,11 @@ module _ (x : Reading) (l l′ : Slices) (a : Answer) (c : ReadCall x l l′ a) 
     call-slices = ap (λ (y : Left). y .slices) says
 
     -- the outputs begin with what it fills
-    pub call-table : tableOf l′ ≡ begun (x .words) (tableOf l)
-    call-table = ap tableOf call-slices ∙ table-filled (x .words) (x .bytes) l long
+    pub call-table : tableSlice l′ ≡ begun (x .words) (tableSlice l)
+    call-table = ap tableSlice call-slices ∙ table-filled (x .words) (x .bytes) l long
 
-    pub call-text : textOf l′ ≡ begun (x .bytes) (textOf l)
-    call-text = ap textOf call-slices ∙ text-filled (x .words) (x .bytes) l long
+    pub call-text : textSlice l′ ≡ begun (x .bytes) (textSlice l)
+    call-text = ap textSlice call-slices ∙ text-filled (x .words) (x .bytes) l long
 
     -- a refusal leaves every room zero and the outputs as they came
     pub call-refused : (why : Refusal) → x ≡ refuses why → (a ≡ refusedAnswer why) × (l′ ≡ blank roomLengths l)
@@ -142,7 +142,7 @@ module _ (x : Reading) (l l′ : Slices) (a : Answer) (c : ReadCall x l l′ a) 
   not-refused why z e = refusal-number why (ap (λ (y : Reading). y .answer .number) (sym e) ∙ ap (λ (y : Answer). y .number) (sym (call-answer (call-long-enough z))) ∙ z)
 
   -- on success the table and the text that its records say are well formed: what compare, list and write ask
-  pub call-well-formed : Formed x → a .number ≡ 0 → WellFormed (tableOf l′) (a .count) (take (textLength (tableOf l′) (a .count)) (textOf l′))
+  pub call-well-formed : Formed x → a .number ≡ 0 → WellFormed (tableSlice l′) (a .count) (take (textLength (tableSlice l′) (a .count)) (textSlice l′))
   unfolding Formed
   call-well-formed f e = go (f (ap (λ (y : Answer). y .number) (sym answer) ∙ e))
     where
@@ -152,18 +152,18 @@ module _ (x : Reading) (l l′ : Slices) (a : Answer) (c : ReadCall x l l′ a) 
       answer : a ≡ x .answer
       answer = call-answer long
 
-      go : WellFormed (x .words) (x .answer .count) (x .bytes) → WellFormed (tableOf l′) (a .count) (take (textLength (tableOf l′) (a .count)) (textOf l′))
+      go : WellFormed (x .words) (x .answer .count) (x .bytes) → WellFormed (tableSlice l′) (a .count) (take (textLength (tableSlice l′) (a .count)) (textSlice l′))
       go w =
-          let t : WellFormed (begun (x .words) (tableOf l)) (x .answer .count) (x .bytes) = longer (x .words) (drop (length (x .words)) (tableOf l)) (x .answer .count) (x .bytes) w in
-          let n = text-length (begun (x .words) (tableOf l)) (x .answer .count) (x .bytes) t in
-          rw (answer, call-table long, call-text long, n, take-append-seam (x .bytes) (drop (length (x .bytes)) (textOf l))) t
+          let t : WellFormed (begun (x .words) (tableSlice l)) (x .answer .count) (x .bytes) = longer (x .words) (drop (length (x .words)) (tableSlice l)) (x .answer .count) (x .bytes) w in
+          let n = text-length (begun (x .words) (tableSlice l)) (x .answer .count) (x .bytes) t in
+          rw (answer, call-table long, call-text long, n, take-append-seam (x .bytes) (drop (length (x .bytes)) (textSlice l))) t
 
 -- both readings, of bytes
 module _ (ed : Edition) (p : List ℕ) (b : Bytes p) (l l′ : Slices) (a : Answer) (e : a .number ≡ 0) where
-  pub prefix-call-formed : ReadCall (prefixIn ed p) l l′ a → WellFormed (tableOf l′) (a .count) (take (textLength (tableOf l′) (a .count)) (textOf l′))
+  pub prefix-call-formed : ReadCall (prefixIn ed p) l l′ a → WellFormed (tableSlice l′) (a .count) (take (textLength (tableSlice l′) (a .count)) (textSlice l′))
   prefix-call-formed c = call-well-formed (prefixIn ed p) l l′ a c (prefix-well-formed ed p b) e
 
-  pub whole-call-formed : ReadCall (wholeIn ed p) l l′ a → WellFormed (tableOf l′) (a .count) (take (textLength (tableOf l′) (a .count)) (textOf l′))
+  pub whole-call-formed : ReadCall (wholeIn ed p) l l′ a → WellFormed (tableSlice l′) (a .count) (take (textLength (tableSlice l′) (a .count)) (textSlice l′))
   whole-call-formed c = call-well-formed (wholeIn ed p) l l′ a c (whole-well-formed ed p b) e
 
 -- ---- how a reading ends
@@ -174,11 +174,11 @@ pub data Ends (ed : Edition) (p : List ℕ) (x : Reading) : Type 0 where
   read : (s : State) (f : Forest) → run ed p ≡ ok s → x ≡ reads (consumed p s) (settle f) → Ends ed p x
 
 pub prefix-ends : (ed : Edition) (p : List ℕ) → Ends ed p (prefixIn ed p)
-unfolding told
+unfolding readingOf
 prefix-ends ed p = go (leb (length p) pickleLimit) refl
   where
-    built : (s : State) (f : Forest) → run ed p ≡ ok s → prefixIn ed p ≡ told (consumed p s) f → (r : Res (Unit {0})) → measured f ≡ r → Ends ed p (prefixIn ed p)
-    built s f e t (no why) m = refused why (t ∙ rw (m, told))
+    built : (s : State) (f : Forest) → run ed p ≡ ok s → prefixIn ed p ≡ readingOf (consumed p s) f → (r : Res (Unit {0})) → measured f ≡ r → Ends ed p (prefixIn ed p)
+    built s f e t (no why) m = refused why (t ∙ rw (m, readingOf))
     built s f e t (ok u) m = read s f e (t ∙ told-fits (consumed p s) f m .0)
 
     stack : (s : State) → length p ≤ pickleLimit → run ed p ≡ ok s → (b : Bool) → ltb 0 (length (s .stack)) ≡ b → Ends ed p (prefixIn ed p)
@@ -207,12 +207,12 @@ whole-ends ed p = go (leaves p (prefixIn ed p)) refl
 -- ---- the length
 
 -- on success the length is that of the beginning which the machine read up to its STOP, one byte at least
-pub Read : Edition → List ℕ → Answer → Type 0
-Read ed p a = (s : State) × (run ed p ≡ ok s) × (s .input ≡ drop (a .length) p) × (0 < a .length) × (a .length ≤ length p)
+pub ReadUpToStop : Edition → List ℕ → Answer → Type 0
+ReadUpToStop ed p a = (s : State) × (run ed p ≡ ok s) × (s .input ≡ drop (a .length) p) × (0 < a .length) × (a .length ≤ length p)
 
 module _ (ed : Edition) (p : List ℕ) (x : Reading) (l l′ : Slices) (a : Answer) (z : a .number ≡ 0) (c : ReadCall x l l′ a) where
-  read-length : Ends ed p x → Read ed p a
-  unfolding Read
+  read-length : Ends ed p x → ReadUpToStop ed p a
+  unfolding ReadUpToStop
   read-length (refused why e) = absurd (not-refused x l l′ a c why z e)
   read-length (read s f r e) =
       let y = consumed-rest ed p s r in
@@ -220,12 +220,12 @@ module _ (ed : Edition) (p : List ℕ) (x : Reading) (l l′ : Slices) (a : Answ
       (s, r, rw n (y .2), rw n (y .0), rw n (y .1))
 
 module _ (ed : Edition) (p : List ℕ) (l l′ : Slices) (a : Answer) (z : a .number ≡ 0) where
-  pub prefix-call-length : ReadCall (prefixIn ed p) l l′ a → Read ed p a
+  pub prefix-call-length : ReadCall (prefixIn ed p) l l′ a → ReadUpToStop ed p a
   prefix-call-length c = read-length ed p (prefixIn ed p) l l′ a z c (prefix-ends ed p)
 
   -- the whole reading reads all
-  pub whole-call-length : ReadCall (wholeIn ed p) l l′ a → Read ed p a × (a .length ≡ length p)
-  unfolding leaves Read
+  pub whole-call-length : ReadCall (wholeIn ed p) l l′ a → ReadUpToStop ed p a × (a .length ≡ length p)
+  unfolding leaves ReadUpToStop
   whole-call-length c = (read-length ed p (wholeIn ed p) l l′ a z c (whole-ends ed p), go (leaves p (prefixIn ed p)) refl (read-length ed p (wholeIn ed p) l l′ a z c (whole-ends ed p)))
     where
       answer : a ≡ wholeIn ed p .answer
@@ -234,7 +234,7 @@ module _ (ed : Edition) (p : List ℕ) (l l′ : Slices) (a : Answer) (z : a .nu
       left : (n m : ℕ) → (eqb n 0 && ltb m (length p)) ≡ false → n ≡ 0 → length p ≤ m
       left n m e q = ltb-false m (length p) (sym (rw (q, eqb) refl) ∙ e)
 
-      go : (b : Bool) → leaves p (prefixIn ed p) ≡ b → Read ed p a → a .length ≡ length p
+      go : (b : Bool) → leaves p (prefixIn ed p) ≡ b → ReadUpToStop ed p a → a .length ≡ length p
       go true e r = absurd (not-refused (wholeIn ed p) l l′ a c TrailingData z (whole-trailing ed p e))
       go false e r =
           let q : a ≡ prefixIn ed p .answer = answer ∙ ap (λ (y : Reading). y .answer) (whole-prefix ed p e) in

@@ -23,7 +23,7 @@ ghost use lib.ListN.{length};
 ghost use Rattle.rooms.specs.Stated.{Slices, machineLengths, builderLengths, stated, Long, AllZero, Ready, short, blank};
 ghost use Rattle.machine.specs.Ran.{countsOf};
 ghost use Rattle.build.specs.Given.{due};
-ghost use Rattle.de.specs.Inner.{Runs, Reads};
+ghost use Rattle.de.specs.Inner.{Runs, InnerReads};
 ghost use Rattle.de.specs.Call.{ReadCall};
 
 fn counts(outcome: Outcome) -> Counts
@@ -96,7 +96,7 @@ pub fn read(
         (now nodes ∷ now owners ∷ now children ∷ now stack ∷ now marks ∷ now keys ∷ now held
         ∷ now unescaped ∷ now starts ∷ now sorted ∷ now measures ∷ now table ∷ now text ∷ []) ⌝ }
     ensures { λ a.
-        ⌜ Reads (due edition whole (now (pickle .entry)))
+        ⌜ InnerReads (due edition whole (now (pickle .entry)))
         (now (nodes .entry) ∷ now (owners .entry) ∷ now (children .entry) ∷ now (stack .entry)
         ∷ now (marks .entry) ∷ now (keys .entry) ∷ now (held .entry)
         ∷ now (unescaped .entry) ∷ now (starts .entry) ∷ now (sorted .entry) ∷ now (measures .entry)

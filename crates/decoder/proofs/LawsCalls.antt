@@ -27,10 +27,10 @@ use Rattle.store.specs.declared.Counts.{Counts}
 use Rattle.store.specs.Rooms.{Rooms, kidsOf, stateOf, Counted, Together, Placed}
 use Rattle.steps.specs.NodeWords.{first, second, within, moduleOf, nameOf, nodeIs, HoldsLinks, aList, aTuple, aDict, holds-below, objectWord, object-made, object-node}
 use Rattle.store.specs.RoomKeeps.{class-none, class-made}
-use Rattle.store.specs.Effects.{Firm, Sound, SomeRooms, Says, Fits, enacted, refusing, says-refused}
+use Rattle.store.specs.Effects.{Firm, Sound, SomeRooms, IsStep, Fits, enacted, refusing, says-refused}
 use Rattle.decoder.specs.Reads.{cutTo, firm-cut}
 use Rattle.decoder.specs.StackSteps.{on-stack, stack-room}
-use Rattle.decoder.specs.ReadsCalls.{MadeByCall, Calls, Call, ReadsCall, lower-node, upper-node, build-short, build-no-object, build-object, Made, aSet, aFrozenSet, anObject, made-of, call-short, call-no-class, call-no-arguments, call-both, madeKind, same-builtin, same-set, same-frozenset}
+use Rattle.decoder.specs.ReadsCalls.{MadeByCall, CallOnTop, CallSaid, ReadsCall, lower-node, upper-node, build-short, build-no-object, build-object, CallMakes, aSet, aFrozenSet, anObject, made-of, call-short, call-no-class, call-no-arguments, call-both, madeKind, same-builtin, same-set, same-frozenset}
 
 -- ---- the two topmost values
 
@@ -60,7 +60,7 @@ lent-two c ws st l h =
 
 module _ (c : Counts) (ws st : List ℕ) where
   pub reads-short : c .stack < 2 → ReadsCall c ws st (None StackUnderflow)
-  unfolding ReadsCall Call
+  unfolding ReadsCall CallSaid
   reads-short h r s e f = call-short r c s h
 
   at : (r : Rooms) (i : ℕ) → r .stack ≡ st → getD (r .stack) i 0 ≡ getD st i 0
@@ -68,16 +68,16 @@ module _ (c : Counts) (ws st : List ℕ) where
 
   module _ (two : 2 ≤ c .stack) where
     pub reads-no-class : kindIn (first ws (getD st (c .stack - 2) 0)) ≢ 11 → ReadsCall c ws st (None (Invalid AClass))
-    unfolding ReadsCall Call
+    unfolding ReadsCall CallSaid
     reads-no-class d r s e f = call-no-class r c s two _ _ (at r (c .stack - 2) f) (at r (c .stack - 1) f) (rw e d)
 
     module _ (global : kindIn (first ws (getD st (c .stack - 2) 0)) ≡ 11) where
       pub reads-no-arguments : kindIn (first ws (getD st (c .stack - 1) 0)) ≢ 7 → ReadsCall c ws st (None (Invalid Arguments))
-      unfolding ReadsCall Call
+      unfolding ReadsCall CallSaid
       reads-no-arguments d r s e f = call-no-arguments r c s two _ _ (at r (c .stack - 2) f) (at r (c .stack - 1) f) (rw e global) (rw e d)
 
       pub reads-both : (x y : NodeId) → getD st (c .stack - 2) 0 ≡ x .0 → getD st (c .stack - 1) 0 ≡ y .0 → kindIn (first ws (getD st (c .stack - 1) 0)) ≡ 7 → ReadsCall c ws st (Of x y)
-      unfolding ReadsCall Call
+      unfolding ReadsCall CallSaid
       reads-both x y p q t r s e f = rw (← p, ← q) (call-both r c s two _ _ (at r (c .stack - 2) f) (at r (c .stack - 1) f) (rw e global) (rw e t))
 
 -- ---- texts
@@ -164,15 +164,15 @@ module _ (p : List ℕ) (a b n : ℕ) where
 
 -- what the code's answer says of rooms that it was read from
 module _ (c : Counts) (ws st : List ℕ) (k : CallRead) (reads : ReadsCall c ws st k) (r : Rooms) (s : Sound r c) (e : r .nodes ≡ ws) (f : r .stack ≡ st) where
-  pub call-of : (x y : NodeId) → k ≡ Of x y → Calls c r (x .0) (y .0)
-  unfolding ReadsCall Call
+  pub call-of : (x y : NodeId) → k ≡ Of x y → CallOnTop c r (x .0) (y .0)
+  unfolding ReadsCall CallSaid
   call-of x y d = rw d at (reads r s e f)
 
-  pub call-refused : (makes : MadeByCall) (why : Refusal) → k ≡ None why → Says (refusing c why) r c (going (called makes (stateOf r c)))
-  unfolding ReadsCall Call going
+  pub call-refused : (makes : MadeByCall) (why : Refusal) → k ≡ None why → IsStep (refusing c why) r c (going (called makes (stateOf r c)))
+  unfolding ReadsCall CallSaid going
   call-refused makes why d = says-refused why r c (going (called makes (stateOf r c))) (rw ((rw d at (reads r s e f)) makes))
 
-module _ (r : Rooms) (c : Counts) (s : Sound r c) (x y : ℕ) (call : Calls c r x y) where
+module _ (r : Rooms) (c : Counts) (s : Sound r c) (x y : ℕ) (call : CallOnTop c r x y) where
   -- the words of both nodes
   pub call-rooms : (suc (2 * x) < length (r .nodes)) × (suc (2 * y) < length (r .nodes)) × (x < 4096) × (y < 4096)
   call-rooms = let a = node-room r c x s (call .class-node) in let b = node-room r c y s (call .args-node) in let d = s .firm .nodes in let h = call .class-node in let i = call .args-node in omega arith
@@ -190,7 +190,7 @@ module _ (r : Rooms) (c : Counts) (s : Sound r c) (x y : ℕ) (call : Calls c r 
   name = (moduleOf (r .pickle) (first (r .nodes) x), nameOf (r .pickle) (second (r .nodes) x))
 
   pub says-object : (makes : MadeByCall) (new : Bool) (c₁ : Counts) (a b : ℕ) → makes name y (kidsOf r c y) ≡ object name new y → c₁ ≡ cutTo c (c .at) (c .stack - 2) (c .marks) → a ≡ objectWord new x → b ≡ y
-      → Says (Push c₁ a b) r c (going (called makes (stateOf r c)))
+      → IsStep (Push c₁ a b) r c (going (called makes (stateOf r c)))
   unfolding enacted Fits
   says-object makes new c₁ a b m e f g =
       let k = object-made new x .0 in
@@ -202,7 +202,7 @@ module _ (r : Rooms) (c : Counts) (s : Sound r c) (x y : ℕ) (call : Calls c r 
       })
 
   says-set : (l : Label) (c₁ : Counts) (k b : ℕ) → reduced name y (kidsOf r c y) ≡ setOf l y (kidsOf r c y) → c₁ ≡ cutTo c (c .at) (c .stack - 2) (c .marks) → b ≡ getD (kidsOf r c y) 0 y
-      → nodeIs (r .pickle) (r .nodes) [] k b ≡ record { label = l; kids = b ∷ [] } → 7 < kindIn k → kindIn k < 10 → Says (Push c₁ k b) r c (going (called reduced (stateOf r c)))
+      → nodeIs (r .pickle) (r .nodes) [] k b ≡ record { label = l; kids = b ∷ [] } → 7 < kindIn k → kindIn k < 10 → IsStep (Push c₁ k b) r c (going (called reduced (stateOf r c)))
   unfolding enacted Fits
   says-set l c₁ k b m e f n low high =
       rw e
@@ -217,22 +217,22 @@ module _ (r : Rooms) (c : Counts) (s : Sound r c) (x y : ℕ) (call : Calls c r 
       holds k b low high (aDict e) = absurd (omega arith)
 
   module _ (k : ℕ) (made : k ≡ madeKind (name .0) (name .1) (second (r .nodes) y % 2 ^ 32)) (c₁ : Counts) (rest : c₁ ≡ cutTo c (c .at) (c .stack - 2) (c .marks)) where
-    view : Made name y (kidsOf r c y) (reduced name y (kidsOf r c y)) k
+    view : CallMakes name y (kidsOf r c y) (reduced name y (kidsOf r c y)) k
     view = rw (made, call-count) (made-of name y (kidsOf r c y))
 
-    pub reduce-object : k ≡ 12 → (a b : ℕ) → a ≡ objectWord false x → b ≡ y → Says (Push c₁ a b) r c (going (called reduced (stateOf r c)))
+    pub reduce-object : k ≡ 12 → (a b : ℕ) → a ≡ objectWord false x → b ≡ y → IsStep (Push c₁ a b) r c (going (called reduced (stateOf r c)))
     reduce-object e a b f g = go view
       where
-        go : Made name y (kidsOf r c y) (reduced name y (kidsOf r c y)) k → Says (Push c₁ a b) r c (going (called reduced (stateOf r c)))
+        go : CallMakes name y (kidsOf r c y) (reduced name y (kidsOf r c y)) k → IsStep (Push c₁ a b) r c (going (called reduced (stateOf r c)))
         go (aSet z m) = absurd (omega arith)
         go (aFrozenSet z m) = absurd (omega arith)
         go (anObject z m) = says-object reduced false c₁ a b m rest f g
 
-    pub reduce-set : k ≢ 12 → (b : ℕ) → b ≡ getD (kidsOf r c y) 0 y → Says (Push c₁ k b) r c (going (called reduced (stateOf r c)))
+    pub reduce-set : k ≢ 12 → (b : ℕ) → b ≡ getD (kidsOf r c y) 0 y → IsStep (Push c₁ k b) r c (going (called reduced (stateOf r c)))
     unfolding nodeIs kindIn
     reduce-set d b f = go view
       where
-        go : Made name y (kidsOf r c y) (reduced name y (kidsOf r c y)) k → Says (Push c₁ k b) r c (going (called reduced (stateOf r c)))
+        go : CallMakes name y (kidsOf r c y) (reduced name y (kidsOf r c y)) k → IsStep (Push c₁ k b) r c (going (called reduced (stateOf r c)))
         go (aSet z m) = rw z (says-set SetL c₁ 8 b m rest f refl (omega arith) (omega arith))
         go (aFrozenSet z m) = rw z (says-set FrozenSetL c₁ 9 b m rest f refl (omega arith) (omega arith))
         go (anObject z m) = absurd (d z)
@@ -247,13 +247,13 @@ module _ (r : Rooms) (c : Counts) (s : Sound r c) (x y : ℕ) (call : Calls c r 
 
 -- what REDUCE read of the rooms: w is the arguments' second word, k the kind of what is made
 pub record Found (r : Rooms) (c : Counts) (x y w k : ℕ) : Type 0 where
-  pub call : Calls c r x y
+  pub call : CallOnTop c r x y
   pub word : w ≡ second (r .nodes) y
   pub count : w % 2 ^ 32 ≡ length (kidsOf r c y)
   pub kind : k ≡ madeKind (moduleOf (r .pickle) (first (r .nodes) x)) (nameOf (r .pickle) (second (r .nodes) x)) (second (r .nodes) y % 2 ^ 32)
 
 -- of the pickle p and the nodes' words ws: a and b are the class's words
-pub found : (r : Rooms) (c : Counts) (p ws : List ℕ) (x y a b w k : ℕ) → Sound r c → r .pickle ≡ p → r .nodes ≡ ws → Calls c r x y → a ≡ first ws x → b ≡ second ws x → w ≡ second ws y
+pub found : (r : Rooms) (c : Counts) (p ws : List ℕ) (x y a b w k : ℕ) → Sound r c → r .pickle ≡ p → r .nodes ≡ ws → CallOnTop c r x y → a ≡ first ws x → b ≡ second ws x → w ≡ second ws y
     → k ≡ madeKind (moduleOf p a) (nameOf p b) (w % 2 ^ 32) → Found r c x y w k
 found r c p ws x y a b w k s e f call g h i j = record {
   call = call;
@@ -303,17 +303,17 @@ module _ (r : Rooms) (c : Counts) (x y w k : ℕ) (s : Sound r c) (f : Found r c
 -- ---- BUILD
 
 module _ (r : Rooms) (c : Counts) (s : Sound r c) (ws st : List ℕ) (e : r .nodes ≡ ws) (f : r .stack ≡ st) where
-  pub says-build-short : c .stack < 2 → Says (refusing c StackUnderflow) r c (going (buildState (stateOf r c)))
+  pub says-build-short : c .stack < 2 → IsStep (refusing c StackUnderflow) r c (going (buildState (stateOf r c)))
   unfolding going
   says-build-short h = says-refused StackUnderflow r c (going (buildState (stateOf r c))) (rw (build-short r c s h))
 
   module _ (two : 2 ≤ c .stack) where
-    pub says-no-object : kindIn (first ws (getD st (c .stack - 2) 0)) ≢ 12 → Says (refusing c (Invalid Object)) r c (going (buildState (stateOf r c)))
+    pub says-no-object : kindIn (first ws (getD st (c .stack - 2) 0)) ≢ 12 → IsStep (refusing c (Invalid Object)) r c (going (buildState (stateOf r c)))
     unfolding going
     says-no-object d = says-refused (Invalid Object) r c (going (buildState (stateOf r c))) (rw (build-no-object r c s two _ _ (at c ws st r (c .stack - 2) f) (at c ws st r (c .stack - 1) f) (rw e d)))
 
     pub says-build : (x y : NodeId) (c₁ : Counts) → getD st (c .stack - 2) 0 ≡ x .0 → getD st (c .stack - 1) 0 ≡ y .0 → kindIn (first ws (getD st (c .stack - 2) 0)) ≡ 12 → c₁ ≡ cutTo c (c .at) (c .stack - 1) (c .marks)
-        → Says (Build c₁ x y) r c (going (buildState (stateOf r c)))
+        → IsStep (Build c₁ x y) r c (going (buildState (stateOf r c)))
     unfolding enacted Fits going
     says-build x y c₁ p q k g =
         let lower = at c ws st r (c .stack - 2) f ∙ p in

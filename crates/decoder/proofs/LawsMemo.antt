@@ -16,7 +16,7 @@ use Rattle.decoder.specs.declared.KeyRead.{KeyRead}
 use Rattle.decoder.specs.declared.KeyRead.the-variants.{None, At}
 use Rattle.store.specs.declared.Effect.{Effect}
 use Rattle.store.specs.declared.Effect.the-variants.{Share, Remember}
-use Rattle.steps.specs.State.{State, Res, ok, _>>=_, leaf, find, get, put}
+use Rattle.steps.specs.State.{State, Res, ok, _>>=_, leaf, memoFind, get, put}
 use Rattle.steps.specs.Opcodes.{lowBytes}
 use Rattle.steps.specs.Run.{going}
 use Rattle.store.specs.declared.Counts.{Counts}
@@ -25,7 +25,7 @@ use Rattle.store.specs.RoomMemo.{find-absent, find-present}
 use Rattle.store.specs.RoomReads.{memo-of, nodes-length}
 use Rattle.steps.specs.Effect.{kept}
 use Rattle.steps.specs.Range.{known-below}
-use Rattle.store.specs.Effects.{Sound, Says, Fits, SomeRooms, Decides, enacted, put-is, refusing, says-refused}
+use Rattle.store.specs.Effects.{Sound, IsStep, Fits, SomeRooms, Decides, enacted, put-is, refusing, says-refused}
 use Rattle.decoder.specs.Reads.{cutTo, bytes-short, bytes-got, line-none, line-got, top-none, top-got}
 use Rattle.decoder.specs.ReadsMemo.{keyLine, keyed, Key, ReadsKey, sound-read}
 use Rattle.decoder.specs.StackSteps.{on-stack}
@@ -62,11 +62,11 @@ module _ (r : Rooms) (c : Counts) (p : List ℕ) (s : Sound r c) (q : r .pickle 
 -- ---- an opcode that reads a number first
 
 module _ (f : State → Res (ℕ × State)) (does : ℕ → State → Res State) (op : State → Res State) (is : (s : State) → op s ≡ keyed f does s) (r : Rooms) (c : Counts) where
-  key-refused : (why : Refusal) → Key f c r (None why) → Says (refusing c why) r c (going (op (stateOf r c)))
+  key-refused : (why : Refusal) → Key f c r (None why) → IsStep (refusing c why) r c (going (op (stateOf r c)))
   unfolding Key keyed _>>=_ going
   key-refused why e = says-refused why r c (going (op (stateOf r c))) (rw (is (stateOf r c), e))
 
-  key-went : (a : ℕ) (k : MemoKey) (e : Effect) → Key f c r (At a k) → Says e r (cutTo c a (c .stack) (c .marks)) (going (does (k .0) (stateOf r (cutTo c a (c .stack) (c .marks))))) → Says e r c (going (op (stateOf r c)))
+  key-went : (a : ℕ) (k : MemoKey) (e : Effect) → Key f c r (At a k) → IsStep e r (cutTo c a (c .stack) (c .marks)) (going (does (k .0) (stateOf r (cutTo c a (c .stack) (c .marks))))) → IsStep e r c (going (op (stateOf r c)))
   unfolding Key keyed _>>=_ going
   key-went a k e q s = record { enacts = s .enacts ∙ rw (is (stateOf r c), q .0); fits = s .fits }
 
@@ -99,20 +99,20 @@ module _ (r : Rooms) (c : Counts) (s : Sound r c) (key : MemoKey) where
   pub slot-rooms : (keys : List ℕ) → r .keys ≡ keys → (c .memo ≤ length keys) × (0 < length keys) × Numbered keys (c .memo) (c .greatest)
   slot-rooms keys e = rw (← e) (memo-rooms .0, (let a = s .firm .lengths .keys in omega arith), s .firm .numbered)
 
-  pub get-missing : Absent (r .keys) (c .memo) (key .0) → Says (refusing c (MissingMemo (key .0))) r c (going (get (key .0) (stateOf r c)))
+  pub get-missing : Absent (r .keys) (c .memo) (key .0) → IsStep (refusing c (MissingMemo (key .0))) r c (going (get (key .0) (stateOf r c)))
   unfolding get _>>=_ going
   get-missing h = says-refused (MissingMemo (key .0)) r c (going (get (key .0) (stateOf r c))) (rw (memo-of r c, find-absent (r .keys) (r .held) (c .memo) (key .0) (memo-rooms .0) (memo-rooms .1) h))
 
-  pub get-found : (i : ℕ) (n : NodeId) → i < c .memo → getD (r .keys) i 0 ≡ key .0 → Absent (r .keys) i (key .0) → n .0 ≡ getD (r .held) i 0 → Says (Share c n) r c (going (get (key .0) (stateOf r c)))
+  pub get-found : (i : ℕ) (n : NodeId) → i < c .memo → getD (r .keys) i 0 ≡ key .0 → Absent (r .keys) i (key .0) → n .0 ≡ getD (r .held) i 0 → IsStep (Share c n) r c (going (get (key .0) (stateOf r c)))
   unfolding enacted Fits get _>>=_ going
   get-found i n h e a m =
-      let t : find (stateOf r c .memo) (key .0) ≡ ok (n .0) = rw (memo-of r c, m) (find-present (r .keys) (r .held) (c .memo) (key .0) (memo-rooms .0) (memo-rooms .1) i h e a) in
+      let t : memoFind (stateOf r c .memo) (key .0) ≡ ok (n .0) = rw (memo-of r c, m) (find-present (r .keys) (r .held) (c .memo) (key .0) (memo-rooms .0) (memo-rooms .1) i h e a) in
       record { enacts = rw t; fits = (s .firm, rw (nodes-length r c) at (known-below (stateOf r c) (n .0) (s .range) (kept (key .0) (n .0) t))) }
 
-  pub put-none : c .stack ≡ 0 → Says (refusing c StackUnderflow) r c (going (put (key .0) (stateOf r c)))
+  pub put-none : c .stack ≡ 0 → IsStep (refusing c StackUnderflow) r c (going (put (key .0) (stateOf r c)))
   unfolding _>>=_ going
   put-none e = says-refused StackUnderflow r c (going (put (key .0) (stateOf r c))) (rw (put-is (key .0) (stateOf r c), top-none r c (s .firm) e))
 
-  pub put-some : (n : NodeId) → 0 < c .stack → n .0 ≡ getD (r .stack) (c .stack - 1) 0 → Says (Remember c n 0 key) r c (going (put (key .0) (stateOf r c)))
+  pub put-some : (n : NodeId) → 0 < c .stack → n .0 ≡ getD (r .stack) (c .stack - 1) 0 → IsStep (Remember c n 0 key) r c (going (put (key .0) (stateOf r c)))
   unfolding enacted Fits _>>=_ going
   put-some n h e = record { enacts = rw (put-is (key .0) (stateOf r c), top-got r c (s .firm) h, e); fits = (s .firm, rw e (on-stack r c s (c .stack - 1) (omega arith))) }

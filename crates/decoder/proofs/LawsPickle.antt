@@ -13,7 +13,7 @@ use Rattle.refusal.specs.declared.Refusal.the-variants.{EndOfInput, Unsupported
 use Rattle.refusal.specs.declared.Wanted.the-variants.{Length}
 use Rattle.utf8.specs.Utf8.{repair}
 use Rattle.input.specs.Bytes.{Bytes, bytes-take, bytes-drop}
-use Rattle.input.specs.Long.{denotes, inI64, bits64, integer, longOf, bits-sign, short-in}
+use Rattle.input.specs.Long.{denotes, inI64, bits64, integerRead, longOf, bits-sign, short-in}
 use Rattle.input.specs.declared.Integer.{Integer}
 use Rattle.input.specs.declared.Integer.the-variants as integers
 use Rattle.number.specs.Number.{Int, truth, whole, turned, invalid, intLiteral, longLiteral}
@@ -29,7 +29,7 @@ use Rattle.input.specs.Line.{lineEnd, newlineOf, lineOf, line-length}
 use Rattle.input.specs.declared.LineEnd.{LineEnd}
 use Rattle.input.specs.declared.LineEnd.the-variants as ends
 use Rattle.text.specs.Pieces.{bytesOf, lengthOf}
-use Rattle.text.specs.Text.{inner, unescapeString, unescapeUnicode, measured, quotedSays, decodedSays}
+use Rattle.text.specs.Text.{inner, unescapeString, unescapeUnicode, stringMeasured, quotedSays, decodedSays}
 use Rattle.text.specs.Answers.{got-bytes, decoded-len, decoded-bad, quoted-plain, quoted-escaped, quoted-bad}
 use Rattle.text.specs.declared.Decoded.{Decoded}
 use Rattle.text.specs.declared.Decoded.the-variants as decoded
@@ -135,17 +135,17 @@ cut-part : (p : List ℕ) (a m : ℕ) → take (a + m - a) (drop a p) ≡ take m
 cut-part p a m = let e : a + m - a ≡ m = omega arith in rw e
 
 -- x is the integer of the part behind a length of n bytes
-module _ (p : List ℕ) (n at : ℕ) (t : Part) (h : ReadsPart at p (prefixed n) t) (a m : ℕ) (e : t ≡ At a m) (x : Integer) (d : integer x ≡ longOf (take (a + m - a) (drop a p))) where
-  part-says : longOf (take m (drop a p)) ≡ integer x
+module _ (p : List ℕ) (n at : ℕ) (t : Part) (h : ReadsPart at p (prefixed n) t) (a m : ℕ) (e : t ≡ At a m) (x : Integer) (d : integerRead x ≡ longOf (take (a + m - a) (drop a p))) where
+  part-says : longOf (take m (drop a p)) ≡ integerRead x
   part-says = sym (d ∙ ap longOf (cut-part p a m))
 
   pub long-value : (v : ℕ) → x ≡ integers.Value v → ReadsLong n at p (long.At (a + m) v)
-  unfolding integer
-  long-value v k = long-got p n at t h a m e v (part-says ∙ ap integer k)
+  unfolding integerRead
+  long-value v k = long-got p n at t h a m e v (part-says ∙ ap integerRead k)
 
   pub long-outside : x ≡ integers.TooLarge → ReadsLong n at p (long.None IntegerTooLarge)
-  unfolding integer
-  long-outside k = long-large p n at t h a m e (part-says ∙ ap integer k)
+  unfolding integerRead
+  long-outside k = long-large p n at t h a m e (part-says ∙ ap integerRead k)
 
 -- ---- a line's own part
 
@@ -188,7 +188,7 @@ inner-own : (l d : List ℕ) (n : ℕ) → l ≡ take (suc n) d → length l ≡
 unfolding inner
 inner-own l d n e k = rw k (ap (λ (t : List ℕ). take (suc n - 2) (drop 1 t)) e ∙ ap (take (suc n - 2)) (drop-one n d) ∙ take-take (suc n - 2) n (drop 1 d) (omega arith))
 
-module _ (l : List ℕ) (x : Quoted) (e : quotedSays l x ≡ measured l) where
+module _ (l : List ℕ) (x : Quoted) (e : quotedSays l x ≡ stringMeasured l) where
   pub string-plain : x ≡ quoted.Plain → unescapeString l ≡ got (inner l)
   string-plain d = quoted-plain l (rw d at e)
 

@@ -12,11 +12,11 @@ use Rattle.decoder.specs.declared.Taken.the-variants.{Short, From}
 use Rattle.store.specs.declared.Effect.{Effect}
 use Rattle.steps.specs.State.{State, Res, ok, no, _>>=_, popMark}
 use Rattle.steps.specs.NodeWords.{labelIn}
-use Rattle.steps.specs.Opcodes.{isList, isDict, made, added}
+use Rattle.steps.specs.Opcodes.{isList, isDict, made, addItems}
 use Rattle.steps.specs.Run.{going}
 use Rattle.store.specs.declared.Counts.{Counts}
 use Rattle.store.specs.Rooms.{Rooms, stateOf}
-use Rattle.store.specs.Effects.{Sound, Says, above}
+use Rattle.store.specs.Effects.{Sound, IsStep, above}
 use Rattle.decoder.specs.Reads.{cutTo}
 
 -- what was found above the last mark
@@ -46,4 +46,4 @@ isGrown k l = cond (eqb k 6) (isList l) (isDict l)
 unfoldable pub Adds : Counts → List ℕ → List ℕ → ℕ → ℕ → ℕ → Wanted → Effect → Type 0
 Adds c nodes stack keep marks k why e =
     (r : Rooms) → Sound r c → r .nodes ≡ nodes → r .stack ≡ stack
-    → Says e r c (going (added (isGrown k) (Invalid why) (above keep (c .stack) (r .stack)) (stateOf r (cutTo c (c .at) keep marks))))
+    → IsStep e r c (going (addItems (isGrown k) (Invalid why) (above keep (c .stack) (r .stack)) (stateOf r (cutTo c (c .at) keep marks))))

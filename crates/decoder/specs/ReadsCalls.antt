@@ -24,7 +24,7 @@ use Rattle.store.specs.declared.Counts.{Counts}
 use Rattle.store.specs.Rooms.{Rooms, kidsOf, nodeOf, stateOf}
 use Rattle.steps.specs.NodeWords.{first, second, moduleOf, nameOf, nodeIs, tuple-kind, object-kind, class-kind}
 use Rattle.store.specs.RoomReads.{node-at}
-use Rattle.store.specs.Effects.{Firm, Sound, state}
+use Rattle.store.specs.Effects.{Firm, Sound, withState}
 use Rattle.decoder.specs.Reads.{cutTo, firm-cut, pop-none, pop-got, top-none, top-got}
 use Rattle.decoder.specs.StackSteps.{on-stack}
 
@@ -35,7 +35,7 @@ abbrev pub MadeByCall : Type 0
 MadeByCall = List ℕ × List ℕ → ℕ → List ℕ → Node
 
 -- in the rooms r with the counts c a Global and above it a Tuple are on top
-pub record Calls (c : Counts) (r : Rooms) (class args : ℕ) : Type 0 where
+pub record CallOnTop (c : Counts) (r : Rooms) (class args : ℕ) : Type 0 where
   pub two : 2 ≤ c .stack
   pub class-node : class < c .nodes
   pub class-kind : kindIn (first (r .nodes) class) ≡ 11
@@ -45,13 +45,13 @@ pub record Calls (c : Counts) (r : Rooms) (class args : ℕ) : Type 0 where
       ≡ pushNode (makes (moduleOf (r .pickle) (first (r .nodes) class), nameOf (r .pickle) (second (r .nodes) class)) args (kidsOf r c args)) (stateOf r (cutTo c (c .at) (c .stack - 2) (c .marks)))
 
 -- what the code answers: no call, or the two nodes
-unfoldable pub Call : Counts → Rooms → CallRead → Type 0
-Call c r (None why) = (makes : MadeByCall) → called makes (stateOf r c) ≡ no why
-Call c r (Of class args) = Calls c r (class .0) (args .0)
+unfoldable pub CallSaid : Counts → Rooms → CallRead → Type 0
+CallSaid c r (None why) = (makes : MadeByCall) → called makes (stateOf r c) ≡ no why
+CallSaid c r (Of class args) = CallOnTop c r (class .0) (args .0)
 
 -- the same in all rooms with these nodes and this stack
 unfoldable pub ReadsCall : Counts → List ℕ → List ℕ → CallRead → Type 0
-ReadsCall c ws st k = (r : Rooms) → Sound r c → r .nodes ≡ ws → r .stack ≡ st → Call c r k
+ReadsCall c ws st k = (r : Rooms) → Sound r c → r .nodes ≡ ws → r .stack ≡ st → CallSaid c r k
 
 -- one value taken
 abbrev below : Counts → Counts
@@ -112,7 +112,7 @@ module _ (r : Rooms) (c : Counts) (s : Sound r c) (two : 2 ≤ c .stack) (o i : 
     unfolding _>>=_ need
     call-no-arguments d makes = taken makes ∙ rw (named, tuple-kind (r .pickle) (r .nodes) (kidsOf r c i) (first (r .nodes) i) (second (r .nodes) i), ne-eqb (kindIn (first (r .nodes) i)) 7 d)
 
-    pub call-both : kindIn (first (r .nodes) i) ≡ 7 → Calls c r o i
+    pub call-both : kindIn (first (r .nodes) i) ≡ 7 → CallOnTop c r o i
     unfolding _>>=_ need nodeIs
     call-both e = record {
       two = two;
@@ -128,15 +128,15 @@ module _ (r : Rooms) (c : Counts) (s : Sound r c) (two : 2 ≤ c .stack) (o i : 
   on-top : top (stateOf r (below c)) ≡ ok o
   on-top = rw (place, lower) at (top-got r (below c) (firm-below r c s) (omega arith))
 
-  building : buildState (stateOf r c) ≡ (need (isObject (nodeOf r c o .label)) (Invalid Object) >>= λ (u : Unit {0}). ok (state o i (stateOf r (below c))))
-  unfolding buildState state _>>=_
+  building : buildState (stateOf r c) ≡ (need (isObject (nodeOf r c o .label)) (Invalid Object) >>= λ (u : Unit {0}). ok (withState o i (stateOf r (below c))))
+  unfolding buildState withState _>>=_
   building = rw (first-pop, on-top, ← node-at r (below c) o lower-node)
 
   pub build-no-object : kindIn (first (r .nodes) o) ≢ 12 → buildState (stateOf r c) ≡ no (Invalid Object)
   unfolding _>>=_ need
   build-no-object d = building ∙ rw (object-kind (r .pickle) (r .nodes) (kidsOf r c o) (first (r .nodes) o) (second (r .nodes) o), ne-eqb (kindIn (first (r .nodes) o)) 12 d)
 
-  pub build-object : kindIn (first (r .nodes) o) ≡ 12 → buildState (stateOf r c) ≡ ok (state o i (stateOf r (cutTo c (c .at) (c .stack - 1) (c .marks))))
+  pub build-object : kindIn (first (r .nodes) o) ≡ 12 → buildState (stateOf r c) ≡ ok (withState o i (stateOf r (cutTo c (c .at) (c .stack - 1) (c .marks))))
   unfolding _>>=_ need
   build-object e = building ∙ rw (object-kind (r .pickle) (r .nodes) (kidsOf r c o) (first (r .nodes) o) (second (r .nodes) o), eq-eqb (kindIn (first (r .nodes) o)) 12 e)
 
@@ -146,16 +146,16 @@ module _ (r : Rooms) (c : Counts) (s : Sound r c) (two : 2 ≤ c .stack) (o i : 
 unfoldable pub madeKind : List ℕ → List ℕ → ℕ → ℕ
 madeKind m n k = cond (same m builtin && leb k 1) (cond (same n setName) 8 (cond (same n frozensetName) 9 12)) 12
 
-pub data Made (c : List ℕ × List ℕ) (args : ℕ) (is : List ℕ) (x : Node) (k : ℕ) : Type 0 where
-  aSet : k ≡ 8 → x ≡ setOf SetL args is → Made c args is x k
-  aFrozenSet : k ≡ 9 → x ≡ setOf FrozenSetL args is → Made c args is x k
-  anObject : k ≡ 12 → x ≡ object c false args → Made c args is x k
+pub data CallMakes (c : List ℕ × List ℕ) (args : ℕ) (is : List ℕ) (x : Node) (k : ℕ) : Type 0 where
+  aSet : k ≡ 8 → x ≡ setOf SetL args is → CallMakes c args is x k
+  aFrozenSet : k ≡ 9 → x ≡ setOf FrozenSetL args is → CallMakes c args is x k
+  anObject : k ≡ 12 → x ≡ object c false args → CallMakes c args is x k
 
-pub made-of : (c : List ℕ × List ℕ) (args : ℕ) (is : List ℕ) → Made c args is (reduced c args is) (madeKind (c .0) (c .1) (length is))
+pub made-of : (c : List ℕ × List ℕ) (args : ℕ) (is : List ℕ) → CallMakes c args is (reduced c args is) (madeKind (c .0) (c .1) (length is))
 unfolding reduced madeKind
 made-of c args is = go (same (c .0) builtin && leb (length is) 1) (same (c .1) setName) (same (c .1) frozensetName)
   where
-    go : (x y z : Bool) → Made c args is (cond x (cond y (setOf SetL args is) (cond z (setOf FrozenSetL args is) (object c false args))) (object c false args)) (cond x (cond y 8 (cond z 9 12)) 12)
+    go : (x y z : Bool) → CallMakes c args is (cond x (cond y (setOf SetL args is) (cond z (setOf FrozenSetL args is) (object c false args))) (object c false args)) (cond x (cond y 8 (cond z 9 12)) 12)
     go true true z = aSet refl refl
     go true false true = aFrozenSet refl refl
     go true false false = anObject refl refl

@@ -35,7 +35,7 @@ use Rattle.store.specs.declared.Counts.{Counts}
 use Rattle.store.specs.Rooms.{Rooms, stateOf, atTo}
 use Rattle.steps.specs.NodeWords.{moduleOf, nameOf, nodeIs, HoldsLinks, aList, aTuple, aDict, within-at, node-kind, kind-made, rest-made}
 use Rattle.store.specs.RoomKeeps.{class-none}
-use Rattle.store.specs.Effects.{Firm, Sound, Says, Fits, SomeRooms, Decides, enacted, refusing, says-refused}
+use Rattle.store.specs.Effects.{Firm, Sound, IsStep, Fits, SomeRooms, Decides, enacted, refusing, says-refused}
 use Rattle.decoder.specs.Reads.{cutTo, firm-cut, bytes-short, bytes-got, line-none, line-got}
 
 -- ---- what the parts of the code answer
@@ -120,18 +120,18 @@ no-links k t (aTuple e) = wrong (kindIn k) 7 t refl e
 no-links k t (aDict e) = wrong (kindIn k) 10 t refl e
 
 module _ (r : Rooms) (c : Counts) (s : Sound r c) where
-  pub refused-going : (why : Refusal) (m : Res State) → m ≡ no why → Says (refusing c why) r c (going m)
+  pub refused-going : (why : Refusal) (m : Res State) → m ≡ no why → IsStep (refusing c why) r c (going m)
   unfolding going
   refused-going why m e = says-refused why r c (going m) (rw e)
 
   pub firm-read : (a : ℕ) → c .at ≤ a → a ≤ length (r .pickle) → Firm r (cutTo c a (c .stack) (c .marks))
   firm-read a h k = firm-cut r c a (c .stack) (c .marks) (s .firm) h k (omega arith) (omega arith)
 
-  pub says-go : (a : ℕ) (m : Res State) → m ≡ ok (stateOf r (atTo c a)) → c .at ≤ a → a ≤ length (r .pickle) → Says (Go (cutTo c a (c .stack) (c .marks))) r c (going m)
+  pub says-go : (a : ℕ) (m : Res State) → m ≡ ok (stateOf r (atTo c a)) → c .at ≤ a → a ≤ length (r .pickle) → IsStep (Go (cutTo c a (c .stack) (c .marks))) r c (going m)
   unfolding enacted Fits going
   says-go a m e h k = record { enacts = rw e; fits = firm-read a h k }
 
-  pub says-push : (a k b : ℕ) (l : Label) (m : Res State) → m ≡ push l (stateOf r (atTo c a)) → Makes (r .pickle) k b l → c .at ≤ a → a ≤ length (r .pickle) → Says (Push (cutTo c a (c .stack) (c .marks)) k b) r c (going m)
+  pub says-push : (a k b : ℕ) (l : Label) (m : Res State) → m ≡ push l (stateOf r (atTo c a)) → Makes (r .pickle) k b l → c .at ≤ a → a ≤ length (r .pickle) → IsStep (Push (cutTo c a (c .stack) (c .marks)) k b) r c (going m)
   unfolding enacted Fits leafy push
   says-push a k b l m e n h i = record {
     enacts = rw (e, n .node (r .nodes));

@@ -16,14 +16,14 @@ use Rattle.value.specs.Shape.{kindIn}
 use Rattle.decoder.specs.declared.Taken.the-variants.{Short, From}
 use Rattle.store.specs.declared.Effect.the-variants.{Share, Go, Make, Extend}
 use Rattle.steps.specs.State.{State, no, _>>=_, need, nodeAt}
-use Rattle.steps.specs.Opcodes.{popOne, popToMark, dup, tupleN, pairs, dict, isList, isDict, added, append, appends, setitem, setitems}
+use Rattle.steps.specs.Opcodes.{popOne, popToMark, dup, tupleN, pairs, dict, isList, isDict, addItems, append, appends, setitem, setitems}
 use Rattle.steps.specs.Run.{going}
 use Rattle.steps.specs.Out.{every-at}
 use Rattle.store.specs.declared.Counts.{Counts}
 use Rattle.store.specs.Rooms.{Rooms, kidsOf, stateOf, stackTo}
 use Rattle.steps.specs.NodeWords.{first, second, nodeIs, HoldsLinks, aList, aTuple, aDict, list-kind, dict-kind, node-label}
 use Rattle.store.specs.RoomReads.{stack-of, stack-length, nodes-length, node-at}
-use Rattle.store.specs.Effects.{Firm, Sound, SomeRooms, Fits, Says, refusing, says-refused, enacted, container, grow, above}
+use Rattle.store.specs.Effects.{Firm, Sound, SomeRooms, Fits, IsStep, refusing, says-refused, enacted, container, grow, above}
 use Rattle.decoder.specs.Reads.{cutTo, firm-cut, mark-none, mark-above, mark-got, top-none, top-got, pop-none, pop-got, many-none, many-got}
 use Rattle.decoder.specs.Items.{Took, TakesMark, GrowingKind, lists, dicts, isGrown, gathered}
 
@@ -46,7 +46,7 @@ module _ (r : Rooms) (c : Counts) (s : Sound r c) where
   unfolding popOne _>>=_ going
   pop-underflow e = rw (pop-none r c (s .firm) e)
 
-  pub pop-goes : c .stack ≢ 0 → Says (Go (cutTo c (c .at) (c .stack - 1) (c .marks))) r c (going (popOne (stateOf r c)))
+  pub pop-goes : c .stack ≢ 0 → IsStep (Go (cutTo c (c .at) (c .stack - 1) (c .marks))) r c (going (popOne (stateOf r c)))
   unfolding popOne _>>=_ going enacted Fits
   pop-goes h = record { enacts = rw (pop-got r c (s .firm) (omega arith)); fits = cut-firm (c .stack - 1) (c .marks) (omega arith) (omega arith) }
 
@@ -54,7 +54,7 @@ module _ (r : Rooms) (c : Counts) (s : Sound r c) where
   unfolding popToMark _>>=_ going Took
   pop-mark-underflow h = rw h
 
-  pub pop-mark-goes : (m : ℕ) → Took (From m) r c → Says (Go (cutTo c (c .at) m (c .marks - 1))) r c (going (popToMark (stateOf r c)))
+  pub pop-mark-goes : (m : ℕ) → Took (From m) r c → IsStep (Go (cutTo c (c .at) m (c .marks - 1))) r c (going (popToMark (stateOf r c)))
   unfolding popToMark _>>=_ going Took enacted Fits
   pop-mark-goes m h = record { enacts = rw (h .0); fits = cut-firm m (c .marks - 1) (h .1) (omega arith) }
 
@@ -62,7 +62,7 @@ module _ (r : Rooms) (c : Counts) (s : Sound r c) where
   unfolding dup _>>=_ going
   dup-underflow e = rw (top-none r c (s .firm) e)
 
-  pub dup-shares : c .stack ≢ 0 → Says (Share c (record { 0 = getD (r .stack) (c .stack - 1) 0 })) r c (going (dup (stateOf r c)))
+  pub dup-shares : c .stack ≢ 0 → IsStep (Share c (record { 0 = getD (r .stack) (c .stack - 1) 0 })) r c (going (dup (stateOf r c)))
   unfolding dup _>>=_ going enacted Fits
   dup-shares h = record { enacts = rw (top-got r c (s .firm) (omega arith)); fits = (s .firm, on-stack (c .stack - 1) (omega arith)) }
 
@@ -76,7 +76,7 @@ module _ (r : Rooms) (c : Counts) (s : Sound r c) where
   unfolding gathered _>>=_ going Took
   gathered-underflow k h = rw h
 
-  pub gathered-makes : (m k : ℕ) → HoldsLinks k → Took (From m) r c → Says (Make (cutTo c (c .at) m (c .marks - 1)) k) r c (going (gathered k (stateOf r c)))
+  pub gathered-makes : (m k : ℕ) → HoldsLinks k → Took (From m) r c → IsStep (Make (cutTo c (c .at) m (c .marks - 1)) k) r c (going (gathered k (stateOf r c)))
   unfolding gathered _>>=_ going Took enacted container
   gathered-makes m k t h = record { enacts = rw (h .0, node-label (r .pickle) k 0 [] (r .nodes) t); fits = making m (c .marks - 1) k (h .1) (omega arith) t }
 
@@ -84,7 +84,7 @@ module _ (r : Rooms) (c : Counts) (s : Sound r c) where
   unfolding tupleN _>>=_ going
   tuple-n-underflow n h = rw (many-none r c (s .firm) n h)
 
-  pub tuple-n-makes : (n : ℕ) → n ≤ c .stack → Says (Make (cutTo c (c .at) (c .stack - n) (c .marks)) 7) r c (going (tupleN n (stateOf r c)))
+  pub tuple-n-makes : (n : ℕ) → n ≤ c .stack → IsStep (Make (cutTo c (c .at) (c .stack - n) (c .marks)) 7) r c (going (tupleN n (stateOf r c)))
   unfolding tupleN _>>=_ going enacted container nodeIs kindIn
   tuple-n-makes n h = record { enacts = rw (many-got r c (s .firm) n h); fits = making (c .stack - n) (c .marks) 7 (omega arith) (omega arith) (aTuple refl) }
 
@@ -101,7 +101,7 @@ module _ (r : Rooms) (c : Counts) (s : Sound r c) where
   unfolding dict pairs _>>=_ going need Took
   dict-odd m h o = rw (h .0, above-length m, ne-eqb ((c .stack - m) % 2) 0 o)
 
-  pub dict-makes : (m : ℕ) → Took (From m) r c → (c .stack - m) % 2 ≡ 0 → Says (Make (cutTo c (c .at) m (c .marks - 1)) 10) r c (going (dict (stateOf r c)))
+  pub dict-makes : (m : ℕ) → Took (From m) r c → (c .stack - m) % 2 ≡ 0 → IsStep (Make (cutTo c (c .at) m (c .marks - 1)) 10) r c (going (dict (stateOf r c)))
   unfolding dict pairs _>>=_ going need Took enacted container nodeIs kindIn
   dict-makes m h e = record { enacts = rw (h .0, above-length m, e); fits = making m (c .marks - 1) 10 (h .1) (omega arith) (aDict refl) }
 
@@ -114,8 +114,8 @@ module _ (r : Rooms) (c : Counts) (s : Sound r c) where
     abbrev pub t : State
     t = stateOf r (cutTo c (c .at) keep m)
 
-    pub added-underflow : keep ≡ 0 → going (added (isGrown k) (Invalid why) is t) ≡ no StackUnderflow
-    unfolding added _>>=_ going
+    pub added-underflow : keep ≡ 0 → going (addItems (isGrown k) (Invalid why) is t) ≡ no StackUnderflow
+    unfolding addItems _>>=_ going
     added-underflow e = rw (top-none r (cutTo c (c .at) keep m) (cut-firm keep m low fewer) e)
 
     right : keep ≢ 0 → isGrown k (nodeAt t owner .label) ≡ eqb (kindIn (first (r .nodes) owner)) k
@@ -126,12 +126,12 @@ module _ (r : Rooms) (c : Counts) (s : Sound r c) where
         go (lists e) = rw e (list-kind (r .pickle) (r .nodes) (kidsOf r c owner) (first (r .nodes) owner) (second (r .nodes) owner))
         go (dicts e) = rw e (dict-kind (r .pickle) (r .nodes) (kidsOf r c owner) (first (r .nodes) owner) (second (r .nodes) owner))
 
-    pub added-wrong : keep ≢ 0 → kindIn (first (r .nodes) owner) ≢ k → going (added (isGrown k) (Invalid why) is t) ≡ no (Invalid why)
-    unfolding added _>>=_ going need
+    pub added-wrong : keep ≢ 0 → kindIn (first (r .nodes) owner) ≢ k → going (addItems (isGrown k) (Invalid why) is t) ≡ no (Invalid why)
+    unfolding addItems _>>=_ going need
     added-wrong h d = rw (top-got r (cutTo c (c .at) keep m) (cut-firm keep m low fewer) (omega arith), right h, ne-eqb (kindIn (first (r .nodes) owner)) k d)
 
-    pub added-grows : keep ≢ 0 → kindIn (first (r .nodes) owner) ≡ k → going (added (isGrown k) (Invalid why) is t) ≡ going (grow owner is t)
-    unfolding added grow _>>=_ going need
+    pub added-grows : keep ≢ 0 → kindIn (first (r .nodes) owner) ≡ k → going (addItems (isGrown k) (Invalid why) is t) ≡ going (grow owner is t)
+    unfolding addItems grow _>>=_ going need
     added-grows h e = rw (top-got r (cutTo c (c .at) keep m) (cut-firm keep m low fewer) (omega arith), right h, eq-eqb (kindIn (first (r .nodes) owner)) k e)
 
   grows-holds : (k a : ℕ) → GrowingKind k → kindIn a ≡ k → HoldsLinks a
@@ -143,7 +143,7 @@ module _ (r : Rooms) (c : Counts) (s : Sound r c) where
   grows-other k a (dicts h) e z = omega arith
 
   pub grown-extends : (keep m k : ℕ) (why : Wanted) → GrowingKind k → keep ≤ c .stack → m ≤ c .marks → keep ≢ 0 → kindIn (first (r .nodes) (getD (r .stack) (keep - 1) 0)) ≡ k
-      → Says (Extend (cutTo c (c .at) keep m) (record { 0 = getD (r .stack) (keep - 1) 0 })) r c (going (added (isGrown k) (Invalid why) (above keep (c .stack) (r .stack)) (stateOf r (cutTo c (c .at) keep m))))
+      → IsStep (Extend (cutTo c (c .at) keep m) (record { 0 = getD (r .stack) (keep - 1) 0 })) r c (going (addItems (isGrown k) (Invalid why) (above keep (c .stack) (r .stack)) (stateOf r (cutTo c (c .at) keep m))))
   unfolding enacted Fits
   grown-extends keep m k why g l f h e = record {
     enacts = sym (added-grows keep m k why (above keep (c .stack) (r .stack)) g l f h e);
@@ -167,12 +167,12 @@ module _ (r : Rooms) (c : Counts) (s : Sound r c) where
       drop-cons (take (c .stack) (r .stack)) (c .stack - 2) 0 (omega arith)
       ∙ ap₂ (λ (x : ℕ) (l : List ℕ). x ∷ l) (getD-take (c .stack) (r .stack) (c .stack - 2) 0 (omega arith)) (ap (λ (m : ℕ). drop m (take (c .stack) (r .stack))) z ∙ above-one (λ e. omega arith))
 
-  -- APPEND, APPENDS, SETITEM, SETITEMS are `added`
+  -- APPEND, APPENDS, SETITEM, SETITEMS are `addItems`
   pub append-underflow : c .stack ≡ 0 → going (append (stateOf r c)) ≡ no StackUnderflow
   unfolding append _>>=_ going
   append-underflow e = rw (pop-none r c (s .firm) e)
 
-  pub append-adds : c .stack ≢ 0 → going (added (isGrown 6) (Invalid AList) (above (c .stack - 1) (c .stack) (r .stack)) (stateOf r (cutTo c (c .at) (c .stack - 1) (c .marks)))) ≡ going (append (stateOf r c))
+  pub append-adds : c .stack ≢ 0 → going (addItems (isGrown 6) (Invalid AList) (above (c .stack - 1) (c .stack) (r .stack)) (stateOf r (cutTo c (c .at) (c .stack - 1) (c .marks)))) ≡ going (append (stateOf r c))
   unfolding append _>>=_ isGrown
   append-adds h = rw (pop-got r c (s .firm) (omega arith), above-one h)
 
@@ -180,7 +180,7 @@ module _ (r : Rooms) (c : Counts) (s : Sound r c) where
   unfolding appends _>>=_ going Took
   appends-underflow h = rw h
 
-  pub appends-adds : (m : ℕ) → Took (From m) r c → going (added (isGrown 6) (Invalid AList) (above m (c .stack) (r .stack)) (stateOf r (cutTo c (c .at) m (c .marks - 1)))) ≡ going (appends (stateOf r c))
+  pub appends-adds : (m : ℕ) → Took (From m) r c → going (addItems (isGrown 6) (Invalid AList) (above m (c .stack) (r .stack)) (stateOf r (cutTo c (c .at) m (c .marks - 1)))) ≡ going (appends (stateOf r c))
   unfolding appends _>>=_ isGrown Took
   appends-adds m h = rw (h .0)
 
@@ -200,7 +200,7 @@ module _ (r : Rooms) (c : Counts) (s : Sound r c) where
       go (suc zero) e l = second-gone e
       go (suc (suc n)) e l = absurd (omega arith)
 
-  pub setitem-adds : 2 ≤ c .stack → going (added (isGrown 10) (Invalid ADict) (above (c .stack - 2) (c .stack) (r .stack)) (stateOf r (cutTo c (c .at) (c .stack - 2) (c .marks)))) ≡ going (setitem (stateOf r c))
+  pub setitem-adds : 2 ≤ c .stack → going (addItems (isGrown 10) (Invalid ADict) (above (c .stack - 2) (c .stack) (r .stack)) (stateOf r (cutTo c (c .at) (c .stack - 2) (c .marks)))) ≡ going (setitem (stateOf r c))
   unfolding setitem _>>=_ isGrown
   setitem-adds h =
       let z : c .stack - 1 - 1 ≡ c .stack - 2 = omega arith in
@@ -214,7 +214,7 @@ module _ (r : Rooms) (c : Counts) (s : Sound r c) where
   unfolding setitems pairs _>>=_ going need Took
   setitems-odd m h o = rw (h .0, above-length m, ne-eqb ((c .stack - m) % 2) 0 o)
 
-  pub setitems-adds : (m : ℕ) → Took (From m) r c → (c .stack - m) % 2 ≡ 0 → going (added (isGrown 10) (Invalid ADict) (above m (c .stack) (r .stack)) (stateOf r (cutTo c (c .at) m (c .marks - 1)))) ≡ going (setitems (stateOf r c))
+  pub setitems-adds : (m : ℕ) → Took (From m) r c → (c .stack - m) % 2 ≡ 0 → going (addItems (isGrown 10) (Invalid ADict) (above m (c .stack) (r .stack)) (stateOf r (cutTo c (c .at) m (c .marks - 1)))) ≡ going (setitems (stateOf r c))
   unfolding setitems pairs _>>=_ need isGrown Took
   setitems-adds m h e = rw (h .0, above-length m, e)
 
@@ -266,15 +266,15 @@ module _ (c : Counts) (l : List ℕ) where
     took-from h k = rw (← q) (mark-got r c (s .firm) (omega arith) (rw q k), rw q k, omega arith)
 
   module _ (r : Rooms) (s : Sound r c) (q : r .stack ≡ l) where
-    pub dup-lent : c .stack ≢ 0 → Says (Share c (record { 0 = getD l (c .stack - 1) 0 })) r c (going (dup (stateOf r c)))
+    pub dup-lent : c .stack ≢ 0 → IsStep (Share c (record { 0 = getD l (c .stack - 1) 0 })) r c (going (dup (stateOf r c)))
     dup-lent h = rw (← q) (dup-shares r c s h)
 
   -- the owner's words are n
   module _ (n : List ℕ) (r : Rooms) (s : Sound r c) (a : r .nodes ≡ n) (b : r .stack ≡ l) (keep m k : ℕ) (why : Wanted) (g : GrowingKind k) (low : keep ≤ c .stack) (fewer : m ≤ c .marks) (h : keep ≢ 0) where
     pub wrong-lent : kindIn (first n (getD l (keep - 1) 0)) ≢ k
-        → Says (refusing c (Invalid why)) r c (going (added (isGrown k) (Invalid why) (above keep (c .stack) (r .stack)) (stateOf r (cutTo c (c .at) keep m))))
-    wrong-lent d = says-refused (Invalid why) r c (going (added (isGrown k) (Invalid why) (above keep (c .stack) (r .stack)) (stateOf r (cutTo c (c .at) keep m)))) (added-wrong r c s keep m k why (above keep (c .stack) (r .stack)) g low fewer h (rw (a, b) d))
+        → IsStep (refusing c (Invalid why)) r c (going (addItems (isGrown k) (Invalid why) (above keep (c .stack) (r .stack)) (stateOf r (cutTo c (c .at) keep m))))
+    wrong-lent d = says-refused (Invalid why) r c (going (addItems (isGrown k) (Invalid why) (above keep (c .stack) (r .stack)) (stateOf r (cutTo c (c .at) keep m)))) (added-wrong r c s keep m k why (above keep (c .stack) (r .stack)) g low fewer h (rw (a, b) d))
 
     pub extends-lent : kindIn (first n (getD l (keep - 1) 0)) ≡ k
-        → Says (Extend (cutTo c (c .at) keep m) (record { 0 = getD l (keep - 1) 0 })) r c (going (added (isGrown k) (Invalid why) (above keep (c .stack) (r .stack)) (stateOf r (cutTo c (c .at) keep m))))
+        → IsStep (Extend (cutTo c (c .at) keep m) (record { 0 = getD l (keep - 1) 0 })) r c (going (addItems (isGrown k) (Invalid why) (above keep (c .stack) (r .stack)) (stateOf r (cutTo c (c .at) keep m))))
     extends-lent e = rw (← b) (grown-extends r c s keep m k why g low fewer h (rw (a, b) e))

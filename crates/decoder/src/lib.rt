@@ -39,7 +39,7 @@ ghost use Rattle.decoder.specs.ReadsPickle.{ReadsPart, prefixed, unsigne
 ghost use Rattle.decoder.specs.Items.{TakesMark, GrowingKind, Adds, gathered};
 ghost use Rattle.steps.specs.NodeWords.{first, second, moduleOf, nameOf, HoldsLinks};
 ghost use Rattle.decoder.specs.ReadsMemo.{keyLine, keyBy, getBy, putBy, ReadsKey};
-ghost use Rattle.decoder.specs.ReadsCalls.{Calls, ReadsCall, madeKind};
+ghost use Rattle.decoder.specs.ReadsCalls.{CallOnTop, ReadsCall, madeKind};
 ghost use Rattle.number.specs.Space.{same};
 
 // The counts with place, stack and marks moved.
@@ -122,8 +122,8 @@ pub fn int(pickle: &[u8], c: Counts) -> Effect
     match newline(pickle, c.at) {
         LineEnd::End => Effect::Refused(c, 0, 0, Refusal::EndOfInput),
         LineEnd::At(end) => match number::int(line(pickle, c.at, end)) {
-            IntLiteral::Bool(b) => Effect::Push(read_to(c, end + 1), value::BOOL, b as u64),
-            IntLiteral::I64(v) => Effect::Push(read_to(c, end + 1), value::I64, v),
+            IntLiteral::Bool(b) => Effect::Push(read_to(c, end + 1), value::KIND_BOOL, b as u64),
+            IntLiteral::I64(v) => Effect::Push(read_to(c, end + 1), value::KIND_I64, v),
             IntLiteral::Invalid => Effect::Refused(c, 0, 0, Refusal::InvalidLiteral),
         },
     }
@@ -138,7 +138,7 @@ pub fn binint(pickle: &[u8], c: Counts) -> Effect
     if pickle.len() - at < 4 {
         return Effect::Refused(c, 0, 0, Refusal::EndOfInput);
     }
-    Effect::Push(read_to(c, at + 4), value::I64, i32_at(pickle, at))
+    Effect::Push(read_to(c, at + 4), value::KIND_I64, i32_at(pickle, at))
 }
 
 // BININT1, BININT2: `width` bytes without a sign.
@@ -152,7 +152,7 @@ pub fn unsigned(pickle: &[u8], c: Counts, width: usize) -> Effect
     }
     Effect::Push(
         read_to(c, at + width),
-        value::I64,
+        value::KIND_I64,
         low_at(pickle, at, width),
     )
 }
@@ -165,7 +165,7 @@ pub fn long(pickle: &[u8], c: Counts) -> Effect
     match newline(pickle, c.at) {
         LineEnd::End => Effect::Refused(c, 0, 0, Refusal::EndOfInput),
         LineEnd::At(end) => match number::long_text(line(pickle, c.at, end)) {
-            I64Literal::Value(v) => Effect::Push(read_to(c, end + 1), value::I64, v),
+            I64Literal::Value(v) => Effect::Push(read_to(c, end + 1), value::KIND_I64, v),
             I64Literal::Invalid => Effect::Refused(c, 0, 0, Refusal::InvalidLiteral),
         },
     }
@@ -203,7 +203,7 @@ pub fn long_n(c: Counts, read: LongRead) -> Effect
 {
     match read {
         LongRead::None(why) => Effect::Refused(c, 0, 0, why),
-        LongRead::At(end, v) => Effect::Push(read_to(c, end), value::I64, v),
+        LongRead::At(end, v) => Effect::Push(read_to(c, end), value::KIND_I64, v),
     }
 }
 
@@ -215,7 +215,7 @@ pub fn float(pickle: &[u8], c: Counts) -> Effect
     match newline(pickle, c.at) {
         LineEnd::End => Effect::Refused(c, 0, 0, Refusal::EndOfInput),
         LineEnd::At(end) => match parse_f64(line(pickle, c.at, end)) {
-            F64Literal::Bits(v) => Effect::Push(read_to(c, end + 1), value::F64, v),
+            F64Literal::Bits(v) => Effect::Push(read_to(c, end + 1), value::KIND_F64, v),
             F64Literal::Invalid => Effect::Refused(c, 0, 0, Refusal::InvalidLiteral),
             F64Literal::Outside => Effect::Refused(c, 0, 0, Refusal::FloatOutside),
         },
@@ -231,7 +231,7 @@ pub fn binfloat(pickle: &[u8], c: Counts) -> Effect
     if pickle.len() - at < 8 {
         return Effect::Refused(c, 0, 0, Refusal::EndOfInput);
     }
-    Effect::Push(read_to(c, at + 8), value::F64, f64_at(pickle, at))
+    Effect::Push(read_to(c, at + 8), value::KIND_F64, f64_at(pickle, at))
 }
 
 // STRING: a value without an escape is a part of the pickle; any other keeps its line, and is unescaped when it is built.
@@ -248,7 +248,7 @@ pub fn string(pickle: &[u8], c: Counts) -> Effect
                 Quoted::Plain => {
                     Effect::Push(
                         read_to(c, end + 1),
-                        value::BYTES,
+                        value::KIND_BYTES,
                         text_word(c.at + 1, len - 2),
                     )
                 }
@@ -284,7 +284,7 @@ pub fn binstring(pickle: &[u8], c: Counts) -> Effect
     }
     Effect::Push(
         read_to(c, at + 4 + size),
-        value::BYTES,
+        value::KIND_BYTES,
         text_word(at + 4, size),
     )
 }
@@ -296,7 +296,11 @@ pub fn short_binstring(pickle: &[u8], c: Counts) -> Effect
 {
     match prefixed(pickle, c.at, 1) {
         Part::Short => Effect::Refused(c, 0, 0, Refusal::EndOfInput),
-        Part::At(at, len) => Effect::Push(read_to(c, at + len), value::BYTES, text_word(at, len)),
+        Part::At(at, len) => Effect::Push(
+            read_to(c, at + len),
+            value::KIND_BYTES,
+            text_word(at, len),
+        ),
     }
 }
 
@@ -331,7 +335,11 @@ pub fn binunicode(pickle: &[u8], c: Counts) -> Effect
 {
     match prefixed(pickle, c.at, 4) {
         Part::Short => Effect::Refused(c, 0, 0, Refusal::EndOfInput),
-        Part::At(at, len) => Effect::Push(read_to(c, at + len), value::STRING, text_word(at, len)),
+        Part::At(at, len) => Effect::Push(
+            read_to(c, at + len),
+            value::KIND_STRING,
+            text_word(at, len),
+        ),
     }
 }
 
@@ -351,7 +359,7 @@ pub fn global(pickle: &[u8], c: Counts) -> Effect
                     let name = line(pickle, from, to).len();
                     Effect::Push(
                         read_to(c, to + 1),
-                        value::GLOBAL
+                        value::KIND_GLOBAL
                             + store::KIND_RADIX
                                 * (module as u64 * store::MODULE_LEN_AT + c.at as u64),
                         text_word(from, name),
@@ -435,14 +443,14 @@ pub fn list(marks: &[u16], c: Counts) -> Effect
     requires { ⌜ SomeRooms c (λ r. r .marks ≡ now marks) ⌝ }
     ensures { λ e. ⌜ Decides c (λ r. r .marks ≡ now (marks .entry)) (λ s. going (list s)) e ⌝ }
 {
-    gather(marks, c, value::LIST)
+    gather(marks, c, value::KIND_LIST)
 }
 
 pub fn tuple(marks: &[u16], c: Counts) -> Effect
     requires { ⌜ SomeRooms c (λ r. r .marks ≡ now marks) ⌝ }
     ensures { λ e. ⌜ Decides c (λ r. r .marks ≡ now (marks .entry)) (λ s. going (tuple s)) e ⌝ }
 {
-    gather(marks, c, value::TUPLE)
+    gather(marks, c, value::KIND_TUPLE)
 }
 
 // TUPLE1 to TUPLE3 pay no heed to marks.
@@ -454,7 +462,7 @@ pub fn small_tuple(c: Counts, code: u8) -> Effect
     if c.stack < n {
         return Effect::Refused(c, 0, 0, Refusal::StackUnderflow);
     }
-    Effect::Make(cut_to(c, c.at, c.stack - n, c.marks), value::TUPLE)
+    Effect::Make(cut_to(c, c.at, c.stack - n, c.marks), value::KIND_TUPLE)
 }
 
 pub fn dict(marks: &[u16], c: Counts) -> Effect
@@ -465,7 +473,7 @@ pub fn dict(marks: &[u16], c: Counts) -> Effect
         Taken::Short => Effect::Refused(c, 0, 0, Refusal::StackUnderflow),
         Taken::From(m) => {
             if (c.stack - m) % 2 == 0 {
-                Effect::Make(cut_to(c, c.at, m, c.marks - 1), value::DICT)
+                Effect::Make(cut_to(c, c.at, m, c.marks - 1), value::KIND_DICT)
             } else {
                 Effect::Refused(c, 0, 0, Refusal::Invalid(Wanted::DictItems))
             }
@@ -511,7 +519,7 @@ pub fn append(nodes: &[u64], stack: &[u16], c: Counts) -> Effect
         c,
         c.stack - 1,
         c.marks,
-        value::LIST,
+        value::KIND_LIST,
         Wanted::List,
     )
 }
@@ -523,7 +531,15 @@ pub fn appends(nodes: &[u64], stack: &[u16], marks: &[u16], c: Counts) -> Effect
 {
     match above_mark(marks, c) {
         Taken::Short => Effect::Refused(c, 0, 0, Refusal::StackUnderflow),
-        Taken::From(m) => grown(nodes, stack, c, m, c.marks - 1, value::LIST, Wanted::List),
+        Taken::From(m) => grown(
+            nodes,
+            stack,
+            c,
+            m,
+            c.marks - 1,
+            value::KIND_LIST,
+            Wanted::List,
+        ),
     }
 }
 
@@ -540,7 +556,7 @@ pub fn setitem(nodes: &[u64], stack: &[u16], c: Counts) -> Effect
         c,
         c.stack - 2,
         c.marks,
-        value::DICT,
+        value::KIND_DICT,
         Wanted::Dict,
     )
 }
@@ -554,7 +570,15 @@ pub fn setitems(nodes: &[u64], stack: &[u16], marks: &[u16], c: Counts) -> Effec
         Taken::Short => Effect::Refused(c, 0, 0, Refusal::StackUnderflow),
         Taken::From(m) => {
             if (c.stack - m) % 2 < 1 {
-                grown(nodes, stack, c, m, c.marks - 1, value::DICT, Wanted::Dict)
+                grown(
+                    nodes,
+                    stack,
+                    c,
+                    m,
+                    c.marks - 1,
+                    value::KIND_DICT,
+                    Wanted::Dict,
+                )
             } else {
                 Effect::Refused(c, 0, 0, Refusal::Invalid(Wanted::DictItems))
             }
@@ -699,10 +723,10 @@ fn class_and_arguments(nodes: &[u64], stack: &[u16], c: Counts) -> CallRead
     let j = c.stack - 1;
     let class = NodeId(stack[i] as usize);
     let arguments = NodeId(stack[j] as usize);
-    if kind(nodes, class) != value::GLOBAL {
+    if kind(nodes, class) != value::KIND_GLOBAL {
         return CallRead::None(Refusal::Invalid(Wanted::Class));
     }
-    if kind(nodes, arguments) != value::TUPLE {
+    if kind(nodes, arguments) != value::KIND_TUPLE {
         return CallRead::None(Refusal::Invalid(Wanted::Arguments));
     }
     CallRead::Of(class, arguments)
@@ -743,7 +767,7 @@ fn made_kind(pickle: &[u8], a: u64, b: u64, n: u64) -> u64
     ensures { λ r. ⌜ r ≡ madeKind (moduleOf (now (pickle .entry)) a) (nameOf (now (pickle .entry)) b) n ⌝ }
 {
     if 1 < n {
-        return value::OBJECT;
+        return value::KIND_OBJECT;
     }
     let m = a / store::KIND_RADIX;
     if same_text(
@@ -760,13 +784,13 @@ fn made_kind(pickle: &[u8], a: u64, b: u64, n: u64) -> u64
             (b / store::HALF) as usize,
         );
         if same_text(name, b"set") {
-            return value::SET;
+            return value::KIND_SET;
         }
         if same_text(name, b"frozenset") {
-            return value::FROZEN_SET;
+            return value::KIND_FROZEN_SET;
         }
     }
-    value::OBJECT
+    value::KIND_OBJECT
 }
 
 // The one item of a tuple with the second word `word`: its links stand together, from the place in the high half on.
@@ -788,9 +812,9 @@ fn reduced(
     arguments: NodeId,
 ) -> Effect
     requires { ⌜ SomeRooms c (λ r. (r .pickle ≡ now pickle) × (r .nodes ≡ now nodes) × (r .children ≡ now children)
-        × Calls c r (class .0) (arguments .0)) ⌝ }
+        × CallOnTop c r (class .0) (arguments .0)) ⌝ }
     ensures { λ e. ⌜ Decides c (λ r. (r .pickle ≡ now (pickle .entry)) × (r .nodes ≡ now (nodes .entry)) × (r .children ≡ now (children .entry))
-        × Calls c r (class .0) (arguments .0))
+        × CallOnTop c r (class .0) (arguments .0))
         (λ s. going (reduce s)) e ⌝ }
 {
     let word = second_word(nodes, arguments);
@@ -802,10 +826,10 @@ fn reduced(
         n,
     );
     let rest = cut_to(c, c.at, c.stack - 2, c.marks);
-    if made == value::OBJECT {
+    if made == value::KIND_OBJECT {
         return Effect::Push(
             rest,
-            value::OBJECT + store::CLASS * class.0 as u64,
+            value::KIND_OBJECT + store::CLASS * class.0 as u64,
             arguments.0 as u64,
         );
     }
@@ -838,7 +862,7 @@ pub fn newobj(nodes: &[u64], stack: &[u16], c: Counts) -> Effect
         CallRead::None(why) => Effect::Refused(c, 0, 0, why),
         CallRead::Of(class, arguments) => Effect::Push(
             cut_to(c, c.at, c.stack - 2, c.marks),
-            value::OBJECT + store::NEW + store::CLASS * class.0 as u64,
+            value::KIND_OBJECT + store::NEW + store::CLASS * class.0 as u64,
             arguments.0 as u64,
         ),
     }
@@ -856,7 +880,7 @@ pub fn build_state(nodes: &[u64], stack: &[u16], c: Counts) -> Effect
     let j = c.stack - 1;
     let object = NodeId(stack[i] as usize);
     let state = NodeId(stack[j] as usize);
-    if kind(nodes, object) != value::OBJECT {
+    if kind(nodes, object) != value::KIND_OBJECT {
         return Effect::Refused(c, 0, 0, Refusal::Invalid(Wanted::Object));
     }
     Effect::Build(cut_to(c, c.at, j, c.marks), object, state)

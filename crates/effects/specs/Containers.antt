@@ -23,7 +23,7 @@ use Rattle.effects.specs.declared.Step.{Step}
 use Rattle.effects.specs.declared.Step.the-variants as step
 use Rattle.effects.specs.Done.{meant, Stays, Done, done-refused, pushedTo, words-plus}
 use Rattle.effects.specs.Push.{withNode, oneNode, node-pushed, node-firm, id-pushed, id-firm}
-use Rattle.effects.specs.Links.{linkedIn, Linked, Linkable, LinkAll}
+use Rattle.effects.specs.Links.{linkedIn, LinkedTo, Linkable, LinkAll}
 
 -- ---- the functions' promises
 
@@ -77,7 +77,7 @@ module _ (r : Rooms) (c : Counts) (o had : ℕ) (f : Fits (Extend c (record { 0 
   unfolding enacted Fits going grow _>>=_
   extend-full h = done-refused LinksFull r (going (grow o (above (c .stack) had (r .stack)) (stateOf r c))) (rw (links-short r c had (f .0) (f .1) (f .2) h))
 
-  pub extend-done : (ns ws cs : List ℕ) → had - c .stack ≤ linksLimit - c .links → Linked r c o (above (c .stack) had (r .stack)) (c .links + (had - c .stack)) ns ws cs
+  pub extend-done : (ns ws cs : List ℕ) → had - c .stack ≤ linksLimit - c .links → LinkedTo r c o (above (c .stack) had (r .stack)) (c .links + (had - c .stack)) ns ws cs
       → Done (step.Next (linksTo c (c .links + (had - c .stack)))) r (linkedIn r ns ws cs) (enacted (Extend c (record { 0 = o })) r had)
   unfolding enacted Fits going grow _>>=_ meant Stays
   extend-done ns ws cs h l = record { means = rw (links-enough r c had (f .0) (f .1) (f .2) h, l .state); stays = l .firm }
@@ -179,7 +179,7 @@ module _ (r : Rooms) (c : Counts) (k had : ℕ) (f : Fits (Make c k) r had) wher
       made-node : stateOf r₁ c₁ ≡ withNodes (stateOf r c) (stateOf r c .nodes ++ (kidless label ∷ []))
       made-node = node-pushed r c firm l k word none ∙ ap (λ (x : Node). withNodes (stateOf r c) (stateOf r c .nodes ++ (x ∷ []))) (node-count (r .pickle) k 0 [] (r .nodes) word kin ∙ kidless-made (r .pickle) (r .nodes) k 0 kin)
 
-      module _ (ns ws cs : List ℕ) (d : Linked r₁ c₁ (c .nodes) is n ns ws cs) where
+      module _ (ns ws cs : List ℕ) (d : LinkedTo r₁ c₁ (c .nodes) is n ns ws cs) where
         filled : stateOf (linkedIn r₁ ns ws cs) (linksTo c₁ n) ≡ withNodes (withLinks (stateOf r c) n) (stateOf r c .nodes ++ (record { label = label; kids = is } ∷ []))
         filled =
             d .state ∙ ap (λ (x : State). extend (c .nodes) is (withLinks x n)) made-node

@@ -11,7 +11,7 @@ use native.Mathlib.Omega.{arith}
 use Rattle.value.specs.Shape.{kindIn}
 use Rattle.store.specs.declared.Counts.{Counts}
 use Rattle.steps.specs.State.{linksLimit, withLinks, extend}
-use Rattle.store.specs.Rooms.{Rooms, items, stateOf, wordsIn, logIn, linksTo, Counted}
+use Rattle.store.specs.Rooms.{Rooms, linkedItems, stateOf, wordsIn, logIn, linksTo, Counted}
 use Rattle.steps.specs.NodeWords.{first, second, HoldsLinks}
 use Rattle.store.specs.RoomReads.{nodes-length}
 use Rattle.store.specs.RoomKeeps.{kept-link, suc-low, suc-high}
@@ -26,7 +26,7 @@ abbrev pub linkedIn : Rooms → List ℕ → List ℕ → List ℕ → Rooms
 linkedIn r ns ws cs = wordsIn (logIn r ws cs) ns
 
 -- xs are linked to o, and there are n links
-pub record Linked (r : Rooms) (c : Counts) (o : ℕ) (xs : List ℕ) (n : ℕ) (ns ws cs : List ℕ) : Type 0 where
+pub record LinkedTo (r : Rooms) (c : Counts) (o : ℕ) (xs : List ℕ) (n : ℕ) (ns ws cs : List ℕ) : Type 0 where
   pub state : stateOf (linkedIn r ns ws cs) (linksTo c n) ≡ extend o xs (withLinks (stateOf r c) n)
   pub firm : Firm (linkedIn r ns ws cs) (linksTo c n)
   pub holds : HoldsLinks (first ns o)
@@ -53,16 +53,16 @@ pub record Linkable (nodes owners children stack : List ℕ) (from to links o : 
 unfoldable pub LinkAll : List ℕ → List ℕ → List ℕ → List ℕ → ℕ → ℕ → ℕ → ℕ → List ℕ → List ℕ → List ℕ → ℕ → Type 0
 LinkAll nodes owners children stack from links o i ns ws cs n =
     (r : Rooms) (c : Counts) → r .nodes ≡ nodes → r .owners ≡ owners → r .children ≡ children → c .stack ≡ from → c .links ≡ links → Firm r c → o < c .nodes → HoldsLinks (first nodes o) → (kindIn (first nodes o) ≡ 7 → second nodes o / 2 ^ 32 + second nodes o % 2 ^ 32 ≡ links)
-    → Linked r c o (above from i stack) n ns ws cs
+    → LinkedTo r c o (above from i stack) n ns ws cs
 
 -- no more items than links
-items-few : (ws cs : List ℕ) (o : ℕ) → length (items ws cs o) ≤ length ws
-unfolding items
+items-few : (ws cs : List ℕ) (o : ℕ) → length (linkedItems ws cs o) ≤ length ws
+unfolding linkedItems
 items-few [] cs o = omega arith
 items-few (w ∷ ws) [] o = omega arith
 items-few (w ∷ ws) (c ∷ cs) o = go (eqb w o) (items-few ws cs o)
   where
-    go : (b : Bool) → length (items ws cs o) ≤ length ws → length (cond b (c ∷ items ws cs o) (items ws cs o)) ≤ suc (length ws)
+    go : (b : Bool) → length (linkedItems ws cs o) ≤ length ws → length (cond b (c ∷ linkedItems ws cs o) (linkedItems ws cs o)) ≤ suc (length ws)
     go true h = omega arith
     go false h = omega arith
 
@@ -77,11 +77,11 @@ above-more n i l h k =
     rw (add-one i, take-suc l i 0 k) (drop-append-le n (take i l) (getD l i 0 ∷ []) (omega arith))
 
 module _ (r : Rooms) (c : Counts) (o : ℕ) where
-  linked-start : Firm r c → HoldsLinks (first (r .nodes) o) → (kindIn (first (r .nodes) o) ≡ 7 → second (r .nodes) o / 2 ^ 32 + second (r .nodes) o % 2 ^ 32 ≡ c .links) → Linked r c o [] (c .links) (r .nodes) (r .owners) (r .children)
+  linked-start : Firm r c → HoldsLinks (first (r .nodes) o) → (kindIn (first (r .nodes) o) ≡ 7 → second (r .nodes) o / 2 ^ 32 + second (r .nodes) o % 2 ^ 32 ≡ c .links) → LinkedTo r c o [] (c .links) (r .nodes) (r .owners) (r .children)
   unfolding stateOf
   linked-start f h e = record { state = sym (extend-none o (stateOf r c)); firm = f; holds = h; end = e }
 
-  module _ (xs : List ℕ) (n : ℕ) (ns ws cs : List ℕ) (l : Linked r c o xs n ns ws cs) where
+  module _ (xs : List ℕ) (n : ℕ) (ns ws cs : List ℕ) (l : LinkedTo r c o xs n ns ws cs) where
     -- the number of an owner's items is small
     pub count-small : o < c .nodes → second ns o % 2 ^ 32 ≤ n
     unfolding Counted
@@ -144,36 +144,36 @@ module _ (r : Rooms) (c : Counts) (o : ℕ) where
           rw (getD-set-other ns (suc (2 * o)) (2 * o) (suc (second ns o)) 0 (λ e. omega arith), getD-set-same ns (suc (2 * o)) (suc (second ns o)) 0 room, suc-low (second ns o) small, suc-high (second ns o) small)
           (λ t. let e = l .end t in omega arith)
 
-      pub linked-more : Linked r c o (xs ++ (k ∷ [])) (n + 1) (set ns (2 * o + 1) (getD ns (2 * o + 1) 0 + 1)) (set ws n o) (set cs n k)
+      pub linked-more : LinkedTo r c o (xs ++ (k ∷ [])) (n + 1) (set ns (2 * o + 1) (getD ns (2 * o + 1) 0 + 1)) (set ws n o) (set cs n k)
       unfolding second
       linked-more = rw (add-one n, add-one (2 * o), add-one (getD ns (suc (2 * o)) 0)) (record { state = next-state; firm = next-firm; holds = next-holds; end = next-end })
 
 -- ---- many links
 
 -- l with f 0, f 1, .., f (n - 1) from `at` on
-unfoldable pub filled : List ℕ → ℕ → (ℕ → ℕ) → ℕ → List ℕ
-filled l at f zero = l
-filled l at f (suc n) = set (filled l at f n) (at + n) (f n)
+unfoldable pub filledBy : List ℕ → ℕ → (ℕ → ℕ) → ℕ → List ℕ
+filledBy l at f zero = l
+filledBy l at f (suc n) = set (filledBy l at f n) (at + n) (f n)
 
-filled-length : (l : List ℕ) (at : ℕ) (f : ℕ → ℕ) (n : ℕ) → length (filled l at f n) ≡ length l
-unfolding filled
+filled-length : (l : List ℕ) (at : ℕ) (f : ℕ → ℕ) (n : ℕ) → length (filledBy l at f n) ≡ length l
+unfolding filledBy
 filled-length l at f zero = refl
-filled-length l at f (suc n) = length-set (filled l at f n) (at + n) (f n) ∙ filled-length l at f n
+filled-length l at f (suc n) = length-set (filledBy l at f n) (at + n) (f n) ∙ filled-length l at f n
 
 -- a filling loop's start, its turn, and its end
 module _ (l : List ℕ) (at : ℕ) (f : ℕ → ℕ) where
-  pub filled-none : l ≡ filled l at f 0
-  unfolding filled
+  pub filled-none : l ≡ filledBy l at f 0
+  unfolding filledBy
   filled-none = refl
 
-  pub filled-more : (i : ℕ) (m : List ℕ) → m ≡ filled l at f i → set m (at + i) (f i) ≡ filled l at f (i + 1)
-  unfolding filled
+  pub filled-more : (i : ℕ) (m : List ℕ) → m ≡ filledBy l at f i → set m (at + i) (f i) ≡ filledBy l at f (i + 1)
+  unfolding filledBy
   filled-more i m e = rw (e, add-one i)
 
-  pub filled-same : (i : ℕ) (m : List ℕ) → m ≡ filled l at f i → length m ≡ length l
+  pub filled-same : (i : ℕ) (m : List ℕ) → m ≡ filledBy l at f i → length m ≡ length l
   filled-same i m e = ap length e ∙ filled-length l at f i
 
-  pub filled-end : (i n : ℕ) (m : List ℕ) → m ≡ filled l at f i → i ≤ n → n ≤ i → m ≡ filled l at f n
+  pub filled-end : (i n : ℕ) (m : List ℕ) → m ≡ filledBy l at f i → i ≤ n → n ≤ i → m ≡ filledBy l at f n
   filled-end i n m e h k = let z : i ≡ n = omega arith in rw (← z) e
 
 module _ (nodes owners children stack : List ℕ) (from links o : ℕ) where
@@ -188,16 +188,16 @@ module _ (nodes owners children stack : List ℕ) (from links o : ℕ) where
 
   -- the owner at the new places, the values beside it, and their number added to the owner's count
   abbrev owning : ℕ → List ℕ
-  owning n = filled owners links (λ k. o) n
+  owning n = filledBy owners links (λ k. o) n
 
   abbrev holding : ℕ → List ℕ
-  holding n = filled children links (λ k. getD stack (from + k) 0) n
+  holding n = filledBy children links (λ k. getD stack (from + k) 0) n
 
   abbrev counting : ℕ → List ℕ
   counting n = set nodes (2 * o + 1) (getD nodes (2 * o + 1) 0 + n)
 
   pub link-many : (n : ℕ) → from + n ≤ length stack → links + n ≤ linksLimit → 2 * o + 1 < length nodes → LinkAll nodes owners children stack from links o (from + n) (counting n) (owning n) (holding n) (links + n)
-  unfolding filled
+  unfolding filledBy
   link-many zero a b h =
       let x : from + 0 ≡ from = omega arith in
       let y : links + 0 ≡ links = omega arith in

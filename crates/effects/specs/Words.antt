@@ -15,7 +15,7 @@ use Rattle.store.specs.Rooms.{Rooms, wordsIn, Class, Classed}
 use Rattle.steps.specs.NodeWords.{first, second, wordsSet, classIn, state-set}
 use Rattle.store.specs.RoomLaws.{build-set}
 use Rattle.store.specs.RoomKeeps.{kept-build}
-use Rattle.store.specs.Effects.{Fits, enacted, state}
+use Rattle.store.specs.Effects.{Fits, enacted, withState}
 use Rattle.effects.specs.declared.Step.{Step}
 use Rattle.effects.specs.declared.Step.the-variants as step
 use Rattle.effects.specs.Done.{meant, Stays, Done, words-plus, blank-set}
@@ -57,7 +57,7 @@ module _ (r : Rooms) (c : Counts) (o i h : ℕ) (f : Fits (Build c (record { 0 =
       (omega arith, omega arith, omega arith, f .0 .lengths .nodes)
 
   pub build-done : Done (step.Next c) r (wordsIn r (wordsSet (r .nodes) o a′ b′)) (enacted (Build c (record { 0 = o }) (record { 0 = i })) r h)
-  unfolding enacted Fits meant Stays state wordsSet
+  unfolding enacted Fits meant Stays withState wordsSet
   build-done =
       let g = f .0 in
       let n = g .nodes in

@@ -12,7 +12,7 @@ ghost use lib.ListN.{length, getD};
 ghost use Rattle.value.specs.Shape.{stateIn};
 ghost use Rattle.effects.specs.Done.{pushedTo};
 ghost use Rattle.effects.specs.Push.{PushNode, PushId, PutMark};
-ghost use Rattle.effects.specs.Links.{filled, Linkable, LinkAll};
+ghost use Rattle.effects.specs.Links.{filledBy, Linkable, LinkAll};
 ghost use Rattle.effects.specs.Containers.{Makeable, MakesNode, Extendable, Extends};
 ghost use Rattle.effects.specs.Memo.{Rememberable, Remembers};
 ghost use Rattle.effects.specs.Words.{Buildable, SetsState};
@@ -114,7 +114,7 @@ pub fn put_mark(marks: &mut [u16], c: Counts) -> Step
 // `owner` at the `n` places of the log from `links` on.
 fn fill_owners(owners: &mut [u16], links: usize, n: usize, owner: NodeId)
     requires { ⌜ (links + n ≤ length (now owners)) × (owner .0 < 65536) ⌝ }
-    ensures { λ _. ⌜ now (owners .exit) ≡ filled (now (owners .entry)) links (λ k. owner .0) n ⌝ }
+    ensures { λ _. ⌜ now (owners .exit) ≡ filledBy (now (owners .entry)) links (λ k. owner .0) n ⌝ }
 {
     let id = owner.0 as u16;
     let mut i = 0;
@@ -128,7 +128,7 @@ fn fill_owners(owners: &mut [u16], links: usize, n: usize, owner: NodeId)
 // What stands on the stack from `from` on, at the `n` places of the log from `links` on.
 fn copy_children(children: &mut [u16], links: usize, n: usize, stack: &[u16], from: usize)
     requires { ⌜ (links + n ≤ length (now children)) × (from + n ≤ length (now stack)) ⌝ }
-    ensures { λ _. ⌜ now (children .exit) ≡ filled (now (children .entry)) links (λ k. getD (now (stack .entry)) (from + k) 0) n ⌝ }
+    ensures { λ _. ⌜ now (children .exit) ≡ filledBy (now (children .entry)) links (λ k. getD (now (stack .entry)) (from + k) 0) n ⌝ }
 {
     let mut i = 0;
     while i < n {

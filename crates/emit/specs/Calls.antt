@@ -18,12 +18,12 @@ use Rattle.resolved.specs.Resolved.{Kids, sNil, sNode, StandsFor, value-unique,
 use Rattle.resolved.specs.Ordered.{Final}
 use Rattle.resolved.specs.Noted.{isContainer, leafOf}
 use Rattle.resolved.specs.Moved.{moves, moved}
-use Rattle.resolved.specs.Written.{Part, Written, written-none, written-node, written-again}
-use Rattle.resolved.specs.Shown.{Shown, labelOf}
+use Rattle.resolved.specs.Written.{HasAt, Written, written-none, written-node, written-again}
+use Rattle.resolved.specs.Shown.{Shown, nodeLabel}
 use Rattle.texts.specs.Readable.{Readable, shown-readable, spelled-measure}
 use Rattle.lists.specs.Kinds.{kindOf, kind-same, containerKind, container-is}
 use Rattle.emit.specs.Stores.{sets-before, sets-behind, sets-there}
-use Rattle.emit.specs.Words.{place, recordIn, textIn, writtenW, written-record, written-size, written-text, written-long, recordFrom}
+use Rattle.emit.specs.Words.{packedPlace, recordIn, textIn, writtenW, written-record, written-size, written-text, written-long, recordFrom}
 use Rattle.emit.specs.Places.{written-copyable}
 use Rattle.emit.specs.Leaves.{TextReady, LeafReady, LeafPut, kindBelow, CopyReady, CopyPut, opened}
 use Rattle.emit.specs.Since.{Stored, Since, since-leaf, since-stored}
@@ -74,16 +74,16 @@ pub record Open (p d ws starts sorted log : List ℕ) (levels i to : ℕ) (measu
 
 -- ---- made
 
-pub record Made (t : List Node) (h : Kids) (v : Value) (i to : ℕ) (table bytes table′ bytes′ : List ℕ) (r : ℕ) : Type 0 where
-  pub next : r ≡ place (recordIn to + size (one v)) (textIn to + length (text (one v)))
+pub record PutValue (t : List Node) (h : Kids) (v : Value) (i to : ℕ) (table bytes table′ bytes′ : List ℕ) (r : ℕ) : Type 0 where
+  pub next : r ≡ packedPlace (recordIn to + size (one v)) (textIn to + length (text (one v)))
   pub written : Written t h table′ bytes′ (i ∷ []) (one v) (recordIn to) (textIn to)
   pub table-before : take (4 * recordIn to) table′ ≡ take (4 * recordIn to) table
   pub table-behind : drop (4 * (recordIn to + size (one v))) table′ ≡ drop (4 * (recordIn to + size (one v))) table
   pub text-before : take (textIn to) bytes′ ≡ take (textIn to) bytes
   pub text-behind : drop (textIn to + length (text (one v))) bytes′ ≡ drop (textIn to + length (text (one v))) bytes
 
-pub record Wrote (t : List Node) (h : Kids) (v : Value) (i to : ℕ) (measures table bytes measures′ table′ bytes′ : List ℕ) (r : ℕ) : Type 0 where
-  pub made : Made t h v i to table bytes table′ bytes′ r
+pub record WroteNode (t : List Node) (h : Kids) (v : Value) (i to : ℕ) (measures table bytes measures′ table′ bytes′ : List ℕ) (r : ℕ) : Type 0 where
+  pub made : PutValue t h v i to table bytes table′ bytes′ r
   pub since : Since t h table′ bytes′ (recordIn to) (recordIn to + size (one v)) (textIn to + length (text (one v))) measures measures′
 
 -- ---- sizes
@@ -130,14 +130,14 @@ module _ {p d ws starts sorted log : List ℕ} {i to : ℕ} {measures table byte
       let r = shown-readable (R .t) (R .h) (Final 4096 (R .done)) p d ws starts sorted log (R .m) i (R .begun .shown) (ready-below h) in
       record { words = r .words; measured = rw (R .measures-long) (r .measured); class = r .class }
 
-  pub ready-label : i < 4096 → at (R .t) i .label ≡ labelOf p ws i
+  pub ready-label : i < 4096 → at (R .t) i .label ≡ nodeLabel p ws i
   ready-label h = R .begun .shown .labels-are i (ready-below h)
 
   pub ready-container : i < 4096 → isContainer (at (R .t) i .label) ≡ containerKind (kindOf (first ws i))
   ready-container h = ap isContainer (ready-label h) ∙ container-is p ws i
 
   -- its text, where its measure is as it was
-  pub ready-text : i < 4096 → getD measures i 0 ≡ getD (R .m) i 0 → textIn to + length (textOf (labelOf p ws i)) ≤ 65536 → TextReady p d ws measures i bytes (textIn to)
+  pub ready-text : i < 4096 → getD measures i 0 ≡ getD (R .m) i 0 → textIn to + length (textOf (nodeLabel p ws i)) ≤ 65536 → TextReady p d ws measures i bytes (textIn to)
   ready-text h e l =
       let q = ready-label h in
       record {
@@ -151,7 +151,7 @@ module _ {p d ws starts sorted log : List ℕ} {i to : ℕ} {measures table byte
 
 -- a node with nothing in it
 leaf-made : (t : List Node) (h : Kids) (v : Value) (i to : ℕ) (table bytes table′ bytes′ : List ℕ) (r : ℕ) → StandsFor t h i v → h i ≡ [] → HasRoom v to table bytes → LeafPut (at t i .label) to table bytes table′ bytes′ r
-    → Made t h v i to table bytes table′ bytes′ r
+    → PutValue t h v i to table bytes table′ bytes′ r
 unfolding size text
 leaf-made t h v i to table bytes table′ bytes′ r s e f l =
     let l₀ = at t i .label in
@@ -164,8 +164,8 @@ leaf-made t h v i to table bytes table′ bytes′ r s e f l =
     let f₁ = rw (q, z) at (f .records) in
     let f₂ = rw (q, n) at (f .texts) in
     let k = record-length l₀ p 0 1 in
-    let c₁ : Part table′ (4 * a) (recordOf l₀ p (length (h i)) 1) = rw (e, l .table-is) (sets-there table (4 * a) (recordOf l₀ p 0 1) (omega (arith, f .table-long))) in
-    let c₂ : Part bytes′ p (textOf l₀) = rw (l .text-is) (sets-there bytes p (textOf l₀) (omega (arith, f .text-long))) in
+    let c₁ : HasAt table′ (4 * a) (recordOf l₀ p (length (h i)) 1) = rw (e, l .table-is) (sets-there table (4 * a) (recordOf l₀ p 0 1) (omega (arith, f .table-long))) in
+    let c₂ : HasAt bytes′ p (textOf l₀) = rw (l .text-is) (sets-there bytes p (textOf l₀) (omega (arith, f .text-long))) in
     let c₃ : Written t h table′ bytes′ (h i) nil (suc a) (p + length (textOf l₀)) = rw e (written-none t h table′ bytes′ (suc a) (p + length (textOf l₀))) in
     rw q (record {
       next = rw (z, n) (l .next);
@@ -182,7 +182,7 @@ leaf-made t h v i to table bytes table′ bytes′ r s e f l =
     text-none : (w : Value) → w .contents ≡ nil → length (text (one w)) ≡ length (textOf (w .label))
     text-none w e = let x = text-one w in let y : length (text (w .contents)) ≡ 0 = rw e in omega arith
 
-    nodes : Part table′ (4 * recordIn to) (recordOf (at t i .label) (textIn to) (length (h i)) 1) → Part bytes′ (textIn to) (textOf (at t i .label)) → Written t h table′ bytes′ (h i) nil (suc (recordIn to)) (textIn to + length (textOf (at t i .label)))
+    nodes : HasAt table′ (4 * recordIn to) (recordOf (at t i .label) (textIn to) (length (h i)) 1) → HasAt bytes′ (textIn to) (textOf (at t i .label)) → Written t h table′ bytes′ (h i) nil (suc (recordIn to)) (textIn to + length (textOf (at t i .label)))
         → Written t h table′ bytes′ (i ∷ []) (one (leafOf t i)) (recordIn to) (textIn to)
     nodes x y z = written-node t h table′ bytes′ (recordIn to) (textIn to) x y z
 
@@ -223,7 +223,7 @@ module _ (t : List Node) (h : Kids) (v : Value) (i to : ℕ) (table bytes : List
     texts = rw measure-long (f .texts);
   }
 
-  stored-made : (table′ bytes′ : List ℕ) (r : ℕ) → CopyPut w to table bytes table′ bytes′ r → Made t h v i to table bytes table′ bytes′ r
+  stored-made : (table′ bytes′ : List ℕ) (r : ℕ) → CopyPut w to table bytes table′ bytes′ r → PutValue t h v i to table bytes table′ bytes′ r
   stored-made table′ bytes′ r y =
       let a = recordIn to in
       let q = textIn to in
@@ -234,8 +234,8 @@ module _ (t : List Node) (h : Kids) (v : Value) (i to : ℕ) (table bytes : List
       let e₃ = rw (measure-size, measure-long) at (y .next) in
       let n₁ : length rs ≡ 4 * size (one v) = moves-length in
       let n₂ : length bs ≡ length (text (one v)) = ap length (written-there .text-is) in
-      let g₁ : Part table′ (4 * a) rs = rw e₁ (sets-there table (4 * a) rs (omega (arith, f .records, f .table-long))) in
-      let g₂ : Part bytes′ q bs = rw e₂ (sets-there bytes q bs (omega (arith, f .texts, f .text-long))) in
+      let g₁ : HasAt table′ (4 * a) rs = rw e₁ (sets-there table (4 * a) rs (omega (arith, f .records, f .table-long))) in
+      let g₂ : HasAt bytes′ q bs = rw e₂ (sets-there bytes q bs (omega (arith, f .texts, f .text-long))) in
       record {
         next = e₃;
         written = written-again table′ bytes′ (x .a) (x .p) a q written-there g₁ g₂;
@@ -253,12 +253,12 @@ module _ (t : List Node) (h : Kids) (v : Value) (i to : ℕ) (table bytes : List
 -- ---- a node that needs no walk
 
 abbrev pub FlatWrites : (p d ws : List ℕ) (i to : ℕ) (measures table bytes table′ bytes′ : List ℕ) (r : ℕ) → Type 0
-FlatWrites p d ws i to measures table bytes table′ bytes′ r = (F : Flat p d ws i to measures table bytes) → Made (F .ready .t) (F .ready .h) (F .ready .v) i to table bytes table′ bytes′ r
+FlatWrites p d ws i to measures table bytes table′ bytes′ r = (F : Flat p d ws i to measures table bytes) → PutValue (F .ready .t) (F .ready .h) (F .ready .v) i to table bytes table′ bytes′ r
 
 module _ {p d ws : List ℕ} {i to : ℕ} {measures table bytes : List ℕ} (F : Flat p d ws i to measures table bytes) where
   -- no node
   pub flat-none : (table′ words : List ℕ) (r : ℕ) → i ≡ 4096 → words ≡ recordFrom (kindOf 0) (newIn 0) 0 0 0 0 1 → table′ ≡ sets table (4 * recordIn to) words → r ≡ to + 1
-      → Made (F .ready .t) (F .ready .h) (F .ready .v) i to table bytes table′ bytes r
+      → PutValue (F .ready .t) (F .ready .h) (F .ready .v) i to table bytes table′ bytes r
   unfolding recordFrom kindOf kindIn
   flat-none table′ words r e q s n =
       let R = F .ready in
@@ -287,7 +287,7 @@ module _ {p d ws : List ℕ} {i to : ℕ} {measures table bytes : List ℕ} (F :
       pub flat-copy : CopyReady (getD measures i 0) to table bytes
       flat-copy = let R = F .ready in stored-copy (R .t) (R .h) (R .v) i to table bytes (getD measures i 0) (R .stands) (R .fits) flat-stored
 
-      pub flat-copied : (table′ bytes′ : List ℕ) (r : ℕ) → CopyPut (getD measures i 0) to table bytes table′ bytes′ r → Made (F .ready .t) (F .ready .h) (F .ready .v) i to table bytes table′ bytes′ r
+      pub flat-copied : (table′ bytes′ : List ℕ) (r : ℕ) → CopyPut (getD measures i 0) to table bytes table′ bytes′ r → PutValue (F .ready .t) (F .ready .h) (F .ready .v) i to table bytes table′ bytes′ r
       flat-copied = let R = F .ready in stored-made (R .t) (R .h) (R .v) i to table bytes (getD measures i 0) (R .stands) (R .fits) flat-stored
 
     -- a leaf
@@ -295,8 +295,8 @@ module _ {p d ws : List ℕ} {i to : ℕ} {measures table bytes : List ℕ} (F :
       flat-leaf : isContainer (at (F .ready .t) i .label) ≡ false
       flat-leaf = ready-container (F .ready) u ∙ b
 
-      flat-texts : textIn to + length (textOf (labelOf p ws i)) ≤ 65536
-      flat-texts = let R = F .ready in let l : R .v .label ≡ labelOf p ws i = stand-label (R .stands) ∙ ready-label R u in rw (← l) (omega (arith, text-one (R .v), R .fits .texts))
+      flat-texts : textIn to + length (textOf (nodeLabel p ws i)) ≤ 65536
+      flat-texts = let R = F .ready in let l : R .v .label ≡ nodeLabel p ws i = stand-label (R .stands) ∙ ready-label R u in rw (← l) (omega (arith, text-one (R .v), R .fits .texts))
 
       pub flat-leaf-ready : LeafReady p d ws measures i to table bytes
       flat-leaf-ready =
@@ -307,7 +307,7 @@ module _ {p d ws : List ℕ} {i to : ℕ} {measures table bytes : List ℕ} (F :
             records = omega (arith, size-one (R .v), R .fits .records, R .fits .table-long);
           }
 
-      pub flat-made : (table′ bytes′ : List ℕ) (r : ℕ) → LeafPut (labelOf p ws i) to table bytes table′ bytes′ r → Made (F .ready .t) (F .ready .h) (F .ready .v) i to table bytes table′ bytes′ r
+      pub flat-made : (table′ bytes′ : List ℕ) (r : ℕ) → LeafPut (nodeLabel p ws i) to table bytes table′ bytes′ r → PutValue (F .ready .t) (F .ready .h) (F .ready .v) i to table bytes table′ bytes′ r
       flat-made table′ bytes′ r l =
           let R = F .ready in
           let q = ready-label R u in
@@ -352,7 +352,7 @@ module _ {p d ws starts sorted log : List ℕ} {i to : ℕ} {measures table byte
   pub below-ready : LeafReady p d ws measures i to table bytes
   below-ready = flat-leaf-ready below-flat below-small below-leaf
 
-  pub below-made : (table′ bytes′ : List ℕ) (r : ℕ) → LeafPut (labelOf p ws i) to table bytes table′ bytes′ r → Made (R .t) (R .h) (R .v) i to table bytes table′ bytes′ r
+  pub below-made : (table′ bytes′ : List ℕ) (r : ℕ) → LeafPut (nodeLabel p ws i) to table bytes table′ bytes′ r → PutValue (R .t) (R .h) (R .v) i to table bytes table′ bytes′ r
   unfolding below-flat
   below-made table′ bytes′ r l = flat-made below-flat below-small below-leaf table′ bytes′ r l
 

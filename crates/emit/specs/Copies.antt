@@ -8,7 +8,7 @@ use lib.Seq.{sets, length-sets, drop-cons, drop-length, length-take-le, getD-tak
 use native.Mathlib.Nat.{add-zero}
 use native.Mathlib.Numerals.{add-one}
 use native.Mathlib.Omega.{arith}
-use Rattle.resolved.specs.Moved.{placed, moves}
+use Rattle.resolved.specs.Moved.{hasTextPlace, moves}
 use Rattle.emit.specs.Stores.{sets-before, early}
 
 -- ---- a text
@@ -61,7 +61,7 @@ module _ (o₀ : List ℕ) (from n at : ℕ) (apart : from + n ≤ at) (room : a
 pub record Copyable (r : List ℕ) (from size at p q : ℕ) : Type 0 where
   pub apart : from + size ≤ at
   pub room : 4 * (at + size) ≤ length r
-  pub places : (k : ℕ) → k < size → placed (getD r (4 * (from + k)) 0) ≡ true → (p ≤ getD r (4 * (from + k) + 1) 0) × (getD r (4 * (from + k) + 1) 0 - p + q < 2 ^ 64)
+  pub places : (k : ℕ) → k < size → hasTextPlace (getD r (4 * (from + k)) 0) ≡ true → (p ≤ getD r (4 * (from + k) + 1) 0) × (getD r (4 * (from + k) + 1) 0 - p + q < 2 ^ 64)
 
 pub record Copying (r₀ : List ℕ) (from size at p q k : ℕ) (r : List ℕ) : Type 0 where
   pub below : k ≤ size
@@ -82,7 +82,7 @@ module _ (r₀ : List ℕ) (from size at p q : ℕ) (f : Copyable r₀ from size
     pub source : (j : ℕ) → j < 4 → getD r (4 * (from + k) + j) 0 ≡ getD r₀ (4 * (from + k) + j) 0
     source j m = early r₀ r (4 * at) (4 * (from + k) + j) (h .same) (omega (arith, f .apart))
 
-    pub copying-next : (r′ : List ℕ) (b : ℕ) → b ≡ cond (placed (getD r (4 * (from + k)) 0)) (getD r (4 * (from + k) + 1) 0 - p + q) (getD r (4 * (from + k) + 1) 0)
+    pub copying-next : (r′ : List ℕ) (b : ℕ) → b ≡ cond (hasTextPlace (getD r (4 * (from + k)) 0)) (getD r (4 * (from + k) + 1) 0 - p + q) (getD r (4 * (from + k) + 1) 0)
         → r′ ≡ sets r (4 * (at + k)) (getD r (4 * (from + k)) 0 ∷ b ∷ getD r (4 * (from + k) + 2) 0 ∷ getD r (4 * (from + k) + 3) 0 ∷ []) → Copying r₀ from size at p q (k + 1) r′
     unfolding moves
     copying-next r′ b e s =
@@ -110,7 +110,7 @@ module _ (r₀ : List ℕ) (from size at p q : ℕ) (f : Copyable r₀ from size
         three i = omega arith
 
     -- the moved place fits
-    pub moved-fits : placed (getD r (4 * (from + k)) 0) ≡ true → (p ≤ getD r (4 * (from + k) + 1) 0) × (getD r (4 * (from + k) + 1) 0 - p + q < 2 ^ 64)
+    pub moved-fits : hasTextPlace (getD r (4 * (from + k)) 0) ≡ true → (p ≤ getD r (4 * (from + k) + 1) 0) × (getD r (4 * (from + k) + 1) 0 - p + q < 2 ^ 64)
     moved-fits e =
         let x₀ : getD r (4 * (from + k)) 0 ≡ getD r₀ (4 * (from + k)) 0 = early r₀ r (4 * at) (4 * (from + k)) (h .same) (omega (arith, f .apart)) in
         rw (source 1 (omega arith)) (f .places k l (rw x₀ at e))

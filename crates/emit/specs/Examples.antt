@@ -16,7 +16,7 @@ use Rattle.reading.specs.Unfold.{In, here, there}
 use Rattle.resolved.specs.Resolved.{Kids, sNil, sNode}
 use Rattle.resolved.specs.Ordered.{Final}
 use Rattle.resolved.specs.Noted.{isContainer}
-use Rattle.resolved.specs.Shown.{Shown, labelOf, hasText, Spelled, isSorted, fromIn, manyIn, roomOf, listOf, Inside}
+use Rattle.resolved.specs.Shown.{Shown, nodeLabel, labelHasText, Spelled, isSorted, fromIn, manyIn, roomOf, listOf, Inside}
 use Rattle.emit.specs.Roots.{Rooted}
 
 nodes : List Node
@@ -70,7 +70,7 @@ never : {A : Type 0} → true ≡ false → A
 never e = absurd (let z : _≡_ {A = ℕ} 0 1 = cc in omega arith)
 
 shown : Shown nodes graph (Final 4096 done) [] [] words starts sorted [] measures
-unfolding nodes graph words starts sorted measures labelOf first second kindIn Inside fromIn manyIn roomOf listOf isSorted
+unfolding nodes graph words starts sorted measures nodeLabel first second kindIn Inside fromIn manyIn roomOf listOf isSorted
 shown = record {
   beyond = omega arith;
   short = omega arith;
@@ -78,7 +78,7 @@ shown = record {
   starts-long = omega arith;
   measures-long = omega arith;
   rising = two (λ i. getD starts i 0 ≤ getD starts (suc i) 0) (omega arith) (omega arith);
-  labels-are = two (λ i. at nodes i .label ≡ labelOf [] words i) refl refl;
+  labels-are = two (λ i. at nodes i .label ≡ nodeLabel [] words i) refl refl;
   classes = two (λ i. kindIn (first words i) ≡ 12 → _) (λ e. absurd (omega arith)) (λ e. absurd (omega arith));
   nodes = is-node;
   closed = λ i k j m. in-graph j i m;
@@ -86,7 +86,7 @@ shown = record {
   leaves = λ i k. two (λ i. isContainer (at nodes i .label) ≡ false → graph i ≡ []) never never i;
   inside = λ i k. two (λ i. isContainer (at nodes i .label) ≡ true → Inside words starts sorted [] measures i) (λ e. omega arith) (λ e. omega arith) i;
   lists = λ i k. two (λ i. isContainer (at nodes i .label) ≡ true → listOf words starts sorted [] measures i ≡ graph i) (λ e. refl) (λ e. refl) i;
-  spelled = λ i k. two (λ i. hasText (at nodes i .label) ≡ true → Spelled [] [] words measures i (at nodes i .label)) (λ e. never (sym e)) (λ e. never (sym e)) i;
+  spelled = λ i k. two (λ i. labelHasText (at nodes i .label) ≡ true → Spelled [] [] words measures i (at nodes i .label)) (λ e. never (sym e)) (λ e. never (sym e)) i;
 }
 
 few : (i : ℕ) → Final 4096 done i → kind (at nodes i .label) ≡ 12 → length (graph i) ≤ 2

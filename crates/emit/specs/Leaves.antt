@@ -15,45 +15,45 @@ use Rattle.value.specs.Value.{Label, kind, textOf, recordOf}
 use Rattle.value.specs.Shape.{kindIn, newIn}
 use Rattle.steps.specs.NodeWords.{first, second}
 use Rattle.resolved.specs.Moved.{moves}
-use Rattle.resolved.specs.Shown.{labelOf, hasText, leading, trailing, leadText, trailText, Spelled}
+use Rattle.resolved.specs.Shown.{nodeLabel, labelHasText, leading, trailing, leadText, trailText, Spelled}
 use Rattle.texts.specs.Readable.{Readable}
 use Rattle.utf8.specs.Stores.{sets-append}
 use Rattle.lists.specs.Kinds.{kindOf, kind-small, containerKind, kind-is}
 use Rattle.emit.specs.Copies.{Copyable}
-use Rattle.emit.specs.Words.{place, recordIn, textIn, writtenW, lengthsOf, recordFrom, textBy, lengthsBy, spoken, text-by, lengths-by, has-text, lengths-all, record-is, from-text, from-names}
+use Rattle.emit.specs.Words.{packedPlace, recordIn, textIn, writtenW, lengthsOf, recordFrom, textBy, lengthsBy, spoken, text-by, lengths-by, has-text, lengths-all, record-is, from-text, from-names}
 
 -- ---- a node's text
 
 -- it can be put at a place of the text
 pub record TextReady (p d ws measures : List ℕ) (i : ℕ) (bytes : List ℕ) (at : ℕ) : Type 0 where
   pub readable : Readable ws measures i
-  pub spelled : hasText (labelOf p ws i) ≡ true → Spelled p d ws measures i (labelOf p ws i)
-  pub room : at + length (textOf (labelOf p ws i)) ≤ length bytes
-  pub short : length (textOf (labelOf p ws i)) ≤ 65536
+  pub spelled : labelHasText (nodeLabel p ws i) ≡ true → Spelled p d ws measures i (nodeLabel p ws i)
+  pub room : at + length (textOf (nodeLabel p ws i)) ≤ length bytes
+  pub short : length (textOf (nodeLabel p ws i)) ≤ 65536
 
 -- and was, and w says its lengths
 pub record TextPut (p ws : List ℕ) (i : ℕ) (bytes : List ℕ) (at : ℕ) (bytes′ : List ℕ) (w : ℕ) : Type 0 where
-  pub text-is : bytes′ ≡ sets bytes at (textOf (labelOf p ws i))
-  pub lengths : w ≡ lengthsOf (labelOf p ws i)
+  pub text-is : bytes′ ≡ sets bytes at (textOf (nodeLabel p ws i))
+  pub lengths : w ≡ lengthsOf (nodeLabel p ws i)
 
 module _ (p d ws measures : List ℕ) (i : ℕ) (bytes : List ℕ) (at : ℕ) (g : TextReady p d ws measures i bytes at) (k : ℕ) (e : k ≡ kindOf (first ws i)) where
-  kind-same : kind (labelOf p ws i) ≡ k
+  kind-same : kind (nodeLabel p ws i) ≡ k
   kind-same = kind-is p ws i ∙ sym e
 
-  lead-is : spoken k ≡ true → leadText p d ws measures i ≡ leading (labelOf p ws i)
-  lead-is s = g .spelled (has-text (labelOf p ws i) ∙ (ap spoken kind-same ∙ s)) .lead
+  lead-is : spoken k ≡ true → leadText p d ws measures i ≡ leading (nodeLabel p ws i)
+  lead-is s = g .spelled (has-text (nodeLabel p ws i) ∙ (ap spoken kind-same ∙ s)) .lead
 
-  trail-is : spoken k ≡ true → trailText p d ws measures i ≡ trailing (labelOf p ws i)
-  trail-is s = g .spelled (has-text (labelOf p ws i) ∙ (ap spoken kind-same ∙ s)) .trail
+  trail-is : spoken k ≡ true → trailText p d ws measures i ≡ trailing (nodeLabel p ws i)
+  trail-is s = g .spelled (has-text (nodeLabel p ws i) ∙ (ap spoken kind-same ∙ s)) .trail
 
-  text-is-by : textOf (labelOf p ws i) ≡ textBy k (leading (labelOf p ws i)) (trailing (labelOf p ws i))
-  text-is-by = rw (← kind-same) (text-by (labelOf p ws i))
+  text-is-by : textOf (nodeLabel p ws i) ≡ textBy k (leading (nodeLabel p ws i)) (trailing (nodeLabel p ws i))
+  text-is-by = rw (← kind-same) (text-by (nodeLabel p ws i))
 
-  lengths-is-by : lengthsOf (labelOf p ws i) ≡ lengthsBy k (length (leading (labelOf p ws i))) (length (trailing (labelOf p ws i)))
-  lengths-is-by = rw (← kind-same) (lengths-by (labelOf p ws i))
+  lengths-is-by : lengthsOf (nodeLabel p ws i) ≡ lengthsBy k (length (leading (nodeLabel p ws i))) (length (trailing (nodeLabel p ws i)))
+  lengths-is-by = rw (← kind-same) (lengths-by (nodeLabel p ws i))
 
   -- no text
-  none : textOf (labelOf p ws i) ≡ [] → lengthsOf (labelOf p ws i) ≡ 0 → TextPut p ws i bytes at bytes 0
+  none : textOf (nodeLabel p ws i) ≡ [] → lengthsOf (nodeLabel p ws i) ≡ 0 → TextPut p ws i bytes at bytes 0
   none x y = record { text-is = rw x; lengths = sym y }
 
   texts-small : k < 4 → TextPut p ws i bytes at bytes 0
@@ -76,11 +76,11 @@ module _ (p d ws measures : List ℕ) (i : ℕ) (bytes : List ℕ) (at : ℕ) (g
 
   -- Bytes or a String
   module _ (h₄ : 4 ≤ k) (h₆ : k < 6) (lead : List ℕ) (q : lead ≡ leadText p d ws measures i) where
-    leads : lead ≡ leading (labelOf p ws i)
+    leads : lead ≡ leading (nodeLabel p ws i)
     unfolding spoken
     leads = q ∙ lead-is (rw (le-ltb k 4 h₄, lt-ltb k 6 h₆))
 
-    one-text : textOf (labelOf p ws i) ≡ lead
+    one-text : textOf (nodeLabel p ws i) ≡ lead
     unfolding textBy
     one-text = text-is-by ∙ rw (le-ltb k 4 h₄, lt-ltb k 6 h₆) (sym leads)
 
@@ -97,13 +97,13 @@ module _ (p d ws measures : List ℕ) (i : ℕ) (bytes : List ℕ) (at : ℕ) (g
     unfolding spoken
     spoken-names = rw (le-ltb k 4 h₄, le-ltb k 6 h₆, le-ltb k 11 h₁₁)
 
-    leads₂ : lead ≡ leading (labelOf p ws i)
+    leads₂ : lead ≡ leading (nodeLabel p ws i)
     leads₂ = q ∙ lead-is spoken-names
 
-    trails₂ : trail ≡ trailing (labelOf p ws i)
+    trails₂ : trail ≡ trailing (nodeLabel p ws i)
     trails₂ = r ∙ trail-is spoken-names
 
-    two-texts : textOf (labelOf p ws i) ≡ lead ++ trail
+    two-texts : textOf (nodeLabel p ws i) ≡ lead ++ trail
     unfolding textBy
     two-texts = text-is-by ∙ rw (le-ltb k 4 h₄, le-ltb k 6 h₆, le-ltb k 11 h₁₁, leads₂, trails₂)
 
@@ -121,25 +121,25 @@ module _ (p d ws measures : List ℕ) (i : ℕ) (bytes : List ℕ) (at : ℕ) (g
 
 pub record LeafReady (p d ws measures : List ℕ) (i to : ℕ) (table bytes : List ℕ) : Type 0 where
   pub text-ready : TextReady p d ws measures i bytes (textIn to)
-  pub texts : textIn to + length (textOf (labelOf p ws i)) ≤ 65536
+  pub texts : textIn to + length (textOf (nodeLabel p ws i)) ≤ 65536
   pub records : 4 * recordIn to + 4 ≤ length table
 
 pub record LeafPut (l : Label) (to : ℕ) (table bytes table′ bytes′ : List ℕ) (r : ℕ) : Type 0 where
   pub table-is : table′ ≡ sets table (4 * recordIn to) (recordOf l (textIn to) 0 1)
   pub text-is : bytes′ ≡ sets bytes (textIn to) (textOf l)
-  pub next : r ≡ place (recordIn to + 1) (textIn to + length (textOf l))
+  pub next : r ≡ packedPlace (recordIn to + 1) (textIn to + length (textOf l))
 
 module _ (p ws : List ℕ) (i : ℕ) where
   -- the record of node i, by its words and its text's lengths
-  pub record-at : (w at n z : ℕ) → w ≡ lengthsOf (labelOf p ws i) → recordFrom (kindOf (getD ws (2 * i) 0)) (newIn (getD ws (2 * i) 0)) (getD ws (2 * i + 1) 0) w at n z ≡ recordOf (labelOf p ws i) at n z
+  pub record-at : (w at n z : ℕ) → w ≡ lengthsOf (nodeLabel p ws i) → recordFrom (kindOf (getD ws (2 * i) 0)) (newIn (getD ws (2 * i) 0)) (getD ws (2 * i + 1) 0) w at n z ≡ recordOf (nodeLabel p ws i) at n z
   unfolding first second
   record-at w at n z e = rw (e, add-one (2 * i), ← (kind-is p ws i)) (record-is p ws i at n z)
 
-  leaf-done : (to w : ℕ) (table bytes table′ bytes′ words : List ℕ) (r : ℕ) → textIn to + length (textOf (labelOf p ws i)) ≤ 65536 → TextPut p ws i bytes (textIn to) bytes′ w
+  leaf-done : (to w : ℕ) (table bytes table′ bytes′ words : List ℕ) (r : ℕ) → textIn to + length (textOf (nodeLabel p ws i)) ≤ 65536 → TextPut p ws i bytes (textIn to) bytes′ w
       → words ≡ recordFrom (kindOf (getD ws (2 * i) 0)) (newIn (getD ws (2 * i) 0)) (getD ws (2 * i + 1) 0) w (textIn to) 0 1 → table′ ≡ sets table (4 * recordIn to) words
-      → r ≡ place (recordIn to + 1) (textIn to + (w / 2 ^ 32 + w % 2 ^ 32)) → LeafPut (labelOf p ws i) to table bytes table′ bytes′ r
+      → r ≡ packedPlace (recordIn to + 1) (textIn to + (w / 2 ^ 32 + w % 2 ^ 32)) → LeafPut (nodeLabel p ws i) to table bytes table′ bytes′ r
   leaf-done to w table bytes table′ bytes′ words r h l q s n =
-      let a = lengths-all (labelOf p ws i) (omega arith) in
+      let a = lengths-all (nodeLabel p ws i) (omega arith) in
       record { table-is = s ∙ ap (sets table (4 * recordIn to)) (q ∙ record-at w (textIn to) 0 1 (l .lengths)); text-is = l .text-is; next = n ∙ rw (l .lengths, a) }
 
 -- is the kind in its first word below n? Decoded text has 13 or 14 there
@@ -167,7 +167,7 @@ module _ {p d ws measures : List ℕ} {i to : ℕ} {table bytes : List ℕ} (g :
   atom-ready = record { words = leaf-words; records = g .records; texts = omega (arith, g .texts) }
 
   -- the text stays
-  pub atom-leaf : kindOf (first ws i) < 4 → (table′ : List ℕ) (r : ℕ) → AtomPut ws i to table table′ r → LeafPut (labelOf p ws i) to table bytes table′ bytes r
+  pub atom-leaf : kindOf (first ws i) < 4 → (table′ : List ℕ) (r : ℕ) → AtomPut ws i to table table′ r → LeafPut (nodeLabel p ws i) to table bytes table′ bytes r
   atom-leaf h table′ r b =
       leaf-done p ws i to 0 table bytes table′ bytes _ r (g .texts) (texts-small p d ws measures i bytes (textIn to) (g .text-ready) (kindOf (first ws i)) refl h) refl (b .table-is) (b .next ∙ omega arith)
 
@@ -179,13 +179,13 @@ module _ {p d ws measures : List ℕ} {i to : ℕ} {table bytes : List ℕ} (g :
     text-put : (bytes′ : List ℕ) → bytes′ ≡ sets bytes (textIn to) lead → TextPut p ws i bytes (textIn to) bytes′ (length lead)
     text-put = texts-lead p d ws measures i bytes (textIn to) (g .text-ready) (kindOf (first ws i)) refl (h .0) (h .1) lead q
 
-    spoken-text : textOf (labelOf p ws i) ≡ lead
+    spoken-text : textOf (nodeLabel p ws i) ≡ lead
     spoken-text = one-text p d ws measures i bytes (textIn to) (g .text-ready) (kindOf (first ws i)) refl (h .0) (h .1) lead q
 
     pub text-fits : textIn to + length lead ≤ 65536
     text-fits = rw (← spoken-text) (g .texts)
 
-    pub text-leaf : (bytes′ table′ : List ℕ) (r : ℕ) → bytes′ ≡ sets bytes (textIn to) lead → table′ ≡ sets table (4 * recordIn to) (kindOf (first ws i) ∷ textIn to ∷ length lead ∷ 0 ∷ []) → r ≡ to + 1 + 4096 * length lead → LeafPut (labelOf p ws i) to table bytes table′ bytes′ r
+    pub text-leaf : (bytes′ table′ : List ℕ) (r : ℕ) → bytes′ ≡ sets bytes (textIn to) lead → table′ ≡ sets table (4 * recordIn to) (kindOf (first ws i) ∷ textIn to ∷ length lead ∷ 0 ∷ []) → r ≡ to + 1 + 4096 * length lead → LeafPut (nodeLabel p ws i) to table bytes table′ bytes′ r
     unfolding first
     text-leaf bytes′ table′ r s t n =
         let h₀ = h .0 in
@@ -205,9 +205,9 @@ module _ {p d ws measures : List ℕ} {i to : ℕ} {table bytes : List ℕ} (g :
 
     module _ (w : ℕ) (bytes′ : List ℕ) (t : TextPut p ws i bytes (textIn to) bytes′ w) where
       pub names-fit : textIn to + (w / 2 ^ 32 + w % 2 ^ 32) ≤ 65536
-      names-fit = rw (t .lengths, lengths-all (labelOf p ws i) (g .text-ready .short)) (g .texts)
+      names-fit = rw (t .lengths, lengths-all (nodeLabel p ws i) (g .text-ready .short)) (g .texts)
 
-      pub names-leaf : (table′ : List ℕ) (r : ℕ) → table′ ≡ sets table (4 * recordIn to) (kindOf (first ws i) ∷ textIn to ∷ w ∷ 0 ∷ []) → r ≡ place (recordIn to + 1) (textIn to + (w / 2 ^ 32 + w % 2 ^ 32)) → LeafPut (labelOf p ws i) to table bytes table′ bytes′ r
+      pub names-leaf : (table′ : List ℕ) (r : ℕ) → table′ ≡ sets table (4 * recordIn to) (kindOf (first ws i) ∷ textIn to ∷ w ∷ 0 ∷ []) → r ≡ packedPlace (recordIn to + 1) (textIn to + (w / 2 ^ 32 + w % 2 ^ 32)) → LeafPut (nodeLabel p ws i) to table bytes table′ bytes′ r
       unfolding first
       names-leaf table′ r s n =
           leaf-done p ws i to w table bytes table′ bytes′ _ r (g .texts) t (from-names (kindOf (first ws i)) _ _ _ _ _ _ _ (omega arith) (omega (arith, named-kind)) (λ z. omega (arith, named-kind)) (omega (arith, named-kind)) (λ z. omega (arith, named-kind))) s n
@@ -223,7 +223,7 @@ pub record CopyReady (m to : ℕ) (table bytes : List ℕ) : Type 0 where
 pub record CopyPut (m to : ℕ) (table bytes table′ bytes′ : List ℕ) (r : ℕ) : Type 0 where
   pub table-is : table′ ≡ sets table (4 * recordIn to) (moves (m / 2 ^ 24 % 2 ^ 17) (textIn to) (take (4 * (m / 2 ^ 12 % 2 ^ 12)) (drop (4 * (m % 2 ^ 12)) table)))
   pub text-is : bytes′ ≡ sets bytes (textIn to) (take (m / 2 ^ 41 % 2 ^ 17) (drop (m / 2 ^ 24 % 2 ^ 17) bytes))
-  pub next : r ≡ place (recordIn to + m / 2 ^ 12 % 2 ^ 12) (textIn to + m / 2 ^ 41 % 2 ^ 17)
+  pub next : r ≡ packedPlace (recordIn to + m / 2 ^ 12 % 2 ^ 12) (textIn to + m / 2 ^ 41 % 2 ^ 17)
 
 -- ---- a container whose contents end at the place `next`
 

@@ -9,7 +9,7 @@ use native.Mathlib.Omega.{arith}
 use Rattle.value.specs.Value.{Label, Forest, textOf, text, count, size, recordOf, table, table-length, NoneL, BoolL, I64L, F64L, BytesL, StringL, ListL, TupleL, SetL, FrozenSetL, DictL, GlobalL, ObjectL, nil, node}
 use Rattle.steps.specs.State.{Node}
 use Rattle.resolved.specs.Resolved.{Kids}
-use Rattle.resolved.specs.Moved.{placed, regroup}
+use Rattle.resolved.specs.Moved.{hasTextPlace, regroup}
 use Rattle.resolved.specs.Written.{Written}
 use Rattle.emit.specs.Copies.{Copyable}
 
@@ -22,10 +22,10 @@ module _ (lo hi : ℕ) where
   Textual (a ∷ []) = Unit {0}
   Textual (a ∷ b ∷ []) = Unit {0}
   Textual (a ∷ b ∷ c ∷ []) = Unit {0}
-  Textual (a ∷ b ∷ c ∷ d ∷ r) = (placed a ≡ true → (lo ≤ b) × (b ≤ hi)) × Textual r
+  Textual (a ∷ b ∷ c ∷ d ∷ r) = (hasTextPlace a ≡ true → (lo ≤ b) × (b ≤ hi)) × Textual r
 
   record-textual : (l : Label) (p n z : ℕ) (r : List ℕ) → lo ≤ p → p ≤ hi → Textual r → Textual (recordOf l p n z ++ r)
-  unfolding Textual placed
+  unfolding Textual hasTextPlace
   record-textual NoneL p n z r g h t = (no, t)
   record-textual (BoolL b) p n z r g h t = (no, t)
   record-textual (I64L i) p n z r g h t = (no, t)
@@ -51,7 +51,7 @@ module _ (lo hi : ℕ) where
       (table-textual c q _ (omega arith) (omega arith)
       (table-textual f (q + length (text c)) r (omega arith) (omega arith) t)))
 
-  textual-at : (l : List ℕ) → Textual l → (k : ℕ) → 4 * k + 3 < length l → placed (getD l (4 * k) 0) ≡ true → (lo ≤ getD l (4 * k + 1) 0) × (getD l (4 * k + 1) 0 ≤ hi)
+  textual-at : (l : List ℕ) → Textual l → (k : ℕ) → 4 * k + 3 < length l → hasTextPlace (getD l (4 * k) 0) ≡ true → (lo ≤ getD l (4 * k + 1) 0) × (getD l (4 * k + 1) 0 ≤ hi)
   unfolding Textual
   textual-at [] t k h e = absurd (omega arith)
   textual-at (a ∷ []) t k h e = absurd (omega arith)
@@ -78,7 +78,7 @@ written-copyable {records = records} {f = f} a p b q w g r x y = record { apart 
     textual : Textual p 65536 (table f p)
     textual = rw append-nil at (table-textual p 65536 f p [] (omega arith) x tt)
 
-    places : (k : ℕ) → k < size f → placed (getD records (4 * (a + k)) 0) ≡ true → (p ≤ getD records (4 * (a + k) + 1) 0) × (getD records (4 * (a + k) + 1) 0 - p + q < 2 ^ 64)
+    places : (k : ℕ) → k < size f → hasTextPlace (getD records (4 * (a + k)) 0) ≡ true → (p ≤ getD records (4 * (a + k) + 1) 0) × (getD records (4 * (a + k) + 1) 0 - p + q < 2 ^ 64)
     places k l e =
         let e₀ : 4 * (a + k) ≡ 4 * a + 4 * k = omega arith in
         let e₁ : 4 * (a + k) + 1 ≡ 4 * a + (4 * k + 1) = omega arith in

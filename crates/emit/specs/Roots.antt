@@ -12,7 +12,7 @@ use Rattle.reading.specs.Build.{at}
 use Rattle.resolved.specs.Resolved.{Kids, StandsFor}
 use Rattle.resolved.specs.Ordered.{Final}
 use Rattle.emit.specs.Leaves.{opened}
-use Rattle.emit.specs.Calls.{Begun, ReadyNode, Flat, Open, Made, Wrote}
+use Rattle.emit.specs.Calls.{Begun, ReadyNode, Flat, Open, PutValue, WroteNode}
 
 -- the rooms show nodes and a graph in which the root stands for a value within the limits, and nothing is written yet
 pub record Rooted (p d ws starts sorted log : List ℕ) (root : ℕ) (measures table bytes : List ℕ) : Type 0 where
@@ -64,7 +64,7 @@ module _ {p d ws starts sorted log : List ℕ} {root : ℕ} {measures table byte
   front : (x y l : List ℕ) (n : ℕ) → take (length l) x ≡ l → length l ≡ n → drop n x ≡ drop n y → x ≡ l ++ drop n y
   front x y l n a b c = sym (take-append-drop n x) ∙ (ap (λ (s : List ℕ). take n x ++ s) c ∙ ap (λ (s : List ℕ). s ++ drop n y) (rw b at a))
 
-  made-emitted : (table′ bytes′ : List ℕ) (r : ℕ) → Made (G .t) (G .h) (G .v) root 0 table bytes table′ bytes′ r → Emitted (G .v) table bytes table′ bytes′ r
+  made-emitted : (table′ bytes′ : List ℕ) (r : ℕ) → PutValue (G .t) (G .h) (G .v) root 0 table bytes table′ bytes′ r → Emitted (G .v) table bytes table′ bytes′ r
   made-emitted table′ bytes′ r M =
       let n = size (one (G .v)) in
       let m = length (text (one (G .v))) in
@@ -76,12 +76,12 @@ module _ {p d ws starts sorted log : List ℕ} {root : ℕ} {measures table byte
         text-is = front bytes′ bytes (text (one (G .v))) m (M .written .text-is) refl (rw y at (M .text-behind));
       }
 
-  pub root-wrote : (o : opened ws measures root ≡ true) (measures′ table′ bytes′ : List ℕ) (r : ℕ) → Wrote (root-open o .ready .t) (root-open o .ready .h) (root-open o .ready .v) root 0 measures table bytes measures′ table′ bytes′ r
+  pub root-wrote : (o : opened ws measures root ≡ true) (measures′ table′ bytes′ : List ℕ) (r : ℕ) → WroteNode (root-open o .ready .t) (root-open o .ready .h) (root-open o .ready .v) root 0 measures table bytes measures′ table′ bytes′ r
       → Emitted (G .v) table bytes table′ bytes′ r
   unfolding root-open root-ready
   root-wrote o measures′ table′ bytes′ r W = made-emitted table′ bytes′ r (W .made)
 
-  pub root-made : (o : opened ws measures root ≡ false) (table′ bytes′ : List ℕ) (r : ℕ) → Made (root-flat o .ready .t) (root-flat o .ready .h) (root-flat o .ready .v) root 0 table bytes table′ bytes′ r
+  pub root-made : (o : opened ws measures root ≡ false) (table′ bytes′ : List ℕ) (r : ℕ) → PutValue (root-flat o .ready .t) (root-flat o .ready .h) (root-flat o .ready .v) root 0 table bytes table′ bytes′ r
       → Emitted (G .v) table bytes table′ bytes′ r
   unfolding root-flat root-ready
   root-made o table′ bytes′ r M = made-emitted table′ bytes′ r M

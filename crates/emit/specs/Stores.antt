@@ -5,7 +5,7 @@ use mathlib.Core.Path.{_≡_, refl, sym, _∙_, ap}
 use lib.ListN.{length, getD, take, drop, set}
 use lib.Seq.{sets, sets-eq, take-set-le, drop-set-lt, getD-take, drop-at, length-take-le, take-append-seam, take-take, drop-drop}
 use native.Mathlib.Omega.{arith}
-use Rattle.resolved.specs.Written.{Part}
+use Rattle.resolved.specs.Written.{HasAt}
 
 pub sets-before : (l : List ℕ) (i : ℕ) (vs : List ℕ) (n : ℕ) → n ≤ i → take n (sets l i vs) ≡ take n l
 sets-before l i [] n h = refl
@@ -15,7 +15,7 @@ pub sets-behind : (l : List ℕ) (i : ℕ) (vs : List ℕ) (n : ℕ) → i + len
 sets-behind l i [] n h = refl
 sets-behind l i (a ∷ vs) n h = sets-behind (set l i a) (suc i) vs n (omega arith) ∙ drop-set-lt n l i a (omega arith)
 
-pub sets-there : (l : List ℕ) (i : ℕ) (vs : List ℕ) → i + length vs ≤ length l → Part (sets l i vs) i vs
+pub sets-there : (l : List ℕ) (i : ℕ) (vs : List ℕ) → i + length vs ≤ length l → HasAt (sets l i vs) i vs
 sets-there l i vs h =
     let n : length (take i l) ≡ i = length-take-le i l (omega arith) in
     rw (sets-eq vs l i h, append-assoc, drop-at (take i l) (vs ++ drop (i + length vs) l) i n) (take-append-seam vs (drop (i + length vs) l))
@@ -34,5 +34,5 @@ later r s e n h l = from s ∙ (ap (drop (n - e)) h ∙ sym (from r))
     from : (x : List ℕ) → drop n x ≡ drop (n - e) (drop e x)
     from x = sym (let q : e + (n - e) ≡ n = omega arith in rw (drop-drop (n - e) e x, q))
 
-pub part-late : (r s : List ℕ) (e a : ℕ) (l : List ℕ) → drop e s ≡ drop e r → e ≤ a → Part r a l → Part s a l
+pub part-late : (r s : List ℕ) (e a : ℕ) (l : List ℕ) → drop e s ≡ drop e r → e ≤ a → HasAt r a l → HasAt s a l
 part-late r s e a l h k p = ap (take (length l)) (later r s e a h k) ∙ p

@@ -20,17 +20,17 @@ use Rattle.resolved.specs.Ordered.{Final}
 use Rattle.resolved.specs.Moved.{text-before}
 use Rattle.resolved.specs.Ranges.{in-at}
 use Rattle.resolved.specs.Noted.{isContainer}
-use Rattle.resolved.specs.Written.{Part, part-stays, Written, written-none, written-node, written-stays}
-use Rattle.resolved.specs.Shown.{labelOf, fromIn, manyIn, listOf, Inside}
+use Rattle.resolved.specs.Written.{HasAt, part-stays, Written, written-none, written-node, written-stays}
+use Rattle.resolved.specs.Shown.{nodeLabel, fromIn, manyIn, listOf, Inside}
 use Rattle.lists.specs.declared.Range.{Range}
 use Rattle.lists.specs.Listed.{Listed, shown-listed, Ranges, list-length, list-at}
 use Rattle.lists.specs.Kinds.{kindOf, containerKind, kind-is}
 use Rattle.emit.specs.Stores.{sets-before, sets-behind, sets-there, earlier, later, part-late}
-use Rattle.emit.specs.Words.{place, recordIn, textIn, writtenW, lengthsOf, lengths-all}
+use Rattle.emit.specs.Words.{packedPlace, recordIn, textIn, writtenW, lengthsOf, lengths-all}
 use Rattle.emit.specs.Forests.{text-append, append-none, append-next, depth-behind, written-join}
 use Rattle.emit.specs.Leaves.{TextReady, TextPut, kindBelow, LeafPut, record-at, FinishReady, FinishPut, opened}
 use Rattle.emit.specs.Since.{Since, since-then, since-late, since-measure, since-fresh}
-use Rattle.emit.specs.Calls.{ReadyNode, Flat, Open, Made, Wrote, size-one, text-one, ready-most, ready-below, ready-label, ready-container, ready-text, below-made}
+use Rattle.emit.specs.Calls.{ReadyNode, Flat, Open, PutValue, WroteNode, size-one, text-one, ready-most, ready-below, ready-label, ready-container, ready-text, below-made}
 
 -- ---- a container that is to be walked
 
@@ -68,19 +68,19 @@ module _ {p d ws starts sorted log : List ℕ} {levels i to : ℕ} {measures tab
   open-container : isContainer (at (O .ready .t) i .label) ≡ true
   open-container = ready-container (O .ready) open-small ∙ open-kind
 
-  pub open-label : O .ready .v .label ≡ labelOf p ws i
+  pub open-label : O .ready .v .label ≡ nodeLabel p ws i
   open-label = stand-label (O .ready .stands) ∙ ready-label (O .ready) open-small
 
-  open-texts : textIn to + length (textOf (labelOf p ws i)) ≤ 65536
+  open-texts : textIn to + length (textOf (nodeLabel p ws i)) ≤ 65536
   open-texts = rw (← open-label) (omega (arith, text-one (O .ready .v), O .ready .fits .texts))
 
   pub open-text : TextReady p d ws measures i bytes (textIn to)
   open-text = ready-text (O .ready) open-small open-fresh open-texts
 
-  pub open-lengths : (w : ℕ) → w ≡ lengthsOf (labelOf p ws i) → w / 2 ^ 32 + w % 2 ^ 32 ≡ length (textOf (O .ready .v .label))
-  open-lengths w e = rw (e, open-label) (lengths-all (labelOf p ws i) (omega (arith, open-texts)))
+  pub open-lengths : (w : ℕ) → w ≡ lengthsOf (nodeLabel p ws i) → w / 2 ^ 32 + w % 2 ^ 32 ≡ length (textOf (O .ready .v .label))
+  open-lengths w e = rw (e, open-label) (lengths-all (nodeLabel p ws i) (omega (arith, open-texts)))
 
-  pub open-behind : (w : ℕ) → w ≡ lengthsOf (labelOf p ws i) → textIn to + (w / 2 ^ 32 + w % 2 ^ 32) ≤ 65536
+  pub open-behind : (w : ℕ) → w ≡ lengthsOf (nodeLabel p ws i) → textIn to + (w / 2 ^ 32 + w % 2 ^ 32) ≤ 65536
   open-behind w e = rw (open-lengths w e, open-label) open-texts
 
   pub open-levels : 1 ≤ levels
@@ -129,19 +129,19 @@ module _ {p d ws starts sorted log : List ℕ} {levels i to : ℕ} {measures tab
   open-few e = let R = O .ready in R .begun .few i (R .known) (ap kind (ready-label R open-small) ∙ (kind-is p ws i ∙ e))
 
 -- its text is written
-pub record Entered (p d ws starts sorted log : List ℕ) (levels i to : ℕ) (measures table bytes : List ℕ) : Type 0 where
+pub record OpenWithText (p d ws starts sorted log : List ℕ) (levels i to : ℕ) (measures table bytes : List ℕ) : Type 0 where
   pub walk : Open p d ws starts sorted log levels i to measures table bytes
-  pub own : Part bytes (textIn to) (textOf (walk .ready .v .label))
+  pub own : HasAt bytes (textIn to) (textOf (walk .ready .v .label))
 
-pub enter : {p d ws starts sorted log : List ℕ} {levels i to : ℕ} {measures table bytes : List ℕ} (O : Open p d ws starts sorted log levels i to measures table bytes) (bytes₁ : List ℕ) (w : ℕ) → TextPut p ws i bytes (textIn to) bytes₁ w
-    → Entered p d ws starts sorted log levels i to measures table bytes₁
-enter {p} {ws = ws} {i = i} {to = to} {measures = measures} {table = table} {bytes = bytes} O bytes₁ w L =
+pub text-entered : {p d ws starts sorted log : List ℕ} {levels i to : ℕ} {measures table bytes : List ℕ} (O : Open p d ws starts sorted log levels i to measures table bytes) (bytes₁ : List ℕ) (w : ℕ) → TextPut p ws i bytes (textIn to) bytes₁ w
+    → OpenWithText p d ws starts sorted log levels i to measures table bytes₁
+text-entered {p} {ws = ws} {i = i} {to = to} {measures = measures} {table = table} {bytes = bytes} O bytes₁ w L =
     let R = O .ready in
     let l = open-label O in
     let e : bytes₁ ≡ sets bytes (textIn to) (textOf (R .v .label)) = rw l (L .text-is) in
     let n : length bytes₁ ≡ length bytes = ap length e ∙ length-sets bytes (textIn to) (textOf (R .v .label)) in
     let x : take (textIn to) bytes₁ ≡ take (textIn to) bytes = rw e (sets-before bytes (textIn to) (textOf (R .v .label)) (textIn to) (omega arith)) in
-    let y : Part bytes₁ (textIn to) (textOf (R .v .label)) = rw e (sets-there bytes (textIn to) (textOf (R .v .label)) (omega (arith, text-one (R .v), R .fits .texts, R .fits .text-long))) in
+    let y : HasAt bytes₁ (textIn to) (textOf (R .v .label)) = rw e (sets-there bytes (textIn to) (textOf (R .v .label)) (omega (arith, text-one (R .v), R .fits .texts, R .fits .text-long))) in
     record {
       walk = record {
         ready = record {
@@ -166,7 +166,7 @@ enter {p} {ws = ws} {i = i} {to = to} {measures = measures} {table = table} {byt
 -- ---- the loop
 
 -- Of node i's list k children are written: f; those after them are g. From measures, table and text as they were when the loop began.
-pub record Turn (t : List Node) (h : Kids) (v : Value) (i to from : ℕ) (measures₀ table₀ bytes₀ : List ℕ) (next j : ℕ) (measures table bytes : List ℕ) : Type 0 where
+pub record WrittenChildren (t : List Node) (h : Kids) (v : Value) (i to from : ℕ) (measures₀ table₀ bytes₀ : List ℕ) (next j : ℕ) (measures table bytes : List ℕ) : Type 0 where
   pub k : ℕ
   pub f : Forest
   pub g : Forest
@@ -174,7 +174,7 @@ pub record Turn (t : List Node) (h : Kids) (v : Value) (i to from : ℕ) (measur
   pub within : k ≤ length (h i)
   pub joined : f ⊕ g ≡ v .contents
   pub rest : Stand t h (drop k (h i)) g
-  pub next-is : next ≡ place (recordIn to + 1 + size f) (textIn to + length (textOf (v .label)) + length (text f))
+  pub next-is : next ≡ packedPlace (recordIn to + 1 + size f) (textIn to + length (textOf (v .label)) + length (text f))
   pub written : Written t h table bytes (take k (h i)) f (recordIn to + 1) (textIn to + length (textOf (v .label)))
   pub table-before : take (4 * recordIn to) table ≡ take (4 * recordIn to) table₀
   pub table-behind : drop (4 * (recordIn to + size (one v))) table ≡ drop (4 * (recordIn to + size (one v))) table₀
@@ -185,10 +185,10 @@ pub record Turn (t : List Node) (h : Kids) (v : Value) (i to from : ℕ) (measur
   pub text-long : length bytes ≡ length bytes₀
   pub since : Since t h table bytes (recordIn to + 1) (recordIn to + 1 + size f) (textIn to + length (textOf (v .label)) + length (text f)) measures₀ measures
 
-place-record : (n a p : ℕ) → n ≡ place a p → a < 4096 → recordIn n ≡ a
+place-record : (n a p : ℕ) → n ≡ packedPlace a p → a < 4096 → recordIn n ≡ a
 place-record n a p e l = omega arith
 
-place-text : (n a p : ℕ) → n ≡ place a p → a < 4096 → textIn n ≡ p
+place-text : (n a p : ℕ) → n ≡ packedPlace a p → a < 4096 → textIn n ≡ p
 place-text n a p e l = omega arith
 
 module _ (g : Forest) (v : Value) (r : Forest) (e : g ≡ before v r) where
@@ -214,9 +214,9 @@ pub record Child (t : List Node) (h : Kids) (js : List ℕ) (g : Forest) (c : �
 pub child : {t : List Node} {h : Kids} {c : ℕ} {js : List ℕ} {g : Forest} → Stand t h (c ∷ js) g → Child t h js g c
 child {t = t} {c = c} (sNode {c = f} {r = r} a b) = record { value = record { label = at t c .label; contents = f }; rest = r; split = refl; stands = sNode a sNil; behind = b }
 
-module _ {p d ws starts sorted log : List ℕ} {levels i to from : ℕ} {measures₀ table₀ bytes₀ : List ℕ} (E : Entered p d ws starts sorted log levels i to measures₀ table₀ bytes₀) where
-  pub turn-start : (w next : ℕ) → w ≡ lengthsOf (labelOf p ws i) → next ≡ place (recordIn to + 1) (textIn to + (w / 2 ^ 32 + w % 2 ^ 32))
-      → Turn (E .walk .ready .t) (E .walk .ready .h) (E .walk .ready .v) i to from measures₀ table₀ bytes₀ next from measures₀ table₀ bytes₀
+module _ {p d ws starts sorted log : List ℕ} {levels i to from : ℕ} {measures₀ table₀ bytes₀ : List ℕ} (E : OpenWithText p d ws starts sorted log levels i to measures₀ table₀ bytes₀) where
+  pub turn-start : (w next : ℕ) → w ≡ lengthsOf (nodeLabel p ws i) → next ≡ packedPlace (recordIn to + 1) (textIn to + (w / 2 ^ 32 + w % 2 ^ 32))
+      → WrittenChildren (E .walk .ready .t) (E .walk .ready .h) (E .walk .ready .v) i to from measures₀ table₀ bytes₀ next from measures₀ table₀ bytes₀
   unfolding size text _⊕_
   turn-start w next e n =
       let R = E .walk .ready in
@@ -241,7 +241,7 @@ module _ {p d ws starts sorted log : List ℕ} {levels i to from : ℕ} {measure
         since = λ j. inl refl;
       }
 
-  module _ {next j : ℕ} {measures table bytes : List ℕ} (T : Turn (E .walk .ready .t) (E .walk .ready .h) (E .walk .ready .v) i to from measures₀ table₀ bytes₀ next j measures table bytes) where
+  module _ {next j : ℕ} {measures table bytes : List ℕ} (T : WrittenChildren (E .walk .ready .t) (E .walk .ready .h) (E .walk .ready .v) i to from measures₀ table₀ bytes₀ next j measures table bytes) where
     size-all : size (one (E .walk .ready .v)) ≡ suc (size (T .f) + size (T .g))
     size-all = size-one (E .walk .ready .v) ∙ ap suc (rw (← (T .joined)) (size-append (T .f) (T .g)))
 
@@ -340,8 +340,8 @@ module _ {p d ws starts sorted log : List ℕ} {levels i to from : ℕ} {measure
 
       -- the child is written
       turn-next : (next′ : ℕ) (measures′ table′ bytes′ : List ℕ) → length measures′ ≡ length measures → length table′ ≡ length table → length bytes′ ≡ length bytes
-          → Wrote (E .walk .ready .t) (E .walk .ready .h) (turn-child .value) c next measures table bytes measures′ table′ bytes′ next′
-          → Turn (E .walk .ready .t) (E .walk .ready .h) (E .walk .ready .v) i to from measures₀ table₀ bytes₀ next′ (j + 1) measures′ table′ bytes′
+          → WroteNode (E .walk .ready .t) (E .walk .ready .h) (turn-child .value) c next measures table bytes measures′ table′ bytes′ next′
+          → WrittenChildren (E .walk .ready .t) (E .walk .ready .h) (E .walk .ready .v) i to from measures₀ table₀ bytes₀ next′ (j + 1) measures′ table′ bytes′
       turn-next next′ measures′ table′ bytes′ n₁ n₂ n₃ W =
           let R = E .walk .ready in
           let C = turn-child in
@@ -356,7 +356,7 @@ module _ {p d ws starts sorted log : List ℕ} {levels i to from : ℕ} {measure
           let r₃ : drop (4 * (u + size (one w))) table′ ≡ drop (4 * (u + size (one w))) table = rw next-record at (M .table-behind) in
           let r₄ : drop (x + length (text (one w))) bytes′ ≡ drop (x + length (text (one w))) bytes = rw next-text at (M .text-behind) in
           let r₅ : Written (R .t) (R .h) table′ bytes′ (c ∷ []) (one w) u x = rw (next-record, next-text) at (M .written) in
-          let r₆ : next′ ≡ place (u + size (one w)) (x + length (text (one w))) = rw (next-record, next-text) at (M .next) in
+          let r₆ : next′ ≡ packedPlace (u + size (one w)) (x + length (text (one w))) = rw (next-record, next-text) at (M .next) in
           let r₇ : Since (R .t) (R .h) table′ bytes′ u (u + size (one w)) (x + length (text (one w))) measures measures′ = rw (next-record, next-text) at (W .since) in
           let e₁ : recordIn to + 1 + size (T .f ⊕ one w) ≡ u + size (one w) = omega arith in
           let e₂ : textIn to + length (textOf (R .v .label)) + length (text (T .f ⊕ one w)) ≡ x + length (text (one w)) = omega arith in
@@ -386,21 +386,21 @@ module _ {p d ws starts sorted log : List ℕ} {levels i to from : ℕ} {measure
 
       -- by a walk
       pub next-walked : (o : opened ws measures c ≡ true) (next′ : ℕ) (measures′ table′ bytes′ : List ℕ) → length measures′ ≡ length measures → length table′ ≡ length table → length bytes′ ≡ length bytes
-          → Wrote (child-open o .ready .t) (child-open o .ready .h) (child-open o .ready .v) c next measures table bytes measures′ table′ bytes′ next′
-          → Turn (E .walk .ready .t) (E .walk .ready .h) (E .walk .ready .v) i to from measures₀ table₀ bytes₀ next′ (j + 1) measures′ table′ bytes′
+          → WroteNode (child-open o .ready .t) (child-open o .ready .h) (child-open o .ready .v) c next measures table bytes measures′ table′ bytes′ next′
+          → WrittenChildren (E .walk .ready .t) (E .walk .ready .h) (E .walk .ready .v) i to from measures₀ table₀ bytes₀ next′ (j + 1) measures′ table′ bytes′
       unfolding child-open turn-ready
       next-walked o next′ measures′ table′ bytes′ n₁ n₂ n₃ w = turn-next next′ measures′ table′ bytes′ n₁ n₂ n₃ w
 
       -- without one
       pub next-flat : (o : opened ws measures c ≡ false) (next′ : ℕ) (table′ bytes′ : List ℕ) → length table′ ≡ length table → length bytes′ ≡ length bytes
-          → Made (child-flat o .ready .t) (child-flat o .ready .h) (child-flat o .ready .v) c next table bytes table′ bytes′ next′
-          → Turn (E .walk .ready .t) (E .walk .ready .h) (E .walk .ready .v) i to from measures₀ table₀ bytes₀ next′ (j + 1) measures table′ bytes′
+          → PutValue (child-flat o .ready .t) (child-flat o .ready .h) (child-flat o .ready .v) c next table bytes table′ bytes′ next′
+          → WrittenChildren (E .walk .ready .t) (E .walk .ready .h) (E .walk .ready .v) i to from measures₀ table₀ bytes₀ next′ (j + 1) measures table′ bytes′
       unfolding child-flat turn-ready
       next-flat o next′ table′ bytes′ n₂ n₃ w = turn-next next′ measures table′ bytes′ refl n₂ n₃ (record { made = w; since = λ j. inl refl })
 
       -- a node of a kind before the containers'
-      pub next-leaf : (n : ℕ) (few : n ≤ 6) (o : kindBelow n ws c ≡ true) (next′ : ℕ) (table′ bytes′ : List ℕ) → length table′ ≡ length table → length bytes′ ≡ length bytes → LeafPut (labelOf p ws c) next table bytes table′ bytes′ next′
-          → Turn (E .walk .ready .t) (E .walk .ready .h) (E .walk .ready .v) i to from measures₀ table₀ bytes₀ next′ (j + 1) measures table′ bytes′
+      pub next-leaf : (n : ℕ) (few : n ≤ 6) (o : kindBelow n ws c ≡ true) (next′ : ℕ) (table′ bytes′ : List ℕ) → length table′ ≡ length table → length bytes′ ≡ length bytes → LeafPut (nodeLabel p ws c) next table bytes table′ bytes′ next′
+          → WrittenChildren (E .walk .ready .t) (E .walk .ready .h) (E .walk .ready .v) i to from measures₀ table₀ bytes₀ next′ (j + 1) measures table′ bytes′
       unfolding turn-ready
       next-leaf n few o next′ table′ bytes′ n₂ n₃ l = turn-next next′ measures table′ bytes′ refl n₂ n₃ (record { made = below-made turn-ready n few o table′ bytes′ next′ l; since = λ j. inl refl })
 
@@ -427,9 +427,9 @@ module _ {p d ws starts sorted log : List ℕ} {levels i to from : ℕ} {measure
       all-written : Written (E .walk .ready .t) (E .walk .ready .h) table bytes (E .walk .ready .h i) (E .walk .ready .v .contents) (suc (recordIn to)) (textIn to + length (textOf (E .walk .ready .v .label)))
       all-written = rw (all-k, take-length (E .walk .ready .h i), all-done, add-one (recordIn to)) at (T .written)
 
-      turn-done : (table′ words : List ℕ) (n z w : ℕ) → words ≡ recordOf (labelOf p ws i) (textIn to) n z → n ≡ length (E .walk .ready .h i) → z ≡ recordIn next - recordIn to → table′ ≡ sets table (4 * recordIn to) words
+      turn-done : (table′ words : List ℕ) (n z w : ℕ) → words ≡ recordOf (nodeLabel p ws i) (textIn to) n z → n ≡ length (E .walk .ready .h i) → z ≡ recordIn next - recordIn to → table′ ≡ sets table (4 * recordIn to) words
           → w ≡ writtenW (recordIn to) (recordIn next - recordIn to) (textIn to) (textIn next - textIn to)
-          → Wrote (E .walk .ready .t) (E .walk .ready .h) (E .walk .ready .v) i to measures₀ table₀ bytes₀ (set measures i w) table′ bytes next
+          → WroteNode (E .walk .ready .t) (E .walk .ready .h) (E .walk .ready .v) i to measures₀ table₀ bytes₀ (set measures i w) table′ bytes next
       turn-done table′ words n z w e en ez s em =
           let R = E .walk .ready in
           let a = recordIn to in
@@ -441,15 +441,15 @@ module _ {p d ws starts sorted log : List ℕ} {levels i to from : ℕ} {measure
           let m₂ = text-one (R .v) in
           let z₁ : z ≡ suc (size c) = omega arith in
           let e₁ : words ≡ recordOf (at (R .t) i .label) q (length (R .h i)) (suc (size c)) = rw (← en, ← z₁, ready-label R (open-small (E .walk))) e in
-          let n₁ : length words ≡ 4 = ap length e ∙ record-length (labelOf p ws i) q n z in
+          let n₁ : length words ≡ 4 = ap length e ∙ record-length (nodeLabel p ws i) q n z in
           let w₁ : w ≡ writtenW a (size (one (R .v))) q (length (text (one (R .v)))) = measured (recordIn next) (textIn next) em d₁ d₂ in
           let r₁ : take (4 * a) table′ ≡ take (4 * a) table = rw s (sets-before table (4 * a) words (4 * a) (omega arith)) in
           let r₂ : drop (4 * suc a) table′ ≡ drop (4 * suc a) table = rw s (sets-behind table (4 * a) words (4 * suc a) (omega arith)) in
-          let p₀ : Part table′ (4 * a) words = rw s (sets-there table (4 * a) words (omega (arith, R .fits .records, R .fits .table-long, T .table-long))) in
-          let p₁ : Part table′ (4 * a) (recordOf (at (R .t) i .label) q (length (R .h i)) (suc (size c))) = rw e₁ at p₀ in
-          let p₂ : Part bytes q (textOf (R .v .label)) = part-stays bytes₀ bytes (q + length (textOf (R .v .label))) q (textOf (R .v .label)) (T .text-before) (omega arith) (E .own) in
+          let p₀ : HasAt table′ (4 * a) words = rw s (sets-there table (4 * a) words (omega (arith, R .fits .records, R .fits .table-long, T .table-long))) in
+          let p₁ : HasAt table′ (4 * a) (recordOf (at (R .t) i .label) q (length (R .h i)) (suc (size c))) = rw e₁ at p₀ in
+          let p₂ : HasAt bytes q (textOf (R .v .label)) = part-stays bytes₀ bytes (q + length (textOf (R .v .label))) q (textOf (R .v .label)) (T .text-before) (omega arith) (E .own) in
           let k = stand-label (R .stands) in
-          let p₃ : Part bytes q (textOf (at (R .t) i .label)) = rw (← k) p₂ in
+          let p₃ : HasAt bytes q (textOf (at (R .t) i .label)) = rw (← k) p₂ in
           let A = all-written in
           let p₄ : Written (R .t) (R .h) table′ bytes (R .h i) c (suc a) (q + length (textOf (at (R .t) i .label))) =
           rw (← k) (record { stands = A .stands; table-is = part-late table table′ (4 * suc a) (4 * suc a) (tableOf c (q + length (textOf (R .v .label)))) r₂ (omega arith) (A .table-is); text-is = A .text-is }) in
@@ -480,12 +480,12 @@ module _ {p d ws starts sorted log : List ℕ} {levels i to from : ℕ} {measure
               rw (← b₁, ← b₂) g
 
 pub turn-same : (t : List Node) (h : Kids) (v : Value) (i to from : ℕ) (measures₀ table₀ bytes₀ : List ℕ) (next next′ j : ℕ) (measures measures′ table table′ bytes bytes′ : List ℕ) → measures′ ≡ measures → table′ ≡ table → bytes′ ≡ bytes → next′ ≡ next
-    → Turn t h v i to from measures₀ table₀ bytes₀ next j measures table bytes → Turn t h v i to from measures₀ table₀ bytes₀ next′ j measures′ table′ bytes′
+    → WrittenChildren t h v i to from measures₀ table₀ bytes₀ next j measures table bytes → WrittenChildren t h v i to from measures₀ table₀ bytes₀ next′ j measures′ table′ bytes′
 turn-same t h v i to from measures₀ table₀ bytes₀ next next′ j measures measures′ table table′ bytes bytes′ a b c d x = rw (a, b, c, d) x
 
 -- from the text as it was before the node's own
-wrote-all : (t : List Node) (h : Kids) (v : Value) (i to : ℕ) (measures table bytes bytes₁ measures′ table′ bytes′ : List ℕ) (r : ℕ) → bytes₁ ≡ sets bytes (textIn to) (textOf (v .label)) → Wrote t h v i to measures table bytes₁ measures′ table′ bytes′ r
-    → Wrote t h v i to measures table bytes measures′ table′ bytes′ r
+wrote-all : (t : List Node) (h : Kids) (v : Value) (i to : ℕ) (measures table bytes bytes₁ measures′ table′ bytes′ : List ℕ) (r : ℕ) → bytes₁ ≡ sets bytes (textIn to) (textOf (v .label)) → WroteNode t h v i to measures table bytes₁ measures′ table′ bytes′ r
+    → WroteNode t h v i to measures table bytes measures′ table′ bytes′ r
 wrote-all t h v i to measures table bytes bytes₁ measures′ table′ bytes′ r e W =
     let M = W .made in
     let n = text-one v in
@@ -505,16 +505,16 @@ wrote-all t h v i to measures table bytes bytes₁ measures′ table′ bytes′
 
 -- the container is written
 pub open-done : {p d ws starts sorted log : List ℕ} {levels i to : ℕ} {measures table bytes : List ℕ} (O : Open p d ws starts sorted log levels i to measures table bytes) (bytes₁ : List ℕ) (x : ℕ) (L : TextPut p ws i bytes (textIn to) bytes₁ x)
-    {from next j : ℕ} {measures′ table₁ bytes′ : List ℕ} (T : Turn (enter O bytes₁ x L .walk .ready .t) (enter O bytes₁ x L .walk .ready .h) (enter O bytes₁ x L .walk .ready .v) i to from measures table bytes₁ next j measures′ table₁ bytes′)
-    → length (enter O bytes₁ x L .walk .ready .h i) ≤ T .k → (n : ℕ) (table′ : List ℕ) (w : ℕ) → n ≡ length (O .ready .h i) → FinishPut ws i to next x n table₁ table′ w
-    → Wrote (O .ready .t) (O .ready .h) (O .ready .v) i to measures table bytes (set measures′ i w) table′ bytes′ next
-unfolding enter
+    {from next j : ℕ} {measures′ table₁ bytes′ : List ℕ} (T : WrittenChildren (text-entered O bytes₁ x L .walk .ready .t) (text-entered O bytes₁ x L .walk .ready .h) (text-entered O bytes₁ x L .walk .ready .v) i to from measures table bytes₁ next j measures′ table₁ bytes′)
+    → length (text-entered O bytes₁ x L .walk .ready .h i) ≤ T .k → (n : ℕ) (table′ : List ℕ) (w : ℕ) → n ≡ length (O .ready .h i) → FinishPut ws i to next x n table₁ table′ w
+    → WroteNode (O .ready .t) (O .ready .h) (O .ready .v) i to measures table bytes (set measures′ i w) table′ bytes′ next
+unfolding text-entered
 open-done {p} {ws = ws} {i = i} {to = to} {measures = measures} {table = table} {bytes = bytes} O bytes₁ x L {next = next} {measures′ = measures′} {bytes′ = bytes′} T l n table′ w e F =
     let q = open-label O in
     wrote-all (O .ready .t) (O .ready .h) (O .ready .v) i to measures table bytes bytes₁ (set measures′ i w) table′ bytes′ next (rw q (L .text-is))
-    (turn-done (enter O bytes₁ x L) T l table′ _ n (recordIn next - recordIn to) w (record-at p ws i x (textIn to) n (recordIn next - recordIn to) (L .lengths)) e refl (F .table-is) (F .measure))
+    (turn-done (text-entered O bytes₁ x L) T l table′ _ n (recordIn next - recordIn to) w (record-at p ws i x (textIn to) n (recordIn next - recordIn to) (L .lengths)) e refl (F .table-is) (F .measure))
 
 -- what `write` promises
 abbrev pub Writes : (p d ws starts sorted log : List ℕ) (levels i to : ℕ) (measures table bytes measures′ table′ bytes′ : List ℕ) (r : ℕ) → Type 0
 Writes p d ws starts sorted log levels i to measures table bytes measures′ table′ bytes′ r =
-    (O : Open p d ws starts sorted log levels i to measures table bytes) → Wrote (O .ready .t) (O .ready .h) (O .ready .v) i to measures table bytes measures′ table′ bytes′ r
+    (O : Open p d ws starts sorted log levels i to measures table bytes) → WroteNode (O .ready .t) (O .ready .h) (O .ready .v) i to measures table bytes measures′ table′ bytes′ r

@@ -11,12 +11,12 @@ use native.Mathlib.Omega.{arith}
 use Rattle.value.specs.Value.{Label, bit, half, kind, textOf, recordOf, NoneL, BoolL, I64L, F64L, BytesL, StringL, ListL, TupleL, SetL, FrozenSetL, DictL, GlobalL, ObjectL}
 use Rattle.value.specs.Shape.{kindIn, newIn}
 use Rattle.steps.specs.NodeWords.{first, second}
-use Rattle.resolved.specs.Shown.{labels, labelOf, hasText, leading, trailing}
+use Rattle.resolved.specs.Shown.{nodeLabels, nodeLabel, labelHasText, leading, trailing}
 
 -- ---- a place: the next record, and 4,096 times where the next text begins
 
-abbrev pub place : ℕ → ℕ → ℕ
-place a p = a + 4096 * p
+abbrev pub packedPlace : ℕ → ℕ → ℕ
+packedPlace a p = a + 4096 * p
 
 abbrev pub recordIn : ℕ → ℕ
 recordIn to = to % 4096
@@ -163,7 +163,7 @@ lengths-by DictL = refl
 lengths-by (GlobalL m n) = refl
 lengths-by (ObjectL m n b) = refl
 
-pub has-text : (l : Label) → hasText l ≡ spoken (kind l)
+pub has-text : (l : Label) → labelHasText l ≡ spoken (kind l)
 unfolding spoken
 has-text NoneL = refl
 has-text (BoolL b) = refl
@@ -202,13 +202,13 @@ lengths-all (ObjectL m k b) h = names-all m k h
 
 module _ (p ws : List ℕ) (i : ℕ) where
   -- two functions of labels that agree on every choice agree on the one chosen
-  chosen : {B : Type 0} (f g : Label → B) → map f (labels p ws (first ws i) (second ws i)) ≡ map g (labels p ws (first ws i) (second ws i)) → f NoneL ≡ g NoneL → f (labelOf p ws i) ≡ g (labelOf p ws i)
-  unfolding labelOf
+  chosen : {B : Type 0} (f g : Label → B) → map f (nodeLabels p ws (first ws i) (second ws i)) ≡ map g (nodeLabels p ws (first ws i) (second ws i)) → f NoneL ≡ g NoneL → f (nodeLabel p ws i) ≡ g (nodeLabel p ws i)
+  unfolding nodeLabel
   chosen f g e z =
       let k = kindIn (first ws i) in
-      let l = labels p ws (first ws i) (second ws i) in
+      let l = nodeLabels p ws (first ws i) (second ws i) in
       sym (List·getD-map f l k NoneL) ∙ rw (e, z) (List·getD-map g l k NoneL)
 
-  pub record-is : (at n z : ℕ) → recordFrom (kind (labelOf p ws i)) (newIn (first ws i)) (second ws i) (lengthsOf (labelOf p ws i)) at n z ≡ recordOf (labelOf p ws i) at n z
+  pub record-is : (at n z : ℕ) → recordFrom (kind (nodeLabel p ws i)) (newIn (first ws i)) (second ws i) (lengthsOf (nodeLabel p ws i)) at n z ≡ recordOf (nodeLabel p ws i) at n z
   unfolding recordFrom
   record-is at n z = chosen (λ l. recordFrom (kind l) (newIn (first ws i)) (second ws i) (lengthsOf l) at n z) (λ l. recordOf l at n z) refl refl

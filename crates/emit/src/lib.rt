@@ -8,11 +8,11 @@ ghost use lib.ListN.{length, take, drop};
 ghost use lib.Seq.{sets};
 ghost use Rattle.value.specs.Shape.{newIn};
 ghost use Rattle.steps.specs.NodeWords.{first};
-ghost use Rattle.resolved.specs.Moved.{placed, moves};
+ghost use Rattle.resolved.specs.Moved.{hasTextPlace, moves};
 ghost use Rattle.emit.specs.Copies.{Copyable};
-ghost use Rattle.emit.specs.Words.{place, recordIn, textIn, writtenW, recordFrom};
+ghost use Rattle.emit.specs.Words.{packedPlace, recordIn, textIn, writtenW, recordFrom};
 ghost use Rattle.lists.specs.Kinds.{kindOf, containerKind};
-ghost use Rattle.resolved.specs.Shown.{labelOf};
+ghost use Rattle.resolved.specs.Shown.{nodeLabel};
 ghost use Rattle.emit.specs.Leaves.{TextReady, TextPut, kindBelow, AtomReady, AtomPut, LeafReady, LeafPut, CopyReady, CopyPut, FinishReady, FinishPut, opened};
 ghost use Rattle.emit.specs.Calls.{Flat, FlatWrites, Open};
 ghost use Rattle.emit.specs.Turns.{Writes};
@@ -64,23 +64,23 @@ fn copy_bytes(text: &mut [u8], from: usize, n: usize, at: usize)
 
 // Has a record with this first word a text place?
 fn is_placed(first: u64) -> bool
-    ensures { λ r. ⌜ r ≡ placed first ⌝ }
+    ensures { λ r. ⌜ r ≡ hasTextPlace first ⌝ }
 {
     let head = value::head_of(first);
     let kind = head.kind;
-    if kind == value::BYTES {
+    if kind == value::KIND_BYTES {
         return true;
     }
-    if kind == value::STRING {
+    if kind == value::KIND_STRING {
         return true;
     }
-    value::DICT < kind
+    value::KIND_DICT < kind
 }
 
 // The second word of a record whose text began at `from` and begins at `to`, if it has any text.
 fn moved_word(first: u64, second: u64, from: usize, to: usize) -> u64
-    requires { ⌜ (placed first ≡ true → (from ≤ second) × (second - from + to < 2 ^ 64)) ⌝ }
-    ensures { λ r. ⌜ r ≡ cond (placed first) (second - from + to) second ⌝ }
+    requires { ⌜ (hasTextPlace first ≡ true → (from ≤ second) × (second - from + to < 2 ^ 64)) ⌝ }
+    ensures { λ r. ⌜ r ≡ cond (hasTextPlace first) (second - from + to) second ⌝ }
 {
     if is_placed(first) {
         return second - from as u64 + to as u64;
@@ -132,7 +132,7 @@ fn record_of(first: u64, second: u64, lengths: u64, at: u64, values: u64, size: 
     ensures { λ r. ⌜ r .0 ∷ r .1 ∷ r .2 ∷ r .3 ∷ [] ≡ recordFrom (kindOf first) (newIn first) second lengths at values size ⌝ }
 {
     let kind = lists::value_kind(first);
-    if kind == value::OBJECT {
+    if kind == value::KIND_OBJECT {
         let head = value::head_of(first);
         let word = value::word_of(Head {
             kind,
@@ -142,22 +142,22 @@ fn record_of(first: u64, second: u64, lengths: u64, at: u64, values: u64, size: 
         return Record(word, at, lengths, size);
     }
     let word = plain_word(kind);
-    if kind == value::NONE {
+    if kind == value::KIND_NONE {
         return Record(word, 0, 0, 0);
     }
-    if kind == value::BOOL {
+    if kind == value::KIND_BOOL {
         return Record(word, (second == 1) as u64, 0, 0);
     }
-    if kind < value::BYTES {
+    if kind < value::KIND_BYTES {
         return Record(word, second, 0, 0);
     }
-    if kind < value::LIST {
+    if kind < value::KIND_LIST {
         return Record(word, at, lengths, 0);
     }
-    if kind < value::DICT {
+    if kind < value::KIND_DICT {
         return Record(word, values, size, 0);
     }
-    if kind == value::DICT {
+    if kind == value::KIND_DICT {
         return Record(word, values / 2, size, 0);
     }
     Record(word, at, lengths, 0)
@@ -199,7 +199,7 @@ fn put_class<'a>(
     ensures { λ r. ⌜ TextPut (now (pickle .entry)) (now (nodes .entry)) (node .0) (now (text .entry)) at (now (text .exit)) r ⌝ }
 {
     let i = node.0;
-    if lists::value_kind(nodes[2 * i]) == value::OBJECT {
+    if lists::value_kind(nodes[2 * i]) == value::KIND_OBJECT {
         return put_names(node, pickle, decoded, nodes, measures, text, at);
     }
     0
@@ -208,7 +208,7 @@ fn put_class<'a>(
 // The place behind one record with text of these lengths.
 fn behind(to: u64, lengths: u64) -> u64
     requires { ⌜ textIn to + (lengths / 2 ^ 32 + lengths % 2 ^ 32) ≤ 65536 ⌝ }
-    ensures { λ r. ⌜ r ≡ place (recordIn to + 1) (textIn to + (lengths / 2 ^ 32 + lengths % 2 ^ 32)) ⌝ }
+    ensures { λ r. ⌜ r ≡ packedPlace (recordIn to + 1) (textIn to + (lengths / 2 ^ 32 + lengths % 2 ^ 32)) ⌝ }
 {
     to + 1 + 0x1000 * (lengths / 0x1_0000_0000 + lengths % 0x1_0000_0000)
 }
@@ -251,7 +251,7 @@ fn write_text<'a>(
     requires { ⌜ LeafReady (now pickle) (now decoded) (now nodes) (now measures) (node .0) to (now table) (now text) ⌝ }
     requires { ⌜ (4 ≤ kindOf (first (now nodes) (node .0))) × (kindOf (first (now nodes) (node .0)) < 6) ⌝ }
     ensures { λ r. ⌜ LeafPut
-        (labelOf (now (pickle .entry)) (now (nodes .entry)) (node .0)) to (now (table .entry))
+        (nodeLabel (now (pickle .entry)) (now (nodes .entry)) (node .0)) to (now (table .entry))
         (now (text .entry)) (now (table .exit)) (now (text .exit)) r ⌝ }
 {
     let i = node.0;
@@ -278,15 +278,15 @@ fn write_leaf<'a>(
     requires { ⌜ LeafReady (now pickle) (now decoded) (now nodes) (now measures) (node .0) to (now table) (now text) ⌝ }
     requires { ⌜ containerKind (kindOf (first (now nodes) (node .0))) ≡ false ⌝ }
     ensures { λ r. ⌜ LeafPut
-        (labelOf (now (pickle .entry)) (now (nodes .entry)) (node .0)) to (now (table .entry))
+        (nodeLabel (now (pickle .entry)) (now (nodes .entry)) (node .0)) to (now (table .entry))
         (now (text .entry)) (now (table .exit)) (now (text .exit)) r ⌝ }
 {
     let i = node.0;
     let kind = lists::value_kind(nodes[2 * i]);
-    if kind < value::BYTES {
+    if kind < value::KIND_BYTES {
         return write_atom(node, to, nodes, table);
     }
-    if kind < value::LIST {
+    if kind < value::KIND_LIST {
         return write_text(node, to, pickle, decoded, nodes, measures, table, text);
     }
     let at = to / 0x1000;
@@ -435,9 +435,9 @@ fn write<'a>(
     let mut j = from;
     while j < end {
         let child = lists::item(range.log, j, sorted, log);
-        if is_below(child, value::BYTES, nodes) {
+        if is_below(child, value::KIND_BYTES, nodes) {
             next = write_atom(child, next, nodes, table); // most are: no call that lends the texts
-        } else if is_below(child, value::LIST, nodes) {
+        } else if is_below(child, value::KIND_LIST, nodes) {
             next = write_text(child, next, pickle, decoded, nodes, measures, table, text);
         } else if is_open(child, nodes, measures) {
             next = write(

@@ -17,7 +17,7 @@ use lib.Seq.{drop-cons, take-all, drop-drop, getD-drop}
 use Rattle.number.specs.Number.{decimal}
 use Rattle.float.specs.Digits.{digit, lead, past, lead-length, drop-lead}
 use Rattle.number.specs.Space.{same}
-use Rattle.float.specs.Form.{minus, behindSign, fraction, beyond, digits, small, inf, infinity, nan, word, unformed, signedPower, power, exponent}
+use Rattle.float.specs.Form.{minus, behindSign, fraction, beyond, mantissaDigits, small, inf, infinity, nan, isWord, unformed, signedPower, power, exponent}
 use Rattle.float.specs.Nearest.{ten-pos}
 use Rattle.float.specs.Scan.{cap, readOn, runOf, Scanned, capped}
 use Rattle.float.specs.declared.DigitRun.{DigitRun}
@@ -191,16 +191,16 @@ same-length (b ∷ s) (c ∷ w) h = go (eqb (small b) c) (same-length s w (λ e.
     go false e = refl
 
 module _ (s : List ℕ) where
-  pub word-inf : same (map small s) inf ≡ true → true ≡ word s
-  unfolding word
+  pub word-inf : same (map small s) inf ≡ true → true ≡ isWord s
+  unfolding isWord
   word-inf e = rw e
 
-  pub word-infinity : same (map small s) inf ≡ false → same (map small s) infinity ≡ true → true ≡ word s
-  unfolding word
+  pub word-infinity : same (map small s) inf ≡ false → same (map small s) infinity ≡ true → true ≡ isWord s
+  unfolding isWord
   word-infinity e f = rw (e, f)
 
-  pub word-nan : same (map small s) inf ≡ false → same (map small s) infinity ≡ false → same (map small s) nan ≡ word s
-  unfolding word
+  pub word-nan : same (map small s) inf ≡ false → same (map small s) infinity ≡ false → same (map small s) nan ≡ isWord s
+  unfolding isWord
   word-nan e f = rw (e, f)
 
 -- ---- digits and a point
@@ -219,7 +219,7 @@ read-both s t = rw (read-none s, decimal-append (lead s) (lead t)) (read-capped 
 pub scanned-point : (s t : List ℕ) (at v n u : ℕ) → at ≡ length (lead s) → v ≡ readOn 0 s → at < length s → getD s at 0 ≡ 0x2E
     → t ≡ drop (at + 1) s → n ≡ length (lead t) → u ≡ readOn v t
     → Scanned s (record { w = u; count = at + n; shift = n; end = at + 1 + n })
-unfolding fraction beyond digits
+unfolding fraction beyond mantissaDigits
 scanned-point s t at v n u ea ev h e ed en eu =
     let p : past s ≡ 0x2E ∷ t = sym (drop-lead s) ∙ rw (← ea, drop-cons s at 0 h, e, ed, add-one at) in
     let d : length t ≡ length s - (at + 1) = rw (ed, length-drop (at + 1) s) in
@@ -239,7 +239,7 @@ no-point (b ∷ p) h = (rw (ne-eqb b 0x2E (h (omega arith))), rw (ne-eqb b 0x2E 
 
 pub scanned-plain : (s : List ℕ) (at v : ℕ) → at ≡ length (lead s) → v ≡ readOn 0 s → (at < length s → getD s at 0 ≡ 0x2E → ⊥)
     → Scanned s (record { w = v; count = at; shift = 0; end = at })
-unfolding digits
+unfolding mantissaDigits
 scanned-plain s at v ea ev h =
     let l = lead-length s in
     let g : getD (past s) 0 0 ≡ getD s at 0 = rw (← drop-lead s, getD-drop (length (lead s)) s 0 0, add-zero, ea) in

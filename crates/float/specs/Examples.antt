@@ -8,12 +8,12 @@ use Rattle.utf8.specs.Utf8 as utf8
 use Rattle.number.specs.Number.{decimal}
 use Rattle.number.specs.Space.{whiteSpace, spaces, same, oneOf, space, width, strip, trimStart, trimEnd, trimmed}
 use Rattle.float.specs.Digits.{digit, lead, past}
-use Rattle.float.specs.Form.{minus, behindSign, fraction, beyond, signedPower, power, exponent, digits, scaled, written, small, word}
-use Rattle.float.specs.Literal.{double, signed, inside, bitsOf, within, valued, value, floatLiteral, parseF64}
+use Rattle.float.specs.Form.{minus, behindSign, fraction, beyond, signedPower, power, exponent, mantissaDigits, scaled, numberWritten, small, isWord}
+use Rattle.float.specs.Literal.{double, signed, insideBounds, bitsOf, nearestWithin, valued, signedValue, floatLiteral, parseF64}
 
 -- what computes on given bytes
 unfoldable pub evaluates : Unit {0}
-unfolding decimal same digit lead past minus behindSign fraction beyond signedPower power exponent digits scaled written small word double signed inside bitsOf within valued value floatLiteral round toBits
+unfolding decimal same digit lead past minus behindSign fraction beyond signedPower power exponent mantissaDigits scaled numberWritten small isWord double signed insideBounds bitsOf nearestWithin valued signedValue floatLiteral round toBits
 evaluates = tt
 
 -- 1E5

@@ -55,8 +55,8 @@ pub data Number : Type 0 where
   formless : Number
 
 -- the digits before the exponent, the point left out
-unfoldable pub digits : List ℕ → List ℕ
-digits s = lead s ++ fraction (past s)
+unfoldable pub mantissaDigits : List ℕ → List ℕ
+mantissaDigits s = lead s ++ fraction (past s)
 
 -- the digits as a whole number w, with so many of them after the point, times the exponent's power
 unfoldable pub scaled : ℕ → ℕ → Exponent → Number
@@ -65,10 +65,10 @@ scaled w shift (lowered n) = number w 0 (n + shift)
 scaled w shift unformed = formless
 
 -- (digits [. digits*] | . digits) ([eE] [+-]? digits)?: w is over all digits written, zeros at either end included
-unfoldable pub written : List ℕ → Number
-written s =
-    cond (ltb 0 (length (digits s)))
-    (scaled (decimal (digits s)) (length (fraction (past s))) (exponent (beyond (past s))))
+unfoldable pub numberWritten : List ℕ → Number
+numberWritten s =
+    cond (ltb 0 (length (mantissaDigits s)))
+    (scaled (decimal (mantissaDigits s)) (length (fraction (past s))) (exponent (beyond (past s))))
     formless
 
 -- 'A' to 'Z' as small letters
@@ -86,5 +86,5 @@ abbrev pub nan : List ℕ
 nan = 0x6E ∷ 0x61 ∷ 0x6E ∷ []
 
 -- one of these words, in any letter case
-unfoldable pub word : List ℕ → Bool
-word s = same (map small s) inf || same (map small s) infinity || same (map small s) nan
+unfoldable pub isWord : List ℕ → Bool
+isWord s = same (map small s) inf || same (map small s) infinity || same (map small s) nan

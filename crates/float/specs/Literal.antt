@@ -14,7 +14,7 @@ use Rattle.refusal.specs.declared.Refusal.{Refusal}
 use Rattle.refusal.specs.declared.Refusal.the-variants.{InvalidLiteral, FloatOutside}
 use Rattle.utf8.specs.Utf8.{valid}
 use Rattle.number.specs.Space.{trimmed}
-use Rattle.float.specs.Form.{minus, behindSign, Number, number, formless, written, word}
+use Rattle.float.specs.Form.{minus, behindSign, Number, number, formless, numberWritten, isWord}
 use Rattle.float.specs.Nearest.{Nearest, middle-up, middle-down, round-nearest, round-below}
 use Rattle.float.specs.declared.F64Literal.{F64Literal}
 use Rattle.float.specs.declared.F64Literal.the-variants.{Bits, Invalid, Outside}
@@ -35,31 +35,31 @@ signed false bits = bits
 signed true bits = bits + 2 ^ 63
 
 -- w ≤ 2 ^ 53 and -22 ≤ e ≤ 22, for e = up - down
-unfoldable pub inside : ℕ → ℕ → ℕ → Bool
-inside w up down = leb w (2 ^ 53) && (leb down (up + 22) && leb up (down + 22))
+unfoldable pub insideBounds : ℕ → ℕ → ℕ → Bool
+insideBounds w up down = leb w (2 ^ 53) && (leb down (up + 22) && leb up (down + 22))
 
 -- w * 10 ^ e: over 1 where e is not negative, and w over 10 ^ -e where it is
 unfoldable pub bitsOf : ℕ → ℕ → ℕ → ℕ
 bitsOf w up down = double (w * 10 ^ (up - down)) (10 ^ (down - up))
 
 -- inside the bounds the nearest double with its sign, else FloatOutside
-unfoldable pub within : Bool → Bool → ℕ → ℕ → ℕ → Read ℕ
-within true m w up down = got (signed m (bitsOf w up down))
-within false m w up down = refused FloatOutside 0
+unfoldable pub nearestWithin : Bool → Bool → ℕ → ℕ → ℕ → Read ℕ
+nearestWithin true m w up down = got (signed m (bitsOf w up down))
+nearestWithin false m w up down = refused FloatOutside 0
 
 -- w = 0 is a zero with its sign, whatever e is
 unfoldable pub valued : Bool → Bool → ℕ → ℕ → ℕ → Read ℕ
 valued true m w up down = got (signed m 0)
-valued false m w up down = within (inside w up down) m w up down
+valued false m w up down = nearestWithin (insideBounds w up down) m w up down
 
 -- a number with its sign, m for minus; a bad form is InvalidLiteral
-unfoldable pub value : Bool → Number → Read ℕ
-value m (number w up down) = valued (eqb w 0) m w up down
-value m formless = refused InvalidLiteral 0
+unfoldable pub signedValue : Bool → Number → Read ℕ
+signedValue m (number w up down) = valued (eqb w 0) m w up down
+signedValue m formless = refused InvalidLiteral 0
 
 -- FLOAT's text, white space trimmed. What is FloatOutside here Rust reads: its own `parse::<f64>` has no such bounds.
 unfoldable pub floatLiteral : List ℕ → Read ℕ
-floatLiteral s = cond (word (behindSign s)) (refused FloatOutside 0) (value (minus s) (written (behindSign s)))
+floatLiteral s = cond (isWord (behindSign s)) (refused FloatOutside 0) (signedValue (minus s) (numberWritten (behindSign s)))
 
 -- de.rs, `parse::<f64>`: the line is UTF-8, and its text less White_Space is read
 unfoldable pub parseF64 : List ℕ → Read ℕ
@@ -113,13 +113,13 @@ module _ (w up down : ℕ) (p : 0 < w) (h : w ≤ 2 ^ 53) (l : down ≤ up + 22)
     lowered = λ e q. rw (bits-down w up down e q) (round-nearest w (10 ^ e) (middle-down w e p h (omega arith)));
   }
 
-value-nearest : (m : Bool) (w up down bits : ℕ) → 0 < w → value m (number w up down) ≡ got bits → Double m w up down bits
-unfolding value valued within inside
+value-nearest : (m : Bool) (w up down bits : ℕ) → 0 < w → signedValue m (number w up down) ≡ got bits → Double m w up down bits
+unfolding signedValue valued nearestWithin insideBounds
 value-nearest m w up down bits p a =
     go (leb w (2 ^ 53)) (leb down (up + 22)) (leb up (down + 22)) refl refl refl (rw (ne-eqb w 0 (λ e. omega arith)) at a)
   where
     go : (x y z : Bool) → x ≡ leb w (2 ^ 53) → y ≡ leb down (up + 22) → z ≡ leb up (down + 22)
-        → within (x && (y && z)) m w up down ≡ got bits → Double m w up down bits
+        → nearestWithin (x && (y && z)) m w up down ≡ got bits → Double m w up down bits
     go true true true ex ey ez q =
         let b : signed m (bitsOf w up down) ≡ bits = cc in
         rw b at (bits-double w up down p (leb-true w (2 ^ 53) (sym ex)) (leb-true down (up + 22) (sym ey)) (leb-true up (down + 22) (sym ez)) m)
@@ -127,16 +127,16 @@ value-nearest m w up down bits p a =
     go true false z ex ey ez q = never q
     go false y z ex ey ez q = never q
 
-literal-value : (s : List ℕ) (bits : ℕ) → floatLiteral s ≡ got bits → value (minus s) (written (behindSign s)) ≡ got bits
+literal-value : (s : List ℕ) (bits : ℕ) → floatLiteral s ≡ got bits → signedValue (minus s) (numberWritten (behindSign s)) ≡ got bits
 unfolding floatLiteral
-literal-value s bits a = go (word (behindSign s)) a
+literal-value s bits a = go (isWord (behindSign s)) a
   where
-    go : (x : Bool) → cond x (refused FloatOutside 0) (value (minus s) (written (behindSign s))) ≡ got bits
-        → value (minus s) (written (behindSign s)) ≡ got bits
+    go : (x : Bool) → cond x (refused FloatOutside 0) (signedValue (minus s) (numberWritten (behindSign s))) ≡ got bits
+        → signedValue (minus s) (numberWritten (behindSign s)) ≡ got bits
     go true q = never q
     go false q = q
 
 -- every literal that is accepted with w above 0 is its nearest double, with its sign
-pub literal-nearest : (s : List ℕ) (w up down bits : ℕ) → written (behindSign s) ≡ number w up down → 0 < w
+pub literal-nearest : (s : List ℕ) (w up down bits : ℕ) → numberWritten (behindSign s) ≡ number w up down → 0 < w
     → floatLiteral s ≡ got bits → Double (minus s) w up down bits
 literal-nearest s w up down bits n p a = value-nearest (minus s) w up down bits p (rw n at (literal-value s bits a))

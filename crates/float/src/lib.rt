@@ -6,9 +6,9 @@ ghost use mathlib.Core.List.{map};
 ghost use Prim.Native.Nat.{_+_, _-_, _*_, _^_, _<_, _≤_, min};
 ghost use Rattle.number.specs.Space.{same};
 ghost use Rattle.float.specs.Digits.{digit};
-ghost use Rattle.float.specs.Form.{minus, behindSign, power, exponent, written, word};
+ghost use Rattle.float.specs.Form.{minus, behindSign, power, exponent, numberWritten, isWord};
 ghost use Rattle.float.specs.Scan.{cap, runOf, Scanned, capped};
-ghost use Rattle.float.specs.Literal.{f64Read, double, signed, value, floatLiteral, parseF64};
+ghost use Rattle.float.specs.Literal.{f64Read, double, signed, signedValue, floatLiteral, parseF64};
 ghost use Rattle.float.specs.Form as Form;
 
 // `Invalid`: no number's form. `Outside`: `inf`, `infinity` or `nan`, or a number past the bounds of RULES A7.5.
@@ -157,7 +157,7 @@ fn is_word(text: &[u8], word: &[u8]) -> bool
 }
 
 fn is_named(text: &[u8]) -> bool
-    ensures { λ r. ⌜ r ≡ word (now (text .entry)) ⌝ }
+    ensures { λ r. ⌜ r ≡ isWord (now (text .entry)) ⌝ }
 {
     if is_word(text, b"inf") {
         return true;
@@ -257,7 +257,7 @@ fn with_sign(negative: bool, bits: u64) -> F64Literal
 
 // w * 10 ^ up / 10 ^ down
 fn settled(negative: bool, w: u64, up: u64, down: u64) -> F64Literal
-    ensures { λ r. ⌜ f64Read r ≡ value negative (Form.number w up down) ⌝ }
+    ensures { λ r. ⌜ f64Read r ≡ signedValue negative (Form.number w up down) ⌝ }
 {
     if w == 0 {
         return with_sign(negative, 0);
@@ -281,7 +281,7 @@ fn settled(negative: bool, w: u64, up: u64, down: u64) -> F64Literal
 
 // The text after its sign.
 fn number_of(negative: bool, text: &[u8]) -> F64Literal
-    ensures { λ r. ⌜ f64Read r ≡ value negative (written (now (text .entry))) ⌝ }
+    ensures { λ r. ⌜ f64Read r ≡ signedValue negative (numberWritten (now (text .entry))) ⌝ }
 {
     let m = mantissa_of(text);
     let end = m.end;

@@ -13,10 +13,10 @@ use lib.Seq.{drop-cons, take-suc, take-take, getD-take, getD-drop}
 use borrow.Author.Tests.{eq-eqb, ne-eqb}
 use Rattle.refusal.specs.Read.{got, refused}
 use Rattle.refusal.specs.declared.Refusal.the-variants.{EndOfInput, IntegerTooLarge}
-use Rattle.input.specs.Bytes.{lt-or-le, Bytes, bytes-take, bytes-drop, lowFirst, highFirst, lastByte, filled, filled-same, filled-length, filled-at}
+use Rattle.input.specs.Bytes.{lt-or-le, Bytes, bytes-take, bytes-drop, lowFirst, highFirst, lastByte, paddedTo, filled-same, filled-length, filled-at}
 use Rattle.input.specs.Line.{firstFrom, newlineOf, lessCr, lineOf}
 use Rattle.input.specs.Long.{denotes, bits64, longOf}
-use Rattle.input.specs.Rule01.{allAre, fillOf, wordOf, rule01, longBy01, word-short, long-is-01}
+use Rattle.input.specs.Rule01.{allAre, fillOf, signFilled, rule01, longBy01, word-short, long-is-01}
 
 -- the loops of `newline` and `repeats`: at the end, at a byte that decides, at any other
 module _ (p : List ℕ) (i : ℕ) where
@@ -59,30 +59,30 @@ room k v h b =
 -- the loop of `low_first`, which goes down
 pub record Above (w x : ℕ) (l : List ℕ) (i v : ℕ) : Type 0 where
   pub left : i ≤ w
-  pub is : v ≡ lowFirst (drop i (filled w x l))
+  pub is : v ≡ lowFirst (drop i (paddedTo w x l))
   pub small : v < 256 ^ (w - i)
 
 module _ (w x : ℕ) (l : List ℕ) where
   pub above-none : Above w x l w 0
   unfolding lowFirst
   above-none =
-      let n : length (filled w x l) ≤ w = omega (arith, filled-length w x l) in
+      let n : length (paddedTo w x l) ≤ w = omega (arith, filled-length w x l) in
       let z : w - w ≡ 0 = omega arith in
-      record { left = omega arith; is = rw (drop-of-length-le (filled w x l) n); small = rw z (omega arith) }
+      record { left = omega arith; is = rw (drop-of-length-le (paddedTo w x l) n); small = rw z (omega arith) }
 
   pub above-more : (i v b : ℕ) → 0 < i → b < 256 → b ≡ getD l (i - 1) x → Above w x l i v → Above w x l (i - 1) (v * 256 + b)
   unfolding lowFirst
   above-more i v b z s e a =
       let h = a .left in
       let f = a .is in
-      let k : i - 1 < length (filled w x l) = omega (arith, filled-length w x l) in
+      let k : i - 1 < length (paddedTo w x l) = omega (arith, filled-length w x l) in
       let j : suc (i - 1) ≡ i = omega arith in
-      let g : b ≡ getD (filled w x l) (i - 1) 0 = e ∙ sym (filled-at w x l (i - 1) (omega arith)) in
-      let d : lowFirst (drop (i - 1) (filled w x l)) ≡ getD (filled w x l) (i - 1) 0 + 256 * lowFirst (drop i (filled w x l)) = ap lowFirst (drop-cons (filled w x l) (i - 1) 0 k ∙ ap (λ (n : ℕ). getD (filled w x l) (i - 1) 0 ∷ drop n (filled w x l)) j) in
+      let g : b ≡ getD (paddedTo w x l) (i - 1) 0 = e ∙ sym (filled-at w x l (i - 1) (omega arith)) in
+      let d : lowFirst (drop (i - 1) (paddedTo w x l)) ≡ getD (paddedTo w x l) (i - 1) 0 + 256 * lowFirst (drop i (paddedTo w x l)) = ap lowFirst (drop-cons (paddedTo w x l) (i - 1) 0 k ∙ ap (λ (n : ℕ). getD (paddedTo w x l) (i - 1) 0 ∷ drop n (paddedTo w x l)) j) in
       let m : w - (i - 1) ≡ w - i + 1 = omega arith in
       record { left = omega arith; is = omega arith; small = rw m (grows (w - i) v b (a .small) s) }
 
-  pub above-all : (i v : ℕ) → i ≤ 0 → Above w x l i v → (v ≡ lowFirst (filled w x l)) × (v < 256 ^ w)
+  pub above-all : (i v : ℕ) → i ≤ 0 → Above w x l i v → (v ≡ lowFirst (paddedTo w x l)) × (v < 256 ^ w)
   above-all zero v h a = let z : w - 0 ≡ w = omega arith in (a .is, rw z at (a .small))
   above-all (suc i) v h a = absurd (omega arith)
 
@@ -124,17 +124,17 @@ module _ (w : ℕ) (p : List ℕ) (at : ℕ) where
   pub part-is : take (at + w - at) (drop at p) ≡ take w (drop at p)
   part-is = let e : at + w - at ≡ w = omega arith in rw e
 
-  pub part-filled : (x : ℕ) → at + w ≤ length p → filled w x (take (at + w - at) (drop at p)) ≡ take w (drop at p)
+  pub part-filled : (x : ℕ) → at + w ≤ length p → paddedTo w x (take (at + w - at) (drop at p)) ≡ take w (drop at p)
   part-filled x h = rw part-is (filled-same w x (take w (drop at p)) (simp (length-take, length-drop) (omega arith)))
 
 -- the four bytes of an i32
-pub i32-is : (p : List ℕ) (at x v : ℕ) → at + 4 ≤ length p → Bytes p → x ≡ fillOf (take (at + 4 - at) (drop at p)) → v ≡ lowFirst (filled 8 x (take (at + 4 - at) (drop at p))) → v ≡ bits64 (denotes (take 4 (drop at p)))
-unfolding wordOf
+pub i32-is : (p : List ℕ) (at x v : ℕ) → at + 4 ≤ length p → Bytes p → x ≡ fillOf (take (at + 4 - at) (drop at p)) → v ≡ lowFirst (paddedTo 8 x (take (at + 4 - at) (drop at p))) → v ≡ bits64 (denotes (take 4 (drop at p)))
+unfolding signFilled
 i32-is p at x v h B e f =
     let q = take 4 (drop at p) in
     let g : x ≡ fillOf q = e ∙ ap fillOf (part-is 4 p at) in
     let n : length q ≤ 8 = simp (length-take, length-drop) (omega arith) in
-    f ∙ ap (λ (l : List ℕ). lowFirst (filled 8 x l)) (part-is 4 p at) ∙ ap (λ (y : ℕ). lowFirst (filled 8 y q)) g
+    f ∙ ap (λ (l : List ℕ). lowFirst (paddedTo 8 x l)) (part-is 4 p at) ∙ ap (λ (y : ℕ). lowFirst (paddedTo 8 y q)) g
     ∙ sym (word-short q (bytes-take 4 (drop at p) (bytes-drop at p B)) n)
 
 -- what `long` computes is the rule on the bytes of RULES A7.4, so PEP 307's integer
@@ -146,13 +146,13 @@ fill-sign l = go (ltb (lastByte l) 128)
     go true = refl
     go false = refl
 
-pub long-is : (l : List ℕ) → Bytes l → (x v : ℕ) (a t : Bool) → x ≡ fillOf l → a ≡ allAre x (drop 8 l) → v ≡ lowFirst (filled 8 x l) → Bool·beq (ltb v (2 ^ 63)) (eqb x 0) ≡ t → cond (a && t) (got v) (refused IntegerTooLarge 0) ≡ longOf l
-unfolding longBy01 rule01 wordOf
+pub long-is : (l : List ℕ) → Bytes l → (x v : ℕ) (a t : Bool) → x ≡ fillOf l → a ≡ allAre x (drop 8 l) → v ≡ lowFirst (paddedTo 8 x l) → Bool·beq (ltb v (2 ^ 63)) (eqb x 0) ≡ t → cond (a && t) (got v) (refused IntegerTooLarge 0) ≡ longOf l
+unfolding longBy01 rule01 signFilled
 long-is l B x v a t e f g h =
     let s = fill-sign l in
-    let y : v ≡ lowFirst (filled 8 (fillOf l) l) = cc in
+    let y : v ≡ lowFirst (paddedTo 8 (fillOf l) l) = cc in
     let z : a ≡ allAre (fillOf l) (drop 8 l) = cc in
-    let u : t ≡ Bool·beq (ltb (lowFirst (filled 8 (fillOf l) l)) (2 ^ 63)) (ltb (lastByte l) 128) = sym h ∙ rw (y, e, s) in
+    let u : t ≡ Bool·beq (ltb (lowFirst (paddedTo 8 (fillOf l) l)) (2 ^ 63)) (ltb (lastByte l) 128) = sym h ∙ rw (y, e, s) in
     rw (z, u, y) (sym (long-is-01 l B))
 
 -- a line: with a CR before its newline it ends there, else it is whole

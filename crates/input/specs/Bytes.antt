@@ -29,8 +29,8 @@ unfoldable pub lastByte : List ℕ → ℕ
 lastByte l = getD l (length l - 1) 0
 
 -- the first w bytes, filled up to w by the byte x
-unfoldable pub filled : ℕ → ℕ → List ℕ → List ℕ
-filled w x l = take w (l ++ replicate (w - length l) x)
+unfoldable pub paddedTo : ℕ → ℕ → List ℕ → List ℕ
+paddedTo w x l = take w (l ++ replicate (w - length l) x)
 
 example-low : lowFirst (0x34 ∷ 0x12 ∷ []) ≡ 0x1234
 unfolding lowFirst
@@ -105,12 +105,12 @@ low-ones zero = refl
 low-ones (suc k) = let e = low-ones k in rw (pow-suc 256 k) (omega arith)
 
 module _ (w x : ℕ) (l : List ℕ) where
-  pub filled-length : length (filled w x l) ≡ w
-  unfolding filled
+  pub filled-length : length (paddedTo w x l) ≡ w
+  unfolding paddedTo
   filled-length = simp (length-take, length-append, length-replicate) (omega arith)
 
-  pub filled-at : (i : ℕ) → i < w → getD (filled w x l) i 0 ≡ getD l i x
-  unfolding filled
+  pub filled-at : (i : ℕ) → i < w → getD (paddedTo w x l) i 0 ≡ getD l i x
+  unfolding paddedTo
   filled-at i h = rw (getD-take w (l ++ replicate (w - length l) x) i 0 h) (⊎-elim inside past (lt-or-le i (length l)))
     where
       past : length l ≤ i → getD (l ++ replicate (w - length l) x) i 0 ≡ getD l i x
@@ -122,6 +122,6 @@ module _ (w x : ℕ) (l : List ℕ) where
       inside : i < length l → getD (l ++ replicate (w - length l) x) i 0 ≡ getD l i x
       inside k = List·getD-append l (replicate (w - length l) x) 0 i k ∙ getD-any l i 0 x k
 
-  pub filled-same : length l ≡ w → filled w x l ≡ l
-  unfolding filled
+  pub filled-same : length l ≡ w → paddedTo w x l ≡ l
+  unfolding paddedTo
   filled-same h = let e : w - length l ≡ 0 = omega arith in rw e (simp append-nil (take-all w l (omega arith)))

@@ -36,9 +36,9 @@ unfoldable pub longOf : List ℕ → Read ℕ
 longOf l = cond (inI64 (denotes l)) (got (bits64 (denotes l))) (refused IntegerTooLarge 0)
 
 -- what the answer of `long` says
-unfoldable pub integer : Integer → Read ℕ
-integer (Value bits) = got bits
-integer TooLarge = refused IntegerTooLarge 0
+unfoldable pub integerRead : Integer → Read ℕ
+integerRead (Value bits) = got bits
+integerRead TooLarge = refused IntegerTooLarge 0
 
 -- opens the definitions for the examples
 unfoldable pub evaluates : Unit {0}
@@ -96,9 +96,9 @@ bits-sign (pos n) h = h
 bits-sign (negsuc n) h = let k = leb-true n (2 ^ 63 - 1) (rw and-true at h) in le-ltb (2 ^ 64 - suc n) (2 ^ 63) (omega arith)
 
 -- a number less a greater one
-pub minus : (a b : ℕ) → a < b → pos a -ℤ pos b ≡ negsuc (b - suc a)
-minus a zero h = absurd (omega arith)
-minus a (suc b) h = simp (lt-ltb a (suc b) h)
+pub less-greater : (a b : ℕ) → a < b → pos a -ℤ pos b ≡ negsuc (b - suc a)
+less-greater a zero h = absurd (omega arith)
+less-greater a (suc b) h = simp (lt-ltb a (suc b) h)
 
 -- the last byte counts most
 module _ (l : List ℕ) (B : Bytes l) (n : ℕ) (h : length l ≡ suc n) where
@@ -139,7 +139,7 @@ module _ (l : List ℕ) (B : Bytes l) (n : ℕ) (h : length l ≡ suc n) where
           let e : 256 ^ length l ≡ 256 ^ n * 256 = ap (λ (m : ℕ). 256 ^ m) h ∙ pow-suc 256 n in
           let w = mul-le-mul-left (256 ^ n) s in
           let v = low-below l B in
-          rw (le-ltb (lastByte l) 128 s, minus (lowFirst l) (256 ^ length l) v, le-leb (256 ^ length l - suc (lowFirst l)) (2 ^ 63 - 1) (omega arith))
+          rw (le-ltb (lastByte l) 128 s, less-greater (lowFirst l) (256 ^ length l) v, le-leb (256 ^ length l - suc (lowFirst l)) (2 ^ 63 - 1) (omega arith))
 
 -- eight bytes and fewer are never too large
 pub short-in : (l : List ℕ) → Bytes l → length l ≤ 8 → inI64 (denotes l) ≡ true

@@ -14,8 +14,8 @@ use lib.Seq.{take-all}
 use borrow.Author.Tests.{lt-ltb, le-ltb, le-leb, lt-leb, eqb-true, eqb-false}
 use Rattle.refusal.specs.Read.{Read, got, refused}
 use Rattle.refusal.specs.declared.Refusal.the-variants.{IntegerTooLarge}
-use Rattle.input.specs.Bytes.{lt-or-le, bytes-take, bytes-drop, bytes-append, bytes-replicate, Bytes, lowFirst, lastByte, filled, low-append, low-below, low-zeros, low-ones}
-use Rattle.input.specs.Long.{minus, short-in, denotes, inI64, bits64, longOf}
+use Rattle.input.specs.Bytes.{lt-or-le, bytes-take, bytes-drop, bytes-append, bytes-replicate, Bytes, lowFirst, lastByte, paddedTo, low-append, low-below, low-zeros, low-ones}
+use Rattle.input.specs.Long.{less-greater, short-in, denotes, inI64, bits64, longOf}
 
 -- the byte that repeats the sign of the last byte
 unfoldable pub fillOf : List ℕ → ℕ
@@ -27,17 +27,17 @@ allAre x [] = true
 allAre x (b ∷ t) = eqb b x && allAre x t
 
 -- the result: the first eight bytes, low byte first, filled up by the sign
-unfoldable pub wordOf : List ℕ → ℕ
-wordOf l = lowFirst (filled 8 (fillOf l) l)
+unfoldable pub signFilled : List ℕ → ℕ
+signFilled l = lowFirst (paddedTo 8 (fillOf l) l)
 
 -- Bytes past the eighth must repeat the last byte's sign, and the result must have that sign. (de.rs tests the result only past
 -- eight bytes: it always has the sign of eight or fewer, `short-01`.)
 unfoldable pub rule01 : List ℕ → Bool
-rule01 l = allAre (fillOf l) (drop 8 l) && Bool·beq (ltb (wordOf l) (2 ^ 63)) (ltb (lastByte l) 128)
+rule01 l = allAre (fillOf l) (drop 8 l) && Bool·beq (ltb (signFilled l) (2 ^ 63)) (ltb (lastByte l) 128)
 
 -- the reading by that rule
 unfoldable pub longBy01 : List ℕ → Read ℕ
-longBy01 l = cond (rule01 l) (got (wordOf l)) (refused IntegerTooLarge 0)
+longBy01 l = cond (rule01 l) (got (signFilled l)) (refused IntegerTooLarge 0)
 
 -- ---- all bytes the same
 
@@ -66,7 +66,7 @@ val s l = cond s (pos (lowFirst l)) (pos (lowFirst l) -ℤ pos (256 ^ length l))
 
 val-below : (l : List ℕ) → Bytes l → val false l ≡ negsuc (256 ^ length l - suc (lowFirst l))
 unfolding val
-val-below l B = minus (lowFirst l) (256 ^ length l) (low-below l B)
+val-below l B = less-greater (lowFirst l) (256 ^ length l) (low-below l B)
 
 -- further bytes of the sign change nothing
 extend : (s : Bool) (k : ℕ) (l : List ℕ) → Bytes l → val s (l ++ replicate k (cond s 0 255)) ≡ val s l
@@ -78,7 +78,7 @@ extend false k l B =
     let v = low-below l B in
     let e : 256 ^ length (l ++ replicate k 255) ≡ P * R + P = simp (length-append, length-replicate, pow-add, ← low-ones k, mul-add) (omega arith) in
     rw (low-append l (replicate k 255), e)
-    (minus (lowFirst l + P * R) (P * R + P) (omega arith) ∙ ap negsuc (omega arith) ∙ sym (minus (lowFirst l) P v))
+    (less-greater (lowFirst l + P * R) (P * R + P) (omega arith) ∙ ap negsuc (omega arith) ∙ sym (less-greater (lowFirst l) P v))
 
 -- ---- eight bytes and more: lo is the first eight bytes' number and hi that of the bytes past them
 
@@ -171,18 +171,18 @@ module _ (l : List ℕ) (B : Bytes l) where
   unfolding ext
   ext-long s = simp (length-append, length-replicate) (omega arith)
 
-  signed : (s : Bool) → read (val s l) ≡ cond (allAre (cond s 0 255) (drop 8 l) && Bool·beq (ltb (lowFirst (filled 8 (cond s 0 255) l)) (2 ^ 63)) s) (got (lowFirst (filled 8 (cond s 0 255) l))) no
-  unfolding ext filled
+  signed : (s : Bool) → read (val s l) ≡ cond (allAre (cond s 0 255) (drop 8 l) && Bool·beq (ltb (lowFirst (paddedTo 8 (cond s 0 255) l)) (2 ^ 63)) s) (got (lowFirst (paddedTo 8 (cond s 0 255) l))) no
+  unfolding ext paddedTo
   signed s = ap read (sym (extend s (8 - length l) l B)) ∙ long-wide (ext s) (ext-bytes s) (ext-long s) s ∙ rw (past-same s)
 
   -- the rule on the bytes accepts the integers of i64, with their 64 bits, and no others
   pub long-is-01 : longOf l ≡ longBy01 l
-  unfolding longOf denotes longBy01 rule01 wordOf fillOf val
+  unfolding longOf denotes longBy01 rule01 signFilled fillOf val
   long-is-01 = signed (ltb (lastByte l) 128)
 
   pub accepts-01 : inI64 (denotes l) ≡ rule01 l
   unfolding longOf longBy01
-  accepts-01 = same-test (inI64 (denotes l)) (rule01 l) (bits64 (denotes l)) (wordOf l) long-is-01
+  accepts-01 = same-test (inI64 (denotes l)) (rule01 l) (bits64 (denotes l)) (signFilled l) long-is-01
 
   pub short-01 : length l ≤ 8 → rule01 l ≡ true
   short-01 h = sym accepts-01 ∙ short-in l B h
@@ -196,8 +196,8 @@ module _ (l : List ℕ) (B : Bytes l) where
       ap bits64 (val-below (ext false) (ext-bytes false)) ∙ (rw n (let w : lowFirst (ext false) < 256 ^ 8 = rw n at v in omega arith))
 
   -- the integer of eight bytes or fewer is in its eight bytes, filled up by the sign
-  pub word-short : length l ≤ 8 → bits64 (denotes l) ≡ wordOf l
-  unfolding denotes wordOf fillOf val filled ext
+  pub word-short : length l ≤ 8 → bits64 (denotes l) ≡ signFilled l
+  unfolding denotes signFilled fillOf val paddedTo ext
   word-short h =
       let s = ltb (lastByte l) 128 in
       let n : length (ext s) ≤ 8 = simp (length-append, length-replicate) (omega arith) in

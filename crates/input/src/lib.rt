@@ -2,9 +2,9 @@
 ghost use mathlib.Core.Path.{_≡_};
 ghost use Prim.Native.Nat.{_≤_, _<_, _+_, _^_};
 ghost use lib.ListN.{length, getD, take, drop};
-ghost use Rattle.input.specs.Bytes.{lowFirst, highFirst, filled};
+ghost use Rattle.input.specs.Bytes.{lowFirst, highFirst, paddedTo};
 ghost use Rattle.input.specs.Line.{lineEnd, newlineOf, lineOf};
-ghost use Rattle.input.specs.Long.{integer, longOf, denotes, bits64};
+ghost use Rattle.input.specs.Long.{integerRead, longOf, denotes, bits64};
 ghost use Rattle.input.specs.Rule01.{fillOf, allAre};
 
 pub enum LineEnd {
@@ -27,7 +27,7 @@ fn byte_or(bytes: &[u8], i: usize, fill: u8) -> u8
 // The number of the first `width` bytes, low byte first, with `fill` for those that are missing.
 fn low_first(bytes: &[u8], width: usize, fill: u8) -> u64
     requires { ⌜ width ≤ 8 ⌝ }
-    ensures { λ r. ⌜ (r ≡ lowFirst (filled width fill (now (bytes .entry)))) × (r < 256 ^ width) ⌝ }
+    ensures { λ r. ⌜ (r ≡ lowFirst (paddedTo width fill (now (bytes .entry)))) × (r < 256 ^ width) ⌝ }
 {
     let mut value: u64 = 0;
     let mut i = width;
@@ -153,7 +153,7 @@ fn repeats(bytes: &[u8], from: usize, fill: u8) -> bool
 
 // A two's complement integer, low byte first, of any length.
 pub fn long(bytes: &[u8]) -> Integer
-    ensures { λ r. ⌜ integer r ≡ longOf (now (bytes .entry)) ⌝ }
+    ensures { λ r. ⌜ integerRead r ≡ longOf (now (bytes .entry)) ⌝ }
 {
     let fill = fill_of(bytes);
     if !repeats(bytes, 8, fill) {

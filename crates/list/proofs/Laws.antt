@@ -9,7 +9,7 @@ use lib.Seq.{drop-cons, drop-drop, take-add}
 use borrow.Author.Tests.{ne-eqb}
 use Rattle.utf8.specs.Rows.{and-left, and-right}
 use Rattle.output.specs.Decimal.{figures}
-use Rattle.output.specs.Put.{Put, Room, Left, left-more, left-room, room-first}
+use Rattle.output.specs.Put.{Put, Room, StillToPut, left-more, left-room, room-first}
 use Rattle.list.specs.Listing.{printable, listedByte, listedText}
 use Rattle.list.specs.Verbatim.{Verbatim, VerbatimTo}
 
@@ -87,13 +87,13 @@ run-length {t} {e} {i} {j} r l =
     let k : i + (j - i) ≡ j = omega (arith, r .ahead) in
     omega (arith, rw k at (rest-length t e i (j - i) (omega (arith, r .ahead, r .within))), verbatim-length t i (j - i) (omega (arith, r .ahead, r .within)) (r .same))
 
-module _ (t : List ℕ) (i n : ℕ) {e : ℕ} (h : i + n ≤ e) {o₀ b o : List ℕ} {at p : ℕ} (x : Left o₀ at b o p (rest t e i)) where
+module _ (t : List ℕ) (i n : ℕ) {e : ℕ} (h : i + n ≤ e) {o₀ b o : List ℕ} {at p : ℕ} (x : StillToPut o₀ at b o p (rest t e i)) where
   pub part-room : Room o₀ at b → Room o p (listedText (take n (drop i t)))
   part-room m = room-first (rest t e (i + n)) (left-room m (rw (rest-part t e i n h) at x))
 
-  pub part-left : {o′ : List ℕ} {p′ : ℕ} → Put o p (listedText (take n (drop i t))) o′ p′ → Left o₀ at b o′ p′ (rest t e (i + n))
+  pub part-left : {o′ : List ℕ} {p′ : ℕ} → Put o p (listedText (take n (drop i t))) o′ p′ → StillToPut o₀ at b o′ p′ (rest t e (i + n))
   part-left y = left-more (rest t e (i + n)) (rw (rest-part t e i n h) at x) y
 
 -- all that is left was put
-pub left-last : {o₀ b o b′ o′ : List ℕ} {at p p′ : ℕ} → Left o₀ at b o p b′ → Put o p b′ o′ p′ → Put o₀ at b o′ p′
+pub left-last : {o₀ b o b′ o′ : List ℕ} {at p p′ : ℕ} → StillToPut o₀ at b o p b′ → Put o p b′ o′ p′ → Put o₀ at b o′ p′
 left-last x y = record { wrote = y .wrote ∙ x .same; ends = y .ends ∙ x .place }

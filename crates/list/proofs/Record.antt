@@ -16,8 +16,8 @@ use Rattle.value.specs.Stands.{wordAt, labelAt, arityAt, Reads}
 use Rattle.value.specs.Left.{kind-at}
 use Rattle.value.specs.Labels.{text-inside, names-inside}
 use Rattle.output.specs.Decimal.{decimalText, signedText, figures}
-use Rattle.list.specs.Listing.{listedText, names, kindName, flag, listedNames, namesAt, contentOf, line, tab}
-use Rattle.output.specs.Put.{newline, Room, room-first}
+use Rattle.list.specs.Listing.{listedText, names, kindName, flag, listedNames, namesAt, contentOf, recordLine, tabByte}
+use Rattle.output.specs.Put.{newlineByte, Room, room-first}
 
 -- a fact of each number below a bound
 abbrev Below : (ℕ → Type 0) → ℕ → Type 0
@@ -95,7 +95,7 @@ module _ {w t : List ℕ} {i : ℕ} {h : Head} (x : Opened w t i h) where
   unfolding contentOf labelAt labelOf namesAt
   content-global e = rw (kind₀, e)
 
-  pub content-object : 11 < h .kind → content ≡ namesAt t (wordAt w i 1) (wordAt w i 2) ++ (tab ∷ flag (h .new) ∷ tab ∷ flag (h .state) ∷ [])
+  pub content-object : 11 < h .kind → content ≡ namesAt t (wordAt w i 1) (wordAt w i 2) ++ (tabByte ∷ flag (h .new) ∷ tabByte ∷ flag (h .state) ∷ [])
   unfolding contentOf labelAt labelOf arityAt arityOf namesAt flag
   content-object g =
       let e : h .kind ≡ 12 = omega (arith, known) in
@@ -123,17 +123,17 @@ module _ {w t : List ℕ} {i : ℕ} {h : Head} (x : Opened w t i h) where
       (λ l. room-first _ (rw (content-object l) at m))
 
   -- its line
-  pub line-parts : (d : ℕ) → line d (labelAt w t i) (arityAt w i) ≡ decimalText d ++ ((tab ∷ []) ++ (kindName (h .kind) ++ ((tab ∷ []) ++ (content ++ (newline ∷ [])))))
-  unfolding line
+  pub line-parts : (d : ℕ) → recordLine d (labelAt w t i) (arityAt w i) ≡ decimalText d ++ ((tabByte ∷ []) ++ (kindName (h .kind) ++ ((tabByte ∷ []) ++ (content ++ (newlineByte ∷ [])))))
+  unfolding recordLine
   line-parts d = rw (kind-at w t i (x .reads), kind₀)
 
-  pub line-length : (d : ℕ) → length (line d (labelAt w t i) (arityAt w i)) ≡ length (decimalText d) + length (kindName (h .kind)) + length content + 3
+  pub line-length : (d : ℕ) → length (recordLine d (labelAt w t i) (arityAt w i)) ≡ length (decimalText d) + length (kindName (h .kind)) + length content + 3
   line-length d =
       ap length (line-parts d) ∙ length-append (decimalText d) _
-      ∙ omega (arith, length-append (kindName (h .kind)) ((tab ∷ []) ++ (content ++ (newline ∷ []))), length-append content (newline ∷ []))
+      ∙ omega (arith, length-append (kindName (h .kind)) ((tabByte ∷ []) ++ (content ++ (newlineByte ∷ []))), length-append content (newlineByte ∷ []))
 
 -- a module and a name, one behind the other
-pub names-parts : (t : List ℕ) (b c : ℕ) → namesAt t b c ≡ listedText (take (c / 2 ^ 32) (drop b t)) ++ ((tab ∷ []) ++ listedText (take (c % 2 ^ 32) (drop (b + c / 2 ^ 32) t)))
+pub names-parts : (t : List ℕ) (b c : ℕ) → namesAt t b c ≡ listedText (take (c / 2 ^ 32) (drop b t)) ++ ((tabByte ∷ []) ++ listedText (take (c % 2 ^ 32) (drop (b + c / 2 ^ 32) t)))
 unfolding namesAt listedNames
 names-parts t b c = rw drop-drop
 

@@ -15,8 +15,8 @@ use Rattle.number.specs.Number.{digits, decimal}
 use Rattle.value.specs.Value.{Label, half, kind, textOf, words, NoneL, BoolL, I64L, F64L, BytesL, StringL, ListL, TupleL, SetL, FrozenSetL, DictL, GlobalL, ObjectL}
 use Rattle.value.specs.Shape.{Words, fitting, and-l, and-r}
 use Rattle.output.specs.Decimal.{figure, figures, noZeros, decimalText, signedText, either-way, decimal-back, decimal-digits, decimal-some, digit-first}
-use Rattle.output.specs.Put.{newline}
-use Rattle.list.specs.Listing.{printable, listedByte, listedText, tab, names, kindName, flag, listedNames, contentOf, line}
+use Rattle.output.specs.Put.{newlineByte}
+use Rattle.list.specs.Listing.{printable, listedByte, listedText, tabByte, names, kindName, flag, listedNames, contentOf, recordLine}
 
 -- numbers below a bound, and the parts of a list of them
 module _ (b : ℕ) where
@@ -162,19 +162,19 @@ bits-back b h = go (ltb b (2 ^ 63)) refl
 -- ---- a text
 
 -- what was read last of a byte that has more than one: nothing, a backslash, `\x`, the first digit
-data Seen : Type 0 where
-  nothing slash hexed : Seen
-  digit : ℕ → Seen
+data SeenOfByte : Type 0 where
+  nothing slash hexed : SeenOfByte
+  digit : ℕ → SeenOfByte
 
-unfoldable unlisted : List ℕ → Seen → List ℕ
+unfoldable unlisted : List ℕ → SeenOfByte → List ℕ
 unlisted [] p = []
 unlisted (b ∷ s) nothing = cond (eqb b 0x5C) (unlisted s slash) (b ∷ unlisted s nothing)
 unlisted (b ∷ s) slash = cond (eqb b 0x5C) (b ∷ unlisted s nothing) (unlisted s hexed)
 unlisted (b ∷ s) hexed = unlisted s (digit b)
 unlisted (b ∷ s) (digit h) = hex 0 (h ∷ b ∷ []) ∷ unlisted s nothing
 
-abbrev textIn : List ℕ → List ℕ
-textIn s = unlisted s nothing
+abbrev textOfField : List ℕ → List ℕ
+textOfField s = unlisted s nothing
 
 byte-visible : (b : ℕ) → visible (listedByte b) ≡ true
 unfolding listedByte visible printable
@@ -230,10 +230,10 @@ name-back (ObjectL m k b) = (refl, refl)
 -- by its kind, the label that a content's first three fields say
 abbrev labelsIn : List ℕ → List ℕ → List ℕ → List Label
 labelsIn f g h =
-    NoneL ∷ BoolL (eqb (getD f 0 0) 0x31) ∷ I64L (bitsIn f) ∷ F64L (hex 0 f) ∷ BytesL (textIn f) ∷ StringL (textIn f) ∷ ListL ∷ TupleL ∷ SetL ∷ FrozenSetL ∷ DictL ∷ GlobalL (textIn f) (textIn g) ∷ ObjectL (textIn f) (textIn g) (eqb (getD h 0 0) 0x31) ∷ []
+    NoneL ∷ BoolL (eqb (getD f 0 0) 0x31) ∷ I64L (bitsIn f) ∷ F64L (hex 0 f) ∷ BytesL (textOfField f) ∷ StringL (textOfField f) ∷ ListL ∷ TupleL ∷ SetL ∷ FrozenSetL ∷ DictL ∷ GlobalL (textOfField f) (textOfField g) ∷ ObjectL (textOfField f) (textOfField g) (eqb (getD h 0 0) 0x31) ∷ []
 
-unfoldable labelIn : ℕ → List ℕ → Label
-labelIn k s = getD (labelsIn (field s) (field (behind s)) (field (behind (behind s)))) k NoneL
+unfoldable labelOfLine : ℕ → List ℕ → Label
+labelOfLine k s = getD (labelsIn (field s) (field (behind s)) (field (behind (behind s)))) k NoneL
 
 -- by its kind, the number of values that a content's first field says, or an Object's fourth
 abbrev aritiesIn : List ℕ → List ℕ → List ℕ
@@ -242,29 +242,29 @@ aritiesIn f h = 0 ∷ 0 ∷ 0 ∷ 0 ∷ 0 ∷ 0 ∷ decimal f ∷ decimal f ∷ 
 unfoldable arityIn : ℕ → List ℕ → ℕ
 arityIn k s = getD (aritiesIn (field s) (field (behind (behind (behind s))))) k 0
 
-flag-back : (b : Bool) (s : List ℕ) → eqb (getD (field (flag b ∷ tab ∷ s)) 0 0) 0x31 ≡ b
+flag-back : (b : Bool) (s : List ℕ) → eqb (getD (field (flag b ∷ tabByte ∷ s)) 0 0) 0x31 ≡ b
 unfolding field flag
 flag-back true s = refl
 flag-back false s = refl
 
-flag-behind : (b : Bool) (s : List ℕ) → behind (flag b ∷ tab ∷ s) ≡ s
+flag-behind : (b : Bool) (s : List ℕ) → behind (flag b ∷ tabByte ∷ s) ≡ s
 unfolding behind flag
 flag-behind true s = refl
 flag-behind false s = refl
 
 -- the fields of a name, with s behind it
 module _ (m k s : List ℕ) where
-  names-apart : listedNames m k ++ s ≡ listedText m ++ (tab ∷ (listedText k ++ s))
+  names-apart : listedNames m k ++ s ≡ listedText m ++ (tabByte ∷ (listedText k ++ s))
   unfolding listedNames
-  names-apart = append-assoc (listedText m) (tab ∷ listedText k) s
+  names-apart = append-assoc (listedText m) (tabByte ∷ listedText k) s
 
   module-field : field (listedNames m k ++ s) ≡ listedText m
-  module-field = ap field names-apart ∙ field-back tab (omega arith) _ (listedText m) (text-visible m)
+  module-field = ap field names-apart ∙ field-back tabByte (omega arith) _ (listedText m) (text-visible m)
 
   module-behind : behind (listedNames m k ++ s) ≡ listedText k ++ s
-  module-behind = ap behind names-apart ∙ behind-back tab (omega arith) _ (listedText m) (text-visible m)
+  module-behind = ap behind names-apart ∙ behind-back tabByte (omega arith) _ (listedText m) (text-visible m)
 
-bool-back : (b : Bool) (s : List ℕ) → eqb (getD (field (flag b ∷ newline ∷ s)) 0 0) 0x31 ≡ b
+bool-back : (b : Bool) (s : List ℕ) → eqb (getD (field (flag b ∷ newlineByte ∷ s)) 0 0) 0x31 ≡ b
 unfolding field flag
 bool-back true s = refl
 bool-back false s = refl
@@ -279,10 +279,10 @@ object-half (suc (suc (suc n))) g h = absurd (omega arith)
 -- a content of n values, with a line's end and x behind it
 module _ (n : ℕ) (x : List ℕ) where
   abbrev end : List ℕ
-  end = newline ∷ x
+  end = newlineByte ∷ x
 
   only-field : (s : List ℕ) → visible s ≡ true → field (s ++ end) ≡ s
-  only-field = field-back newline (omega arith) x
+  only-field = field-back newlineByte (omega arith) x
 
   -- an Object's fields
   module _ (m k : List ℕ) (b : Bool) where
@@ -290,23 +290,23 @@ module _ (n : ℕ) (x : List ℕ) where
     content = contentOf (ObjectL m k b) n ++ end
 
     abbrev flags : List ℕ
-    flags = flag b ∷ tab ∷ (0x30 + half n) ∷ end
+    flags = flag b ∷ tabByte ∷ (0x30 + half n) ∷ end
 
-    object-apart : content ≡ listedNames m k ++ (tab ∷ flags)
+    object-apart : content ≡ listedNames m k ++ (tabByte ∷ flags)
     unfolding contentOf
-    object-apart = append-assoc (listedNames m k) (tab ∷ flag b ∷ tab ∷ (0x30 + half n) ∷ []) end
+    object-apart = append-assoc (listedNames m k) (tabByte ∷ flag b ∷ tabByte ∷ (0x30 + half n) ∷ []) end
 
     object-module : field content ≡ listedText m
-    object-module = ap field object-apart ∙ module-field m k (tab ∷ flags)
+    object-module = ap field object-apart ∙ module-field m k (tabByte ∷ flags)
 
-    object-behind : behind content ≡ listedText k ++ (tab ∷ flags)
-    object-behind = ap behind object-apart ∙ module-behind m k (tab ∷ flags)
+    object-behind : behind content ≡ listedText k ++ (tabByte ∷ flags)
+    object-behind = ap behind object-apart ∙ module-behind m k (tabByte ∷ flags)
 
     object-name : field (behind content) ≡ listedText k
-    object-name = ap field object-behind ∙ field-back tab (omega arith) flags (listedText k) (text-visible k)
+    object-name = ap field object-behind ∙ field-back tabByte (omega arith) flags (listedText k) (text-visible k)
 
     object-flags : behind (behind content) ≡ flags
-    object-flags = ap behind object-behind ∙ behind-back tab (omega arith) flags (listedText k) (text-visible k)
+    object-flags = ap behind object-behind ∙ behind-back tabByte (omega arith) flags (listedText k) (text-visible k)
 
     object-new : eqb (getD (field (behind (behind content))) 0 0) 0x31 ≡ b
     object-new = rw object-flags (flag-back b _)
@@ -315,26 +315,26 @@ module _ (n : ℕ) (x : List ℕ) where
     unfolding field
     object-state h = rw (object-flags, flag-behind b, le-ltb (0x30 + half n) 0x20 (omega arith))
 
-  label-back : (l : Label) (p z : ℕ) → Words (words l p n z) → Bytes (textOf l) → labelIn (kind l) (contentOf l n ++ end) ≡ l
-  unfolding labelIn contentOf
+  label-back : (l : Label) (p z : ℕ) → Words (words l p n z) → Bytes (textOf l) → labelOfLine (kind l) (contentOf l n ++ end) ≡ l
+  unfolding labelOfLine contentOf
   label-back NoneL p z W B = refl
   label-back (BoolL b) p z W B = ap BoolL (bool-back b x)
   label-back (I64L i) p z W B = ap I64L (ap bitsIn (only-field (signedText i) (signed-visible i)) ∙ bits-back i (W 0))
   label-back (F64L i) p z W B = ap F64L (ap (hex 0) (only-field (figures 16 16 i) (figures-visible 16 16 i)) ∙ hex-back 16 i (W 0))
-  label-back (BytesL t) p z W B = ap BytesL (ap textIn (only-field (listedText t) (text-visible t)) ∙ text-back t B)
-  label-back (StringL t) p z W B = ap StringL (ap textIn (only-field (listedText t) (text-visible t)) ∙ text-back t B)
+  label-back (BytesL t) p z W B = ap BytesL (ap textOfField (only-field (listedText t) (text-visible t)) ∙ text-back t B)
+  label-back (StringL t) p z W B = ap StringL (ap textOfField (only-field (listedText t) (text-visible t)) ∙ text-back t B)
   label-back ListL p z W B = refl
   label-back TupleL p z W B = refl
   label-back SetL p z W B = refl
   label-back FrozenSetL p z W B = refl
   label-back DictL p z W B = refl
   label-back (GlobalL m k) p z W B =
-      let e₁ = ap textIn (module-field m k end) ∙ text-back m (bytes-left m k B) in
-      let e₂ = ap (λ (s : List ℕ). textIn (field s)) (module-behind m k end) ∙ ap textIn (only-field (listedText k) (text-visible k)) ∙ text-back k (bytes-right m k B) in
+      let e₁ = ap textOfField (module-field m k end) ∙ text-back m (bytes-left m k B) in
+      let e₂ = ap (λ (s : List ℕ). textOfField (field s)) (module-behind m k end) ∙ ap textOfField (only-field (listedText k) (text-visible k)) ∙ text-back k (bytes-right m k B) in
       ap₂ GlobalL e₁ e₂
   label-back (ObjectL m k b) p z W B =
-      let e₁ = ap textIn (object-module m k b) ∙ text-back m (bytes-left m k B) in
-      let e₂ = ap textIn (object-name m k b) ∙ text-back k (bytes-right m k B) in
+      let e₁ = ap textOfField (object-module m k b) ∙ text-back m (bytes-left m k B) in
+      let e₂ = ap textOfField (object-name m k b) ∙ text-back k (bytes-right m k B) in
       cc (e₁, e₂, object-new m k b)
 
   count-back : n < 10 ^ 20 → decimal (field (decimalText n ++ end)) ≡ n
@@ -363,28 +363,28 @@ module _ (n : ℕ) (x : List ℕ) where
 
 -- a line with x behind it
 module _ (d : ℕ) (l : Label) (n : ℕ) (x : List ℕ) where
-  line-apart : line d l n ++ x ≡ decimalText d ++ (tab ∷ (kindName (kind l) ++ (tab ∷ (contentOf l n ++ (newline ∷ x)))))
-  unfolding line
+  line-apart : recordLine d l n ++ x ≡ decimalText d ++ (tabByte ∷ (kindName (kind l) ++ (tabByte ∷ (contentOf l n ++ (newlineByte ∷ x)))))
+  unfolding recordLine
   line-apart = simp append-assoc
 
-  line-behind : behind (line d l n ++ x) ≡ kindName (kind l) ++ (tab ∷ (contentOf l n ++ (newline ∷ x)))
-  line-behind = ap behind line-apart ∙ behind-back tab (omega arith) _ (decimalText d) (decimal-visible d)
+  line-behind : behind (recordLine d l n ++ x) ≡ kindName (kind l) ++ (tabByte ∷ (contentOf l n ++ (newlineByte ∷ x)))
+  line-behind = ap behind line-apart ∙ behind-back tabByte (omega arith) _ (decimalText d) (decimal-visible d)
 
-  line-kind : placeOf names (field (behind (line d l n ++ x))) ≡ kind l
-  line-kind = ap (λ (s : List ℕ). placeOf names (field s)) line-behind ∙ ap (placeOf names) (field-back tab (omega arith) _ (kindName (kind l)) (name-back l .0)) ∙ name-back l .1
+  line-kind : placeOf names (field (behind (recordLine d l n ++ x))) ≡ kind l
+  line-kind = ap (λ (s : List ℕ). placeOf names (field s)) line-behind ∙ ap (placeOf names) (field-back tabByte (omega arith) _ (kindName (kind l)) (name-back l .0)) ∙ name-back l .1
 
-  line-content : behind (behind (line d l n ++ x)) ≡ contentOf l n ++ (newline ∷ x)
-  line-content = ap behind line-behind ∙ behind-back tab (omega arith) _ (kindName (kind l)) (name-back l .0)
+  line-content : behind (behind (recordLine d l n ++ x)) ≡ contentOf l n ++ (newlineByte ∷ x)
+  line-content = ap behind line-behind ∙ behind-back tabByte (omega arith) _ (kindName (kind l)) (name-back l .0)
 
 -- a line's label and the number of values directly in it
 unfoldable lineLabel : List ℕ → Label
-lineLabel s = labelIn (placeOf names (field (behind s))) (behind (behind s))
+lineLabel s = labelOfLine (placeOf names (field (behind s))) (behind (behind s))
 
 unfoldable lineArity : List ℕ → ℕ
 lineArity s = arityIn (placeOf names (field (behind s))) (behind (behind s))
 
 -- what a record that is of words and bytes asks for, to be read back from its line
-pub record Readable (l : Label) (n : ℕ) : Type 0 where
+pub record LineReadable (l : Label) (n : ℕ) : Type 0 where
   pub place : ℕ
   pub records : ℕ
   pub words : Words (words l place n records)
@@ -392,18 +392,18 @@ pub record Readable (l : Label) (n : ℕ) : Type 0 where
   pub fits : T (fitting l n)
   pub few : n < 10 ^ 20
 
-line-label : (d : ℕ) (l : Label) (n : ℕ) (x : List ℕ) → Readable l n → lineLabel (line d l n ++ x) ≡ l
+line-label : (d : ℕ) (l : Label) (n : ℕ) (x : List ℕ) → LineReadable l n → lineLabel (recordLine d l n ++ x) ≡ l
 unfolding lineLabel
 line-label d l n x r = rw (line-kind d l n x, line-content d l n x) (label-back n x l (r .place) (r .records) (r .words) (r .bytes))
 
-line-arity : (d : ℕ) (l : Label) (n : ℕ) (x : List ℕ) → Readable l n → lineArity (line d l n ++ x) ≡ n
+line-arity : (d : ℕ) (l : Label) (n : ℕ) (x : List ℕ) → LineReadable l n → lineArity (recordLine d l n ++ x) ≡ n
 unfolding lineArity
 line-arity d l n x r = rw (line-kind d l n x, line-content d l n x) (arity-back n x l (r .fits) (r .few))
 
 -- two lines that begin alike are one
-pub line-one : (d : ℕ) (l m : Label) (n k : ℕ) (x y : List ℕ) → Readable l n → Readable m k → line d l n ++ x ≡ line d m k ++ y → (l ≡ m) × (n ≡ k) × (x ≡ y)
+pub line-one : (d : ℕ) (l m : Label) (n k : ℕ) (x y : List ℕ) → LineReadable l n → LineReadable m k → recordLine d l n ++ x ≡ recordLine d m k ++ y → (l ≡ m) × (n ≡ k) × (x ≡ y)
 line-one d l m n k x y r s e =
     let e₁ : l ≡ m = sym (line-label d l n x r) ∙ ap lineLabel e ∙ line-label d m k y s in
     let e₂ : n ≡ k = sym (line-arity d l n x r) ∙ ap lineArity e ∙ line-arity d m k y s in
-    let same-line : line d m k ++ x ≡ line d m k ++ y = rw (← e₁, ← e₂) (e ∙ rw (e₁, e₂)) in
-    (e₁, e₂, append-cancel-left (line d m k) x y same-line)
+    let same-line : recordLine d m k ++ x ≡ recordLine d m k ++ y = rw (← e₁, ← e₂) (e ∙ rw (e₁, e₂)) in
+    (e₁, e₂, append-cancel-left (recordLine d m k) x y same-line)

@@ -22,7 +22,7 @@ use Rattle.output.specs.Whole.{whole-one, put-answered}
 use Rattle.list.specs.Listing.{listing, listing-short}
 use Rattle.value.specs.Shape.{Words}
 use Rattle.list.specs.One.{listing-one}
-use Rattle.list.specs.Walk.{Ready, Wrote, Countable, Counted}
+use Rattle.list.specs.Walk.{ReadyToList, PutsListing, Countable, CountsListing}
 
 -- the listing of a value
 unfoldable pub listed : Value → List ℕ
@@ -38,15 +38,15 @@ list-one w n t o p q r s x y = call-one x y
 -- ---- one listing, one value
 
 -- a call that succeeds was given a value, and wrote its listing
-record Done (w : List ℕ) (n : ℕ) (t o : List ℕ) (r : Answer) : Type 0 where
+record ListedRight (w : List ℕ) (n : ℕ) (t o : List ℕ) (r : Answer) : Type 0 where
   pub formed : WellFormed w n t
   pub bytes : take (r .length) o ≡ listed (formed .value)
 
-succeeded : (w : List ℕ) (n : ℕ) (t o p : List ℕ) (r : Answer) → ListCall w n t o p r → r .number ≡ 0 → Done w n t p r
+succeeded : (w : List ℕ) (n : ℕ) (t o p : List ℕ) (r : Answer) → ListCall w n t o p r → r .number ≡ 0 → ListedRight w n t p r
 unfolding answered
 succeeded w n t o p r x s = go (decided w n t)
   where
-    put : (f : WellFormed w n t) (b : List ℕ) → b ≡ listed (f .value) → (c : Bool) → told r p ≡ cond c (told (done (length b)) (b ++ drop (length b) o)) (told (refusedAnswer OutputFull) o) → Done w n t p r
+    put : (f : WellFormed w n t) (b : List ℕ) → b ≡ listed (f .value) → (c : Bool) → told r p ≡ cond c (told (done (length b)) (b ++ drop (length b) o)) (told (refusedAnswer OutputFull) o) → ListedRight w n t p r
     put f b l true e =
         let a : r ≡ done (length b) = cc in
         let q : p ≡ b ++ drop (length b) o = cc in
@@ -56,7 +56,7 @@ succeeded w n t o p r x s = go (decided w n t)
         let z : _≡_ {A = ℕ} 22 0 = ap (λ (v : Answer). v .number) (sym a) ∙ s in
         absurd (omega arith)
 
-    go : WellFormed w n t ⊎ (WellFormed w n t → ⊥) → Done w n t p r
+    go : WellFormed w n t ⊎ (WellFormed w n t → ⊥) → ListedRight w n t p r
     go (inl f) = put f (listed (f .value)) refl (leb (length (listed (f .value))) (length o)) (x .good f)
     go (inr h) =
         let e = x .bad h in
@@ -84,7 +84,7 @@ module _ (w : List ℕ) (n : ℕ) (t : List ℕ) where
     listed-few : length (listing 0 all) < 2 ^ 64
     listed-few = omega (arith, listing-short 0 all, f .counted, f .few, f .short, ap length (f .texts))
 
-    pub ready-all : (o : List ℕ) → length (listing 0 all) ≤ length o → Ready w t 0 1 0 o 0
+    pub ready-all : (o : List ℕ) → length (listing 0 all) ≤ length o → ReadyToList w t 0 1 0 o 0
     ready-all o h =
         record {
           values = all;
@@ -98,11 +98,11 @@ module _ (w : List ℕ) (n : ℕ) (t : List ℕ) where
     pub countable-all : Countable w t 0 1 0 0
     countable-all = record { out = listing 0 all; short = listed-few; ready = ready-all (listing 0 all) (omega arith) }
 
-  module _ {i m : ℕ} (measured : Counted w t 0 1 0 0 i m) where
+  module _ {i m : ℕ} (measured : CountsListing w t 0 1 0 0 i m) where
     measure : (f : WellFormed w n t) → m ≡ length (listing 0 (one (f .value)))
     measure f = omega (arith, measured (one (f .value)) (formed-stands w n t f) (whole-one w n t f) .1)
 
-    pub measured-ready : (o : List ℕ) → WellFormed w n t → m ≤ length o → Ready w t 0 1 0 o 0
+    pub measured-ready : (o : List ℕ) → WellFormed w n t → m ≤ length o → ReadyToList w t 0 1 0 o 0
     measured-ready o f h = ready-all f o (omega (arith, measure f))
 
     -- the output is too short
@@ -111,7 +111,7 @@ module _ (w : List ℕ) (n : ℕ) (t : List ℕ) where
     list-full o r f h e = call-good (λ v. answered (listed v)) w n t o o r f (λ g. rw e (sym (answered-full (listing 0 (one (g .value))) o (omega (arith, measure g)))))
 
     -- the listing goes to its front
-    pub list-all : (o o′ : List ℕ) (j p : ℕ) → WellFormed w n t → m ≤ length o → Wrote w t 0 1 0 o 0 o′ j p → ListCall w n t o o′ (done p)
+    pub list-all : (o o′ : List ℕ) (j p : ℕ) → WellFormed w n t → m ≤ length o → PutsListing w t 0 1 0 o 0 o′ j p → ListCall w n t o o′ (done p)
     unfolding listed
     list-all o o′ j p f h x =
         call-good (λ v. answered (listed v)) w n t o o′ (done p) f

@@ -5,11 +5,11 @@ use mathlib.Core.List.{[], _∷_}
 use mathlib.Core.Path.{_≡_, refl}
 use Rattle.value.specs.Value.{count, NoneL, BoolL, I64L, F64L, BytesL, ListL, TupleL, DictL, GlobalL, ObjectL, nil, node}
 use Rattle.output.specs.Decimal.{figure, figures, noZeros, decimalText, signedText}
-use Rattle.list.specs.Listing.{printable, listedByte, listedText, names, kindName, flag, listedNames, contentOf, line, listing}
+use Rattle.list.specs.Listing.{printable, listedByte, listedText, names, kindName, flag, listedNames, contentOf, recordLine, listing}
 
 -- what computes on given values
 unfoldable evaluates : Unit {0}
-unfolding figure figures noZeros decimalText signedText printable listedByte listedText names kindName flag listedNames contentOf line listing count
+unfolding figure figures noZeros decimalText signedText printable listedByte listedText names kindName flag listedNames contentOf recordLine listing count
 evaluates = tt
 
 -- the input of RULES A9.5: ([5], [5])
@@ -23,15 +23,15 @@ unfolding evaluates
 worked = refl
 
 -- None, true and an empty Dict, at depth 63
-pub none : line 63 NoneL 0 ≡ 0x36 ∷ 0x33 ∷ 0x09 ∷ 0x6E ∷ 0x6F ∷ 0x6E ∷ 0x65 ∷ 0x09 ∷ 0x2D ∷ 0x0A ∷ []
+pub none : recordLine 63 NoneL 0 ≡ 0x36 ∷ 0x33 ∷ 0x09 ∷ 0x6E ∷ 0x6F ∷ 0x6E ∷ 0x65 ∷ 0x09 ∷ 0x2D ∷ 0x0A ∷ []
 unfolding evaluates
 none = refl
 
-pub bool : line 63 (BoolL true) 0 ≡ 0x36 ∷ 0x33 ∷ 0x09 ∷ 0x62 ∷ 0x6F ∷ 0x6F ∷ 0x6C ∷ 0x09 ∷ 0x31 ∷ 0x0A ∷ []
+pub bool : recordLine 63 (BoolL true) 0 ≡ 0x36 ∷ 0x33 ∷ 0x09 ∷ 0x62 ∷ 0x6F ∷ 0x6F ∷ 0x6C ∷ 0x09 ∷ 0x31 ∷ 0x0A ∷ []
 unfolding evaluates
 bool = refl
 
-pub dict : line 63 DictL 0 ≡ 0x36 ∷ 0x33 ∷ 0x09 ∷ 0x64 ∷ 0x69 ∷ 0x63 ∷ 0x74 ∷ 0x09 ∷ 0x30 ∷ 0x0A ∷ []
+pub dict : recordLine 63 DictL 0 ≡ 0x36 ∷ 0x33 ∷ 0x09 ∷ 0x64 ∷ 0x69 ∷ 0x63 ∷ 0x74 ∷ 0x09 ∷ 0x30 ∷ 0x0A ∷ []
 unfolding evaluates
 dict = refl
 

@@ -6,8 +6,8 @@ use native.Mathlib.Omega.{arith}
 use lib.Dec.{eqb, leb, lit≤}
 use lib.ListN.{length, length-append, getD, drop}
 use Rattle.value.specs.Value.{Label, Forest, bit, half, kind, textOf, text, count, size, NoneL, BoolL, I64L, F64L, BytesL, StringL, ListL, TupleL, SetL, FrozenSetL, DictL, GlobalL, ObjectL, nil, node}
-use Rattle.value.specs.Shape.{moduleOf, nameOf}
-use Rattle.output.specs.Put.{newline}
+use Rattle.value.specs.Shape.{modulePart, namePart}
+use Rattle.output.specs.Put.{newlineByte}
 use Rattle.output.specs.Decimal.{figures, decimalText, signedText, figures-length, decimal-short, signed-short, either-way}
 
 -- bytes 20 to 7E hex stand for themselves
@@ -24,8 +24,8 @@ listedText [] = []
 listedText (b ∷ s) = listedByte b ++ listedText s
 
 -- what parts the fields
-abbrev pub tab : ℕ
-tab = 0x09
+abbrev pub tabByte : ℕ
+tabByte = 0x09
 
 -- the kinds' names in the table's order: none bool int float bytes string list tuple set frozenset dict global object
 unfoldable pub names : List (List ℕ)
@@ -54,11 +54,11 @@ flag b = 0x30 + bit b
 
 -- a module and a name
 unfoldable pub listedNames : List ℕ → List ℕ → List ℕ
-listedNames m k = listedText m ++ (tab ∷ listedText k)
+listedNames m k = listedText m ++ (tabByte ∷ listedText k)
 
 -- the same where they stand side by side in a text, their lengths in the halves of a word
 unfoldable pub namesAt : List ℕ → ℕ → ℕ → List ℕ
-namesAt t p c = listedNames (moduleOf c (drop p t)) (nameOf c (drop p t))
+namesAt t p c = listedNames (modulePart c (drop p t)) (namePart c (drop p t))
 
 -- the content of a record with n values directly in it; a Dict's entries and an Object's state are halves of those
 unfoldable pub contentOf : Label → ℕ → List ℕ
@@ -74,16 +74,16 @@ contentOf SetL n = decimalText n
 contentOf FrozenSetL n = decimalText n
 contentOf DictL n = decimalText (half n)
 contentOf (GlobalL m k) n = listedNames m k
-contentOf (ObjectL m k b) n = listedNames m k ++ (tab ∷ flag b ∷ tab ∷ (0x30 + half n) ∷ [])
+contentOf (ObjectL m k b) n = listedNames m k ++ (tabByte ∷ flag b ∷ tabByte ∷ (0x30 + half n) ∷ [])
 
 -- depth, kind and content
-unfoldable pub line : ℕ → Label → ℕ → List ℕ
-line d l n = decimalText d ++ (tab ∷ kindName (kind l) ++ (tab ∷ contentOf l n ++ (newline ∷ [])))
+unfoldable pub recordLine : ℕ → Label → ℕ → List ℕ
+recordLine d l n = decimalText d ++ (tabByte ∷ kindName (kind l) ++ (tabByte ∷ contentOf l n ++ (newlineByte ∷ [])))
 
 -- values at a depth: the first one's line, its contents one deeper, the values after it
 unfoldable pub listing : ℕ → Forest → List ℕ
 listing d nil = []
-listing d (node l c r) = line d l (count c) ++ (listing (suc d) c ++ listing d r)
+listing d (node l c r) = recordLine d l (count c) ++ (listing (suc d) c ++ listing d r)
 
 -- ---- how long a listing is at most: of a text's byte it has four at most, those of `\x` and two digits
 
@@ -136,8 +136,8 @@ content-short DictL n = omega (arith, decimal-short (half n))
 content-short (GlobalL m k) n = omega (arith, listed-names-short m k)
 content-short (ObjectL m k b) n = rw (length-append (listedNames m k)) (omega (arith, listed-names-short m k))
 
-line-short : (d : ℕ) (l : Label) (n : ℕ) → length (line d l n) ≤ 53 + 4 * length (textOf l)
-unfolding line
+line-short : (d : ℕ) (l : Label) (n : ℕ) → length (recordLine d l n) ≤ 53 + 4 * length (textOf l)
+unfolding recordLine
 line-short d l n =
     rw (length-append (decimalText d), length-append (kindName (kind l)), length-append (contentOf l n)) (omega (arith, decimal-short d, name-short l, content-short l n))
 
@@ -145,5 +145,5 @@ pub listing-short : (d : ℕ) (f : Forest) → length (listing d f) ≤ 53 * siz
 unfolding listing size text
 listing-short d nil = omega arith
 listing-short d (node l c r) =
-    rw (length-append (line d l (count c)), length-append (listing (suc d) c), length-append (textOf l), length-append (text c))
+    rw (length-append (recordLine d l (count c)), length-append (listing (suc d) c), length-append (textOf l), length-append (text c))
     (omega (arith, line-short d l (count c), listing-short (suc d) c, listing-short d r))

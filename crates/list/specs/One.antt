@@ -10,8 +10,8 @@ use Rattle.value.specs.Value.{Label, Forest, one, textOf, text, count, size, co
 use Rattle.value.specs.Shape.{Words, fitting, shaped, and-l, and-r}
 use Rattle.value.specs.WellFormed.{WellFormed}
 use Rattle.table.specs.CompareLaws.{Identical}
-use Rattle.list.specs.Listing.{line, listing}
-use Rattle.list.specs.Back.{words-left, words-right, bytes-left, bytes-right, Readable, line-one}
+use Rattle.list.specs.Listing.{recordLine, listing}
+use Rattle.list.specs.Back.{words-left, words-right, bytes-left, bytes-right, LineReadable, line-one}
 
 -- values whose table, with the texts from p on, is of words, and whose text is of bytes
 record InTable (f : Forest) (p : ℕ) : Type 0 where
@@ -49,7 +49,7 @@ module _ (l : Label) (c r : Forest) (p : ℕ) (a : InTable (node l c r) p) where
   unfolding size
   all-few = a .few
 
-  first-readable : Readable l (count c)
+  first-readable : LineReadable l (count c)
   first-readable =
       let w = words-left record₀ _ all-words in
       record {
@@ -79,9 +79,9 @@ module _ (l : Label) (c r : Forest) (p : ℕ) (a : InTable (node l c r) p) where
         few = omega (arith, all-few);
       }
 
-listing-apart : (d : ℕ) (l : Label) (c r : Forest) (x : List ℕ) → listing d (node l c r) ++ x ≡ line d l (count c) ++ (listing (suc d) c ++ (listing d r ++ x))
+listing-apart : (d : ℕ) (l : Label) (c r : Forest) (x : List ℕ) → listing d (node l c r) ++ x ≡ recordLine d l (count c) ++ (listing (suc d) c ++ (listing d r ++ x))
 unfolding listing
-listing-apart d l c r x = rw (append-assoc (line d l (count c)), append-assoc (listing (suc d) c))
+listing-apart d l c r x = rw (append-assoc (recordLine d l (count c)), append-assoc (listing (suc d) c))
 
 -- as many values, listed alike, are the same values, and what stands behind the listings is the same
 forest-one : (f g : Forest) (d p q : ℕ) (x y : List ℕ) → InTable f p → InTable g q → count f ≡ count g → listing d f ++ x ≡ listing d g ++ y → (f ≡ g) × (x ≡ y)

@@ -4,12 +4,12 @@ use output::Place;
 use refusal::Answer;
 use refusal::Refusal;
 use refusal::Which;
-use value::BOOL;
-use value::F64;
-use value::GLOBAL;
-use value::I64;
-use value::LIST;
-use value::NONE;
+use value::KIND_BOOL;
+use value::KIND_F64;
+use value::KIND_GLOBAL;
+use value::KIND_I64;
+use value::KIND_LIST;
+use value::KIND_NONE;
 ghost use mathlib.Core.Bool.{true};
 ghost use mathlib.Core.Path.{_≡_};
 ghost use mathlib.Core.List.{[], _∷_};
@@ -18,9 +18,9 @@ ghost use lib.ListN.{length, take, drop};
 ghost use Rattle.value.specs.Shape.{namesEnd};
 ghost use Rattle.value.specs.Stands.{labelAt, arityAt, Reads};
 ghost use Rattle.output.specs.Put.{Put, Room};
-ghost use Rattle.list.specs.Listing.{tab, printable, listedByte, listedText, kindName, flag, namesAt, contentOf, line};
+ghost use Rattle.list.specs.Listing.{tabByte, printable, listedByte, listedText, kindName, flag, namesAt, contentOf, recordLine};
 ghost use Rattle.list.specs.Verbatim.{Verbatim, VerbatimTo};
-ghost use Rattle.list.specs.Walk.{Ready, Wrote, Countable, Counted};
+ghost use Rattle.list.specs.Walk.{ReadyToList, PutsListing, Countable, CountsListing};
 ghost use Rattle.list.specs.Call.{ListCall};
 
 fn stands(byte: u8) -> bool
@@ -202,7 +202,7 @@ fn put_flag(value: bool, output: &mut [u8], at: usize) -> usize
 }
 
 // A module and a name, whose texts stand side by side from `from` on; `lengths` has the module's in its upper half.
-fn names_len(text: &[u8], from: u64, lengths: u64) -> usize
+fn listed_names_len(text: &[u8], from: u64, lengths: u64) -> usize
     requires { ⌜ namesEnd from lengths ≤ length (now text) ⌝ }
     requires { ⌜ length (namesAt (now text) from lengths) < 2 ^ 64 ⌝ }
     ensures { λ r. ⌜ r ≡ length (namesAt (now (text .entry)) from lengths) ⌝ }
@@ -213,7 +213,7 @@ fn names_len(text: &[u8], from: u64, lengths: u64) -> usize
     listed_len(text, start, first) + 1 + listed_len(text, start + first, second)
 }
 
-fn put_names(text: &[u8], from: u64, lengths: u64, output: &mut [u8], at: usize) -> usize
+fn put_listed_names(text: &[u8], from: u64, lengths: u64, output: &mut [u8], at: usize) -> usize
     requires { ⌜ namesEnd from lengths ≤ length (now text) ⌝ }
     requires { ⌜ Room (now output) at (namesAt (now text) from lengths) ⌝ }
     ensures { λ r. ⌜ Put (now (output .entry)) at (namesAt (now (text .entry)) from lengths) (now (output .exit)) r ⌝ }
@@ -228,8 +228,8 @@ fn put_names(text: &[u8], from: u64, lengths: u64, output: &mut [u8], at: usize)
 
 // What an Object's content has behind its names.
 fn put_flags(new: bool, state: bool, output: &mut [u8], at: usize) -> usize
-    requires { ⌜ Room (now output) at (tab ∷ flag new ∷ tab ∷ flag state ∷ []) ⌝ }
-    ensures { λ r. ⌜ Put (now (output .entry)) at (tab ∷ flag new ∷ tab ∷ flag state ∷ []) (now (output .exit)) r ⌝ }
+    requires { ⌜ Room (now output) at (tabByte ∷ flag new ∷ tabByte ∷ flag state ∷ []) ⌝ }
+    ensures { λ r. ⌜ Put (now (output .entry)) at (tabByte ∷ flag new ∷ tabByte ∷ flag state ∷ []) (now (output .exit)) r ⌝ }
 {
     let first = output::put_byte(b'\t', output, at);
     let end = put_flag(new, output, first);
@@ -246,23 +246,23 @@ fn content_len(words: &[u64], text: &[u8], i: usize) -> usize
     let kind = value::head_of(words[4 * i]).kind;
     let second = words[4 * i + 1];
     let third = words[4 * i + 2];
-    if kind < I64 {
+    if kind < KIND_I64 {
         return 1;
     }
-    if kind == I64 {
+    if kind == KIND_I64 {
         return output::signed_len(second);
     }
-    if kind == F64 {
+    if kind == KIND_F64 {
         return 16;
     }
-    if kind < LIST {
+    if kind < KIND_LIST {
         return listed_len(text, second as usize, third as usize);
     }
-    if kind < GLOBAL {
+    if kind < KIND_GLOBAL {
         return output::digits(second);
     }
-    let names = names_len(text, second, third);
-    if kind == GLOBAL {
+    let names = listed_names_len(text, second, third);
+    if kind == KIND_GLOBAL {
         return names;
     }
     names + 4
@@ -279,26 +279,26 @@ fn put_content(words: &[u64], text: &[u8], i: usize, output: &mut [u8], at: usiz
     let kind = head.kind;
     let second = words[4 * i + 1];
     let third = words[4 * i + 2];
-    if kind == NONE {
+    if kind == KIND_NONE {
         return output::put_byte(b'-', output, at);
     }
-    if kind == BOOL {
+    if kind == KIND_BOOL {
         return put_flag(second == 1, output, at);
     }
-    if kind == I64 {
+    if kind == KIND_I64 {
         return output::put_signed(second, output, at);
     }
-    if kind == F64 {
+    if kind == KIND_F64 {
         return output::put_figures(second, 16, 16, output, at);
     }
-    if kind < LIST {
+    if kind < KIND_LIST {
         return put_text(text, second as usize, third as usize, output, at);
     }
-    if kind < GLOBAL {
+    if kind < KIND_GLOBAL {
         return output::put_decimal(second, output, at);
     }
-    let end = put_names(text, second, third, output, at);
-    if kind == GLOBAL {
+    let end = put_listed_names(text, second, third, output, at);
+    if kind == KIND_GLOBAL {
         return end;
     }
     put_flags(head.new, head.state, output, end)
@@ -307,8 +307,8 @@ fn put_content(words: &[u64], text: &[u8], i: usize, output: &mut [u8], at: usiz
 // The line of record i.
 fn line_len(words: &[u64], text: &[u8], i: usize, depth: u64) -> usize
     requires { ⌜ Reads (now words) (now text) i ⌝ }
-    requires { ⌜ length (line depth (labelAt (now words) (now text) i) (arityAt (now words) i)) < 2 ^ 64 ⌝ }
-    ensures { λ r. ⌜ r ≡ length (line depth (labelAt (now (words .entry)) (now (text .entry)) i) (arityAt (now (words .entry)) i)) ⌝ }
+    requires { ⌜ length (recordLine depth (labelAt (now words) (now text) i) (arityAt (now words) i)) < 2 ^ 64 ⌝ }
+    ensures { λ r. ⌜ r ≡ length (recordLine depth (labelAt (now (words .entry)) (now (text .entry)) i) (arityAt (now (words .entry)) i)) ⌝ }
 {
     let head = value::head_of(words[4 * i]);
     output::digits(depth) + name_len(head.kind) + content_len(words, text, i) + 3
@@ -316,9 +316,9 @@ fn line_len(words: &[u64], text: &[u8], i: usize, depth: u64) -> usize
 
 fn put_line(words: &[u64], text: &[u8], i: usize, depth: u64, output: &mut [u8], at: usize) -> usize
     requires { ⌜ Reads (now words) (now text) i ⌝ }
-    requires { ⌜ Room (now output) at (line depth (labelAt (now words) (now text) i) (arityAt (now words) i)) ⌝ }
+    requires { ⌜ Room (now output) at (recordLine depth (labelAt (now words) (now text) i) (arityAt (now words) i)) ⌝ }
     ensures { λ r. ⌜ Put (now (output .entry)) at
-        (line depth (labelAt (now (words .entry)) (now (text .entry)) i) (arityAt (now (words .entry)) i))
+        (recordLine depth (labelAt (now (words .entry)) (now (text .entry)) i) (arityAt (now (words .entry)) i))
         (now (output .exit)) r ⌝ }
 {
     let head = value::head_of(words[4 * i]);
@@ -334,7 +334,7 @@ fn put_line(words: &[u64], text: &[u8], i: usize, depth: u64, output: &mut [u8],
 // that their lines take.
 fn values_len(words: &[u64], text: &[u8], from: usize, count: usize, depth: u64, at: usize) -> Place
     requires { ⌜ Countable (now words) (now text) from count depth at ⌝ }
-    ensures { λ r. ⌜ Counted (now (words .entry)) (now (text .entry)) from count depth at (r .record) (r .at) ⌝ }
+    ensures { λ r. ⌜ CountsListing (now (words .entry)) (now (text .entry)) from count depth at (r .record) (r .at) ⌝ }
 {
     let mut i = from;
     let mut left = count;
@@ -362,8 +362,8 @@ fn put_values(
     output: &mut [u8],
     at: usize,
 ) -> Place
-    requires { ⌜ Ready (now words) (now text) from count depth (now output) at ⌝ }
-    ensures { λ r. ⌜ Wrote (now (words .entry)) (now (text .entry)) from count depth (now (output .entry)) at (now (output .exit)) (r .record) (r .at) ⌝ }
+    requires { ⌜ ReadyToList (now words) (now text) from count depth (now output) at ⌝ }
+    ensures { λ r. ⌜ PutsListing (now (words .entry)) (now (text .entry)) from count depth (now (output .entry)) at (now (output .exit)) (r .record) (r .at) ⌝ }
 {
     let mut i = from;
     let mut left = count;

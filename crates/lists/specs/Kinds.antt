@@ -10,12 +10,12 @@ use native.Mathlib.Decide.{decLt, ℕ-discrete}
 use native.Mathlib.Omega.{arith}
 use Rattle.value.specs.Value.{Label, kind, NoneL, BoolL, I64L, F64L, BytesL, StringL, ListL, TupleL, SetL, FrozenSetL, DictL, GlobalL, ObjectL}
 use Rattle.value.specs.Shape.{kindIn}
-use Rattle.store.specs.Rooms.{tab}
+use Rattle.store.specs.Rooms.{tabulated}
 use Rattle.store.specs.RoomLists.{getD-tab}
 use Rattle.steps.specs.NodeWords.{first, second}
 use Rattle.resolved.specs.Noted.{isContainer}
 use Rattle.resolved.specs.Dues.{isDue}
-use Rattle.resolved.specs.Shown.{labels, labelOf, isSorted}
+use Rattle.resolved.specs.Shown.{nodeLabels, nodeLabel, isSorted}
 
 -- ---- a value's kind
 
@@ -29,8 +29,8 @@ kindOf a = getD kinds (kindIn a) 0
 
 module _ (a : ℕ) where
   pub kind-same : kindIn a < 13 → kindOf a ≡ kindIn a
-  unfolding kindOf tab
-  kind-same h = List·getD-append (tab (λ i. i) 13) (4 ∷ 5 ∷ []) 0 (kindIn a) h ∙ getD-tab (λ i. i) 13 (kindIn a) 0 h
+  unfolding kindOf tabulated
+  kind-same h = List·getD-append (tabulated (λ i. i) 13) (4 ∷ 5 ∷ []) 0 (kindIn a) h ∙ getD-tab (λ i. i) 13 (kindIn a) 0 h
 
   -- 13 and 14 are texts as their lines
   pub kind-line : 13 ≤ kindIn a → kindIn a < 15 → kindOf a ≡ kindIn a - 9
@@ -110,26 +110,26 @@ by-kind Q q0 q1 q2 q3 q4 q5 q6 q7 q8 q9 q10 q11 q12 q13 q14 r (suc (suc (suc (su
 
 module _ (p ws : List ℕ) (i : ℕ) where
   abbrev all : List Label
-  all = labels p ws (first ws i) (second ws i)
+  all = nodeLabels p ws (first ws i) (second ws i)
 
-  pub kind-is : kind (labelOf p ws i) ≡ kindOf (first ws i)
-  unfolding labelOf kindOf
+  pub kind-is : kind (nodeLabel p ws i) ≡ kindOf (first ws i)
+  unfolding nodeLabel kindOf
   kind-is = sym (List·getD-map kind all (kindIn (first ws i)) NoneL)
 
-  pub container-is : isContainer (labelOf p ws i) ≡ containerKind (kindOf (first ws i))
-  container-is = container-kind (labelOf p ws i) ∙ ap containerKind kind-is
+  pub container-is : isContainer (nodeLabel p ws i) ≡ containerKind (kindOf (first ws i))
+  container-is = container-kind (nodeLabel p ws i) ∙ ap containerKind kind-is
 
   -- a container by its node's kind, and a Set or a Dict
-  pub container-node : isContainer (labelOf p ws i) ≡ containerKind (kindIn (first ws i))
-  unfolding labelOf containerKind
+  pub container-node : isContainer (nodeLabel p ws i) ≡ containerKind (kindIn (first ws i))
+  unfolding nodeLabel containerKind
   container-node =
       by-kind (λ k. isContainer (getD all k NoneL) ≡ containerKind k)
       refl refl refl refl refl refl refl refl refl refl refl refl refl refl refl
       (λ k l. rw (List·getD-eq-default all NoneL l, le-ltb k 6 (omega arith), le-ltb k 11 (omega arith), ne-eqb k 12 (λ e. omega arith)))
       (kindIn (first ws i))
 
-  pub sorted-due : isDue (labelOf p ws i) ≡ isSorted (kindIn (first ws i))
-  unfolding labelOf isSorted
+  pub sorted-due : isDue (nodeLabel p ws i) ≡ isSorted (kindIn (first ws i))
+  unfolding nodeLabel isSorted
   sorted-due =
       by-kind (λ k. isDue (getD all k NoneL) ≡ isSorted k)
       refl refl refl refl refl refl refl refl refl refl refl refl refl refl refl

@@ -10,7 +10,7 @@ ghost use Rattle.lists.specs.Listed.{Listed, Ranges};
 use store::NodeId;
 
 // From a node's kind to its value's: 13 are Bytes too, 14 is a String.
-pub const TO_VALUE: u64 = store::KIND_ESCAPED - value::BYTES;
+pub const TO_VALUE: u64 = store::KIND_ESCAPED - value::KIND_BYTES;
 
 // The kind of a node's value, by the node's first word.
 pub fn value_kind(first: u64) -> u64
@@ -23,20 +23,20 @@ pub fn value_kind(first: u64) -> u64
     if kind < store::NODE_KINDS {
         return kind - TO_VALUE;
     }
-    value::NONE
+    value::KIND_NONE
 }
 
 // Has a value, or a node, of this kind contents?
 pub fn is_container(kind: u64) -> bool
     ensures { λ r. ⌜ r ≡ containerKind kind ⌝ }
 {
-    if kind < value::LIST {
+    if kind < value::KIND_LIST {
         return false;
     }
-    if kind < value::GLOBAL {
+    if kind < value::KIND_GLOBAL {
         return true;
     }
-    kind == value::OBJECT
+    kind == value::KIND_OBJECT
 }
 
 // The numbers from `at` to `end`, in the log or among the children.
@@ -50,10 +50,10 @@ pub struct Range {
 pub fn is_sorted(kind: u64) -> bool
     ensures { λ r. ⌜ r ≡ isSorted kind ⌝ }
 {
-    if kind < value::SET {
+    if kind < value::KIND_SET {
         return false;
     }
-    kind < value::GLOBAL
+    kind < value::KIND_GLOBAL
 }
 
 // Where a container's list stands: a Set's or Dict's where its measure says, once it is in order.
@@ -67,7 +67,7 @@ pub fn range_of(node: NodeId, nodes: &[u64], starts: &[u16], measures: &[u64]) -
         let measure = measures[i];
         let at = (measure % store::SHORTS) as usize;
         return Range {
-            log: kind < value::DICT,
+            log: kind < value::KIND_DICT,
             at,
             end: at + (measure / store::SHORTS % store::SHORTS) as usize,
         };

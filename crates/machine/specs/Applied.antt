@@ -64,6 +64,6 @@ module _ (r : Rooms) (h : ℕ) (c : Counts) where
   unfolding Fits enacted meant Stays
   stops f = record { means = refl; stays = f }
 
-pub refuses : (r : Rooms) (h : ℕ) (c : Counts) (v w : ℕ) (why : Refusal) → Done (step.Refused c why) r r (enacted (Refused c v w why) r h)
+pub refusal-applied : (r : Rooms) (h : ℕ) (c : Counts) (v w : ℕ) (why : Refusal) → Done (step.Refused c why) r r (enacted (Refused c v w why) r h)
 unfolding enacted
-refuses r h c v w why = done-refused why r (enacted (Refused c v w why) r h) refl
+refusal-applied r h c v w why = done-refused why r (enacted (Refused c v w why) r h) refl

@@ -11,9 +11,9 @@ use Rattle.steps.specs.Range.{start-range}
 use Rattle.store.specs.Effects.{Sound, Lengths, Clean, ZeroFrom}
 use Rattle.machine.specs.RoomsOf.{roomsOf}
 use Rattle.machine.specs.Clear.{zeros}
-use Rattle.machine.specs.Ran.{start}
+use Rattle.machine.specs.Ran.{startCounts}
 
-pub fresh-rooms : (r : Rooms) → Lengths r → Clean r start → Sound r start
+pub fresh-rooms : (r : Rooms) → Lengths r → Clean r startCounts → Sound r startCounts
 fresh-rooms r l z = record {
   firm = record {
     lengths = l;
@@ -41,7 +41,7 @@ long m n h = rw length-replicate h
 
 pub fresh : (p : List ℕ) (nodes owners children stack marks keys held : ℕ)
     → length p ≤ 65536 → 8192 ≤ nodes → 8192 ≤ owners → 8192 ≤ children → 2048 ≤ stack → 256 ≤ marks → 1024 ≤ keys → 1024 ≤ held
-    → Sound (roomsOf p (replicate nodes 0) (replicate owners 0) (replicate children 0) (replicate stack 0) (replicate marks 0) (replicate keys 0) (replicate held 0)) start
+    → Sound (roomsOf p (replicate nodes 0) (replicate owners 0) (replicate children 0) (replicate stack 0) (replicate marks 0) (replicate keys 0) (replicate held 0)) startCounts
 fresh p nodes owners children stack marks keys held h n w d s m k e =
     fresh-rooms (roomsOf p (replicate nodes 0) (replicate owners 0) (replicate children 0) (replicate stack 0) (replicate marks 0) (replicate keys 0) (replicate held 0))
     (record { pickle = h; nodes = long 8192 nodes n; owners = long 8192 owners w; children = long 8192 children d; stack = long 2048 stack s; marks = long 256 marks m; keys = long 1024 keys k; held = long 1024 held e })

@@ -10,9 +10,9 @@ use Rattle.store.specs.declared.Counts.{Counts}
 use Rattle.steps.specs.State.{State, Res, ok, no, _>>=_}
 use Rattle.steps.specs.Run.{Next, goes, stops, step, run, start as begin}
 use Rattle.steps.specs.Out.{of-out}
-use Rattle.steps.specs.Keeps.{after}
+use Rattle.steps.specs.Keeps.{stateAfter}
 use Rattle.steps.specs.Shrinks.{step-less}
-use Rattle.steps.specs.Fuel.{finish, run-finish, finish-refused, finish-stops, finish-goes}
+use Rattle.steps.specs.Fuel.{runFrom, run-finish, finish-refused, finish-stops, finish-goes}
 use Rattle.steps.specs.Range.{InRange, step-range}
 use Rattle.store.specs.Rooms.{Rooms, stateOf}
 use Rattle.store.specs.RoomReads.{start-of, input-of}
@@ -24,8 +24,8 @@ use Rattle.machine.specs.declared.Outcome.{Outcome}
 use Rattle.machine.specs.declared.Outcome.the-variants as outcome
 
 -- nothing read or used
-abbrev pub start : Counts
-start = record { at = 0; nodes = 0; links = 0; stack = 0; deepest = 0; marks = 0; most = 0; memo = 0; greatest = 0 }
+abbrev pub startCounts : Counts
+startCounts = record { at = 0; nodes = 0; links = 0; stack = 0; deepest = 0; marks = 0; most = 0; memo = 0; greatest = 0 }
 
 -- a step in the rooms r with the counts c, which leaves the rooms r′
 abbrev pub Stepped : Edition → Step → Counts → Rooms → Rooms → Type 0
@@ -69,38 +69,38 @@ module _ (ed : Edition) (r r′ : Rooms) (c : Counts) (s : Sound r c) where
     stepped = sym (t .means)
 
     pub step-sound : Sound r′ d
-    unfolding Stays after
-    step-sound = record { firm = t .stays; range = of-out (λ (n : Next). InRange (after n)) (step ed (stateOf r c)) (goes (stateOf r′ d)) (step-range ed (stateOf r c) (s .range)) stepped }
+    unfolding Stays stateAfter
+    step-sound = record { firm = t .stays; range = of-out (λ (n : Next). InRange (stateAfter n)) (step ed (stateOf r c)) (goes (stateOf r′ d)) (step-range ed (stateOf r c) (s .range)) stepped }
 
     less : length (stateOf r′ d .input) < length (stateOf r c .input)
-    unfolding after
-    less = of-out (λ (n : Next). length (after n .input) < length (stateOf r c .input)) (step ed (stateOf r c)) (goes (stateOf r′ d)) (step-less ed (stateOf r c)) stepped
+    unfolding stateAfter
+    less = of-out (λ (n : Next). length (stateAfter n .input) < length (stateOf r c .input)) (step ed (stateOf r c)) (goes (stateOf r′ d)) (step-less ed (stateOf r c)) stepped
 
     pub step-further : r′ .pickle ≡ r .pickle → length (r .pickle) - d .at < length (r .pickle) - c .at
     step-further e =
         let x : length (r′ .pickle) - d .at < length (r .pickle) - c .at = rw (input-of r′ d, input-of r c, length-drop, length-drop) at less in
         rw e at x
 
-    pub step-goes : finish ed (stateOf r c) ≡ finish ed (stateOf r′ d)
+    pub step-goes : runFrom ed (stateOf r c) ≡ runFrom ed (stateOf r′ d)
     step-goes = finish-goes ed (stateOf r c) (stateOf r′ d) stepped
 
-  pub step-stops : (d : Counts) → Done (step-of.Stop d) r r′ (step ed (stateOf r c)) → (finish ed (stateOf r c) ≡ ok (stateOf r′ d)) × Sound r′ d
-  unfolding meant Stays after
+  pub step-stops : (d : Counts) → Done (step-of.Stop d) r r′ (step ed (stateOf r c)) → (runFrom ed (stateOf r c) ≡ ok (stateOf r′ d)) × Sound r′ d
+  unfolding meant Stays stateAfter
   step-stops d t =
-      (finish-stops ed (stateOf r c) (stateOf r′ d) (sym (t .means)), record { firm = t .stays; range = of-out (λ (n : Next). InRange (after n)) (step ed (stateOf r c)) (stops (stateOf r′ d)) (step-range ed (stateOf r c) (s .range)) (sym (t .means)) })
+      (finish-stops ed (stateOf r c) (stateOf r′ d) (sym (t .means)), record { firm = t .stays; range = of-out (λ (n : Next). InRange (stateAfter n)) (step ed (stateOf r c)) (stops (stateOf r′ d)) (step-range ed (stateOf r c) (s .range)) (sym (t .means)) })
 
-  pub step-refuses : (d : Counts) (why : Refusal) → Done (step-of.Refused d why) r r′ (step ed (stateOf r c)) → (finish ed (stateOf r c) ≡ no why) × (r′ ≡ r)
+  pub step-refuses : (d : Counts) (why : Refusal) → Done (step-of.Refused d why) r r′ (step ed (stateOf r c)) → (runFrom ed (stateOf r c) ≡ no why) × (r′ ≡ r)
   unfolding meant Stays
   step-refuses d why t = (finish-refused ed (stateOf r c) (stateOf r c) why (sym (t .means)), t .stays)
 
 -- ---- the loop: what is left is what there was
 
 pub record Running (ed : Edition) (p : List ℕ) (r : Rooms) (c : Counts) : Type 0 where
-  pub left : finish ed (stateOf r c) ≡ run ed p
+  pub left : runFrom ed (stateOf r c) ≡ run ed p
   pub sound : Sound r c
   pub same : r .pickle ≡ p
 
-pub running-start : (ed : Edition) (r : Rooms) → Sound r start → Running ed (r .pickle) r start
+pub running-start : (ed : Edition) (r : Rooms) → Sound r startCounts → Running ed (r .pickle) r startCounts
 running-start ed r s = record { left = rw (start-of r) (sym (run-finish ed (r .pickle))); sound = s; same = refl }
 
 module _ (ed : Edition) (p : List ℕ) (r r′ : Rooms) (c : Counts) (h : Running ed p r c) (e : r′ .pickle ≡ r .pickle) where

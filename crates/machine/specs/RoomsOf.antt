@@ -10,7 +10,7 @@ use lib.Seq.{getD-take, getD-drop}
 use native.Mathlib.Decide.{ℕ-discrete}
 use native.Mathlib.Omega.{arith}
 use Rattle.refusal.specs.declared.Refusal.the-variants.{EndOfInput, UnsupportedOpcode, OutsideProfile}
-use Rattle.op.specs.Table.{numberOf, numberIn, isNamed, place, opcodeOf}
+use Rattle.op.specs.Table.{codeOf, numberIn, isNamed, place, opcodeOf}
 use Rattle.op.specs.Named.{named}
 use Rattle.op.specs.Edition.{against, highest}
 use Rattle.op.specs.declared.Edition.{Edition}
@@ -28,7 +28,7 @@ use Rattle.steps.specs.Run.{going, does, decide, admit, step}
 use Rattle.store.specs.Rooms.{Rooms, stateOf}
 use Rattle.steps.specs.NodeWords.{nodeIs, HoldsLinks, aList, aTuple, aDict}
 use Rattle.store.specs.RoomKeeps.{class-none}
-use Rattle.steps.specs.Pickletools.{decided}
+use Rattle.steps.specs.Pickletools.{decided-own}
 use Rattle.store.specs.Effects.{Sound, SomeRooms, Decides, Fits, enacted, refusing}
 use Rattle.decoder.specs.Reads.{cutTo, bytes-short, bytes-got}
 use Rattle.decoder.specs.ReadsMemo.{sound-read}
@@ -47,12 +47,12 @@ pub record Agrees (p n d s m k h : List ℕ) (r : Rooms) : Type 0 where
   pub held : r .held ≡ h
 
 -- a number that is no name's decides to none
-unknown : (b : ℕ) → ((o : Opcode) → b ≢ numberOf o) → opcodeOf b ≡ none
+unknown : (b : ℕ) → ((o : Opcode) → b ≢ codeOf o) → opcodeOf b ≡ none
 unknown b h = go (opcodeOf b) refl
   where
     go : (x : Option Opcode) → opcodeOf b ≡ x → x ≡ none
     go none e = refl
-    go (some o) e = absurd (h o (sym (decided b o e)))
+    go (some o) e = absurd (h o (sym (decided-own b o e)))
 
 module _ (p n d s m k h : List ℕ) (c : Counts) where
   abbrev pub Lists : Rooms → Type 0
@@ -103,14 +103,14 @@ module _ (p n d s m k h : List ℕ) (c : Counts) where
       -- nothing against it
       module _ (free : Nothing ≡ against ed code) where
         -- the opcode o
-        pub arm : (o : Opcode) (Q : Rooms → Type 0) (e : Effect) → code ≡ numberOf o → ((r : Rooms) → Lists r → Q r) → Decides c₁ Q (does (highest ed) o) e → Decides c Lists (step ed) e
+        pub arm : (o : Opcode) (Q : Rooms → Type 0) (e : Effect) → code ≡ codeOf o → ((r : Rooms) → Lists r → Q r) → Decides c₁ Q (does (highest ed) o) e → Decides c Lists (step ed) e
         unfolding Decides decide admit
         arm o Q e q f t r z a =
             let x = t r (next l r z a) (f r a) in
             record { enacts = x .enacts ∙ sym (read r z a ∙ rw (← free, q, named o)); fits = x .fits }
 
         -- no opcode
-        pub unsupported : ((o : Opcode) → code ≢ numberOf o) → Decides c Lists (step ed) (refusing c (UnsupportedOpcode code))
+        pub unsupported : ((o : Opcode) → code ≢ codeOf o) → Decides c Lists (step ed) (refusing c (UnsupportedOpcode code))
         unfolding Decides decide admit enacted Fits
         unsupported h r z a = record { enacts = sym (read r z a ∙ rw (← free, unknown code h)); fits = tt }
 
@@ -166,10 +166,10 @@ module _ (v : ℕ) (c : Counts) where
 
 module _ (p n d s m k h : List ℕ) (c : Counts) (ed : Edition) (l : c .at < length p) (free : Nothing ≡ against ed (getD p (c .at) 0)) where
   pub tuples : (e : Effect) → 133 ≤ getD p (c .at) 0 → getD p (c .at) 0 < 136 → Decides (c₁ p n d s m k h c) (λ r. Unit {0}) (λ t. going (tupleN (getD p (c .at) 0 - 0x84) t)) e → Decides c (Agrees p n d s m k h) (step ed) e
-  unfolding does numberOf numberIn isNamed place
+  unfolding does codeOf numberIn isNamed place
   tuples e a b t = go (getD p (c .at) 0) refl
     where
-      at : (o : Opcode) (i : ℕ) → getD p (c .at) 0 ≡ i → i ≡ numberOf o → Decides (c₁ p n d s m k h c) (λ r. Unit {0}) (does (highest ed) o) e → Decides c (Agrees p n d s m k h) (step ed) e
+      at : (o : Opcode) (i : ℕ) → getD p (c .at) 0 ≡ i → i ≡ codeOf o → Decides (c₁ p n d s m k h c) (λ r. Unit {0}) (does (highest ed) o) e → Decides c (Agrees p n d s m k h) (step ed) e
       at o i q z y = arm p n d s m k h c ed l free o (λ r. Unit {0}) e (q ∙ z) (λ r x. tt) y
 
       go : (i : ℕ) → getD p (c .at) 0 ≡ i → Decides c (Agrees p n d s m k h) (step ed) e
@@ -189,24 +189,24 @@ arms =
 -- none of them
 abbrev pub NoneOf : ℕ → Type 0 → List Opcode → Type 0
 NoneOf b A [] = A
-NoneOf b A (o ∷ t) = NoneOf b (A × (b ≡ numberOf o → ⊥)) t
+NoneOf b A (o ∷ t) = NoneOf b (A × (b ≡ codeOf o → ⊥)) t
 
-none-at : (b : ℕ) (A : Type 0) (l : List Opcode) → NoneOf b A l → A × ((i : ℕ) → i < length l → b ≢ numberOf (getD l i MARK))
+none-at : (b : ℕ) (A : Type 0) (l : List Opcode) → NoneOf b A l → A × ((i : ℕ) → i < length l → b ≢ codeOf (getD l i MARK))
 none-at b A [] x = (x, λ i h. absurd (omega arith))
 none-at b A (o ∷ t) x =
-    let y = none-at b (A × (b ≡ numberOf o → ⊥)) t x in
+    let y = none-at b (A × (b ≡ codeOf o → ⊥)) t x in
     (y .0 .0, λ i h. go i h (y .0 .1) (y .1))
   where
-    go : (i : ℕ) → i < suc (length t) → (b ≡ numberOf o → ⊥) → ((i : ℕ) → i < length t → b ≢ numberOf (getD t i MARK)) → b ≢ numberOf (getD (o ∷ t) i MARK)
+    go : (i : ℕ) → i < suc (length t) → (b ≡ codeOf o → ⊥) → ((i : ℕ) → i < length t → b ≢ codeOf (getD t i MARK)) → b ≢ codeOf (getD (o ∷ t) i MARK)
     go zero h f g = f
     go (suc i) h f g = g i (omega arith)
 
 module _ (b : ℕ) (x : NoneOf b (Unit {0}) arms) (out : (133 ≤ b) → (b < 136) → ⊥) where
-  nth : (i : ℕ) → i < 43 → b ≢ numberOf (getD arms i MARK)
+  nth : (i : ℕ) → i < 43 → b ≢ codeOf (getD arms i MARK)
   nth i h = none-at b (Unit {0}) arms x .1 i h
 
-  pub no-name : (o : Opcode) → b ≢ numberOf o
-  unfolding numberOf numberIn isNamed place
+  pub no-name : (o : Opcode) → b ≢ codeOf o
+  unfolding codeOf numberIn isNamed place
   no-name MARK = nth 0 (omega arith)
   no-name STOP = nth 1 (omega arith)
   no-name POP = nth 2 (omega arith)

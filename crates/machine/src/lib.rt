@@ -18,7 +18,7 @@ ghost use Rattle.steps.specs.Run.{step};
 ghost use Rattle.store.specs.Effects.{SomeRooms, Decides, Sound};
 ghost use Rattle.machine.specs.RoomsOf.{roomsOf, Agrees};
 ghost use Rattle.machine.specs.Applied.{Fitting, Applies};
-ghost use Rattle.machine.specs.Ran.{start, Stepped, Ran};
+ghost use Rattle.machine.specs.Ran.{startCounts, Stepped, Ran};
 
 // Has an effect. It reads no pickle: what it does is right for all pickles with which the effect fits.
 fn apply(
@@ -105,7 +105,7 @@ fn decide(
             op::BININT1 => decoder::unsigned(pickle, d, 1),
             op::LONG => decoder::long(pickle, d),
             op::BININT2 => decoder::unsigned(pickle, d, 2),
-            op::NONE => Effect::Push(d, value::NONE, 0),
+            op::NONE => Effect::Push(d, value::KIND_NONE, 0),
             op::REDUCE => decoder::reduce(pickle, nodes, children, stack, d),
             op::STRING => decoder::string(pickle, d),
             op::BINSTRING => decoder::binstring(pickle, d),
@@ -116,25 +116,25 @@ fn decide(
             op::BUILD => decoder::build_state(nodes, stack, d),
             op::GLOBAL => decoder::global(pickle, d),
             op::DICT => decoder::dict(marks, d),
-            op::EMPTY_DICT => Effect::Push(d, value::DICT, 0),
+            op::EMPTY_DICT => Effect::Push(d, value::KIND_DICT, 0),
             op::APPENDS => decoder::appends(nodes, stack, marks, d),
             op::GET => decoder::get_by(pickle, keys, held, d, KeyForm::Line),
             op::BINGET => decoder::get_by(pickle, keys, held, d, KeyForm::Byte),
             op::LONG_BINGET => decoder::get_by(pickle, keys, held, d, KeyForm::Word),
             op::LIST => decoder::list(marks, d),
-            op::EMPTY_LIST => Effect::Push(d, value::LIST, 0),
+            op::EMPTY_LIST => Effect::Push(d, value::KIND_LIST, 0),
             op::PUT => decoder::put_by(pickle, stack, d, KeyForm::Line),
             op::BINPUT => decoder::put_by(pickle, stack, d, KeyForm::Byte),
             op::LONG_BINPUT => decoder::put_by(pickle, stack, d, KeyForm::Word),
             op::SETITEM => decoder::setitem(nodes, stack, d),
             op::TUPLE => decoder::tuple(marks, d),
-            op::EMPTY_TUPLE => Effect::Push(d, value::TUPLE, 0),
+            op::EMPTY_TUPLE => Effect::Push(d, value::KIND_TUPLE, 0),
             op::SETITEMS => decoder::setitems(nodes, stack, marks, d),
             op::BINFLOAT => decoder::binfloat(pickle, d),
             op::PROTO => decoder::proto(pickle, d, op::highest(edition)),
             op::NEWOBJ => decoder::newobj(nodes, stack, d),
-            op::NEWTRUE => Effect::Push(d, value::BOOL, 1),
-            op::NEWFALSE => Effect::Push(d, value::BOOL, 0),
+            op::NEWTRUE => Effect::Push(d, value::KIND_BOOL, 1),
+            op::NEWFALSE => Effect::Push(d, value::KIND_BOOL, 0),
             op::LONG1 => decoder::long_n(d, decoder::long_at(pickle, d.at, 1)),
             op::LONG4 => decoder::long_n(d, decoder::long_at(pickle, d.at, 4)),
             0x85..=0x87 => decoder::small_tuple(d, code),
@@ -208,7 +208,7 @@ pub fn run(
     held: &mut [u16],
 ) -> Outcome
     requires { ⌜ Sound (roomsOf (now pickle)
-        (now nodes) (now owners) (now children) (now stack) (now marks) (now keys) (now held)) start ⌝ }
+        (now nodes) (now owners) (now children) (now stack) (now marks) (now keys) (now held)) startCounts ⌝ }
     ensures { λ o.
         ⌜ Ran edition o (now (pickle .entry))
         (roomsOf (now (pickle .entry)) (now (nodes .exit)) (now (owners .exit)) (now (children .exit)) (now (stack .exit))

@@ -13,7 +13,7 @@ use lib.Seq.{take-suc, take-all, drop-drop, getD-drop, take-take, drop-at, lengt
 use Rattle.utf8.specs.Utf8.{encode, trail}
 use Rattle.input.specs.Bytes.{lt-or-le}
 use Rattle.number.specs.Space.{whiteSpace, spaces, same, oneOf, space, width, strip}
-use Rattle.number.specs.Trims.{both, no-space, width-le, strip-more, strip-stop}
+use Rattle.number.specs.Trims.{and-parts, no-space, width-le, strip-more, strip-stop}
 
 -- a test at each number below n
 abbrev all : (ℕ → Bool) → ℕ → Bool
@@ -23,7 +23,7 @@ all p (suc n) = p n && all p n
 below : (p : ℕ → Bool) (n : ℕ) → T (all p n) → (k : ℕ) → k < n → T (p k)
 below p zero t k h = absurd (not-suc-le-zero h)
 below p (suc n) t k h =
-    let u : T (p n) × T (all p n) = both (p n) (all p n) t in
+    let u : T (p n) × T (all p n) = and-parts (p n) (all p n) t in
     ⊎-elim (λ e. rw e (u .0)) (λ l. below p n (u .1) k l) (eq-or-lt-of-le {n = k} {m = n} (omega arith))
 
 beq-eq : (x y : Bool) → T (Bool·beq x y) → x ≡ y

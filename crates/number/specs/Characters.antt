@@ -8,10 +8,10 @@ use native.Mathlib.Omega.{arith}
 use lib.Dec.{T, leb, leb→le}
 use lib.ListN.{length, take, drop, take-append-drop, length-reverse}
 use lib.Seq.{drop-at, length-take-le}
-use Rattle.utf8.specs.Utf8.{Row, table37, within, whole, some, wellFormed, piece, pieces, every, valid, encode, trail}
+use Rattle.utf8.specs.Utf8.{ByteRow, table37, inColumn, wholeRow, some, wellFormed, piece, pieces, every, valid, encode, trail}
 use Rattle.utf8.specs.Laws.{piece-whole, flatten-pieces, flatten-append}
 use Rattle.number.specs.Space.{whiteSpace, spaces, space, width, strip, trimStart, trimEnd, trimmed}
-use Rattle.number.specs.Trims.{both, no-space, space-all, space-sized, width-le, width-space, width-finds, strip-more, strip-stop}
+use Rattle.number.specs.Trims.{and-parts, no-space, space-all, space-sized, width-le, width-space, width-finds, strip-more, strip-stop}
 
 -- the characters without those of White_Space at the start
 unfoldable pub dropSpaces : List (List ℕ) → List (List ℕ)
@@ -32,22 +32,22 @@ Trails [] = Unit
 Trails (b ∷ s) = Trail b × Trails s
 
 -- the shape of a sequence: such bytes after one that is none
-abbrev Shaped : List ℕ → Type 0
-Shaped [] = ⊥
-Shaped (b ∷ s) = (Trail b → ⊥) × Trails s
+abbrev SequenceShape : List ℕ → Type 0
+SequenceShape [] = ⊥
+SequenceShape (b ∷ s) = (Trail b → ⊥) × Trails s
 
 -- the columns of a row of Table 3-7 have only such bytes
-abbrev trailColumns : Row → Bool
+abbrev trailColumns : ByteRow → Bool
 trailColumns [] = true
 trailColumns (e ∷ r) = (leb 0x80 (e .0) && leb (e .1) 0xBF) && trailColumns r
 
 -- the row has the shape of a sequence
-abbrev shapedRow : Row → Bool
+abbrev shapedRow : ByteRow → Bool
 shapedRow [] = false
 shapedRow (e ∷ r) = (leb (e .1) 0x7F || leb 0xC0 (e .0)) && trailColumns r
 
 -- every row has
-abbrev shapedRows : List Row → Bool
+abbrev shapedRows : List ByteRow → Bool
 shapedRows [] = true
 shapedRows (r ∷ t) = shapedRow r && shapedRows t
 
@@ -56,17 +56,17 @@ so true h = tt
 so false h = absurd (false≢true h)
 
 range : (a b c : ℕ) → T (leb a b && leb b c) → (a ≤ b) × (b ≤ c)
-range a b c t = let p = both (leb a b) (leb b c) t in (leb→le a b (p .0), leb→le b c (p .1))
+range a b c t = let p = and-parts (leb a b) (leb b c) t in (leb→le a b (p .0), leb→le b c (p .1))
 
-whole-trails : (r : Row) (s : List ℕ) → T (trailColumns r) → T (whole r s) → Trails s
-unfolding whole within
+whole-trails : (r : ByteRow) (s : List ℕ) → T (trailColumns r) → T (wholeRow r s) → Trails s
+unfolding wholeRow inColumn
 whole-trails [] [] c h = tt
 whole-trails [] (b ∷ s) c h = absurd h
 whole-trails (e ∷ r) [] c h = tt
 whole-trails (e ∷ r) (b ∷ s) c h =
-    let k = both (leb 0x80 (e .0) && leb (e .1) 0xBF) (trailColumns r) c in
-    let m = both (leb 0x80 (e .0)) (leb (e .1) 0xBF) (k .0) in
-    let w = both (leb (e .0) b && leb b (e .1)) (whole r s) h in
+    let k = and-parts (leb 0x80 (e .0) && leb (e .1) 0xBF) (trailColumns r) c in
+    let m = and-parts (leb 0x80 (e .0)) (leb (e .1) 0xBF) (k .0) in
+    let w = and-parts (leb (e .0) b && leb b (e .1)) (wholeRow r s) h in
     let i = range (e .0) b (e .1) (w .0) in
     ((omega (arith, leb→le 0x80 (e .0) (m .0)), omega (arith, leb→le (e .1) 0xBF (m .1))), whole-trails r s (k .1) (w .1))
 
@@ -74,49 +74,49 @@ lead : (x y : Bool) (b : ℕ) → (T x → b ≤ 0x7F) → (T y → 0xC0 ≤ b) 
 lead true y b f g t k = omega (arith, f tt)
 lead false y b f g t k = omega (arith, g t)
 
-whole-shaped : (r : Row) (s : List ℕ) → T (shapedRow r) → T (whole r s) → Shaped s
-unfolding whole within
+whole-shaped : (r : ByteRow) (s : List ℕ) → T (shapedRow r) → T (wholeRow r s) → SequenceShape s
+unfolding wholeRow inColumn
 whole-shaped [] s c h = absurd c
 whole-shaped (e ∷ r) [] c h = h
 whole-shaped (e ∷ r) (b ∷ s) c h =
-    let k = both (leb (e .1) 0x7F || leb 0xC0 (e .0)) (trailColumns r) c in
-    let w = both (leb (e .0) b && leb b (e .1)) (whole r s) h in
+    let k = and-parts (leb (e .1) 0x7F || leb 0xC0 (e .0)) (trailColumns r) c in
+    let w = and-parts (leb (e .0) b && leb b (e .1)) (wholeRow r s) h in
     let i = range (e .0) b (e .1) (w .0) in (
       lead (leb (e .1) 0x7F) (leb 0xC0 (e .0)) b (λ t. omega (arith, leb→le (e .1) 0x7F t)) (λ t. omega (arith, leb→le 0xC0 (e .0) t)) (k .0),
       whole-trails r s (k .1) (w .1),
     )
 
-some-shaped : (t : List Row) (s : List ℕ) → T (shapedRows t) → T (some (λ r. whole r s) t) → Shaped s
+some-shaped : (t : List ByteRow) (s : List ℕ) → T (shapedRows t) → T (some (λ r. wholeRow r s) t) → SequenceShape s
 unfolding some
 some-shaped [] s c h = absurd h
-some-shaped (r ∷ t) s c h = go (whole r s) (whole-shaped r s (k .0)) (some-shaped t s (k .1)) h
+some-shaped (r ∷ t) s c h = go (wholeRow r s) (whole-shaped r s (k .0)) (some-shaped t s (k .1)) h
   where
     k : T (shapedRow r) × T (shapedRows t)
-    k = both (shapedRow r) (shapedRows t) c
+    k = and-parts (shapedRow r) (shapedRows t) c
 
-    go : (x : Bool) → (T x → Shaped s) → (T (some (λ r. whole r s) t) → Shaped s) → T (x || some (λ r. whole r s) t) → Shaped s
+    go : (x : Bool) → (T x → SequenceShape s) → (T (some (λ r. wholeRow r s) t) → SequenceShape s) → T (x || some (λ r. wholeRow r s) t) → SequenceShape s
     go true f g q = f tt
     go false f g q = g q
 
-well-formed-shaped : (s : List ℕ) → wellFormed s ≡ true → Shaped s
+well-formed-shaped : (s : List ℕ) → wellFormed s ≡ true → SequenceShape s
 unfolding wellFormed
-well-formed-shaped s h = some-shaped table37 s tt (so (some (λ r. whole r s) table37) h)
+well-formed-shaped s h = some-shaped table37 s tt (so (some (λ r. wholeRow r s) table37) h)
 
 -- no sequence begins inside another
-no-lead : (r f : List ℕ) → Trails (r ++ f) → Shaped f → ⊥
+no-lead : (r f : List ℕ) → Trails (r ++ f) → SequenceShape f → ⊥
 no-lead [] [] t k = k
 no-lead [] (b ∷ f) t k = k .0 (t .0)
 no-lead (x ∷ r) f t k = no-lead r f (t .1) k
 
 -- so two sequences that end the same bytes are the same
-suffix-one : (q p r f : List ℕ) → Shaped p → Shaped f → q ++ p ≡ r ++ f → p ≡ f
+suffix-one : (q p r f : List ℕ) → SequenceShape p → SequenceShape f → q ++ p ≡ r ++ f → p ≡ f
 suffix-one [] p [] f a b e = e
-suffix-one [] p (y ∷ r) f a b e = absurd (no-lead r f (subst Shaped e a .1) b)
-suffix-one (x ∷ q) p [] f a b e = absurd (no-lead q p (subst Shaped (sym e) b .1) a)
+suffix-one [] p (y ∷ r) f a b e = absurd (no-lead r f (subst SequenceShape e a .1) b)
+suffix-one (x ∷ q) p [] f a b e = absurd (no-lead q p (subst SequenceShape (sym e) b .1) a)
 suffix-one (x ∷ q) p (y ∷ r) f a b e = let i : q ++ p ≡ r ++ f = cc in suffix-one q p r f a b i
 
 space-well-formed : (f : List ℕ) → space f ≡ true → wellFormed f ≡ true
-unfolding spaces whiteSpace encode trail wellFormed some whole within
+unfolding spaces whiteSpace encode trail wellFormed some wholeRow inColumn
 space-well-formed f h = is (wellFormed f) (space-all wellFormed tt f h)
   where
     is : (x : Bool) → T x → x ≡ true
@@ -124,33 +124,33 @@ space-well-formed f h = is (wellFormed f) (space-all wellFormed tt f h)
     is false t = absurd t
 
 -- characters, each well formed
-abbrev All : List (List ℕ) → Type 0
-All [] = Unit
-All (p ∷ ps) = (wellFormed p ≡ true) × All ps
+abbrev AllWellFormed : List (List ℕ) → Type 0
+AllWellFormed [] = Unit
+AllWellFormed (p ∷ ps) = (wellFormed p ≡ true) × AllWellFormed ps
 
-every-all : (ps : List (List ℕ)) → every ps ≡ true → All ps
+every-all : (ps : List (List ℕ)) → every ps ≡ true → AllWellFormed ps
 unfolding every
 every-all [] h = tt
 every-all (p ∷ ps) h = go (wellFormed p) refl h (every-all ps)
   where
-    go : (x : Bool) → wellFormed p ≡ x → (x && every ps) ≡ true → (every ps ≡ true → All ps) → All (p ∷ ps)
+    go : (x : Bool) → wellFormed p ≡ x → (x && every ps) ≡ true → (every ps ≡ true → AllWellFormed ps) → AllWellFormed (p ∷ ps)
     go true e q i = (e, i q)
     go false e q i = absurd (false≢true q)
 
-all-append : (ps qs : List (List ℕ)) → All ps → All qs → All (ps ++ qs)
+all-append : (ps qs : List (List ℕ)) → AllWellFormed ps → AllWellFormed qs → AllWellFormed (ps ++ qs)
 all-append [] qs a b = b
 all-append (p ∷ ps) qs a b = (a .0, all-append ps qs (a .1) b)
 
-all-reverse : (ps : List (List ℕ)) → All ps → All (reverse ps)
+all-reverse : (ps : List (List ℕ)) → AllWellFormed ps → AllWellFormed (reverse ps)
 all-reverse [] a = tt
 all-reverse (p ∷ ps) a = rw (reverse-cons p ps) (all-append (reverse ps) (p ∷ []) (all-reverse ps (a .1)) (a .0, tt))
 
-all-drop : (ps : List (List ℕ)) → All ps → All (dropSpaces ps)
+all-drop : (ps : List (List ℕ)) → AllWellFormed ps → AllWellFormed (dropSpaces ps)
 unfolding dropSpaces
 all-drop [] a = tt
 all-drop (p ∷ ps) a = go (space p) (all-drop ps (a .1))
   where
-    go : (x : Bool) → All (dropSpaces ps) → All (cond x (dropSpaces ps) (p ∷ ps))
+    go : (x : Bool) → AllWellFormed (dropSpaces ps) → AllWellFormed (cond x (dropSpaces ps) (p ∷ ps))
     go true i = i
     go false i = a
 
@@ -181,7 +181,7 @@ module _
           let t : space (read p) ≡ true = ap (λ f. space (read f)) q ∙ h in
           e ∙ rw (t, n) refl
 
-  strip-characters : (ps : List (List ℕ)) → All ps → strip read 0 (flatten (map read ps)) ≡ flatten (map read (dropSpaces ps))
+  strip-characters : (ps : List (List ℕ)) → AllWellFormed ps → strip read 0 (flatten (map read ps)) ≡ flatten (map read (dropSpaces ps))
   unfolding strip flatten dropSpaces
   strip-characters [] a = refl
   strip-characters (p ∷ ps) a = go (space p) refl (strip-characters ps (a .1))
@@ -217,13 +217,13 @@ reversed-one p f x y a b e =
     (sym (reverse-append p x) ∙ ap reverse e ∙ reverse-append f y) in
     sym (reverse-reverse p) ∙ ap reverse i ∙ reverse-reverse f
 
-start-characters : (ps : List (List ℕ)) → All ps → trimStart (flatten ps) ≡ flatten (dropSpaces ps)
+start-characters : (ps : List (List ℕ)) → AllWellFormed ps → trimStart (flatten ps) ≡ flatten (dropSpaces ps)
 unfolding trimStart
 start-characters ps a =
     ap (λ l. strip (λ p. p) 0 (flatten l)) (sym (map-id ps))
     ∙ strip-characters (λ p. p) (λ p. refl) (λ p. refl) prefix-one no-space ps a ∙ ap flatten (map-id (dropSpaces ps))
 
-end-characters : (ps : List (List ℕ)) → All ps → trimEnd (flatten ps) ≡ flatten (reverse (dropSpaces (reverse ps)))
+end-characters : (ps : List (List ℕ)) → AllWellFormed ps → trimEnd (flatten ps) ≡ flatten (reverse (dropSpaces (reverse ps)))
 unfolding trimEnd
 end-characters ps a =
     let q = dropSpaces (reverse ps) in

@@ -46,26 +46,26 @@ same-is (a ∷ s) (b ∷ t) h = go (eqb a b) refl h (same-is s t)
     go true e k i = let p : a ≡ b = eqb-true a b e in let q : s ≡ t = i k in cc
     go false e k i = cc
 
-pub both : (x y : Bool) → T (x && y) → T x × T y
-both true y p = (tt, p)
-both false y p = absurd p
+pub and-parts : (x y : Bool) → T (x && y) → T x × T y
+and-parts true y p = (tt, p)
+and-parts false y p = absurd p
 
 -- a test that each of the listed passes
-abbrev pub all : (List ℕ → Bool) → List (List ℕ) → Bool
-all p [] = true
-all p (f ∷ t) = p f && all p t
+abbrev pub allPass : (List ℕ → Bool) → List (List ℕ) → Bool
+allPass p [] = true
+allPass p (f ∷ t) = p f && allPass p t
 
-one-all : (p : List ℕ → Bool) (t : List (List ℕ)) (s : List ℕ) → T (all p t) → oneOf t s ≡ true → T (p s)
+one-all : (p : List ℕ → Bool) (t : List (List ℕ)) (s : List ℕ) → T (allPass p t) → oneOf t s ≡ true → T (p s)
 unfolding oneOf
 one-all p [] s k h = absurd (false≢true h)
-one-all p (f ∷ t) s k h = go (same s f) refl h (one-all p t s (both (p f) (all p t) k .1))
+one-all p (f ∷ t) s k h = go (same s f) refl h (one-all p t s (and-parts (p f) (allPass p t) k .1))
   where
     go : (x : Bool) → same s f ≡ x → (x || oneOf t s) ≡ true → (oneOf t s ≡ true → T (p s)) → T (p s)
-    go true e q i = rw (same-is s f e) (both (p f) (all p t) k .0)
+    go true e q i = rw (same-is s f e) (and-parts (p f) (allPass p t) k .0)
     go false e q i = i q
 
 -- what a test of the 25 forms says of each
-pub space-all : (p : List ℕ → Bool) → T (all p spaces) → (s : List ℕ) → space s ≡ true → T (p s)
+pub space-all : (p : List ℕ → Bool) → T (allPass p spaces) → (s : List ℕ) → space s ≡ true → T (p s)
 unfolding space
 space-all p k s h = one-all p spaces s k h
 
@@ -73,7 +73,7 @@ space-all p k s h = one-all p spaces s k h
 pub space-sized : (s : List ℕ) → space s ≡ true → (1 ≤ length s) × (length s ≤ 3)
 unfolding spaces whiteSpace encode trail
 space-sized s h =
-    let k = both (leb 1 (length s)) (leb (length s) 3) (space-all (λ f. leb 1 (length f) && leb (length f) 3) tt s h) in
+    let k = and-parts (leb 1 (length s)) (leb (length s) 3) (space-all (λ f. leb 1 (length f) && leb (length f) 3) tt s h) in
     (leb→le 1 (length s) (k .0), leb→le (length s) 3 (k .1))
 
 module _ (read : List ℕ → List ℕ) where

@@ -5,7 +5,7 @@ use mathlib.Core.Bool.{Bool, false, cond, _||_}
 use mathlib.Core.List.{List, [], _∷_}
 use mathlib.Core.Path.{_≡_, refl}
 use lib.Dec.{eqb}
-use Rattle.op.specs.Table.{numberOf, numberIn, isNamed, place}
+use Rattle.op.specs.Table.{codeOf, numberIn, isNamed, place}
 use Rattle.op.specs.declared.Opcode.{Opcode}
 use Rattle.op.specs.declared.Opcode.the-variants.{REDUCE, BUILD, GLOBAL, GET, PUT, NEWOBJ}
 use Rattle.op.specs.declared.Edition.{Edition}
@@ -30,7 +30,7 @@ highest Plain = 2
 -- a byte is the number of one of these
 unfoldable pub isOneOf : List Opcode → ℕ → Bool
 isOneOf [] b = false
-isOneOf (o ∷ t) b = eqb b (numberOf o) || isOneOf t b
+isOneOf (o ∷ t) b = eqb b (codeOf o) || isOneOf t b
 
 -- what the edition has against an opcode's byte
 unfoldable pub against : Edition → ℕ → Objection
@@ -38,7 +38,7 @@ against e b = cond (isOneOf (outside e) b) Outside (cond (isOneOf (unknown e) b)
 
 -- opens what examples compute with
 unfoldable pub evaluates : Unit {0}
-unfolding against outside unknown highest isOneOf numberOf numberIn isNamed place
+unfolding against outside unknown highest isOneOf codeOf numberIn isNamed place
 evaluates = tt
 
 -- `c` is GLOBAL, `g` GET, `h` BINGET, `q` BINPUT; 0x82, EXT1, is no opcode, and so no edition's affair

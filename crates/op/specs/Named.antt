@@ -1,12 +1,12 @@
 -- A name's own number decides to it.
 use mathlib.Core.Option.{some}
 use mathlib.Core.Path.{_≡_, refl}
-use Rattle.op.specs.Table.{numberOf, numberIn, isNamed, place, opcodeOf, knownName, rowOf, rowIn}
+use Rattle.op.specs.Table.{codeOf, numberIn, isNamed, place, opcodeOf, knownName, rowOf, rowIn}
 use Rattle.op.specs.declared.Opcode.{Opcode}
 use Rattle.op.specs.declared.Opcode.the-variants.{MARK, STOP, POP, «POP_MARK», DUP, FLOAT, INT, BININT, BININT1, LONG, BININT2, NONE, REDUCE, STRING, BINSTRING, «SHORT_BINSTRING», UNICODE, BINUNICODE, APPEND, BUILD, GLOBAL, DICT, «EMPTY_DICT», APPENDS, GET, BINGET, «LONG_BINGET», LIST, «EMPTY_LIST», PUT, BINPUT, «LONG_BINPUT», SETITEM, TUPLE, «EMPTY_TUPLE», SETITEMS, BINFLOAT, PROTO, NEWOBJ, TUPLE1, TUPLE2, TUPLE3, NEWTRUE, NEWFALSE, LONG1, LONG4}
 
-pub named : (o : Opcode) → opcodeOf (numberOf o) ≡ some o
-unfolding opcodeOf knownName rowOf rowIn numberOf numberIn isNamed place
+pub named : (o : Opcode) → opcodeOf (codeOf o) ≡ some o
+unfolding opcodeOf knownName rowOf rowIn codeOf numberIn isNamed place
 named MARK = refl
 named STOP = refl
 named POP = refl

@@ -38,8 +38,8 @@ pub record Row : Type 0 where
 abbrev row : Name → ℕ → ℕ → Form → Stack → Stack → Row
 row n c p f t l = record { name = n; number = c; proto = p; form = f; takes = t; leaves = l }
 
-abbrev pub table : List Row
-table =
+abbrev pub opcodeTable : List Row
+opcodeTable =
     row (known INT) 0x49 0 «decimalnl_short» (values 0) (values 1)
     ∷ row (known BININT) 0x4A 1 int4 (values 0) (values 1)
     ∷ row (known BININT1) 0x4B 1 uint1 (values 0) (values 1)
@@ -153,8 +153,8 @@ unfoldable pub numberIn : List Row → Opcode → ℕ
 numberIn [] o = 0
 numberIn (r ∷ t) o = cond (isNamed o (r .name)) (r .number) (numberIn t o)
 
-unfoldable pub numberOf : Opcode → ℕ
-numberOf o = numberIn table o
+unfoldable pub codeOf : Opcode → ℕ
+codeOf o = numberIn opcodeTable o
 
 -- the row of a number
 unfoldable pub rowIn : List Row → ℕ → Option Row
@@ -162,7 +162,7 @@ rowIn [] n = none
 rowIn (r ∷ t) n = cond (eqb n (r .number)) (some r) (rowIn t n)
 
 unfoldable pub rowOf : ℕ → Option Row
-rowOf n = rowIn table n
+rowOf n = rowIn opcodeTable n
 
 -- ---- no number stands twice
 
@@ -174,7 +174,7 @@ unfoldable pub different : List Row → Bool
 different [] = true
 different (r ∷ t) = not (standsIn t (r .number)) && different t
 
-pub no-number-twice : T (different table)
+pub no-number-twice : T (different opcodeTable)
 unfolding different standsIn
 no-number-twice = tt
 
@@ -196,13 +196,13 @@ agrees (some p) (known o) = eqb (place p) (place o)
 agrees (some p) (refused x) = false
 
 unfoldable pub numbered : Name → ℕ → Bool
-numbered (known o) n = eqb (numberOf o) n
+numbered (known o) n = eqb (codeOf o) n
 numbered (refused x) n = true
 
 unfoldable pub decides : List Row → Bool
 decides [] = true
 decides (r ∷ t) = agrees (opcodeOf (r .number)) (r .name) && (numbered (r .name) (r .number) && decides t)
 
-pub each-row-decides : T (decides table)
-unfolding decides agrees numbered opcodeOf knownName rowOf rowIn numberOf numberIn isNamed place
+pub each-row-decides : T (decides opcodeTable)
+unfolding decides agrees numbered opcodeOf knownName rowOf rowIn codeOf numberIn isNamed place
 each-row-decides = tt

@@ -1,7 +1,7 @@
 // The opcodes of protocols 0 to 2 (mod.rs's `op`), under the Rust's names and in its order. The `pickle!` macro is left out.
 // specs/ has their table from pickletools, the decision over an opcode byte by it, and the editions of the reader.
 ghost use mathlib.Core.Path.{_≡_};
-ghost use Rattle.op.specs.Table.{numberOf};
+ghost use Rattle.op.specs.Table.{codeOf};
 ghost use Rattle.op.specs.Edition.{against, highest};
 
 pub const MARK: u8 = b'(';
@@ -148,7 +148,7 @@ pub enum Opcode {
 
 // The number of a name: that of its row in the table, so that no constant above can stray from it.
 pub fn number(name: Opcode) -> u8
-    ensures { λ r. ⌜ r ≡ numberOf name ⌝ }
+    ensures { λ r. ⌜ r ≡ codeOf name ⌝ }
 {
     match name {
         Opcode::MARK => MARK,

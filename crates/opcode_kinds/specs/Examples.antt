@@ -24,17 +24,17 @@ use Rattle.steps.specs.Run.{start, run}
 
 -- opens what the examples compute with
 unfoldable evaluates : Unit {0}
-unfolding Table.rowIn Table.rowOf Table.knownName Table.opcodeOf edition-evaluates utf8-evaluates lowFirst lastByte Line.firstFrom Line.newlineOf Line.lessCr Line.lineOf long-evaluates same intLiteral _>>=_ State.need State.leaf State.bytes State.byte State.line State.pop State.top State.pushId State.pushNode State.push State.find State.has State.insert State.put Opcodes.proto Opcodes.intLabel Opcodes.int Opcodes.lowBytes Opcodes.longN Opcodes.global Opcodes.putBytes Opcodes.reduced Opcodes.called Opcodes.reduce Opcodes.newobj Opcodes.buildState Run.going Run.does Run.decide Run.admit Run.step Run.runs Run.start Run.run
+unfolding Table.rowIn Table.rowOf Table.knownName Table.opcodeOf edition-evaluates utf8-evaluates lowFirst lastByte Line.firstFrom Line.newlineOf Line.lessCr Line.lineOf long-evaluates same intLiteral _>>=_ State.need State.leaf State.bytes State.byte State.line State.pop State.top State.pushId State.pushNode State.push State.memoFind State.memoHas State.memoInsert State.put Opcodes.proto Opcodes.intLabel Opcodes.int Opcodes.lowBytes Opcodes.longN Opcodes.global Opcodes.putBytes Opcodes.reduced Opcodes.called Opcodes.reduce Opcodes.newobj Opcodes.buildState Run.going Run.does Run.decide Run.admit Run.step Run.runs Run.start Run.run
 evaluates = tt
 
 -- what is on top at STOP
-unfoldable pub left : Res State → Res Label
-left (ok s) = ok (nodeAt s (last (s .stack)) .label)
-left (no why) = no why
+unfoldable pub topAtStop : Res State → Res Label
+topAtStop (ok s) = ok (nodeAt s (last (s .stack)) .label)
+topAtStop (no why) = no why
 
 -- INT: 00 and 01 are Bool; a `long` is an I64
-pub numbers : (left (run Full (0x49 ∷ 0x30 ∷ 0x31 ∷ 0x0A ∷ 0x2E ∷ [])) ≡ ok (BoolL true)) × (left (run Full (0x8A ∷ 0x01 ∷ 0x05 ∷ 0x2E ∷ [])) ≡ ok (I64L 5))
-unfolding evaluates left
+pub numbers : (topAtStop (run Full (0x49 ∷ 0x30 ∷ 0x31 ∷ 0x0A ∷ 0x2E ∷ [])) ≡ ok (BoolL true)) × (topAtStop (run Full (0x8A ∷ 0x01 ∷ 0x05 ∷ 0x2E ∷ [])) ≡ ok (I64L 5))
+unfolding evaluates topAtStop
 numbers = (refl, refl)
 
 -- a class by name, `)`, and an opcode
@@ -43,12 +43,12 @@ call m n b = (0x63 ∷ []) ++ m ++ (0x0A ∷ []) ++ n ++ (0x0A ∷ 0x29 ∷ b �
 
 -- REDUCE makes a Set, a FrozenSet or an Object; NEWOBJ an Object, also of `set`; GLOBAL a Global
 pub called-classes :
-    (left (run Full (call builtin setName 0x52)) ≡ ok SetL)
-    × (left (run Full (call builtin frozensetName 0x52)) ≡ ok FrozenSetL)
-    × (left (run Full (call (0x61 ∷ []) (0x62 ∷ []) 0x52)) ≡ ok (ObjectL (0x61 ∷ []) (0x62 ∷ []) false))
-    × (left (run Full (call builtin setName 0x81)) ≡ ok (ObjectL builtin setName true))
-    × (left (run Full (0x63 ∷ 0x61 ∷ 0x0A ∷ 0x62 ∷ 0x0A ∷ 0x2E ∷ [])) ≡ ok (GlobalL (0x61 ∷ []) (0x62 ∷ [])))
-unfolding evaluates left
+    (topAtStop (run Full (call builtin setName 0x52)) ≡ ok SetL)
+    × (topAtStop (run Full (call builtin frozensetName 0x52)) ≡ ok FrozenSetL)
+    × (topAtStop (run Full (call (0x61 ∷ []) (0x62 ∷ []) 0x52)) ≡ ok (ObjectL (0x61 ∷ []) (0x62 ∷ []) false))
+    × (topAtStop (run Full (call builtin setName 0x81)) ≡ ok (ObjectL builtin setName true))
+    × (topAtStop (run Full (0x63 ∷ 0x61 ∷ 0x0A ∷ 0x62 ∷ 0x0A ∷ 0x2E ∷ [])) ≡ ok (GlobalL (0x61 ∷ []) (0x62 ∷ [])))
+unfolding evaluates topAtStop
 called-classes = (refl, refl, refl, refl, refl)
 
 -- REDUCE and NEWOBJ refuse another class than a Global, and other arguments than a Tuple; BUILD what is no Object
@@ -68,8 +68,8 @@ by-themselves = (refl, refl)
 
 -- NEWTRUE, of protocol 2: without PROTO, and after PROTO 0; PROTO 3 is refused
 pub true-of-two :
-    (left (run Full (0x88 ∷ 0x2E ∷ [])) ≡ ok (BoolL true))
-    × (left (run Full (0x80 ∷ 0x00 ∷ 0x88 ∷ 0x2E ∷ [])) ≡ ok (BoolL true))
+    (topAtStop (run Full (0x88 ∷ 0x2E ∷ [])) ≡ ok (BoolL true))
+    × (topAtStop (run Full (0x80 ∷ 0x00 ∷ 0x88 ∷ 0x2E ∷ [])) ≡ ok (BoolL true))
     × (run Full (0x80 ∷ 0x03 ∷ 0x88 ∷ 0x2E ∷ []) ≡ no (UnsupportedProtocol 3))
-unfolding evaluates left
+unfolding evaluates topAtStop
 true-of-two = (refl, refl, refl)

@@ -11,7 +11,7 @@ use lib.Dec.{T, leb, leb→le, ltb→lt}
 use native.Mathlib.Omega.{arith}
 use borrow.Author.Tests.{eqb-true}
 use Rattle.refusal.specs.declared.Refusal.{Refusal}
-use Rattle.op.specs.Table.{known, Form, uint1, uint4, values, place, isNamed, numberOf, opcodeOf}
+use Rattle.op.specs.Table.{known, Form, uint1, uint4, values, place, isNamed, codeOf, opcodeOf}
 use Rattle.op.specs.Edition.{against, highest}
 use Rattle.op.specs.declared.Opcode.{Opcode}
 use Rattle.op.specs.declared.Opcode.the-variants.{MARK, STOP, POP, «POP_MARK», DUP, FLOAT, INT, BININT, BININT1, LONG, BININT2, NONE, REDUCE, STRING, BINSTRING, «SHORT_BINSTRING», UNICODE, BINUNICODE, APPEND, BUILD, GLOBAL, DICT, «EMPTY_DICT», APPENDS, GET, BINGET, «LONG_BINGET», LIST, «EMPTY_LIST», PUT, BINPUT, «LONG_BINPUT», SETITEM, TUPLE, «EMPTY_TUPLE», SETITEMS, BINFLOAT, PROTO, NEWOBJ, TUPLE1, TUPLE2, TUPLE3, NEWTRUE, NEWFALSE, LONG1, LONG4}
@@ -21,32 +21,32 @@ use Rattle.number.specs.Space.{same}
 use Rattle.value.specs.Value.{Label, NoneL, BoolL, I64L, F64L, BytesL, StringL, ListL, TupleL, SetL, FrozenSetL, DictL, GlobalL, ObjectL}
 use Rattle.value.specs.Shape.{and-l, and-r}
 use Rattle.steps.specs.State.{Node, State, Res, ok, no, _>>=_, kidless, withInput, withStack, withMarks, last, butLast, pop, top, popMark, popMany, pushId, pushNode, push, link, nodeAt, extend, get, put}
-use Rattle.steps.specs.Opcodes.{classOf, proto, mark, popOne, popToMark, dup, intLabel, int, binint, binint1, binint2, long, longN, float, binfloat, string, binstring, shortBinstring, unicode, binunicode, global, made, list, tuple, tupleN, dict, added, append, appends, setitem, setitems, getLine, getBytes, putLine, putBytes, builtin, setName, frozensetName, object, setOf, reduced, called, reduce, newobj, buildState}
+use Rattle.steps.specs.Opcodes.{classOf, proto, mark, popOne, popToMark, dup, intLabel, int, binint, binint1, binint2, long, longN, float, binfloat, string, binstring, shortBinstring, unicode, binunicode, global, made, list, tuple, tupleN, dict, addItems, append, appends, setitem, setitems, getLine, getBytes, putLine, putBytes, builtin, setName, frozensetName, object, setOf, reduced, called, reduce, newobj, buildState}
 use Rattle.steps.specs.Run.{Next, stops, going, does, decide, step}
 use Rattle.steps.specs.Out.{Out, out, weaken, both-out, bind, bind-any, bind-need, join-need}
 use Rattle.steps.specs.Effect.{labelled, values-count}
-use Rattle.steps.specs.Arguments.{taken, byte-read, Claim, putLine-claim, putBytes-claim}
-use Rattle.steps.specs.Pickletools.{decided, byte-leads, admit-out}
-use Rattle.steps.specs.Keeps.{after}
+use Rattle.steps.specs.Arguments.{argumentLength, byte-read, Claim, putLine-claim, putBytes-claim}
+use Rattle.steps.specs.Pickletools.{decided-own, byte-leads, admit-out}
+use Rattle.steps.specs.Keeps.{stateAfter}
 use Rattle.opcode_kinds.specs.StackWords.{Word, any, None, bool as aBool, int as anInt, «int_or_bool», float as aFloat, «bytes_or_str», str, list as aList, tuple as aTuple, dict as aDict, aGlobal, anObject, setOrObject, allows, Kinds, topmost, belowMark, markOnly, KindRow, pickletools, exceptions, kindsIn, kindsOf, isAny, allAny, says, saysRow, sayMore, exceptions-say-more}
 
 -- ---- values by their words
 
 -- the values from place k of the stack on
-unfoldable pub Each : List Word → ℕ → State → Type 0
-Each [] k s = Unit {0}
-Each (w ∷ ws) k s = T (allows w (nodeAt s (getD (s .stack) k 0) .label)) × Each ws (suc k) s
+unfoldable pub EachAllowed : List Word → ℕ → State → Type 0
+EachAllowed [] k s = Unit {0}
+EachAllowed (w ∷ ws) k s = T (allows w (nodeAt s (getD (s .stack) k 0) .label)) × EachAllowed ws (suc k) s
 
 -- the values that end at place e
-pub record Ends (ws : List Word) (e : ℕ) (s : State) : Type 0 where
+pub record EndAt (ws : List Word) (e : ℕ) (s : State) : Type 0 where
   pub start : ℕ
   pub reaches : start + length ws ≡ e
   pub inside : e ≤ length (s .stack)
-  pub each : Each ws start s
+  pub each : EachAllowed ws start s
 
 unfoldable pub Stocked : Kinds → State → Type 0
-Stocked (topmost ws) s = Ends ws (length (s .stack)) s
-Stocked (belowMark ws) s = (0 < length (s .marks)) × Ends ws (last (s .marks)) s
+Stocked (topmost ws) s = EndAt ws (length (s .stack)) s
+Stocked (belowMark ws) s = (0 < length (s .marks)) × EndAt ws (last (s .marks)) s
 Stocked markOnly s = 0 < length (s .marks)
 
 -- from s to t: taken from s, left on t
@@ -55,8 +55,8 @@ TakenAndLeft tk lv s t = Stocked tk s × Stocked lv t
 
 -- ---- laws of words
 
-nothing-ends : (e : ℕ) (s : State) → e ≤ length (s .stack) → Ends [] e s
-unfolding Each
+nothing-ends : (e : ℕ) (s : State) → e ≤ length (s .stack) → EndAt [] e s
+unfolding EachAllowed
 nothing-ends e s h = record { start = e; reaches = omega arith; inside = h; each = tt }
 
 nothing-stands : (s : State) → Stocked (topmost []) s
@@ -65,7 +65,7 @@ nothing-stands s = nothing-ends (length (s .stack)) s (omega arith)
 
 -- the top by itself
 top-stands : (w : Word) (s : State) → 0 < length (s .stack) → T (allows w (nodeAt s (last (s .stack)) .label)) → Stocked (topmost (w ∷ [])) s
-unfolding Stocked Each
+unfolding Stocked EachAllowed
 top-stands w s h a = record { start = length (s .stack) - 1; reaches = omega arith; inside = omega arith; each = (a, tt) }
 
 any-stands : (s : State) → 0 < length (s .stack) → Stocked (topmost (any ∷ [])) s
@@ -73,25 +73,25 @@ unfolding allows
 any-stands s h = top-stands any s h tt
 
 -- one value more, above the others
-each-more : (ws : List Word) (w : Word) (k : ℕ) (s : State) → Each ws k s → T (allows w (nodeAt s (getD (s .stack) (k + length ws) 0) .label)) → Each (ws ++ (w ∷ [])) k s
-unfolding Each
+each-more : (ws : List Word) (w : Word) (k : ℕ) (s : State) → EachAllowed ws k s → T (allows w (nodeAt s (getD (s .stack) (k + length ws) 0) .label)) → EachAllowed (ws ++ (w ∷ [])) k s
+unfolding EachAllowed
 each-more [] w k s h a = let e : k + 0 ≡ k = omega arith in (rw e at a, tt)
 each-more (v ∷ ws) w k s h a = let e : k + suc (length ws) ≡ suc k + length ws = omega arith in (h .0, each-more ws w (suc k) s (h .1) (rw e at a))
 
-ends-more : (ws : List Word) (w : Word) (e : ℕ) (s : State) → Ends ws e s → e < length (s .stack) → T (allows w (nodeAt s (getD (s .stack) e 0) .label)) → Ends (ws ++ (w ∷ [])) (suc e) s
+ends-more : (ws : List Word) (w : Word) (e : ℕ) (s : State) → EndAt ws e s → e < length (s .stack) → T (allows w (nodeAt s (getD (s .stack) e 0) .label)) → EndAt (ws ++ (w ∷ [])) (suc e) s
 ends-more ws w e s h u a =
     let r = h .reaches in
     record { start = h .start; reaches = rw length-append (omega arith); inside = u; each = each-more ws w (h .start) s (h .each) (rw r a) }
 
 -- what stands on a part of the stack stands on the stack
-each-less : (ws : List Word) (n k : ℕ) (s t : State) → t .nodes ≡ s .nodes → t .stack ≡ take n (s .stack) → k + length ws ≤ n → Each ws k t → Each ws k s
-unfolding Each
+each-less : (ws : List Word) (n k : ℕ) (s t : State) → t .nodes ≡ s .nodes → t .stack ≡ take n (s .stack) → k + length ws ≤ n → EachAllowed ws k t → EachAllowed ws k s
+unfolding EachAllowed
 each-less [] n k s t e f h a = tt
 each-less (w ∷ ws) n k s t e f h a =
     let l : k < n = omega arith in
     (rw (e, f, getD-take n (s .stack) k 0 l) at (a .0), each-less ws n (suc k) s t e f (omega arith) (a .1))
 
-ends-less : (ws : List Word) (n : ℕ) (s t : State) → t .nodes ≡ s .nodes → t .stack ≡ take n (s .stack) → n ≤ length (s .stack) → Stocked (topmost ws) t → Ends ws n s
+ends-less : (ws : List Word) (n : ℕ) (s t : State) → t .nodes ≡ s .nodes → t .stack ≡ take n (s .stack) → n ≤ length (s .stack) → Stocked (topmost ws) t → EndAt ws n s
 unfolding Stocked
 ends-less ws n s t e f h a =
     let z : length (t .stack) ≡ n = rw f (simp length-take (omega arith)) in
@@ -140,8 +140,8 @@ relabelled : (w : Word) (s : State) (i : ℕ) (ks : List ℕ) → (T (allows w N
 relabelled w s i ks z a = rw (getD-set-same (s .nodes) i (record { label = nodeAt s i .label; kids = ks }) (kidless NoneL) (labelled (λ (l : Label). T (allows w l)) (s .nodes) i z a)) a
 
 -- a container on top, which gets items
-added-kept : (w : Word) (why : Refusal) (is : List ℕ) (s : State) → (T (allows w NoneL) → ⊥) → Out (TakenAndLeft (topmost (w ∷ [])) (topmost (w ∷ [])) s) (added (allows w) why is s)
-unfolding added extend link TakenAndLeft _>>=_
+added-kept : (w : Word) (why : Refusal) (is : List ℕ) (s : State) → (T (allows w NoneL) → ⊥) → Out (TakenAndLeft (topmost (w ∷ [])) (topmost (w ∷ [])) s) (addItems (allows w) why is s)
+unfolding addItems extend link TakenAndLeft _>>=_
 added-kept w why is s z =
     bind _ _ _ _ (top-gives s) λ i h. bind-need _ _ _ _ λ a. join-need _ _ _ _ _ λ u.
     let b = rw (h .1) at a in
@@ -167,7 +167,7 @@ unfolding popToMark TakenAndLeft Stocked
 popToMark-kept s = bind _ _ _ _ (popMark-gives s) λ p h. out _ _ ((h .0, nothing-ends _ s (h .1)), nothing-stands (p .1))
 
 dup-kept : (s : State) → Out (TakenAndLeft (topmost (any ∷ [])) (topmost (any ∷ any ∷ [])) s) (dup s)
-unfolding dup pushId TakenAndLeft Stocked Each allows
+unfolding dup pushId TakenAndLeft Stocked EachAllowed allows
 dup-kept s = bind _ _ _ _ (top-gives s) λ i h. bind-need _ _ _ _ λ u.
     let z = h .0 in
     out _ _ (any-stands s z, record { start = length (s .stack) - 1; reaches = rw length-append (omega arith); inside = omega arith; each = (tt, (tt, tt)) })
@@ -189,7 +189,7 @@ dict-kept : (s : State) → Out (TakenAndLeft (belowMark []) (topmost (aDict ∷
 unfolding dict allows
 dict-kept s = gathered-kept aDict s _ λ p. bind-any _ _ _ λ x e. made-stands aDict DictL (p .0) (p .1) tt
 
-tupleN-kept : (ws : List Word) (s : State) → ((k : ℕ) → Each ws k s) → Out (TakenAndLeft (topmost ws) (topmost (aTuple ∷ [])) s) (tupleN (length ws) s)
+tupleN-kept : (ws : List Word) (s : State) → ((k : ℕ) → EachAllowed ws k s) → Out (TakenAndLeft (topmost ws) (topmost (aTuple ∷ [])) s) (tupleN (length ws) s)
 unfolding tupleN popMany TakenAndLeft Stocked allows
 tupleN-kept ws s a = join-need _ _ _ _ _ λ h.
     let n = leb→le (length ws) (length (s .stack)) h in
@@ -217,7 +217,7 @@ unfolding TakenAndLeft Stocked
 popped ws w lv s f k = bind _ _ _ _ (pop-gives s) λ p h. weaken _ _ _ (k p (h .0) (h .1)) λ t u.
     let z = h .0 in
     let n : suc (length (s .stack) - 1) ≡ length (s .stack) = omega arith in
-    let b : Ends ws (length (s .stack) - 1) s = ends-less ws (length (s .stack) - 1) s (p .1) (ap (λ (x : ℕ × State). x .1 .nodes) (h .1)) (ap (λ (x : ℕ × State). x .1 .stack) (h .1)) (omega arith) (u .0 .0) in
+    let b : EndAt ws (length (s .stack) - 1) s = ends-less ws (length (s .stack) - 1) s (p .1) (ap (λ (x : ℕ × State). x .1 .nodes) (h .1)) (ap (λ (x : ℕ × State). x .1 .stack) (h .1)) (omega arith) (u .0 .0) in
     let a : T (allows w (nodeAt s (last (s .stack)) .label)) = rw (ap (λ (x : ℕ × State). x .0) (h .1)) at (u .1) in
     (rw n at (ends-more ws w (length (s .stack) - 1) s b (omega arith) a), u .0 .1)
 
@@ -302,7 +302,7 @@ putLine-kept : (s : State) → Out (TakenAndLeft (topmost (any ∷ [])) (topmost
 unfolding putLine
 putLine-kept s = put-kept _ s _ (putLine-claim s) (bind-any _ _ _ λ p e. bind-any _ _ _ λ k e. put-stands k (p .1))
 
-putBytes-kept : (n : ℕ) (f : Form) (s : State) → taken f (s .input) ≡ n → Out (TakenAndLeft (topmost (any ∷ [])) (topmost (any ∷ [])) s) (putBytes n s)
+putBytes-kept : (n : ℕ) (f : Form) (s : State) → argumentLength f (s .input) ≡ n → Out (TakenAndLeft (topmost (any ∷ [])) (topmost (any ∷ [])) s) (putBytes n s)
 unfolding putBytes
 putBytes-kept n f s e = put-kept _ s _ (putBytes-claim s n f e) (bind-any _ _ _ λ p e. put-stands (p .0) (p .1))
 
@@ -389,19 +389,19 @@ module _ (s : State) where
 
 unfoldable pub FitsKinds : Option KindRow → State → Next → Type 0
 FitsKinds none s n = ⊥
-FitsKinds (some r) s n = TakenAndLeft (r .takes) (r .leaves) s (after n)
+FitsKinds (some r) s n = TakenAndLeft (r .takes) (r .leaves) s (stateAfter n)
 
 goes-kept : (r : KindRow) (s : State) (x : Res State) → Out (TakenAndLeft (r .takes) (r .leaves) s) x → Out (FitsKinds (some r) s) (going x)
-unfolding Out FitsKinds going after
+unfolding Out FitsKinds going stateAfter
 goes-kept r s (ok t) h = h
 goes-kept r s (no why) h = tt
 
 stop-kept : (r : KindRow) (s : State) → TakenAndLeft (r .takes) (r .leaves) s s → Out (FitsKinds (some r) s) (ok (stops s))
-unfolding Out FitsKinds after
+unfolding Out FitsKinds stateAfter
 stop-kept r s h = h
 
 pub does-kinds : (v : ℕ) (o : Opcode) (s : State) → Out (FitsKinds (kindsOf o) s) (does v o s)
-unfolding does taken kindsOf kindsIn isNamed place allows Each TakenAndLeft
+unfolding does argumentLength kindsOf kindsIn isNamed place allows EachAllowed TakenAndLeft
 does-kinds v MARK s = goes-kept _ s _ (mark-kept s)
 does-kinds v STOP s = stop-kept _ s (nothing-stands s, nothing-stands s)
 does-kinds v POP s = goes-kept _ s _ (popOne-kept s)
@@ -453,7 +453,7 @@ does-kinds v LONG4 s = goes-kept _ s _ (longN-kept s 4)
 pub record KindStepped (s : State) (n : Next) : Type 0 where
   pub opcode : Opcode
   pub rest : List ℕ
-  pub input-is : s .input ≡ numberOf opcode ∷ rest
+  pub input-is : s .input ≡ codeOf opcode ∷ rest
   pub fits : FitsKinds (kindsOf opcode) (withInput s rest) n
 
 pub step-kinds : (ed : Edition) (s : State) → Out (KindStepped s) (step ed s)
@@ -462,7 +462,7 @@ step-kinds ed s = bind _ _ _ _ (byte-read s) λ p h. admit-out _ (against ed (p 
   where
     go : (b : ℕ) (t : State) (o : Option Opcode) → opcodeOf b ≡ o → t ≡ withInput s (drop 1 (s .input)) → s .input ≡ b ∷ drop 1 (s .input) → Out (KindStepped s) (decide (highest ed) o b t)
     go b t none q r c = tt
-    go b t (some o) q r c = weaken (FitsKinds (kindsOf o) t) (KindStepped s) (does (highest ed) o t) (does-kinds (highest ed) o t) λ n f. record { opcode = o; rest = drop 1 (s .input); input-is = rw (decided b o q) c; fits = rw (← r) f }
+    go b t (some o) q r c = weaken (FitsKinds (kindsOf o) t) (KindStepped s) (does (highest ed) o t) (does-kinds (highest ed) o t) λ n f. record { opcode = o; rest = drop 1 (s .input); input-is = rw (decided-own b o q) c; fits = rw (← r) f }
 
 -- ---- pickletools' own row, of every opcode but STOP
 
@@ -483,8 +483,8 @@ any-allowed aGlobal l h = absurd h
 any-allowed anObject l h = absurd h
 any-allowed setOrObject l h = absurd h
 
-each-any : (ws : List Word) (k : ℕ) (s : State) → T (allAny ws) → Each ws k s
-unfolding allAny Each
+each-any : (ws : List Word) (k : ℕ) (s : State) → T (allAny ws) → EachAllowed ws k s
+unfolding allAny EachAllowed
 each-any [] k s h = tt
 each-any (w ∷ ws) k s h = (any-allowed w _ (and-l (isAny w) (allAny ws) h), each-any ws (suc k) s (and-r (isAny w) (allAny ws) h))
 
@@ -503,7 +503,7 @@ said-row : (k : KindRow) (r : Option KindRow) (s : State) (n : Next) → T (says
 unfolding saysRow FitsKinds TakenAndLeft
 said-row k none s n h f = absurd h
 said-row k (some r) s n h f =
-    (said (k .takes) (r .takes) s (and-l (says (k .takes) (r .takes)) _ h) (f .0), said (k .leaves) (r .leaves) (after n) (and-r (says (k .takes) (r .takes)) _ h) (f .1))
+    (said (k .takes) (r .takes) s (and-l (says (k .takes) (r .takes)) _ h) (f .0), said (k .leaves) (r .leaves) (stateAfter n) (and-r (says (k .takes) (r .takes)) _ h) (f .1))
 
 -- a row is found by the place of a name
 row-by-place : (l : List KindRow) (o p : Opcode) → place o ≡ place p → kindsIn l o ≡ kindsIn l p

@@ -9,7 +9,7 @@ use lib.Dec.{T, leb}
 use borrow.Author.Tests.{le-leb, lt-leb}
 use native.Mathlib.Omega.{arith}
 use Rattle.refusal.specs.declared.Refusal.the-variants.{UnsupportedProtocol}
-use Rattle.op.specs.Table.{known, Row, table, place, isNamed, rowIn, rowOf, knownName, opcodeOf}
+use Rattle.op.specs.Table.{known, Row, opcodeTable, place, isNamed, rowIn, rowOf, knownName, opcodeOf}
 use Rattle.op.specs.Edition.{highest, evaluates}
 use Rattle.op.specs.declared.Opcode.{Opcode}
 use Rattle.op.specs.declared.Opcode.the-variants.{MARK, STOP, POP, «POP_MARK», DUP, FLOAT, INT, BININT, BININT1, LONG, BININT2, NONE, REDUCE, STRING, BINSTRING, «SHORT_BINSTRING», UNICODE, BINUNICODE, APPEND, BUILD, GLOBAL, DICT, «EMPTY_DICT», APPENDS, GET, BINGET, «LONG_BINGET», LIST, «EMPTY_LIST», PUT, BINPUT, «LONG_BINPUT», SETITEM, TUPLE, «EMPTY_TUPLE», SETITEMS, BINFLOAT, PROTO, NEWOBJ, TUPLE1, TUPLE2, TUPLE3, NEWTRUE, NEWFALSE, LONG1, LONG4}
@@ -18,7 +18,7 @@ use Rattle.op.specs.declared.Edition.the-variants.{Full, Plain}
 use Rattle.steps.specs.State.{State, ok, no, _>>=_, need, withInput, bytes, byte}
 use Rattle.steps.specs.Opcodes.{proto}
 use Rattle.steps.specs.Run.{goes, going, does, decide, admit, step, start, run}
-use Rattle.steps.specs.Fuel.{finish, run-finish, finish-goes}
+use Rattle.steps.specs.Fuel.{runFrom, run-finish, finish-goes}
 
 -- ---- the table
 
@@ -27,7 +27,7 @@ protocolsTo n [] = true
 protocolsTo n (r ∷ t) = leb (r .proto) n && protocolsTo n t
 
 -- no row's protocol is above the highest that PROTO accepts, in either edition
-pub protocols-to-highest : T (protocolsTo (highest Full) table) × T (protocolsTo (highest Plain) table)
+pub protocols-to-highest : T (protocolsTo (highest Full) opcodeTable) × T (protocolsTo (highest Plain) opcodeTable)
 unfolding protocolsTo highest
 protocols-to-highest = (tt, tt)
 
@@ -55,7 +55,7 @@ module _ (ed : Edition) (s : State) (n : ℕ) (rest : List ℕ) (begins : s .inp
   proto-refuses h = at-proto ed s (n ∷ rest) begins ∙ rw (byte-is (withInput s (n ∷ rest)) n rest refl, lt-leb n (highest ed) h)
 
   -- so what follows goes on from any state as it would without PROTO
-  pub proto-forgotten : n ≤ highest ed → finish ed s ≡ finish ed (withInput s rest)
+  pub proto-forgotten : n ≤ highest ed → runFrom ed s ≡ runFrom ed (withInput s rest)
   proto-forgotten h = finish-goes ed s (withInput s rest) (proto-leaves h)
 
 -- a pickle with PROTO in front runs as without

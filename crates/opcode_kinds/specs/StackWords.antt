@@ -5,7 +5,7 @@ use mathlib.Core.List.{List, [], _∷_, _++_}
 use mathlib.Core.Option.{Option, none, some}
 use lib.ListN.{length}
 use lib.Dec.{eqb, leb, T}
-use Rattle.op.specs.Table.{known, Stack, values, toMark, aMark, Row, place, isNamed, numberIn, numberOf, rowIn, rowOf}
+use Rattle.op.specs.Table.{known, Stack, values, toMark, aMark, Row, place, isNamed, numberIn, codeOf, rowIn, rowOf}
 use Rattle.op.specs.declared.Opcode.{Opcode}
 use Rattle.op.specs.declared.Opcode.the-variants.{MARK, STOP, POP, «POP_MARK», DUP, FLOAT, INT, BININT, BININT1, LONG, BININT2, NONE, REDUCE, STRING, BINSTRING, «SHORT_BINSTRING», UNICODE, BINUNICODE, APPEND, BUILD, GLOBAL, DICT, «EMPTY_DICT», APPENDS, GET, BINGET, «LONG_BINGET», LIST, «EMPTY_LIST», PUT, BINPUT, «LONG_BINPUT», SETITEM, TUPLE, «EMPTY_TUPLE», SETITEMS, BINFLOAT, PROTO, NEWOBJ, TUPLE1, TUPLE2, TUPLE3, NEWTRUE, NEWFALSE, LONG1, LONG4}
 use Rattle.value.specs.Value.{Label, kind}
@@ -122,27 +122,27 @@ kindsOf o = kindsIn (exceptions ++ pickletools) o
 
 -- ---- the words are as many as the values in crate op's table
 
-unfoldable pub counts : Kinds → Stack → Bool
-counts (topmost ws) (values n) = eqb (length ws) n
-counts (topmost ws) (toMark n) = false
-counts (topmost ws) aMark = false
-counts (belowMark ws) (values n) = false
-counts (belowMark ws) (toMark n) = eqb (length ws) n
-counts (belowMark ws) aMark = false
-counts markOnly (values n) = false
-counts markOnly (toMark n) = false
-counts markOnly aMark = true
+unfoldable pub sameCount : Kinds → Stack → Bool
+sameCount (topmost ws) (values n) = eqb (length ws) n
+sameCount (topmost ws) (toMark n) = false
+sameCount (topmost ws) aMark = false
+sameCount (belowMark ws) (values n) = false
+sameCount (belowMark ws) (toMark n) = eqb (length ws) n
+sameCount (belowMark ws) aMark = false
+sameCount markOnly (values n) = false
+sameCount markOnly (toMark n) = false
+sameCount markOnly aMark = true
 
 unfoldable pub countsRow : KindRow → Option Row → Bool
 countsRow k none = false
-countsRow k (some r) = counts (k .takes) (r .takes) && counts (k .leaves) (r .leaves)
+countsRow k (some r) = sameCount (k .takes) (r .takes) && sameCount (k .leaves) (r .leaves)
 
 unfoldable pub allCount : List KindRow → Bool
 allCount [] = true
-allCount (k ∷ t) = countsRow k (rowOf (numberOf (k .opcode))) && allCount t
+allCount (k ∷ t) = countsRow k (rowOf (codeOf (k .opcode))) && allCount t
 
 pub words-count : T (allCount pickletools)
-unfolding allCount countsRow counts rowOf rowIn numberOf numberIn isNamed place
+unfolding allCount countsRow sameCount rowOf rowIn codeOf numberIn isNamed place
 words-count = tt
 
 -- ---- the exceptions say more than pickletools, which says `any` there or names nothing; STOP's says less

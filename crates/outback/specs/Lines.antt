@@ -14,7 +14,7 @@ use Rattle.input.specs.Bytes.{lastByte}
 use Rattle.input.specs.Line.{firstFrom, newlineOf, lessCr, lineOf}
 use Rattle.number.specs.Number.{digits}
 use Rattle.output.specs.Decimal.{decimalText, signedText, decimal-digits, either-way}
-use Rattle.output.specs.Put.{newline}
+use Rattle.output.specs.Put.{newlineByte}
 use Rattle.steps.specs.State.{State, ok, _>>=_, leaf, withInput, line}
 use Rattle.ser.specs.Writable.{hasNewline, endsCr, writable}
 
@@ -28,22 +28,22 @@ neither m = go (hasNewline m) (endsCr m)
     go false true h = absurd h
     go true b h = absurd h
 
-first-at : (m r : List ℕ) (k : ℕ) → hasNewline m ≡ false → firstFrom (m ++ (newline ∷ r)) k ≡ got (k + length m)
+first-at : (m r : List ℕ) (k : ℕ) → hasNewline m ≡ false → firstFrom (m ++ (newlineByte ∷ r)) k ≡ got (k + length m)
 unfolding hasNewline firstFrom
 first-at [] r k h = let z : k + 0 ≡ k = omega arith in rw z
-first-at (b ∷ m) r k h = go (eqb b newline) h (first-at m r (suc k))
+first-at (b ∷ m) r k h = go (eqb b newlineByte) h (first-at m r (suc k))
   where
-    go : (c : Bool) → (c || hasNewline m) ≡ false → (hasNewline m ≡ false → firstFrom (m ++ (newline ∷ r)) (suc k) ≡ got (suc k + length m)) → cond c (got k) (firstFrom (m ++ (newline ∷ r)) (suc k)) ≡ got (k + suc (length m))
+    go : (c : Bool) → (c || hasNewline m) ≡ false → (hasNewline m ≡ false → firstFrom (m ++ (newlineByte ∷ r)) (suc k) ≡ got (suc k + length m)) → cond c (got k) (firstFrom (m ++ (newlineByte ∷ r)) (suc k)) ≡ got (k + suc (length m))
     go true e f = absurd (let z : _≡_ {A = ℕ} 0 1 = cc in omega arith)
     go false e f = f e ∙ ap got (omega arith)
 
-pub line-back : (s : State) (m r : List ℕ) → s .input ≡ m ++ (newline ∷ r) → T (writable m) → line s ≡ ok (m, withInput s r)
+pub line-back : (s : State) (m r : List ℕ) → s .input ≡ m ++ (newlineByte ∷ r) → T (writable m) → line s ≡ ok (m, withInput s r)
 unfolding line leaf _>>=_ newlineOf lineOf lessCr endsCr
 line-back s m r e h =
     let plain = neither m h in
     let z : suc (length m) ≡ length m + 1 = omega arith in
-    let f : firstFrom (m ++ (newline ∷ r)) 0 ≡ got (length m) = first-at m r 0 (plain .0) ∙ ap got (omega arith) in
-    rw (e, f, take-at m (newline ∷ r) (length m - 0) (omega arith), plain .1, z, drop-append-add m (newline ∷ r) 1)
+    let f : firstFrom (m ++ (newlineByte ∷ r)) 0 ≡ got (length m) = first-at m r 0 (plain .0) ∙ ap got (omega arith) in
+    rw (e, f, take-at m (newlineByte ∷ r) (length m - 0) (omega arith), plain .1, z, drop-append-add m (newlineByte ∷ r) 1)
 
 -- ---- decimal text
 
@@ -67,7 +67,7 @@ unfolding printed hasNewline
 printed-one-line [] e = refl
 printed-one-line (b ∷ s) e =
     let l = leb-true 0x20 b (and-left (leb 0x20 b) (printed s) e) in
-    rw (ne-eqb b newline (λ q. omega arith), printed-one-line s (and-right (leb 0x20 b) (printed s) e))
+    rw (ne-eqb b newlineByte (λ q. omega arith), printed-one-line s (and-right (leb 0x20 b) (printed s) e))
 
 printed-ends : (s : List ℕ) → printed s ≡ true → endsCr s ≡ false
 unfolding endsCr lastByte

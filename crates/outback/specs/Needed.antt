@@ -28,7 +28,7 @@ use Rattle.steps.specs.Run as Run
 use Rattle.reading.specs.Build as Build
 use Rattle.reading.specs.Measure.{measured}
 use Rattle.reading.specs.Settle as Settle
-use Rattle.reading.specs.Reading.{refuses, reads, told, stopped, prefixIn, prefix, pickleLimit, stopped-long, prefix-refused}
+use Rattle.reading.specs.Reading.{refuses, reads, readingOf, stopped, prefixIn, prefix, pickleLimit, stopped-long, prefix-refused}
 use Rattle.ser.specs.Image as Image
 use Rattle.ser.specs.Image.{pickled}
 use Rattle.ser.specs.Writable as Writable
@@ -43,7 +43,7 @@ unfolding shaped settled ascending keys text count size depth table Order._then_
 shaping = tt
 
 unfoldable writing : Unit {0}
-unfolding Table.numberOf Table.numberIn Table.isNamed Table.place Image.low Image.inI32 Image.int Image.string Image.global Image.setOpening Image.opening Image.joined Image.listBatch Image.dictBatch Image.batch Image.batchSize Image.batchesUpTo Image.batches Image.appends Image.tupleMark Image.tupleOpcode Image.tuple Image.objectOpcode Image.built Image.object Image.contents Image.images Image.framed Image.pickled
+unfolding Table.codeOf Table.numberIn Table.isNamed Table.place Image.low Image.inI32 Image.intImage Image.stringImage Image.globalImage Image.setOpening Image.opening Image.joined Image.listBatch Image.dictBatch Image.oneBatch Image.batchSize Image.batchesUpTo Image.batches Image.itemsImage Image.tupleMark Image.tupleOpcode Image.tupleImage Image.objectOpcode Image.stateImage Image.objectImage Image.contents Image.images Image.framed Image.pickled
 writing = tt
 
 unfoldable literals : Unit {0}
@@ -51,36 +51,36 @@ unfolding lowFirst denotes Line.firstFrom Line.newlineOf Line.lessCr Line.lineOf
 literals = tt
 
 unfoldable running : Unit {0}
-unfolding Table.rowIn Table.rowOf Table.knownName Table.opcodeOf edition-evaluates _>>=_ State.need State.leaf State.bytes State.byte State.line State.pop State.top State.popMark State.popMany State.pushId State.pushNode State.push State.link State.extend Opcodes.proto Opcodes.lowBytes Opcodes.binint1 Opcodes.binint Opcodes.binunicode Opcodes.global Opcodes.mark Opcodes.made Opcodes.tupleN Opcodes.added Opcodes.append Opcodes.appends Opcodes.pairs Opcodes.setitems Opcodes.called Opcodes.reduced Opcodes.reduce Run.going Run.does Run.decide Run.admit Run.step Run.runs Run.start Run.run
+unfolding Table.rowIn Table.rowOf Table.knownName Table.opcodeOf edition-evaluates _>>=_ State.need State.leaf State.bytes State.byte State.line State.pop State.top State.popMark State.popMany State.pushId State.pushNode State.push State.link State.extend Opcodes.proto Opcodes.lowBytes Opcodes.binint1 Opcodes.binint Opcodes.binunicode Opcodes.global Opcodes.mark Opcodes.made Opcodes.tupleN Opcodes.addItems Opcodes.append Opcodes.appends Opcodes.pairs Opcodes.setitems Opcodes.called Opcodes.reduced Opcodes.reduce Run.going Run.does Run.decide Run.admit Run.step Run.runs Run.start Run.run
 running = tt
 
 unfoldable building : Unit {0}
-unfolding Build.firstTaken Build.blocked Build.finish Build.each Build.build Build.tree measured Settle.by Settle.insert Settle.asSet Settle.enter Settle.asDict Settle.items Settle.arrange Settle.settle told stopped prefixIn
+unfolding Build.firstTaken Build.blocked Build.finish Build.each Build.build Build.tree measured Settle.by Settle.insert Settle.asSet Settle.enter Settle.asDict Settle.items Settle.arrange Settle.settle readingOf stopped prefixIn
 building = tt
 
 -- ---- all premises met
 
 -- {1: set([5]), 2: m.C()}
-abbrev fine : Value
-fine = record { label = DictL; contents = node (I64L 1) nil (node SetL (node (I64L 5) nil nil) (node (I64L 2) nil (node (ObjectL (0x6D ∷ []) (0x43 ∷ []) false) (node TupleL nil nil) nil))) }
+abbrev fineValue : Value
+fineValue = record { label = DictL; contents = node (I64L 1) nil (node SetL (node (I64L 5) nil nil) (node (I64L 2) nil (node (ObjectL (0x6D ∷ []) (0x43 ∷ []) false) (node TupleL nil nil) nil))) }
 
-unfoldable each : List ℕ → Bool
-each [] = true
-each (x ∷ l) = ltb x (2 ^ 64) && each l
+unfoldable allWords : List ℕ → Bool
+allWords [] = true
+allWords (x ∷ l) = ltb x (2 ^ 64) && allWords l
 
-words-of : (l : List ℕ) → T (each l) → (i : ℕ) → getD l i 0 < 2 ^ 64
-unfolding each
+words-of : (l : List ℕ) → T (allWords l) → (i : ℕ) → getD l i 0 < 2 ^ 64
+unfolding allWords
 words-of [] h i = omega arith
-words-of (x ∷ l) h zero = ltb→lt x (2 ^ 64) (and-l (ltb x (2 ^ 64)) (each l) h)
-words-of (x ∷ l) h (suc i) = words-of l (and-r (ltb x (2 ^ 64)) (each l) h) i
+words-of (x ∷ l) h zero = ltb→lt x (2 ^ 64) (and-l (ltb x (2 ^ 64)) (allWords l) h)
+words-of (x ∷ l) h (suc i) = words-of l (and-r (ltb x (2 ^ 64)) (allWords l) h) i
 
-pub fine-goes : Outgoing (table (one fine) 0) 7 (text (one fine))
-unfolding shaping each
+pub fine-goes : Outgoing (table (one fineValue) 0) 7 (text (one fineValue))
+unfolding shaping allWords
 fine-goes =
     record {
       formed =
           record {
-            value = fine;
+            value = fineValue;
             shape = tt;
             settle = tt;
             counted = refl;
@@ -91,7 +91,7 @@ fine-goes =
             texts = refl;
             short = omega arith;
           };
-      words = words-of (table (one fine) 0) tt;
+      words = words-of (table (one fineValue) 0) tt;
       names = tt;
       objects = tt;
     }

@@ -13,27 +13,27 @@ use Rattle.op.specs.declared.Edition.the-variants.{Full}
 use Rattle.value.specs.Value.{Label, Forest, NoneL, nil, node}
 use Rattle.value.specs.Stands.{_⊕_}
 use Rattle.steps.specs.State.{Node, State, no, kidless}
-use Rattle.steps.specs.Fuel.{finish}
+use Rattle.steps.specs.Fuel.{runFrom}
 use Rattle.reading.specs.Build.{at}
 use Rattle.outback.specs.Added.{addedRefusal}
 use Rattle.outback.specs.WriteOut.{WritesIn, none, more, writes-moved, writes-append}
 
 -- the run from s on is an added refusal, or it is that from t on, and R holds of t
-pub data Outcome (s : State) (R : State → Type 0) : Type 0 where
-  stops : (why : Refusal) → T (addedRefusal why) → finish Full s ≡ no why → Outcome s R
-  comes : (t : State) → finish Full s ≡ finish Full t → R t → Outcome s R
+pub data LeadsTo (s : State) (R : State → Type 0) : Type 0 where
+  stops : (why : Refusal) → T (addedRefusal why) → runFrom Full s ≡ no why → LeadsTo s R
+  comes : (t : State) → runFrom Full s ≡ runFrom Full t → R t → LeadsTo s R
 
-pub onward : {s : State} {R Q : State → Type 0} → Outcome s R → ((t : State) → R t → Outcome t Q) → Outcome s Q
-onward (stops why a e) k = stops why a e
-onward {s} {R} {Q} (comes t e r) k = go (k t r)
+pub leads-on : {s : State} {R Q : State → Type 0} → LeadsTo s R → ((t : State) → R t → LeadsTo t Q) → LeadsTo s Q
+leads-on (stops why a e) k = stops why a e
+leads-on {s} {R} {Q} (comes t e r) k = go (k t r)
   where
-    go : Outcome t Q → Outcome s Q
+    go : LeadsTo t Q → LeadsTo s Q
     go (stops why a f) = stops why a (e ∙ f)
     go (comes u f q) = comes u (e ∙ f) q
 
-pub weaken : {s : State} {R Q : State → Type 0} → ((t : State) → R t → Q t) → Outcome s R → Outcome s Q
-weaken h (stops why a e) = stops why a e
-weaken h (comes t e r) = comes t e (h t r)
+pub leads-weaken : {s : State} {R Q : State → Type 0} → ((t : State) → R t → Q t) → LeadsTo s R → LeadsTo s Q
+leads-weaken h (stops why a e) = stops why a e
+leads-weaken h (comes t e r) = comes t e (h t r)
 
 -- ---- values more on the stack
 

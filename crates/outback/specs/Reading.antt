@@ -9,7 +9,7 @@ use lib.Dec.{T, leb, T-not}
 use native.Mathlib.Omega.{arith}
 use Rattle.refusal.specs.declared.Refusal.{Refusal}
 use Rattle.refusal.specs.declared.Refusal.the-variants.{TooLong, TooDeep, TooManyValues, TextFull}
-use Rattle.op.specs.Table.{numberOf}
+use Rattle.op.specs.Table.{codeOf}
 use Rattle.op.specs.declared.Opcode.the-variants.{PROTO, STOP}
 use Rattle.op.specs.declared.Edition.the-variants.{Full}
 use Rattle.input.specs.Bytes.{lt-or-le}
@@ -18,13 +18,13 @@ use Rattle.value.specs.WellFormed.{settled}
 use Rattle.steps.specs.State.{State, Res, ok, no, _>>=_, need, withInput, byte, last}
 use Rattle.steps.specs.Opcodes.{proto}
 use Rattle.steps.specs.Run.{does, start, run}
-use Rattle.steps.specs.Fuel.{finish, run-finish, finish-stops}
+use Rattle.steps.specs.Fuel.{runFrom, run-finish, finish-stops}
 use Rattle.reading.specs.Measure.{measured, depthLimit, valuesLimit, textLimit}
-use Rattle.reading.specs.Reading.{Reading, refuses, reads, told, prefix, pickleLimit, consumed, stopped-long, stopped-refused, prefix-refused, sharing-never-shows}
+use Rattle.reading.specs.Reading.{Reading, refuses, reads, readingOf, prefix, pickleLimit, consumed, stopped-long, stopped-refused, prefix-refused, sharing-never-shows}
 use Rattle.ser.specs.Image.{images, joined, framed, pickled}
 use Rattle.outback.specs.WriteOut.{WritesIn, none, more, writes-moved, writes-out, written-nothing-itself}
 use Rattle.outback.specs.Added.{added, addedRefusal}
-use Rattle.outback.specs.Outcome.{Between, Outcome, stops, comes, onward, ManyMore}
+use Rattle.outback.specs.Outcome.{Between, LeadsTo, stops, comes, leads-on, ManyMore}
 use Rattle.outback.specs.Steps.{After, by-op, step-op, bytes-ok}
 use Rattle.outback.specs.Items.{many-back}
 use Rattle.outback.specs.Returnable.{AllReturnable}
@@ -39,11 +39,11 @@ pub data ReadBack (v : Value) (r : Reading) : Type 0 where
 -- ---- the run
 
 -- PROTO 2
-proto-on : (s : State) (r : List ℕ) → s .input ≡ numberOf PROTO ∷ 2 ∷ r → Outcome s (λ (t : State). t ≡ withInput s r)
+proto-on : (s : State) (r : List ℕ) → s .input ≡ codeOf PROTO ∷ 2 ∷ r → LeadsTo s (λ (t : State). t ≡ withInput s r)
 unfolding does proto byte need _>>=_ After
 proto-on s r e = by-op PROTO s (2 ∷ r) e (ok (withInput s r)) (rw (bytes-ok (withInput s (2 ∷ r)) (2 ∷ []) r 1 refl refl)) refl
 
-stop-on : (t : State) (rest : List ℕ) → t .input ≡ numberOf STOP ∷ rest → finish Full t ≡ ok (withInput t rest)
+stop-on : (t : State) (rest : List ℕ) → t .input ≡ codeOf STOP ∷ rest → runFrom Full t ≡ ok (withInput t rest)
 unfolding does
 stop-on t rest e = finish-stops Full t (withInput t rest) (step-op STOP t rest e)
 
@@ -75,15 +75,15 @@ module _ (v : Value) (good : AllReturnable (one v)) (rest : List ℕ) where
   followed = pickled v ++ rest
 
   afterProto : List ℕ
-  afterProto = joined (images (one v)) ++ (numberOf STOP ∷ rest)
+  afterProto = joined (images (one v)) ++ (codeOf STOP ∷ rest)
 
-  runs-back : Outcome (start followed) (ManyMore (withInput (start followed) afterProto) (numberOf STOP ∷ rest) (unsettled (one v)))
+  runs-back : LeadsTo (start followed) (ManyMore (withInput (start followed) afterProto) (codeOf STOP ∷ rest) (unsettled (one v)))
   unfolding pickled framed start followed afterProto joined
   runs-back =
-      onward (proto-on (start followed) afterProto (ap (λ (x : List ℕ). numberOf PROTO ∷ 2 ∷ x) (append-assoc (joined (images (one v))) (numberOf STOP ∷ []) rest)))
-      (λ t e. rw e (many-back (one v) (all-return (one v) good) (withInput (start followed) afterProto) (numberOf STOP ∷ rest) refl))
+      leads-on (proto-on (start followed) afterProto (ap (λ (x : List ℕ). codeOf PROTO ∷ 2 ∷ x) (append-assoc (joined (images (one v))) (codeOf STOP ∷ []) rest)))
+      (λ t e. rw e (many-back (one v) (all-return (one v) good) (withInput (start followed) afterProto) (codeOf STOP ∷ rest) refl))
 
-  stopped-at : (t : State) → ManyMore (withInput (start followed) afterProto) (numberOf STOP ∷ rest) (unsettled (one v)) t → Stopped v rest (withInput t rest)
+  stopped-at : (t : State) → ManyMore (withInput (start followed) afterProto) (codeOf STOP ∷ rest) (unsettled (one v)) t → Stopped v rest (withInput t rest)
   unfolding unsettled start
   stopped-at t y = go (y .ids) (y .stack) (y .values)
     where
@@ -93,19 +93,19 @@ module _ (v : Value) (good : AllReturnable (one v)) (rest : List ℕ) where
   run-back : RunBack v rest (run Full followed)
   run-back = go runs-back
     where
-      go : Outcome (start followed) (ManyMore (withInput (start followed) afterProto) (numberOf STOP ∷ rest) (unsettled (one v))) → RunBack v rest (run Full followed)
+      go : LeadsTo (start followed) (ManyMore (withInput (start followed) afterProto) (codeOf STOP ∷ rest) (unsettled (one v))) → RunBack v rest (run Full followed)
       go (stops why a e) = refused why a (run-finish Full followed ∙ e)
       go (comes t e y) = stopped (withInput t rest) (run-finish Full followed ∙ e ∙ stop-on t rest (y .input)) (stopped-at t y)
 
   -- ---- after STOP
 
-  told-back : (n : ℕ) → n ≡ length (pickled v) → T (settled (one v)) → (r : Reading) → r ≡ told n (unsettled (one v)) → ReadBack v r
-  unfolding told
+  told-back : (n : ℕ) → n ≡ length (pickled v) → T (settled (one v)) → (r : Reading) → r ≡ readingOf n (unsettled (one v)) → ReadBack v r
+  unfolding readingOf
   told-back n e h r q = go (measured (unsettled (one v))) refl
     where
       go : (m : Res (Unit {0})) → measured (unsettled (one v)) ≡ m → ReadBack v r
-      go (no why) f = refused why (measure-added (unsettled (one v)) why f) (q ∙ rw (f, told))
-      go (ok u) f = back (q ∙ rw (f, told, settle-unsettled (one v) good h, e))
+      go (no why) f = refused why (measure-added (unsettled (one v)) why f) (q ∙ rw (f, readingOf))
+      go (ok u) f = back (q ∙ rw (f, readingOf, settle-unsettled (one v) good h, e))
 
   stopped-back : T (settled (one v)) → length followed ≤ pickleLimit → (t : State) → run Full followed ≡ ok t → Stopped v rest t → ReadBack v (prefix followed)
   unfolding followed

@@ -9,7 +9,7 @@ use lib.Dec.{T}
 use Rattle.utf8.specs.Utf8.{valid}
 use Rattle.value.specs.Value.{Label, Forest, count, NoneL, BoolL, I64L, F64L, BytesL, StringL, ListL, TupleL, SetL, FrozenSetL, DictL, GlobalL, ObjectL, nil, node}
 use Rattle.ser.specs.Writable.{writable}
-use Rattle.outback.specs.SetCalls.{setClass, enough}
+use Rattle.outback.specs.SetCalls.{setClass, enoughArguments}
 
 -- a class, whose module and name are written a line each
 pub record Named (m k : List ℕ) : Type 0 where
@@ -20,7 +20,7 @@ pub record Named (m k : List ℕ) : Type 0 where
 
 -- an Object's contents: the Tuple of its arguments, two at least where one would make a set; then its state, if any
 pub data Arguments (m k : List ℕ) (new : Bool) : Forest → Type 0 where
-  arguments : {a r : Forest} → count r ≤ 1 → T (new || enough (setClass m k) (count a)) → Arguments m k new (node TupleL a r)
+  arguments : {a r : Forest} → count r ≤ 1 → T (new || enoughArguments (setClass m k) (count a)) → Arguments m k new (node TupleL a r)
 
 unfoldable pub Returnable : Label → Forest → Type 0
 Returnable NoneL c = c ≡ nil

@@ -22,8 +22,8 @@ arguments nil = 0
 arguments (node l c r) = count c
 
 -- at least two arguments, if the class is one of these
-abbrev pub enough : Bool → ℕ → Bool
-enough ofSets n = not ofSets || leb 2 n
+abbrev pub enoughArguments : Bool → ℕ → Bool
+enoughArguments ofSets n = not ofSets || leb 2 n
 
 -- an Object made without `new` from `__builtin__` `set` or `frozenset` has at least two arguments
 unfoldable pub twoArguments : Label → Forest → Bool
@@ -39,7 +39,7 @@ twoArguments SetL c = true
 twoArguments FrozenSetL c = true
 twoArguments DictL c = true
 twoArguments (GlobalL m k) c = true
-twoArguments (ObjectL m k new) c = new || enough (setClass m k) (arguments c)
+twoArguments (ObjectL m k new) c = new || enoughArguments (setClass m k) (arguments c)
 
 -- of values and all that is in them
 unfoldable pub twoArgumentsIn : Forest → Bool
@@ -47,7 +47,7 @@ twoArgumentsIn nil = true
 twoArgumentsIn (node l c r) = twoArguments l c && (twoArgumentsIn c && twoArgumentsIn r)
 
 -- then REDUCE makes an Object
-pub reduced-object : (m k : List ℕ) (i : ℕ) (items : List ℕ) → T (enough (setClass m k) (length items)) → reduced (m, k) i items ≡ object (m, k) false i
+pub reduced-object : (m k : List ℕ) (i : ℕ) (items : List ℕ) → T (enoughArguments (setClass m k) (length items)) → reduced (m, k) i items ≡ object (m, k) false i
 unfolding reduced setClass
 reduced-object m k i items = go (same m builtin) refl (same k setName) refl (same k frozensetName) refl
   where
@@ -55,7 +55,7 @@ reduced-object m k i items = go (same m builtin) refl (same k setName) refl (sam
     either-way true = refl
     either-way false = refl
 
-    go : (x : Bool) → same m builtin ≡ x → (y : Bool) → same k setName ≡ y → (z : Bool) → same k frozensetName ≡ z → T (enough (x && (y || z)) (length items)) → reduced (m, k) i items ≡ object (m, k) false i
+    go : (x : Bool) → same m builtin ≡ x → (y : Bool) → same k setName ≡ y → (z : Bool) → same k frozensetName ≡ z → T (enoughArguments (x && (y || z)) (length items)) → reduced (m, k) i items ≡ object (m, k) false i
     go false p y q z r h = rw p
     go true p true q z r h = rw (p, lt-leb (length items) 1 (omega (arith, leb→le 2 (length items) h)))
     go true p false q true r h = rw (p, lt-leb (length items) 1 (omega (arith, leb→le 2 (length items) h)))

@@ -11,7 +11,7 @@ use borrow.Author.Tests.{le-leb, lt-ltb}
 use native.Mathlib.Omega.{arith}
 use Rattle.refusal.specs.declared.Refusal.{Refusal}
 use Rattle.refusal.specs.declared.Refusal.the-variants.{StackFull, MarksFull, NodesFull, LinksFull}
-use Rattle.op.specs.Table.{numberOf}
+use Rattle.op.specs.Table.{codeOf}
 use Rattle.op.specs.Named.{named}
 use Rattle.op.specs.Edition.{against, outside, unknown, isOneOf, highest}
 use Rattle.op.specs.declared.Opcode.{Opcode}
@@ -22,7 +22,7 @@ use Rattle.steps.specs.Opcodes.{mark, made}
 use Rattle.steps.specs.Run.{going, does, decide, admit, step}
 use Rattle.steps.specs.Fuel.{finish-goes, finish-refused}
 use Rattle.outback.specs.Added.{addedRefusal}
-use Rattle.outback.specs.Outcome.{Outcome, stops, comes}
+use Rattle.outback.specs.Outcome.{LeadsTo, stops, comes}
 
 pub bytes-ok : (s : State) (b r : List ℕ) (n : ℕ) → s .input ≡ b ++ r → length b ≡ n → bytes n s ≡ ok (b, withInput s r)
 unfolding bytes need _>>=_
@@ -30,16 +30,16 @@ bytes-ok s b r n e f =
     let y : length (b ++ r) ≡ length b + length r = length-append b r in
     rw (e, le-leb n (length (b ++ r)) (omega arith), take-at b r n f, drop-at b r n f)
 
-pub step-op : (o : Opcode) (s : State) (r : List ℕ) → s .input ≡ numberOf o ∷ r → step Full s ≡ does 2 o (withInput s r)
+pub step-op : (o : Opcode) (s : State) (r : List ℕ) → s .input ≡ codeOf o ∷ r → step Full s ≡ does 2 o (withInput s r)
 unfolding step byte _>>=_ decide admit against outside unknown isOneOf highest
-step-op o s r e = rw (bytes-ok s (numberOf o ∷ []) r 1 e refl, named o)
+step-op o s r e = rw (bytes-ok s (codeOf o ∷ []) r 1 e refl, named o)
 
 -- R holds of the state that comes out, or an added refusal does
 unfoldable pub After : (State → Type 0) → Res State → Type 0
 After R (ok t) = R t
 After R (no why) = T (addedRefusal why)
 
-pub by-op : {R : State → Type 0} (o : Opcode) (s : State) (r : List ℕ) → s .input ≡ numberOf o ∷ r → (x : Res State) → does 2 o (withInput s r) ≡ going x → After R x → Outcome s R
+pub by-op : {R : State → Type 0} (o : Opcode) (s : State) (r : List ℕ) → s .input ≡ codeOf o ∷ r → (x : Res State) → does 2 o (withInput s r) ≡ going x → After R x → LeadsTo s R
 unfolding After going
 by-op o s r e (ok t) d h = comes t (finish-goes Full s t (step-op o s r e ∙ d)) h
 by-op o s r e (no why) d h = stops why h (finish-refused Full s s why (step-op o s r e ∙ d))

@@ -44,12 +44,12 @@ writes-out {t} (more {i} {is} {ks} {l} {c} {r} p q a b) = let k : WritesOut t (a
 -- ---- nothing written out contains itself
 
 -- the write-out of one node of several, no larger than all of it
-record Part (t : List Node) (i : ℕ) (n : ℕ) : Type 0 where
+record WriteOutOfOne (t : List Node) (i : ℕ) (n : ℕ) : Type 0 where
   pub forest : Forest
   pub out : WritesOut t (i ∷ []) forest
   pub less : size forest ≤ n
 
-part-of : {t : List Node} {i : ℕ} {is : List ℕ} {f : Forest} → WritesOut t is f → In i is → Part t i (size f)
+part-of : {t : List Node} {i : ℕ} {is : List ℕ} {f : Forest} → WritesOut t is f → In i is → WriteOutOfOne t i (size f)
 unfolding size
 part-of (afresh a b) here = record { forest = node _ _ nil; out = afresh a nothing; less = omega arith }
 part-of (afresh a b) (there m) = let x = part-of b m in record { forest = x .forest; out = x .out; less = omega (arith, x .less) }

@@ -8,7 +8,7 @@ use lib.Dec.{T-not, leb, ltb}
 use lib.IntN.{ℤ}
 use borrow.Author.Tests.{leb-true, le-leb}
 use Rattle.refusal.specs.Read.{got}
-use Rattle.utf8.specs.Utf8.{encode, trail, valid, pieces, piecesAfter, every, wellFormed, some, whole, within}
+use Rattle.utf8.specs.Utf8.{encode, trail, valid, pieces, piecesAfter, every, wellFormed, some, wholeRow, inColumn}
 use Rattle.utf8.specs.Rows.{and-left, and-right}
 use Rattle.utf8.specs.Laws.{valid-append, valid-one}
 use Rattle.input.specs.Long.{inI64, bits64}
@@ -83,7 +83,7 @@ trimmed-ink s e =
 -- ---- UTF-8
 
 ascii : (b : ℕ) → b ≤ 0x7F → wellFormed (b ∷ []) ≡ true
-unfolding wellFormed some whole within
+unfolding wellFormed some wholeRow inColumn
 ascii b h = rw (le-leb 0 b (omega arith), le-leb b 0x7F h)
 
 valid-ink : (s : List ℕ) → ink s ≡ true → valid s ≡ true

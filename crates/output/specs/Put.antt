@@ -8,8 +8,8 @@ use lib.Seq.{sets, length-sets, set-comm}
 use Rattle.utf8.specs.Stores.{sets-append}
 
 -- what ends a line
-abbrev pub newline : ℕ
-newline = 0x0A
+abbrev pub newlineByte : ℕ
+newlineByte = 0x0A
 
 -- the output is o with b stored from `at` on, and the next place is behind b
 pub record Put (o : List ℕ) (at : ℕ) (b o′ : List ℕ) (next : ℕ) : Type 0 where
@@ -59,15 +59,15 @@ pub sets-last : (a l : List ℕ) (i x : ℕ) → sets (set l (i + length a) x) i
 sets-last a l i x = set-sets a l i (i + length a) x (omega arith) ∙ sets-append a (x ∷ []) l i
 
 -- With b′ left to store, all of b will have been.
-pub record Left (o₀ : List ℕ) (at : ℕ) (b o : List ℕ) (p : ℕ) (b′ : List ℕ) : Type 0 where
+pub record StillToPut (o₀ : List ℕ) (at : ℕ) (b o : List ℕ) (p : ℕ) (b′ : List ℕ) : Type 0 where
   pub same : sets o p b′ ≡ sets o₀ at b
   pub place : p + length b′ ≡ at + length b
   pub kept : length o ≡ length o₀
 
-pub left-all : {o : List ℕ} {at : ℕ} {b : List ℕ} → Left o at b o at b
+pub left-all : {o : List ℕ} {at : ℕ} {b : List ℕ} → StillToPut o at b o at b
 left-all = record { same = refl; place = refl; kept = refl }
 
-pub left-more : {o₀ b o x o′ : List ℕ} {at p q : ℕ} (y : List ℕ) → Left o₀ at b o p (x ++ y) → Put o p x o′ q → Left o₀ at b o′ q y
+pub left-more : {o₀ b o x o′ : List ℕ} {at p q : ℕ} (y : List ℕ) → StillToPut o₀ at b o p (x ++ y) → Put o p x o′ q → StillToPut o₀ at b o′ q y
 left-more {o₀} {b} {o} {x} {o′} {at} {p} {q} y l w =
     record {
       same = rw (w .wrote, w .ends) (sets-append x y o p) ∙ l .same;
@@ -75,8 +75,8 @@ left-more {o₀} {b} {o} {x} {o′} {at} {p} {q} y l w =
       kept = put-kept w ∙ l .kept;
     }
 
-pub left-none : {o₀ b o : List ℕ} {at p : ℕ} → Left o₀ at b o p [] → Put o₀ at b o p
+pub left-none : {o₀ b o : List ℕ} {at p : ℕ} → StillToPut o₀ at b o p [] → Put o₀ at b o p
 left-none l = record { wrote = l .same; ends = omega (arith, l .place) }
 
-pub left-room : {o₀ b o b′ : List ℕ} {at p : ℕ} → Room o₀ at b → Left o₀ at b o p b′ → Room o p b′
+pub left-room : {o₀ b o b′ : List ℕ} {at p : ℕ} → Room o₀ at b → StillToPut o₀ at b o p b′ → Room o p b′
 left-room r l = record { fits = omega (arith, r .fits, l .place, l .kept) }

@@ -63,22 +63,22 @@ fn line_end(pickle: &[u8], from: usize) -> usize {
 
 fn int(line: &[u8], next: usize) -> Literal {
     match number::int(line) {
-        IntLiteral::Bool(b) => read(value::BOOL, b as u64, 0, next),
-        IntLiteral::I64(bits) => read(value::I64, bits, 0, next),
+        IntLiteral::Bool(b) => read(value::KIND_BOOL, b as u64, 0, next),
+        IntLiteral::I64(bits) => read(value::KIND_I64, bits, 0, next),
         IntLiteral::Invalid => refused(Refusal::InvalidLiteral, 0),
     }
 }
 
 fn long_text(line: &[u8], next: usize) -> Literal {
     match number::long_text(line) {
-        I64Literal::Value(bits) => read(value::I64, bits, 0, next),
+        I64Literal::Value(bits) => read(value::KIND_I64, bits, 0, next),
         I64Literal::Invalid => refused(Refusal::InvalidLiteral, 0),
     }
 }
 
 fn float_text(line: &[u8], next: usize) -> Literal {
     match float::parse_f64(line) {
-        F64Literal::Bits(bits) => read(value::F64, bits, 0, next),
+        F64Literal::Bits(bits) => read(value::KIND_F64, bits, 0, next),
         F64Literal::Invalid => refused(Refusal::InvalidLiteral, 0),
         F64Literal::Outside => refused(Refusal::FloatOutside, 0),
     }
@@ -99,7 +99,7 @@ fn memo(line: &[u8], put: bool) -> Literal {
 
 fn long(bytes: &[u8], next: usize) -> Literal {
     match input::long(bytes) {
-        Integer::Value(bits) => read(value::I64, bits, 0, next),
+        Integer::Value(bits) => read(value::KIND_I64, bits, 0, next),
         Integer::TooLarge => refused(Refusal::IntegerTooLarge, 0),
     }
 }
@@ -125,14 +125,14 @@ fn string(line: &[u8], next: usize, room: &mut [u8]) -> Literal {
             }
             let last = line.len() - 1;
             let n = copy(&line[1..last], room);
-            read(value::BYTES, 0, n, next)
+            read(value::KIND_BYTES, 0, n, next)
         }
         Quoted::Escaped(len) => {
             if room.len() < len {
                 return refused(Refusal::TextFull, 0);
             }
             let n = text::unescape_string(line, room);
-            read(value::BYTES, 0, n, next)
+            read(value::KIND_BYTES, 0, n, next)
         }
         Quoted::Refused(at) => refused(Refusal::InvalidLiteral, at),
     }
@@ -145,7 +145,7 @@ fn unicode(line: &[u8], next: usize, room: &mut [u8]) -> Literal {
                 return refused(Refusal::TextFull, 0);
             }
             let n = text::unescape_unicode(line, room);
-            read(value::STRING, 0, n, next)
+            read(value::KIND_STRING, 0, n, next)
         }
         Decoded::Refused(at) => refused(Refusal::InvalidLiteral, at),
     }
@@ -159,7 +159,7 @@ fn repaired(bytes: &[u8], next: usize, room: &mut [u8]) -> Literal {
         return refused(Refusal::TextFull, 0);
     }
     let n = utf8::from_utf8_lossy(bytes, room);
-    read(value::STRING, 0, n, next)
+    read(value::KIND_STRING, 0, n, next)
 }
 
 // A literal that is a line, from the byte after its opcode.
@@ -189,7 +189,7 @@ fn of_bytes(code: u8, bytes: &[u8], next: usize, room: &mut [u8]) -> Literal {
         op::BINUNICODE => repaired(bytes, next, room),
         _ => {
             let n = copy(bytes, room);
-            read(value::BYTES, 0, n, next)
+            read(value::KIND_BYTES, 0, n, next)
         }
     }
 }
@@ -240,25 +240,25 @@ fn of_number(pickle: &[u8], code: u8) -> Literal {
             if left < 2 {
                 return refused(Refusal::EndOfInput, 0);
             }
-            read(value::I64, wide(pickle[1]), 0, 2)
+            read(value::KIND_I64, wide(pickle[1]), 0, 2)
         }
         op::BININT2 => {
             if left < 3 {
                 return refused(Refusal::EndOfInput, 0);
             }
-            read(value::I64, input::u16_at(pickle, 1) as u64, 0, 3)
+            read(value::KIND_I64, input::u16_at(pickle, 1) as u64, 0, 3)
         }
         op::BININT => {
             if left < 5 {
                 return refused(Refusal::EndOfInput, 0);
             }
-            read(value::I64, input::i32_at(pickle, 1), 0, 5)
+            read(value::KIND_I64, input::i32_at(pickle, 1), 0, 5)
         }
         _ => {
             if left < 9 {
                 return refused(Refusal::EndOfInput, 0);
             }
-            read(value::F64, input::f64_at(pickle, 1), 0, 9)
+            read(value::KIND_F64, input::f64_at(pickle, 1), 0, 9)
         }
     }
 }
@@ -271,7 +271,7 @@ fn named(m: usize, n: usize, next: usize) -> Literal {
     if 262144 < m {
         return refused(Refusal::TextFull, 0);
     }
-    read(value::GLOBAL, m as u64, m + n, next)
+    read(value::KIND_GLOBAL, m as u64, m + n, next)
 }
 
 // GLOBAL: two lines, each repaired; the room holds the module and then the name.

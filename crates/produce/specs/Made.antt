@@ -15,7 +15,7 @@ use Rattle.reading.specs.Smaller.{settle-smaller}
 use Rattle.reading.specs.Unfold.{In}
 use Rattle.resolved.specs.Resolved.{StandsFor}
 use Rattle.resolved.specs.Ordered.{Final}
-use Rattle.resolved.specs.Walk.{State}
+use Rattle.resolved.specs.Walk.{WalkState}
 use Rattle.resolved.specs.Tree.{walked, root-final}
 use Rattle.resolved.specs.Dues.{isDue, dues}
 use Rattle.resolved.specs.Shown.{Shown}
@@ -28,25 +28,25 @@ use Rattle.produce.specs.Ready.{Spelt, inside}
 
 -- ---- the Sets and Dicts in order, with nothing said of the list, which is zero again
 
-pub record Arranged (t : List Node) (s : State) (p d ws starts log measures sorted′ log′ measures′ : List ℕ) (used : ℕ) : Type 0 where
+pub record Arranged (t : List Node) (s : WalkState) (p d ws starts log measures sorted′ log′ measures′ : List ℕ) (used : ℕ) : Type 0 where
   pub shown : Shown t (graph t s (dues t (s .done))) (Final 4096 (s .done)) p d ws starts sorted′ log′ measures′
   pub in-order : (i : ℕ) → In i (dues t (s .done)) → getD measures′ i 0 < 2 ^ 62
   pub others : (i : ℕ) → ¬ In i (dues t (s .done)) → getD measures′ i 0 ≡ getD measures i 0
   pub behind : drop used log′ ≡ drop used log
   pub within : used ≤ length log
 
-abbrev pub Arranges : (noted p d ws starts sorted log measures list sorted′ log′ measures′ : List ℕ) (used : ℕ) → Type 0
-Arranges noted p d ws starts sorted log measures list sorted′ log′ measures′ used =
-    (t : List Node) (s : State) (lent : List ℕ) → ReadyToSettle t s lent noted p d ws starts sorted log measures list → Arranged t s p d ws starts log measures sorted′ log′ measures′ used
+abbrev pub SettlesDues : (noted p d ws starts sorted log measures list sorted′ log′ measures′ : List ℕ) (used : ℕ) → Type 0
+SettlesDues noted p d ws starts sorted log measures list sorted′ log′ measures′ used =
+    (t : List Node) (s : WalkState) (lent : List ℕ) → ReadyToSettle t s lent noted p d ws starts sorted log measures list → Arranged t s p d ws starts log measures sorted′ log′ measures′ used
 
-pub settles-arranged : {t : List Node} {s : State} {p d ws starts log measures list sorted′ log′ measures′ list′ : List ℕ} {used most : ℕ} → Settles t s p d ws starts log measures list sorted′ log′ measures′ list′ used most
+pub settles-arranged : {t : List Node} {s : WalkState} {p d ws starts log measures list sorted′ log′ measures′ list′ : List ℕ} {used most : ℕ} → Settles t s p d ws starts log measures list sorted′ log′ measures′ list′ used most
     → Arranged t s p d ws starts log measures sorted′ log′ measures′ used
 settles-arranged x = record { shown = x .shown; in-order = λ i m. x .in-order i m .1; others = x .others; behind = x .kept .behind; within = x .used-within }
 
 -- ---- the value that the root stands for
 
-abbrev settled : Value → Value
-settled v = record { label = v .label; contents = arrange (v .label) (settle (v .contents)) }
+abbrev settledValue : Value → Value
+settledValue v = record { label = v .label; contents = arrange (v .label) (settle (v .contents)) }
 
 -- Objects are not put in order
 object-kept : (l : Label) → kind l ≡ 12 → isDue l ≡ false
@@ -65,7 +65,7 @@ object-kept (GlobalL m n) e = refl
 object-kept (ObjectL m n b) e = refl
 
 module _ {p d ws starts sorted noted measures log list : List ℕ} {t : List Node} {root : ℕ} (x : Spelt p d ws starts sorted noted measures log list t root) {sorted′ log′ measures′ : List ℕ} {used : ℕ} (a : Arranged t (walked t 4096 64 root .after) p d ws starts log measures sorted′ log′ measures′ used) where
-  abbrev after : State
+  abbrev after : WalkState
   after = walked t 4096 64 root .after
 
   -- an Object has the children that the walk left it, as many as it had
@@ -88,19 +88,19 @@ module _ {p d ws starts sorted noted measures log list : List ℕ} {t : List Nod
           let f = x .low j in
           absurd (omega arith)
 
-  stands : StandsFor t (graph t after (dues t (after .done))) root (settled (tree t root))
+  stands : StandsFor t (graph t after (dues t (after .done))) root (settledValue (tree t root))
   unfolding settle
   stands = value-stands-64 t (inside (x .limited)) 4096 (x .limited .worded .beyond) root (x .limited .below) (x .limited .deep)
 
-  deep : depth (one (settled (tree t root))) ≤ 64
+  deep : depth (one (settledValue (tree t root))) ≤ 64
   unfolding settle
   deep = omega (arith, settle-smaller (one (tree t root)) .deep, x .limited .deep)
 
-  records : size (one (settled (tree t root))) ≤ 2048
+  records : size (one (settledValue (tree t root))) ≤ 2048
   unfolding settle
   records = omega (arith, settle-smaller (one (tree t root)) .values, x .limited .records)
 
-  texts : length (text (one (settled (tree t root)))) ≤ 65536
+  texts : length (text (one (settledValue (tree t root)))) ≤ 65536
   unfolding settle
   texts = omega (arith, settle-smaller (one (tree t root)) .texts, x .limited .texts)
 
@@ -110,7 +110,7 @@ module _ {p d ws starts sorted noted measures log list : List ℕ} {t : List Nod
       t = t;
       h = graph t after (dues t (after .done));
       done = after .done;
-      v = settled (tree t root);
+      v = settledValue (tree t root);
       begun = record { shown = a .shown; few = few; unwritten = unwritten };
       known = root-final t 4096 (x .limited .worded .beyond) 63 root;
       stands = stands;
@@ -135,6 +135,6 @@ pub record Outputs (log list table bytes : List ℕ) : Type 0 where
   pub table-long : 8192 ≤ length table
   pub text-long : 65536 ≤ length bytes
 
-abbrev pub Writes : (p d ws starts sorted noted measures log list : List ℕ) (root : ℕ) (table bytes table′ bytes′ : List ℕ) (records : ℕ) → Type 0
-Writes p d ws starts sorted noted measures log list root table bytes table′ bytes′ records =
+abbrev pub WritesSettled : (p d ws starts sorted noted measures log list : List ℕ) (root : ℕ) (table bytes table′ bytes′ : List ℕ) (records : ℕ) → Type 0
+WritesSettled p d ws starts sorted noted measures log list root table bytes table′ bytes′ records =
     (t : List Node) → Spelt p d ws starts sorted noted measures log list t root → Produced (settle (one (tree t root))) table bytes table′ bytes′ records

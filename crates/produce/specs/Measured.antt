@@ -13,7 +13,7 @@ use Rattle.reading.specs.Build.{at, tree}
 use Rattle.reading.specs.Graph.{Graph}
 use Rattle.reading.specs.Settle.{settle}
 use Rattle.resolved.specs.Noted.{isContainer}
-use Rattle.resolved.specs.Shown.{labelOf}
+use Rattle.resolved.specs.Shown.{nodeLabel}
 use Rattle.resolved.specs.Tree.{walked}
 use Rattle.resolve.specs.Facts.{HoldsWalk}
 use Rattle.produce.specs.Rooms.{Zeros}
@@ -26,7 +26,7 @@ pub record Worded (p ws : List ℕ) (t : List Node) : Type 0 where
   pub beyond : length t ≤ 4096
   pub short : length p ≤ 65536
   pub words-long : 2 * length t ≤ length ws
-  pub labels-are : (i : ℕ) → i < length t → at t i .label ≡ labelOf p ws i
+  pub labels-are : (i : ℕ) → i < length t → at t i .label ≡ nodeLabel p ws i
   pub classes : (i : ℕ) → i < length t → kindIn (first ws i) ≡ 12 → (classIn (first ws i) < length t) × (kindIn (first ws (classIn (first ws i))) ≡ 11)
   pub leafless : (i : ℕ) → i < length t → isContainer (at t i .label) ≡ false → at t i .kids ≡ []
   pub few : (i : ℕ) → i < length t → kind (at t i .label) ≡ 12 → length (at t i .kids) ≤ 2

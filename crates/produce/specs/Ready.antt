@@ -13,16 +13,16 @@ use native.Mathlib.Omega.{arith}
 use Rattle.value.specs.Value.{Label, Value, one, size, NoneL, BoolL, I64L, F64L, BytesL, StringL, ListL, TupleL, SetL, FrozenSetL, DictL, GlobalL, ObjectL}
 use Rattle.steps.specs.State.{Node}
 use Rattle.reading.specs.Build.{at, tree}
-use Rattle.reading.specs.Unfold.{In, outside}
+use Rattle.reading.specs.Unfold.{In, outside-nodes}
 use Rattle.resolved.specs.Ordered.{Final}
-use Rattle.resolved.specs.Walk.{State, start, walk-build}
+use Rattle.resolved.specs.Walk.{WalkState, walkStart, walk-build}
 use Rattle.resolved.specs.Resolves.{resolves-empty}
 use Rattle.resolved.specs.Tree.{walked, levels-enough}
 use Rattle.resolved.specs.Noted.{isContainer, isTextLeaf, ahead}
 use Rattle.resolved.specs.Ranges.{graph-inside}
-use Rattle.resolved.specs.Shown.{Shown, Spelled, hasText}
+use Rattle.resolved.specs.Shown.{Shown, Spelled, labelHasText}
 use Rattle.resolve.specs.Rooted.{root-words, measures-low}
-use Rattle.texts.specs.Due.{isDue, Decodes}
+use Rattle.texts.specs.Due.{textDue, Decodes}
 use Rattle.arrange.specs.Walked.{Walked}
 use Rattle.arrange.specs.Settling.{ReadyToSettle}
 use Rattle.arrange.specs.Enough.{walk-over, walk-fits}
@@ -43,7 +43,7 @@ pub record Unwritten (p d ws starts sorted noted measures log list : List ℕ) (
 
 -- ---- labels with text
 
-text-kinds : (l : Label) → hasText l ≡ true → (isContainer l || isTextLeaf l) ≡ true
+text-kinds : (l : Label) → labelHasText l ≡ true → (isContainer l || isTextLeaf l) ≡ true
 text-kinds NoneL h = h
 text-kinds (BoolL b) h = h
 text-kinds (I64L n) h = h
@@ -59,7 +59,7 @@ text-kinds (GlobalL m n) h = refl
 text-kinds (ObjectL m n b) h = refl
 
 -- a word below `ahead` of a label with text: it is wanted
-word-wanted : (l : Label) (w : ℕ) → hasText l ≡ true → 128 ≤ w → w < ahead → (hasText l && (leb 128 w && ltb w (cond (isContainer l) (2 ^ 42) (2 ^ 41)))) ≡ true
+word-wanted : (l : Label) (w : ℕ) → labelHasText l ≡ true → 128 ≤ w → w < ahead → (labelHasText l && (leb 128 w && ltb w (cond (isContainer l) (2 ^ 42) (2 ^ 41)))) ≡ true
 word-wanted l w h a b = rw (h, le-leb 128 w a) (low (isContainer l))
   where
     low : (c : Bool) → ltb w (cond c (2 ^ 42) (2 ^ 41)) ≡ true
@@ -77,13 +77,13 @@ module _ {p ws starts : List ℕ} {t : List Node} {root : ℕ} (x : Limited p ws
     where
       go : Dec (i < length t) → at t i .kids ≡ []
       go (yes l) = x .worded .leafless i l c
-      go (no l) = outside t i l
+      go (no l) = outside-nodes t i l
 
   over : Walked t (walked t 4096 64 root .after)
   over = walk-over t inside (x .worded .beyond) root (x .below) (x .deep) leaves
 
   is-tree : walked t 4096 64 root .value ≡ tree t root
-  is-tree = walk-build t 4096 64 root (start t) .value ∙ levels-enough t 4096 (x .worded .beyond) 64 root (x .deep)
+  is-tree = walk-build t 4096 64 root (walkStart t) .value ∙ levels-enough t 4096 (x .worded .beyond) 64 root (x .deep)
 
   few-records : size (one (walked t 4096 64 root .value)) ≤ 2048
   few-records = let e : size (one (walked t 4096 64 root .value)) ≡ size (one (tree t root)) = ap (λ (v : Value). size (one v)) is-tree in omega (arith, x .records)
@@ -91,18 +91,18 @@ module _ {p ws starts : List ℕ} {t : List Node} {root : ℕ} (x : Limited p ws
 -- ---- decoded
 
 module _ {p ws starts sorted noted measures₀ : List ℕ} {t : List Node} {root : ℕ} (m : MeasuredAs p ws starts sorted noted measures₀ t root) {d₀ d measures : List ℕ} {used : ℕ} (D : Decodes p ws d₀ measures₀ (length measures₀) d measures used) where
-  abbrev after : State
+  abbrev after : WalkState
   after = walked t 4096 64 root .after
 
   -- a finished node's text was wanted
-  done-due : (i : ℕ) → i < length t → In i (after .done) → hasText (at t i .label) ≡ true → isDue p ws i (getD measures₀ i 0) ≡ true
-  unfolding isDue
+  done-due : (i : ℕ) → i < length t → In i (after .done) → labelHasText (at t i .label) ≡ true → textDue p ws i (getD measures₀ i 0) ≡ true
+  unfolding textDue
   done-due i l n h =
       let e = m .limited .worded .labels-are i l in
       let w = root-words (m .holds) i l n (text-kinds (at t i .label) h) in
       rw (← e) (word-wanted (at t i .label) (getD measures₀ i 0) h (w .0) (w .1))
 
-  spelled : (i : ℕ) → In i (after .done) → i < length t → hasText (at t i .label) ≡ true → Spelled p d ws measures i (at t i .label)
+  spelled : (i : ℕ) → In i (after .done) → i < length t → labelHasText (at t i .label) ≡ true → Spelled p d ws measures i (at t i .label)
   spelled i n l h =
       let e = m .limited .worded .labels-are i l in
       let k : i < length measures₀ = omega (arith, measures-many m) in

@@ -12,7 +12,7 @@ use Rattle.produce.specs.Rooms.{zeros-long, zeros-whole, front-cleared, 
 use Rattle.produce.specs.Measured.{Measured, WorkRooms, Produces}
 use Rattle.produce.specs.Texts.{measures-many, texts-fit}
 use Rattle.produce.specs.Ready.{Unwritten, spelt}
-use Rattle.produce.specs.Made.{Arranges, settles-arranged, rooted, produced, Outputs, Writes}
+use Rattle.produce.specs.Made.{SettlesDues, settles-arranged, rooted, produced, Outputs, WritesSettled}
 
 -- ---- after the settling
 
@@ -20,7 +20,7 @@ module _ {noted p d ws starts sorted log measures list sorted′ log′ measures
   settles : Settles (u .t) (u .s) p d ws starts log measures list sorted′ log′ measures′ list′ used most
   settles = x (u .t) (u .s) (u .lent) (u .ready)
 
-  pub arranges : Arranges noted p d ws starts sorted log measures list sorted′ log′ measures′ used
+  pub arranges : SettlesDues noted p d ws starts sorted log measures list sorted′ log′ measures′ used
   arranges t s lent r = settles-arranged (x t s lent r)
 
   module _ (z : list ≡ replicate 2048 0) where
@@ -40,7 +40,7 @@ module _ {noted p d ws starts sorted log measures list sorted′ log′ measures
 
 -- ---- after it and the writing
 
-module _ {p d ws starts sorted noted measures log list : List ℕ} {root : ℕ} {table bytes sorted′ log′ measures′ : List ℕ} {used : ℕ} (u : Unwritten p d ws starts sorted noted measures log list root) (x : Arranges noted p d ws starts sorted log measures list sorted′ log′ measures′ used) (o : Outputs log list table bytes) where
+module _ {p d ws starts sorted noted measures log list : List ℕ} {root : ℕ} {table bytes sorted′ log′ measures′ : List ℕ} {used : ℕ} (u : Unwritten p d ws starts sorted noted measures log list root) (x : SettlesDues noted p d ws starts sorted log measures list sorted′ log′ measures′ used) (o : Outputs log list table bytes) where
   pub root-ready : Rooted p d ws starts sorted′ log′ root measures′ table bytes
   root-ready = rooted (u .are) (x (u .nodes) _ (u .are .lent) (u .are .ready)) (o .table-long) (o .text-long)
 
@@ -55,7 +55,7 @@ module _ {p d ws starts sorted noted measures log list : List ℕ} {root : ℕ} 
       let e : length log ≡ 8192 = ap length (o .log-zero) ∙ length-replicate {A = ℕ} 8192 0 in
       front-cleared 8192 used log log′ (zeros-whole (o .log-zero)) (omega (arith, used-within)) (x (u .nodes) _ (u .are .lent) (u .are .ready) .behind)
 
-  pub writes : {table′ bytes′ : List ℕ} {r : ℕ} → Emits p d ws starts sorted′ log′ root measures′ table bytes table′ bytes′ r → Writes p d ws starts sorted noted measures log list root table bytes table′ bytes′ (r % 4096)
+  pub writes : {table′ bytes′ : List ℕ} {r : ℕ} → Emits p d ws starts sorted′ log′ root measures′ table bytes table′ bytes′ r → WritesSettled p d ws starts sorted noted measures log list root table bytes table′ bytes′ (r % 4096)
   writes e t y = produced y (x t _ (y .lent) (y .ready)) (o .table-long) (o .text-long) e
 
 -- ---- after the decoding
@@ -82,5 +82,5 @@ module _ {p ws starts sorted noted measures₀ : List ℕ} {root : ℕ} {decoded
   pub decoded-again : cleared used d ≡ decoded
   decoded-again = front-cleared 65536 used decoded d (l .decoded-zero) used-few (D .behind)
 
-  pub produces : {table′ bytes′ : List ℕ} {r : ℕ} → Writes p d ws starts sorted noted measures (take 8192 log) (take 2048 list) root table bytes table′ bytes′ r → Produces p ws starts sorted noted measures₀ root table bytes table′ bytes′ r
+  pub produces : {table′ bytes′ : List ℕ} {r : ℕ} → WritesSettled p d ws starts sorted noted measures (take 8192 log) (take 2048 list) root table bytes table′ bytes′ r → Produces p ws starts sorted noted measures₀ root table bytes table′ bytes′ r
   produces w t y = w t (spelt y D (take 8192 log) (take 2048 list) log-long list-long)

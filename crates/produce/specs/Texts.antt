@@ -11,11 +11,11 @@ use Rattle.value.specs.Value.{Label, textOf, NoneL, BoolL, I64L, F64L, BytesL, 
 use Rattle.steps.specs.State.{Node}
 use Rattle.reading.specs.Build.{at}
 use Rattle.resolved.specs.Noted.{isContainer, ahead}
-use Rattle.resolved.specs.Shown.{leading, trailing, hasText}
+use Rattle.resolved.specs.Shown.{leading, trailing, labelHasText}
 use Rattle.resolved.specs.Reached.{textIf}
 use Rattle.resolved.specs.Sums.{upTo}
-use Rattle.resolve.specs.Rooted.{worded, worded-texts}
-use Rattle.texts.specs.Due.{isDue, textLength, dueText, Decodable}
+use Rattle.resolve.specs.Rooted.{hasWord, worded-texts}
+use Rattle.texts.specs.Due.{textDue, nodeTextLength, dueText, Decodable}
 use Rattle.produce.specs.Rooms.{Zeros, zeros-long}
 use Rattle.produce.specs.Measured.{MeasuredAs}
 
@@ -55,14 +55,14 @@ module _ {p ws starts sorted noted measures : List ℕ} {t : List Node} {root : 
   pub measures-many : length measures ≡ length t
   measures-many = m .holds .fits .noted .long
 
-  node-fits : (i : ℕ) → i < length t → cond (isDue p ws i (getD measures i 0)) (textLength p ws i) 0 ≤ textIf t (worded t measures) i
-  unfolding isDue
+  node-fits : (i : ℕ) → i < length t → cond (textDue p ws i (getD measures i 0)) (nodeTextLength p ws i) 0 ≤ textIf t (hasWord t measures) i
+  unfolding textDue
   node-fits i l =
       let e = m .limited .worded .labels-are i l in
       let q = text-parts (at t i .label) in
-      rw (← e, q) (wanted (hasText (at t i .label)) (leb 128 (getD measures i 0)) (isContainer (at t i .label)) (getD measures i 0) (length (textOf (at t i .label))))
+      rw (← e, q) (wanted (labelHasText (at t i .label)) (leb 128 (getD measures i 0)) (isContainer (at t i .label)) (getD measures i 0) (length (textOf (at t i .label))))
 
-  nodes-fit : (n : ℕ) → n ≤ length t → dueText p ws measures n ≤ upTo (textIf t (worded t measures)) n
+  nodes-fit : (n : ℕ) → n ≤ length t → dueText p ws measures n ≤ upTo (textIf t (hasWord t measures)) n
   unfolding dueText upTo
   nodes-fit zero h = omega arith
   nodes-fit (suc n) h = omega (arith, nodes-fit n (omega arith), node-fits n (omega arith))

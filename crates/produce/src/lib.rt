@@ -12,7 +12,7 @@ ghost use lib.ListN.{replicate};
 ghost use Rattle.arrange.specs.Settling.{Unsettled};
 ghost use Rattle.produce.specs.Measured.{Measured, WorkRooms, Produces, Restored};
 ghost use Rattle.produce.specs.Ready.{Unwritten};
-ghost use Rattle.produce.specs.Made.{Arranges, Outputs, Writes};
+ghost use Rattle.produce.specs.Made.{SettlesDues, Outputs, WritesSettled};
 
 // The Sets and Dicts in order, in a list that is zero before and after. The answer: how many items of Sets the log has.
 fn settle_all<'a>(
@@ -29,7 +29,7 @@ fn settle_all<'a>(
     requires { ⌜ Unsettled (now dues) (now pickle) (now decoded) (now nodes) (now starts) (now sorted) (now log)
         (now measures) (now list) ⌝ }
     requires { ⌜ now list ≡ replicate 2048 0 ⌝ }
-    ensures { λ r. ⌜ Arranges (now (dues .entry)) (now (pickle .entry)) (now (decoded .entry)) (now (nodes .entry))
+    ensures { λ r. ⌜ SettlesDues (now (dues .entry)) (now (pickle .entry)) (now (decoded .entry)) (now (nodes .entry))
         (now (starts .entry)) (now (sorted .entry)) (now (log .entry)) (now (measures .entry)) (now (list .entry))
         (now (sorted .exit)) (now (log .exit)) (now (measures .exit)) r ⌝ }
     ensures { λ _. ⌜ now (list .exit) ≡ now (list .entry) ⌝ }
@@ -68,7 +68,7 @@ fn write_all<'a>(
     requires { ⌜ Unwritten (now pickle) (now decoded) (now nodes) (now starts) (now sorted) (now dues) (now measures)
         (now log) (now list) (root .0) ⌝ }
     requires { ⌜ Outputs (now log) (now list) (now table) (now text) ⌝ }
-    ensures { λ r. ⌜ Writes (now (pickle .entry)) (now (decoded .entry)) (now (nodes .entry)) (now (starts .entry))
+    ensures { λ r. ⌜ WritesSettled (now (pickle .entry)) (now (decoded .entry)) (now (nodes .entry)) (now (starts .entry))
         (now (sorted .entry)) (now (dues .entry)) (now (measures .entry)) (now (log .entry)) (now (list .entry)) (root .0)
         (now (table .entry)) (now (text .entry)) (now (table .exit)) (now (text .exit)) r ⌝ }
     ensures { λ _. ⌜ (now (log .exit) ≡ now (log .entry)) × (now (list .exit) ≡ now (list .entry)) ⌝ }

@@ -14,11 +14,11 @@ use Rattle.op.specs.declared.Objection.the-variants.{Nothing, Outside}
 use Rattle.steps.specs.State.{State, Res, ok, no, _>>=_, byte}
 use Rattle.steps.specs.Run.{Next, goes, stops, admit, step, start, run}
 use Rattle.steps.specs.Out.{Out}
-use Rattle.steps.specs.Arguments.{Reads, byte-read}
+use Rattle.steps.specs.Arguments.{ReadsOnly, byte-read}
 use Rattle.steps.specs.Pickletools.{byte-leads}
-use Rattle.steps.specs.Keeps.{after}
+use Rattle.steps.specs.Keeps.{stateAfter}
 use Rattle.steps.specs.Shrinks.{step-less}
-use Rattle.steps.specs.Fuel.{finish, run-finish, finish-refused, finish-stops, finish-goes}
+use Rattle.steps.specs.Fuel.{runFrom, run-finish, finish-refused, finish-stops, finish-goes}
 use Rattle.machine.specs.Ran.{afterSteps}
 use Rattle.run_laws.specs.Steps.{one-step, still-to-run}
 
@@ -48,7 +48,7 @@ pub step-alike : (s : State) → StepAlike s
 unfolding step admit _>>=_ highest Out
 step-alike s = go (byte s) refl (byte-read s)
   where
-    go : (r : Res (ℕ × State)) → byte s ≡ r → Out (λ (p : ℕ × State). (p .0 ≡ getD (take 1 (s .input)) 0 0) × Reads 1 s (p .1)) r → StepAlike s
+    go : (r : Res (ℕ × State)) → byte s ≡ r → Out (λ (p : ℕ × State). (p .0 ≡ getD (take 1 (s .input)) 0 0) × ReadsOnly 1 s (p .1)) r → StepAlike s
     go (no why) e h = as-full (rw e)
     go (ok p) e h = by (isOneOf (outside Plain) (p .0)) refl
       where
@@ -72,13 +72,13 @@ pub data RunAlike (p : List ℕ) : Type 0 where
 
 module _ (p : List ℕ) where
   -- s after m steps of the full reader, with n - 1 bytes left at most
-  from : (n m : ℕ) (s : State) → length (s .input) < n → afterSteps Full m p ≡ ok (goes s) → finish Full s ≡ run Full p → finish Plain s ≡ run Plain p → RunAlike p
-  unfolding Out after
+  from : (n m : ℕ) (s : State) → length (s .input) < n → afterSteps Full m p ≡ ok (goes s) → runFrom Full s ≡ run Full p → runFrom Plain s ≡ run Plain p → RunAlike p
+  unfolding Out stateAfter
   from zero m s l e f g = absurd (omega arith)
   from (suc n) m s l e f g = by (step-alike s) (step Full s) refl (step-less Full s) (from n (suc m))
     where
-      by : StepAlike s → (x : Res Next) → step Full s ≡ x → Out (λ (k : Next). length (after k .input) < length (s .input)) x
-          → ((t : State) → length (t .input) < n → afterSteps Full (suc m) p ≡ ok (goes t) → finish Full t ≡ run Full p → finish Plain t ≡ run Plain p → RunAlike p)
+      by : StepAlike s → (x : Res Next) → step Full s ≡ x → Out (λ (k : Next). length (stateAfter k .input) < length (s .input)) x
+          → ((t : State) → length (t .input) < n → afterSteps Full (suc m) p ≡ ok (goes t) → runFrom Full t ≡ run Full p → runFrom Plain t ≡ run Plain p → RunAlike p)
           → RunAlike p
       by (barred b r i o q) x y h more = runs-barred b o (record { steps = m; state = s; there = e; rest = r; at = i }) (sym g ∙ finish-refused Plain s s (OutsideProfile b) q)
       by (as-full q) (no why) y h more = runs-as-full (sym g ∙ finish-refused Plain s s why (q ∙ y) ∙ sym (finish-refused Full s s why y) ∙ f)

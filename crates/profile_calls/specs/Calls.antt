@@ -8,7 +8,7 @@ use mathlib.Core.Path.{_≡_, refl, sym, _∙_, ap}
 use Rattle.refusal.specs.declared.Refusal.the-variants.{OutsideProfile}
 use Rattle.refusal.specs.declared.Answer.{Answer}
 use Rattle.refusal.specs.Numbers.{refusedAnswer}
-use Rattle.rooms.specs.Stated.{Slices, stated, tableOf, textOf, begun, short}
+use Rattle.rooms.specs.Stated.{Slices, stated, tableSlice, textSlice, begun, short}
 use Rattle.op.specs.Table.{rowIn, rowOf, knownName, opcodeOf}
 use Rattle.op.specs.Edition.{evaluates}
 use Rattle.op.specs.declared.Edition.the-variants.{Full, Plain}
@@ -16,13 +16,13 @@ use Rattle.utf8.specs.Utf8 as utf8
 use Rattle.input.specs.Bytes.{Bytes, lastByte, lowFirst}
 use Rattle.input.specs.Line.{firstFrom, newlineOf, lessCr, lineOf}
 use Rattle.value.specs.Value.{text, count, size, depth, table, GlobalL, nil, node}
-use Rattle.steps.specs.State.{State, ok, _>>=_, need, leaf, bytes, byte, line, pop, top, popMany, pushId, pushNode, push, link, extend, find, has, insert, get, put}
-use Rattle.steps.specs.Opcodes.{proto, lowBytes, binint1, global, made, tupleN, added, append, getBytes, putBytes}
+use Rattle.steps.specs.State.{State, ok, _>>=_, need, leaf, bytes, byte, line, pop, top, popMany, pushId, pushNode, push, link, extend, memoFind, memoHas, memoInsert, get, put}
+use Rattle.steps.specs.Opcodes.{proto, lowBytes, binint1, global, made, tupleN, addItems, append, getBytes, putBytes}
 use Rattle.steps.specs.Run.{going, does, decide, admit, step, runs, start, run}
 use Rattle.reading.specs.Build as Build
 use Rattle.reading.specs.Measure.{measured}
 use Rattle.reading.specs.Settle as Settle
-use Rattle.reading.specs.Reading.{Reading, refuses, reads, told, stopped, prefixIn, wholeIn, prefix, whole, leaves}
+use Rattle.reading.specs.Reading.{Reading, refuses, reads, readingOf, stopped, prefixIn, wholeIn, prefix, whole, leaves}
 use Rattle.de.specs.Call.{reading, ReadCall, read-one}
 use Rattle.de.specs.Theorems.{call-answer, call-table, call-text, call-long-enough, not-refused, Ends, refused as ends-refused, read as ends-read, prefix-ends, whole-ends}
 use Rattle.de.specs.Shared.{shared}
@@ -32,11 +32,11 @@ use Rattle.profile_calls.specs.Classless.{Classless, built, ReadsClassle
 
 -- opens what the examples compute with
 unfoldable machine : Unit {0}
-unfolding lastByte lowFirst firstFrom newlineOf lessCr lineOf utf8.evaluates rowIn rowOf knownName opcodeOf evaluates _>>=_ need leaf bytes byte line pop top popMany pushId pushNode push link extend find has insert get put proto lowBytes binint1 global made tupleN added append getBytes putBytes going does decide admit step runs start run
+unfolding lastByte lowFirst firstFrom newlineOf lessCr lineOf utf8.evaluates rowIn rowOf knownName opcodeOf evaluates _>>=_ need leaf bytes byte line pop top popMany pushId pushNode push link extend memoFind memoHas memoInsert get put proto lowBytes binint1 global made tupleN addItems append getBytes putBytes going does decide admit step runs start run
 machine = tt
 
 unfoldable building : Unit {0}
-unfolding text count size depth table Build.firstTaken Build.blocked Build.finish Build.each Build.build Build.tree measured Settle.arrange Settle.settle told stopped prefixIn
+unfolding text count size depth table Build.firstTaken Build.blocked Build.finish Build.each Build.build Build.tree measured Settle.arrange Settle.settle readingOf stopped prefixIn
 building = tt
 
 -- the answer of the profile: 26, the byte of one of the six, and the step of it
@@ -75,8 +75,8 @@ pub record Fills (p : List ℕ) (l l′ : Slices) (a : Answer) : Type 0 where
   pub contains : Classless (built state root)
   pub classless : Classless (Settle.settle (built state root))
   pub count-is : a .count ≡ size (Settle.settle (built state root))
-  pub table-is : tableOf l′ ≡ begun (table (Settle.settle (built state root)) 0) (tableOf l)
-  pub text-is : textOf l′ ≡ begun (text (Settle.settle (built state root))) (textOf l)
+  pub table-is : tableSlice l′ ≡ begun (table (Settle.settle (built state root)) 0) (tableSlice l)
+  pub text-is : textSlice l′ ≡ begun (text (Settle.settle (built state root))) (textSlice l)
 
 call-fills : (p : List ℕ) (x : Reading) (l l′ : Slices) (a : Answer) → ReadCall x l l′ a → a .number ≡ 0 → ReadsClassless p x → Fills p l l′ a
 call-fills p x l l′ a c z (refused why e) = absurd (not-refused x l l′ a c why z e)
@@ -89,8 +89,8 @@ call-fills p x l l′ a c z (read s r d e h) =
       contains = h;
       classless = settled-classless (built s r) h;
       count-is = ap (λ (y : Answer). y .count) (call-answer x l l′ a c long) ∙ ap (λ (y : Reading). y .answer .count) e;
-      table-is = call-table x l l′ a c long ∙ ap (λ (y : Reading). begun (y .words) (tableOf l)) e;
-      text-is = call-text x l l′ a c long ∙ ap (λ (y : Reading). begun (y .bytes) (textOf l)) e;
+      table-is = call-table x l l′ a c long ∙ ap (λ (y : Reading). begun (y .words) (tableSlice l)) e;
+      text-is = call-text x l l′ a c long ∙ ap (λ (y : Reading). begun (y .bytes) (textSlice l)) e;
     }
 
 -- ---- the prefix reading, then the whole reading

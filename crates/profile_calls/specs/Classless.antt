@@ -18,10 +18,10 @@ use Rattle.steps.specs.Shape.{Shaped, run-shaped}
 use Rattle.reading.specs.Build.{at, tree}
 use Rattle.reading.specs.Form.{All, tree-all}
 use Rattle.reading.specs.Well.{object-of, right-at, settle-labels}
-use Rattle.reading.specs.Letters.{Labelled, labelled-at, Made, Classes, run-labelled}
+use Rattle.reading.specs.Letters.{Labelled, labelled-at, PlainLabels, Classes, run-labelled}
 use Rattle.reading.specs.Measure.{measured}
 use Rattle.reading.specs.Settle.{settle}
-use Rattle.reading.specs.Reading.{Reading, refuses, reads, told, consumed, stopped, prefixIn, wholeIn, leaves}
+use Rattle.reading.specs.Reading.{Reading, refuses, reads, readingOf, consumed, stopped, prefixIn, wholeIn, leaves}
 
 abbrev pub classless : Label → Bool
 classless NoneL = true
@@ -47,11 +47,11 @@ Classless f = All (λ l c. IsClassless l) f
 
 -- ---- the machine's nodes
 
-abbrev made : Made IsClassless
-made = record { none = tt; bool = λ b. tt; int = λ n. tt; float = λ n. tt; bytes = λ t. tt; string = λ t v. tt; list = tt; tuple = tt; dict = tt }
+abbrev plain-classless : PlainLabels IsClassless
+plain-classless = record { none = tt; bool = λ b. tt; int = λ n. tt; float = λ n. tt; bytes = λ t. tt; string = λ t v. tt; list = tt; tuple = tt; dict = tt }
 
 -- GLOBAL, REDUCE and NEWOBJ are outside the profile
-outside-it : Classes IsClassless made Plain
+outside-it : Classes IsClassless plain-classless Plain
 unfolding evaluates
 outside-it = record { globals = λ e. absurd (let z : _≡_ {A = ℕ} 0 1 = cc in omega arith); reduces = λ e. absurd (let z : _≡_ {A = ℕ} 0 1 = cc in omega arith); newobjs = λ e. absurd (let z : _≡_ {A = ℕ} 0 1 = cc in omega arith) }
 
@@ -62,7 +62,7 @@ At-stop s = Shaped (s .nodes) × Labelled IsClassless (s .nodes)
 
 stopped-classless : (p : List ℕ) → Bytes p → Out (λ (x : State × ℕ). At-stop (x .0)) (stopped Plain p)
 unfolding stopped At-stop
-stopped-classless p b = bind-need _ _ _ _ λ l. bind _ _ _ _ (both-out _ _ (run Plain p) (run-shaped Plain p) (run-labelled IsClassless made Plain outside-it p b)) λ s h. bind-any _ _ _ λ q e. out _ _ h
+stopped-classless p b = bind-need _ _ _ _ λ l. bind _ _ _ _ (both-out _ _ (run Plain p) (run-shaped Plain p) (run-labelled IsClassless plain-classless Plain outside-it p b)) λ s h. bind-any _ _ _ λ q e. out _ _ h
 
 -- the tree of the value left, before equal keys and items collapse
 abbrev pub built : State → ℕ → Forest
@@ -87,13 +87,13 @@ pub data ReadsClassless (p : List ℕ) (x : Reading) : Type 0 where
 pub settled-classless : (f : Forest) → Classless f → Classless (settle f)
 settled-classless f h = settle-labels IsClassless f h
 
-told-classless : (p : List ℕ) (s : State) (root : ℕ) → stopped Plain p ≡ ok (s, root) → Classless (built s root) → ReadsClassless p (told (consumed p s) (built s root))
-unfolding told
+told-classless : (p : List ℕ) (s : State) (root : ℕ) → stopped Plain p ≡ ok (s, root) → Classless (built s root) → ReadsClassless p (readingOf (consumed p s) (built s root))
+unfolding readingOf
 told-classless p s root e h = go (measured (built s root)) refl
   where
-    go : (r : Res (Unit {0})) → measured (built s root) ≡ r → ReadsClassless p (told (consumed p s) (built s root))
-    go (no why) m = refused why (rw (m, told))
-    go (ok u) m = read s root e (rw (m, told)) h
+    go : (r : Res (Unit {0})) → measured (built s root) ≡ r → ReadsClassless p (readingOf (consumed p s) (built s root))
+    go (no why) m = refused why (rw (m, readingOf))
+    go (ok u) m = read s root e (rw (m, readingOf)) h
 
 pub prefix-classless : (p : List ℕ) → Bytes p → ReadsClassless p (prefixIn Plain p)
 unfolding prefixIn Out

@@ -13,17 +13,17 @@ use Rattle.value.specs.WellFormed.{isTuple, firstIsTuple}
 use Rattle.steps.specs.State.{Node}
 use Rattle.steps.specs.Opcodes.{isObject}
 use Rattle.reading.specs.Build.{Stage, Stages, taken, kept, unbuilt, stage, none, isTaken, at, firstTaken, blocked, finish, each, build, tree}
-use Rattle.reading.specs.Unfold.{Staged, same, other, staged, freshness, left, left-stage, left-less, left-all, outside}
-use Rattle.reading.specs.Fuel.{View, view, copied, inside, stuck, entered}
+use Rattle.reading.specs.Unfold.{Staged, same, other, staged, freshness, freshLeft, left-stage, left-less, fresh-left-all, outside-nodes}
+use Rattle.reading.specs.Fuel.{BuildCase, build-case, copied, inside, stuck, entered}
 
 -- P of every label and its contents
 unfoldable pub All : (Label → Forest → Type 0) → Forest → Type 0
 All P nil = Unit {0}
 All P (node l c r) = P l c × All P c × All P r
 
-pub and-left : (a b : Bool) → (a && b) ≡ true → T a
-and-left true b h = tt
-and-left false b h = let z : _≡_ {A = ℕ} 0 1 = cc in absurd (omega arith)
+pub and-first : (a b : Bool) → (a && b) ≡ true → T a
+and-first true b h = tt
+and-first false b h = let z : _≡_ {A = ℕ} 0 1 = cc in absurd (omega arith)
 
 and-no : (a b : Bool) → (a && b) ≡ false → T a → b ≡ false
 and-no true b h t = h
@@ -59,17 +59,17 @@ module _
       formed : All P (one v)
       tuple : isTaken (d i) ≡ false → T (isTuple (at t i .label)) → T (isTuple (v .label))
       sound : Sound d′
-      less : left d′ (length t) ≤ left d (length t)
+      less : freshLeft d′ (length t) ≤ freshLeft d (length t)
 
     record HaveForm (is : List ℕ) (d : Stages) (f : Forest) (d′ : Stages) : Type 0 where
       formed : All P f
       counted : count f ≡ length is
       first : 0 < length is → firstTaken d is ≡ false → T (isTuple (at t (getD is 0 0) .label)) → T (firstIsTuple f)
       sound : Sound d′
-      less : left d′ (length t) ≤ left d (length t)
+      less : freshLeft d′ (length t) ≤ freshLeft d (length t)
 
-    each-built : (k : ℕ) (g : ℕ → Stages → Value × Stages) → ((i : ℕ) (d : Stages) → left d (length t) < k → Sound d → HasForm i d (g i d .0) (g i d .1))
-        → (is : List ℕ) (d : Stages) → left d (length t) < k → Sound d → HaveForm is d (each g is d .0) (each g is d .1)
+    each-built : (k : ℕ) (g : ℕ → Stages → Value × Stages) → ((i : ℕ) (d : Stages) → freshLeft d (length t) < k → Sound d → HasForm i d (g i d .0) (g i d .1))
+        → (is : List ℕ) (d : Stages) → freshLeft d (length t) < k → Sound d → HaveForm is d (each g is d .0) (each g is d .1)
     unfolding each All count firstTaken
     each-built k g h [] d l s = record { formed = tt; counted = refl; first = λ z. absurd (omega arith); sound = s; less = omega arith }
     each-built k g h (i ∷ is) d l s =
@@ -122,24 +122,24 @@ module _
           less = omega (arith, m .less, left-stage (p .1) i (kept v) (length t) refl, left-stage d i taken (length t) refl);
         }
 
-    build-built : (k i : ℕ) (d : Stages) → left d (length t) < k → Sound d → HasForm i d (build t k i d .0) (build t k i d .1)
+    build-built : (k i : ℕ) (d : Stages) → freshLeft d (length t) < k → Sound d → HasForm i d (build t k i d .0) (build t k i d .1)
     unfolding each freshness blocked All count Sound
     build-built zero i d l s = absurd (omega arith)
-    build-built (suc k) i d l s = go (view t i d) (build-built k)
+    build-built (suc k) i d l s = go (build-case t i d) (build-built k)
       where
-        go : View t i d → ((j : ℕ) (c : Stages) → left c (length t) < k → Sound c → HasForm j c (build t k j c .0) (build t k j c .1)) → HasForm i d (build t (suc k) i d .0) (build t (suc k) i d .1)
+        go : BuildCase t i d → ((j : ℕ) (c : Stages) → freshLeft c (length t) < k → Sound c → HasForm j c (build t k j c .0) (build t k j c .1)) → HasForm i d (build t (suc k) i d .0) (build t (suc k) i d .1)
         go (copied v e f) ih = rw (f k) (record { formed = s i v e .0; tuple = λ u. s i v e .1; sound = s; less = omega arith })
         go (inside e f) ih = rw (f k) (record { formed = none-formed; tuple = λ u. absurd (let w : isTaken taken ≡ false = rw e at u in let z : _≡_ {A = ℕ} 0 1 = cc in omega arith); sound = s; less = omega arith })
         go (stuck e b f) ih = rw (f k) (record { formed = none-formed; tuple = λ u. no-tuple; sound = staged-sound i (kept none) d (λ v q. let r : none ≡ v = cc in rw (← r) (none-formed, no-tuple)) s; less = left-stage d i (kept none) (length t) refl })
           where
             no-tuple : T (isTuple (at t i .label)) → T (isTuple NoneL)
-            no-tuple h = tuple-object (at t i .label) h (and-left (isObject (at t i .label)) (firstTaken d (at t i .kids)) b)
+            no-tuple h = tuple-object (at t i .label) h (and-first (isObject (at t i .label)) (firstTaken d (at t i .kids)) b)
         go (entered e b f) ih = rw (f k) (finish-built i d _ b (contents (decLt i (length t))))
           where
             contents : Dec (i < length t) → HaveForm (at t i .kids) (stage i taken d) (each (build t k) (at t i .kids) (stage i taken d) .0) (each (build t k) (at t i .kids) (stage i taken d) .1)
             contents (yes h) = each-built k (build t k) ih (at t i .kids) (stage i taken d) (let u = left-less d i taken (length t) refl e h in omega arith) (taken-sound i d s)
-            contents (no h) = rw (outside t i h) (record { formed = tt; counted = refl; first = λ z. absurd (omega arith); sound = taken-sound i d s; less = omega arith })
+            contents (no h) = rw (outside-nodes t i h) (record { formed = tt; counted = refl; first = λ z. absurd (omega arith); sound = taken-sound i d s; less = omega arith })
 
     pub tree-all : (root : ℕ) → All P (one (tree t root))
     unfolding tree Sound
-    tree-all root = build-built (suc (length t)) root unbuilt (omega (arith, left-all (length t))) (λ j v e. absurd (let z : _≡_ {A = ℕ} 0 1 = cc in omega arith)) .formed
+    tree-all root = build-built (suc (length t)) root unbuilt (omega (arith, fresh-left-all (length t))) (λ j v e. absurd (let z : _≡_ {A = ℕ} 0 1 = cc in omega arith)) .formed

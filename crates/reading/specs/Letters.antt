@@ -8,7 +8,7 @@ use mathlib.Core.Path.{_≡_, refl}
 use lib.ListN.{length, getD, take, drop, set}
 use lib.Dec.{T, leb, eqb}
 use Rattle.refusal.specs.declared.Refusal.{Refusal}
-use Rattle.op.specs.Table.{numberOf, opcodeOf}
+use Rattle.op.specs.Table.{codeOf, opcodeOf}
 use Rattle.op.specs.Edition.{against, highest}
 use Rattle.op.specs.declared.Edition.{Edition}
 use Rattle.op.specs.declared.Objection.{Objection}
@@ -26,13 +26,13 @@ use Rattle.text.specs.Laws.{unicode-valid}
 use Rattle.value.specs.Value.{Label, NoneL, BoolL, I64L, F64L, BytesL, StringL, ListL, TupleL, SetL, FrozenSetL, DictL, GlobalL, ObjectL}
 use Rattle.value.specs.Shape.{and-l, and-r}
 use Rattle.steps.specs.State.{Node, State, Res, ok, no, kidless, nodeAt, bytes, byte, line, pop, popMark, popMany, pushId, pushNode, push, link, extend, get, put}
-use Rattle.steps.specs.Opcodes.{isTuple, classOf, proto, mark, popOne, popToMark, dup, intLabel, int, lowBytes, binint, binint1, binint2, long, longN, float, binfloat, string, binstring, shortBinstring, unicode, binunicode, global, made, list, tuple, tupleN, dict, added, append, appends, setitem, setitems, getLine, getBytes, putLine, putBytes, builtin, setName, frozensetName, object, setOf, reduced, called, reduce, newobj, buildState}
+use Rattle.steps.specs.Opcodes.{isTuple, classOf, proto, mark, popOne, popToMark, dup, intLabel, int, lowBytes, binint, binint1, binint2, long, longN, float, binfloat, string, binstring, shortBinstring, unicode, binunicode, global, made, list, tuple, tupleN, dict, addItems, append, appends, setitem, setitems, getLine, getBytes, putLine, putBytes, builtin, setName, frozensetName, object, setOf, reduced, called, reduce, newobj, buildState}
 use Rattle.steps.specs.Run.{Next, goes, stops, going, does, decide, admit, step, runs, start, run}
 use Rattle.steps.specs.Out.{Out, out, bind, bind-any, bind-need, bind-leaf, Every, every-append}
-use Rattle.steps.specs.Pickletools.{decided}
-use Rattle.steps.specs.Keeps.{after}
+use Rattle.steps.specs.Pickletools.{decided-own}
+use Rattle.steps.specs.Keeps.{stateAfter}
 use Rattle.steps.specs.Shrinks.{Later, step-later}
-use Rattle.reading.specs.Well.{validText, both}
+use Rattle.reading.specs.Well.{validText, both-hold}
 
 -- every node's label has P
 unfoldable pub Labelled : (Label → Type 0) → List Node → Type 0
@@ -68,7 +68,7 @@ bytes-lessCr l b = go (eqb (lastByte l) 13)
     go false = b
 
 -- the labels that opcodes without classes make have P; a String's text is valid UTF-8
-pub record Made (P : Label → Type 0) : Type 0 where
+pub record PlainLabels (P : Label → Type 0) : Type 0 where
   pub none : P NoneL
   pub bool : (b : Bool) → P (BoolL b)
   pub int : (n : ℕ) → P (I64L n)
@@ -81,7 +81,7 @@ pub record Made (P : Label → Type 0) : Type 0 where
 
 -- ---- any such P, kept by every step of an edition
 
-module _ (P : Label → Type 0) (m : Made P) where
+module _ (P : Label → Type 0) (m : PlainLabels P) where
   -- a node's label has it, and so has what stands for a node that is not there
   held : (l : List Node) (i : ℕ) → Labelled P l → P (getD l i (kidless NoneL) .label)
   held l i a = labelled-at P (m .none) l i a
@@ -152,8 +152,8 @@ module _ (P : Label → Type 0) (m : Made P) where
   unfolding made
   made-l l is s h v = bind _ _ _ _ (link-l s h _) λ t u. pushNode-l _ t u v
 
-  added-l : (right : Label → Bool) (why : Refusal) (is : List ℕ) (s : State) → L s → Out L (added right why is s)
-  unfolding added extend L
+  added-l : (right : Label → Bool) (why : Refusal) (is : List ℕ) (s : State) → L s → Out L (addItems right why is s)
+  unfolding addItems extend L
   added-l right why is s h = bind-any _ _ _ λ i e. bind-need _ _ _ _ λ u. bind _ _ _ _ (link-l s h _) λ t v. out _ _ (labelled-set P (t .nodes) i _ v (held (t .nodes) i v))
 
   -- ---- the opcodes
@@ -293,16 +293,16 @@ module _ (P : Label → Type 0) (m : Made P) where
       let v : valid t ≡ true = let w = unicode-valid (p .0) (u .0) in rw e at w in
       push-l _ (p .1) (u .1) (m .string t (truly (valid t) v))
 
-  going-l : (r : Res State) → Out L r → Out (λ (n : Next). L (after n)) (going r)
-  unfolding Out going after
+  going-l : (r : Res State) → Out L r → Out (λ (n : Next). L (stateAfter n)) (going r)
+  unfolding Out going stateAfter
   going-l (ok t) h = h
   going-l (no why) h = tt
 
   -- the opcodes that name and call classes, where the edition accepts them
   pub record Classes (ed : Edition) : Type 0 where
-    pub globals : against ed (numberOf GLOBAL) ≡ Nothing → (s : State) → Labelled P (s .nodes) → Out (λ (t : State). Labelled P (t .nodes)) (global s)
-    pub reduces : against ed (numberOf REDUCE) ≡ Nothing → (s : State) → Labelled P (s .nodes) → Out (λ (t : State). Labelled P (t .nodes)) (reduce s)
-    pub newobjs : against ed (numberOf NEWOBJ) ≡ Nothing → (s : State) → Labelled P (s .nodes) → Out (λ (t : State). Labelled P (t .nodes)) (newobj s)
+    pub globals : against ed (codeOf GLOBAL) ≡ Nothing → (s : State) → Labelled P (s .nodes) → Out (λ (t : State). Labelled P (t .nodes)) (global s)
+    pub reduces : against ed (codeOf REDUCE) ≡ Nothing → (s : State) → Labelled P (s .nodes) → Out (λ (t : State). Labelled P (t .nodes)) (reduce s)
+    pub newobjs : against ed (codeOf NEWOBJ) ≡ Nothing → (s : State) → Labelled P (s .nodes) → Out (λ (t : State). Labelled P (t .nodes)) (newobj s)
 
   -- the opcode's byte leaves bytes
   bytes-bytes : (n : ℕ) (s : State) → Bytes (s .input) → L s → Out (λ (p : List ℕ × State). Bytes (p .1 .input) × L (p .1)) (bytes n s)
@@ -314,8 +314,8 @@ module _ (P : Label → Type 0) (m : Made P) where
   byte-bytes s b h = bind _ _ _ _ (bytes-bytes 1 s b h) λ p u. out _ _ u
 
   module _ (ed : Edition) (c : Classes ed) where
-    does-l : (o : Opcode) → against ed (numberOf o) ≡ Nothing → (s : State) → Bytes (s .input) → L s → Out (λ (n : Next). L (after n)) (does (highest ed) o s)
-    unfolding does after L
+    does-l : (o : Opcode) → against ed (codeOf o) ≡ Nothing → (s : State) → Bytes (s .input) → L s → Out (λ (n : Next). L (stateAfter n)) (does (highest ed) o s)
+    unfolding does stateAfter L
     does-l MARK free s b h = going-l _ (mark-l s h)
     does-l STOP free s b h = out _ _ h
     does-l POP free s b h = going-l _ (popOne-l s h)
@@ -363,22 +363,22 @@ module _ (P : Label → Type 0) (m : Made P) where
     does-l LONG1 free s b h = going-l _ (longN-l s h 1)
     does-l LONG4 free s b h = going-l _ (longN-l s h 4)
 
-    step-l : (s : State) → Bytes (s .input) → L s → Out (λ (n : Next). L (after n)) (step ed s)
+    step-l : (s : State) → Bytes (s .input) → L s → Out (λ (n : Next). L (stateAfter n)) (step ed s)
     unfolding step Out decide admit
     step-l s b h = bind _ _ _ _ (byte-bytes s b h) λ p u. go (p .0) (p .1) (opcodeOf (p .0)) refl (against ed (p .0)) refl u
       where
-        go : (i : ℕ) (t : State) (o : Option Opcode) → opcodeOf i ≡ o → (x : Objection) → against ed i ≡ x → Bytes (t .input) × L t → Out (λ (n : Next). L (after n)) (admit x i (decide (highest ed) o i t))
+        go : (i : ℕ) (t : State) (o : Option Opcode) → opcodeOf i ≡ o → (x : Objection) → against ed i ≡ x → Bytes (t .input) × L t → Out (λ (n : Next). L (stateAfter n)) (admit x i (decide (highest ed) o i t))
         go i t none e Nothing f u = tt
-        go i t (some o) e Nothing f u = does-l o (rw (decided i o e) f) t (u .0) (u .1)
+        go i t (some o) e Nothing f u = does-l o (rw (decided-own i o e) f) t (u .0) (u .1)
         go i t o e Outside f u = tt
         go i t o e Unknown f u = tt
 
     runs-l : (k : ℕ) (s : State) → Bytes (s .input) → L s → Out L (runs ed k s)
-    unfolding runs Out after
+    unfolding runs Out stateAfter
     runs-l zero s b h = tt
     runs-l (suc k) s b h = go (step ed s) refl (step-l s b h) (step-later ed s) (runs-l k)
       where
-        go : (r : Res Next) → step ed s ≡ r → Out (λ (n : Next). L (after n)) r → Out (λ (n : Next). Later 1 (s .input) (after n)) r → ((t : State) → Bytes (t .input) → L t → Out L (runs ed k t)) → Out L (runs ed (suc k) s)
+        go : (r : Res Next) → step ed s ≡ r → Out (λ (n : Next). L (stateAfter n)) r → Out (λ (n : Next). Later 1 (s .input) (stateAfter n)) r → ((t : State) → Bytes (t .input) → L t → Out L (runs ed k t)) → Out L (runs ed (suc k) s)
         go (no why) e u l more = rw (e, runs) tt
         go (ok (stops t)) e u l more = rw (e, runs) u
         go (ok (goes t)) e u l more = rw (e, runs) (more t (rw (l .left) (bytes-drop (l .read) (s .input) b)) u)
@@ -399,12 +399,12 @@ pub lettered-at : (l : List Node) (i : ℕ) → Lettered l → T (validText (get
 unfolding Lettered
 lettered-at l i a = labelled-at HasValid tt l i a
 
-abbrev valid-made : Made HasValid
+abbrev valid-made : PlainLabels HasValid
 valid-made = record { none = tt; bool = λ b. tt; int = λ n. tt; float = λ n. tt; bytes = λ t. tt; string = λ t v. v; list = tt; tuple = tt; dict = tt }
 
 global-l : (s : State) → L HasValid valid-made s → Out (L HasValid valid-made) (global s)
 unfolding global L₂ L
-global-l s h = bind _ _ _ _ (line-l HasValid valid-made s h) λ p u. bind _ _ _ _ (line-l HasValid valid-made (p .1) u) λ q v. push-l HasValid valid-made _ (q .1) v (both (valid (repair (p .0))) (valid (repair (q .0))) (truly _ (valid-repair (p .0))) (truly _ (valid-repair (q .0))))
+global-l s h = bind _ _ _ _ (line-l HasValid valid-made s h) λ p u. bind _ _ _ _ (line-l HasValid valid-made (p .1) u) λ q v. push-l HasValid valid-made _ (q .1) v (both-hold (valid (repair (p .0))) (valid (repair (q .0))) (truly _ (valid-repair (p .0))) (truly _ (valid-repair (q .0))))
 
 -- a class is a Global's module and name
 class-valid : (l : Label) → T (validText l) → Out (λ (c : List ℕ × List ℕ). T (valid (c .0)) × T (valid (c .1))) (classOf l)
@@ -441,12 +441,12 @@ reduce-l s h = called-l reduced makes s h
         go : (x y z : Bool) → T (validText (cond x (cond y (setOf SetL a is) (cond z (setOf FrozenSetL a is) (object c false a))) (object c false a) .label))
         go true true z = tt
         go true false true = tt
-        go true false false = both (valid (c .0)) (valid (c .1)) m n
-        go false y z = both (valid (c .0)) (valid (c .1)) m n
+        go true false false = both-hold (valid (c .0)) (valid (c .1)) m n
+        go false y z = both-hold (valid (c .0)) (valid (c .1)) m n
 
 newobj-l : (s : State) → L HasValid valid-made s → Out (L HasValid valid-made) (newobj s)
 unfolding newobj
-newobj-l s h = called-l _ (λ c a is m n. both (valid (c .0)) (valid (c .1)) m n) s h
+newobj-l s h = called-l _ (λ c a is m n. both-hold (valid (c .0)) (valid (c .1)) m n) s h
 
 pub run-lettered : (ed : Edition) (p : List ℕ) → Bytes p → Out (λ (s : State). Lettered (s .nodes)) (run ed p)
 unfolding Lettered L

@@ -27,8 +27,8 @@ unfoldable pub measure : Forest → Measure
 measure nil = nilM
 measure (node l c r) = pushM (makeM l (measure c)) (measure r)
 
-abbrev pub value : Value → Measure
-value v = makeM (v .label) (measure (v .contents))
+abbrev pub valueMeasure : Value → Measure
+valueMeasure v = makeM (v .label) (measure (v .contents))
 
 pub measure-deep : (f : Forest) → measure f .deep ≡ depth f
 unfolding measure depth

@@ -40,8 +40,8 @@ abbrev pub reads : ℕ → Forest → Reading
 reads n f = record { answer = record { number = 0; detail = 0; length = n; count = size f }; words = table f 0; bytes = text f }
 
 -- what a tree comes to after n bytes: 17, 18, 19, or the value
-unfoldable pub told : ℕ → Forest → Reading
-told n f = elim (measured f) [ no why ↦ refuses why | ok u ↦ reads n (settle f) ]
+unfoldable pub readingOf : ℕ → Forest → Reading
+readingOf n f = elim (measured f) [ no why ↦ refuses why | ok u ↦ reads n (settle f) ]
 
 abbrev pub pickleLimit : ℕ
 pickleLimit = 65536
@@ -61,7 +61,7 @@ consumed p s = length p - length (s .input)
 
 -- the prefix reading
 unfoldable pub prefixIn : Edition → List ℕ → Reading
-prefixIn ed p = elim (stopped ed p) [ no why ↦ refuses why | ok x ↦ told (consumed p (x .0)) (one (tree (x .0 .nodes) (x .1))) ]
+prefixIn ed p = elim (stopped ed p) [ no why ↦ refuses why | ok x ↦ readingOf (consumed p (x .0)) (one (tree (x .0 .nodes) (x .1))) ]
 
 -- a reading that succeeds and leaves bytes
 unfoldable pub leaves : List ℕ → Reading → Bool
@@ -103,7 +103,7 @@ module _ (ed : Edition) (p : List ℕ) where
   unfolding prefixIn
   prefix-refused why e = rw (e, prefixIn)
 
-  pub prefix-told : (s : State) (root : ℕ) → stopped ed p ≡ ok (s, root) → prefixIn ed p ≡ told (consumed p s) (one (tree (s .nodes) root))
+  pub prefix-told : (s : State) (root : ℕ) → stopped ed p ≡ ok (s, root) → prefixIn ed p ≡ readingOf (consumed p s) (one (tree (s .nodes) root))
   unfolding prefixIn
   prefix-told s root e = rw (e, prefixIn)
 
@@ -126,8 +126,8 @@ consumed-rest ed p s e = let l : Later 1 p s = of-out (Later 1 p) (run ed p) s (
         (omega arith, omega arith, i ∙ ap (λ (n : ℕ). drop n p) (sym c))
 
 -- what a reading that succeeds fills: no more than the caller lends
-pub told-fits : (n : ℕ) (f : Forest) → measured f ≡ ok tt → (told n f ≡ reads n (settle f)) × (length (table (settle f) 0) ≤ 4 * valuesLimit) × (length (text (settle f)) ≤ textLimit) × (depth (settle f) ≤ depthLimit)
-unfolding told
+pub told-fits : (n : ℕ) (f : Forest) → measured f ≡ ok tt → (readingOf n f ≡ reads n (settle f)) × (length (table (settle f) 0) ≤ 4 * valuesLimit) × (length (text (settle f)) ≤ textLimit) × (depth (settle f) ≤ depthLimit)
+unfolding readingOf
 told-fits n f e =
     let w = measured-within f e in
     let s = settle-smaller f in
@@ -137,16 +137,16 @@ told-fits n f e =
     let a = w .0 in
     let b = w .1 in
     let c = w .2 in
-    (rw (e, told), rw table-length (omega arith), omega arith, omega arith)
+    (rw (e, readingOf), rw table-length (omega arith), omega arith, omega arith)
 
 -- ---- demand 3
 
 -- Any pickle that is read to its STOP with a value left, where nothing reachable from that value contains itself: the prefix reading's
 -- answer is that of the value written out plainly, same value, length, and refusal for depth, values or text.
 module _ (ed : Edition) (p : List ℕ) (s : State) (short : length p ≤ pickleLimit) (stop : run ed p ≡ ok s) (left : 0 < length (s .stack)) where
-  pub sharing-never-shows : (f : Forest) → NothingContainsItself (s .nodes) (last (s .stack)) → WritesOut (s .nodes) (last (s .stack) ∷ []) f → prefixIn ed p ≡ told (consumed p s) f
-  sharing-never-shows f h w = rw (prefix-told ed p s (last (s .stack)) (stopped-with ed p s short stop left)) (ap (told (consumed p s)) (tree-is-write-out (s .nodes) (last (s .stack)) f h w))
+  pub sharing-never-shows : (f : Forest) → NothingContainsItself (s .nodes) (last (s .stack)) → WritesOut (s .nodes) (last (s .stack) ∷ []) f → prefixIn ed p ≡ readingOf (consumed p s) f
+  sharing-never-shows f h w = rw (prefix-told ed p s (last (s .stack)) (stopped-with ed p s short stop left)) (ap (readingOf (consumed p s)) (tree-is-write-out (s .nodes) (last (s .stack)) f h w))
 
   -- and such a write-out there is
-  pub written-out : NothingContainsItself (s .nodes) (last (s .stack)) → (f : Forest) × WritesOut (s .nodes) (last (s .stack) ∷ []) f × (prefixIn ed p ≡ told (consumed p s) f)
+  pub written-out : NothingContainsItself (s .nodes) (last (s .stack)) → (f : Forest) × WritesOut (s .nodes) (last (s .stack) ∷ []) f × (prefixIn ed p ≡ readingOf (consumed p s) f)
   written-out h = (one (tree (s .nodes) (last (s .stack))), tree-writes-out (s .nodes) (last (s .stack)) h, prefix-told ed p s (last (s .stack)) (stopped-with ed p s short stop left))

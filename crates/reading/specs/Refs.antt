@@ -15,8 +15,8 @@ use Rattle.steps.specs.State.{Node}
 use Rattle.steps.specs.Opcodes.{isObject}
 use Rattle.steps.specs.Shape.{Shaped}
 use Rattle.reading.specs.Build.{Stage, Stages, fresh, taken, kept, unbuilt, stage, none, before, isTaken, at, firstTaken, blocked, finish, each, build, tree}
-use Rattle.reading.specs.Unfold.{In, here, there, Staged, same, other, staged, freshness, outside}
-use Rattle.reading.specs.Form.{tuple-object, and-left}
+use Rattle.reading.specs.Unfold.{In, here, there, Staged, same, other, staged, freshness, outside-nodes}
+use Rattle.reading.specs.Form.{tuple-object, and-first}
 use Rattle.reading.specs.Well.{object-of, right-at}
 
 -- how often j stands in a list
@@ -48,8 +48,8 @@ module _ (t : List Node) (reached : ℕ → Bool) where
   refs root j = times j (root ∷ []) + refsBelow j (length t)
 
 -- `build` as the Rust has it, keeping the nodes that `keep` says
-unfoldable pub moves : List Node → (ℕ → Bool) → ℕ → Forest × Stages → Value × Stages
-moves t keep i p =
+unfoldable pub finishMoving : List Node → (ℕ → Bool) → ℕ → Forest × Stages → Value × Stages
+finishMoving t keep i p =
     let v : Value = record { label = at t i .label; contents = p .0 } in
     (v, cond (keep i) (stage i (kept v) (p .1)) (p .1))
 
@@ -60,7 +60,7 @@ buildRefs t keep (suc k) i d =
       | kept v ↦ (v, d)
       | taken ↦ (none, d)
       | fresh ↦
-          elim (blocked t d i) [ true ↦ (none, stage i taken d) | false ↦ moves t keep i (each (buildRefs t keep k) (at t i .kids) (stage i taken d)) ]
+          elim (blocked t d i) [ true ↦ (none, stage i taken d) | false ↦ finishMoving t keep i (each (buildRefs t keep k) (at t i .kids) (stage i taken d)) ]
     ]
 
 -- ---- references still to come
@@ -122,7 +122,7 @@ module _ (t : List Node) (reached : ℕ → Bool) where
     where
       go : Dec (i < length t) → open-refs (stage i m d) j (length t) + times j (at t i .kids) ≤ open-refs d j (length t)
       go (yes l) = open-below d i j m (length t) z f r l
-      go (no l) = rw (outside t i l) (let u = open-stage d i j m (length t) z in omega arith)
+      go (no l) = rw (outside-nodes t i l) (let u = open-stage d i j m (length t) z in omega arith)
 
 -- ---- the two builders side by side
 
@@ -236,8 +236,8 @@ module _
     taken-at i d = rw (eq-eqb i i refl)
 
     finish-follows : (i : ℕ) (rest : List ℕ) (d e : Stages) (p q : Forest × Stages) → d i ≡ fresh → FollowsEach (stage i taken d) rest (p .0) (q .0) (p .1) (q .1)
-        → Follows d rest (finish t i p .0) (moves t keep i q .0) (finish t i p .1) (moves t keep i q .1)
-    unfolding finish moves freshness Once Likes
+        → Follows d rest (finish t i p .0) (finishMoving t keep i q .0) (finish t i p .1) (finishMoving t keep i q .1)
+    unfolding finish finishMoving freshness Once Likes
     finish-follows i rest d e p q f m =
         record { value = ap (λ (c : Forest). record { label = at t i .label; contents = c }) (m .forest); likes = go (keep i) refl; once = λ j k. after j k (staged i (kept v) (p .1) j); later = λ j. less j (staged i (kept v) (p .1) j) (staged i taken d j); stays = λ j x. stage-stays i (kept v) d (p .1) j f x (m .stays j (kept-out j x (staged i taken d j))) }
       where
@@ -295,7 +295,7 @@ module _
             let c : blocked t e i ≡ true = blocked-same i rest d e f r l o ∙ b in
             rw (f, u, b, c, build, buildRefs) (record {
               value = refl;
-              likes = likes-stage i d e (kept none) taken (void (and-left (isObject (at t i .label)) (firstTaken d (at t i .kids)) b)) l;
+              likes = likes-stage i d e (kept none) taken (void (and-first (isObject (at t i .label)) (firstTaken d (at t i .kids)) b)) l;
               once = λ j q. omega (arith, once-stage i rest d (kept none) refl f r o j q, times-append j (at t i .kids) rest);
               later = λ j. late j (staged i (kept none) d j);
               stays = λ j x. stage-stays i (kept none) d d j f x x;

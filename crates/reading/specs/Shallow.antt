@@ -9,7 +9,7 @@ use native.Mathlib.Omega.{arith}
 use Rattle.value.specs.Value.{Forest, Value, one, depth}
 use Rattle.steps.specs.State.{Node}
 use Rattle.reading.specs.Build.{Stages, stage, taken, at, finish, each, build}
-use Rattle.reading.specs.Fuel.{View, view, copied, inside, stuck, entered}
+use Rattle.reading.specs.Fuel.{BuildCase, build-case, copied, inside, stuck, entered}
 
 -- a value's depth is one more than its contents'
 unfoldable pub deep : Value → ℕ
@@ -31,9 +31,9 @@ finish-deep t i m p h = omega arith
 pub enough : (t : List Node) (k i : ℕ) (d : Stages) → deep (build t k i d .0) ≤ k → build t k i d ≡ build t (suc k) i d
 unfolding build deep depth
 enough t zero i d h = absurd (omega arith)
-enough t (suc k) i d h = go (view t i d) (enough t k)
+enough t (suc k) i d h = go (build-case t i d) (enough t k)
   where
-    go : View t i d → ((j : ℕ) (c : Stages) → deep (build t k j c .0) ≤ k → build t k j c ≡ build t (suc k) j c) → build t (suc k) i d ≡ build t (suc (suc k)) i d
+    go : BuildCase t i d → ((j : ℕ) (c : Stages) → deep (build t k j c .0) ≤ k → build t k j c ≡ build t (suc k) j c) → build t (suc k) i d ≡ build t (suc (suc k)) i d
     go (copied v e f) ih = rw (f k, f (suc k))
     go (inside e f) ih = rw (f k, f (suc k))
     go (stuck e b f) ih = rw (f k, f (suc k))
@@ -46,9 +46,9 @@ enough t (suc k) i d h = go (view t i d) (enough t k)
 pub no-deeper : (t : List Node) (k i : ℕ) (d : Stages) → deep (build t (suc k) i d .0) ≤ k → build t (suc k) i d ≡ build t k i d
 unfolding deep depth
 no-deeper t zero i d h = absurd (omega arith)
-no-deeper t (suc k) i d h = go (view t i d) (no-deeper t k)
+no-deeper t (suc k) i d h = go (build-case t i d) (no-deeper t k)
   where
-    go : View t i d → ((j : ℕ) (c : Stages) → deep (build t (suc k) j c .0) ≤ k → build t (suc k) j c ≡ build t k j c) → build t (suc (suc k)) i d ≡ build t (suc k) i d
+    go : BuildCase t i d → ((j : ℕ) (c : Stages) → deep (build t (suc k) j c .0) ≤ k → build t (suc k) j c ≡ build t k j c) → build t (suc (suc k)) i d ≡ build t (suc k) i d
     go (copied v e f) ih = rw (f k, f (suc k))
     go (inside e f) ih = rw (f k, f (suc k))
     go (stuck e b f) ih = rw (f k, f (suc k))

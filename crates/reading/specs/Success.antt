@@ -17,7 +17,7 @@ use Rattle.steps.specs.Out.{Out, out, both-out, bind, bind-any, bind-need}
 use Rattle.steps.specs.Shape.{Shaped, run-shaped}
 use Rattle.reading.specs.Build.{tree}
 use Rattle.reading.specs.Measure.{measured}
-use Rattle.reading.specs.Reading.{Reading, refuses, told, consumed, stopped, prefixIn, leaves, wholeIn}
+use Rattle.reading.specs.Reading.{Reading, refuses, readingOf, consumed, stopped, prefixIn, leaves, wholeIn}
 use Rattle.reading.specs.Well.{well-formed}
 use Rattle.reading.specs.Letters.{Lettered, lettered-at, run-lettered}
 
@@ -63,13 +63,13 @@ refused-formed : (why : Refusal) → Formed (refuses why)
 unfolding Formed
 refused-formed why e = absurd (refusal-number why e)
 
-told-formed : (n : ℕ) (s : State) (root : ℕ) → Sound s → Formed (told n (one (tree (s .nodes) root)))
-unfolding told Formed Sound
+told-formed : (n : ℕ) (s : State) (root : ℕ) → Sound s → Formed (readingOf n (one (tree (s .nodes) root)))
+unfolding readingOf Formed Sound
 told-formed n s root h = go (measured (one (tree (s .nodes) root))) refl
   where
-    go : (r : Res (Unit {0})) → measured (one (tree (s .nodes) root)) ≡ r → Formed (told n (one (tree (s .nodes) root)))
-    go (no why) e = rw (e, told) (refused-formed why)
-    go (ok u) e = rw (e, told) (λ z. well-formed (s .nodes) root (h .0) (λ i. lettered-at (s .nodes) i (h .1)) e)
+    go : (r : Res (Unit {0})) → measured (one (tree (s .nodes) root)) ≡ r → Formed (readingOf n (one (tree (s .nodes) root)))
+    go (no why) e = rw (e, readingOf) (refused-formed why)
+    go (ok u) e = rw (e, readingOf) (λ z. well-formed (s .nodes) root (h .0) (λ i. lettered-at (s .nodes) i (h .1)) e)
 
 pub prefix-well-formed : (ed : Edition) (p : List ℕ) → Bytes p → Formed (prefixIn ed p)
 unfolding prefixIn Out

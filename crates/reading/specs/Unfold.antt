@@ -62,44 +62,44 @@ freshness fresh = 1
 freshness taken = 0
 freshness (kept v) = 0
 
-unfoldable pub left : Stages → ℕ → ℕ
-left d zero = 0
-left d (suc n) = freshness (d n) + left d n
+unfoldable pub freshLeft : Stages → ℕ → ℕ
+freshLeft d zero = 0
+freshLeft d (suc n) = freshness (d n) + freshLeft d n
 
-pub left-stage : (d : Stages) (i : ℕ) (m : Stage) (n : ℕ) → freshness m ≡ 0 → left (stage i m d) n ≤ left d n
-unfolding left
+pub left-stage : (d : Stages) (i : ℕ) (m : Stage) (n : ℕ) → freshness m ≡ 0 → freshLeft (stage i m d) n ≤ freshLeft d n
+unfolding freshLeft
 left-stage d i m zero z = omega arith
 left-stage d i m (suc n) z = go (staged i m d n) (left-stage d i m n z)
   where
-    go : Staged i m d n → left (stage i m d) n ≤ left d n → left (stage i m d) (suc n) ≤ left d (suc n)
+    go : Staged i m d n → freshLeft (stage i m d) n ≤ freshLeft d n → freshLeft (stage i m d) (suc n) ≤ freshLeft d (suc n)
     go (same p e) h = rw e (omega arith)
     go (other p e) h = rw e (omega arith)
 
-pub left-less : (d : Stages) (i : ℕ) (m : Stage) (n : ℕ) → freshness m ≡ 0 → d i ≡ fresh → i < n → left (stage i m d) n < left d n
-unfolding left freshness
+pub left-less : (d : Stages) (i : ℕ) (m : Stage) (n : ℕ) → freshness m ≡ 0 → d i ≡ fresh → i < n → freshLeft (stage i m d) n < freshLeft d n
+unfolding freshLeft freshness
 left-less d i m zero z f h = omega arith
 left-less d i m (suc n) z f h = go (staged i m d n) (left-less d i m n z f)
   where
-    go : Staged i m d n → (i < n → left (stage i m d) n < left d n) → left (stage i m d) (suc n) < left d (suc n)
+    go : Staged i m d n → (i < n → freshLeft (stage i m d) n < freshLeft d n) → freshLeft (stage i m d) (suc n) < freshLeft d (suc n)
     go (same p e) k = let q : d n ≡ fresh = ap d p ∙ f in let l = left-stage d i m n z in rw (e, q) (omega arith)
     go (other p e) k = rw e (let l = k (omega arith) in omega arith)
 
 -- ---- the theorem
 
 -- a number with no node has nothing in it
-pub outside : (t : List Node) (i : ℕ) → ¬ (i < length t) → at t i .kids ≡ []
-outside t i h = rw (List·getD-eq-default t (kidless NoneL) (let l : length t ≤ i = omega arith in l))
+pub outside-nodes : (t : List Node) (i : ℕ) → ¬ (i < length t) → at t i .kids ≡ []
+outside-nodes t i h = rw (List·getD-eq-default t (kidless NoneL) (let l : length t ≤ i = omega arith in l))
 
 -- what is known while the nodes P are being built: a taken node is one of them, and a kept node has its write-out
-record Known (t : List Node) (P : ℕ → Type 0) (d : Stages) : Type 0 where
+record KnownStages (t : List Node) (P : ℕ → Type 0) (d : Stages) : Type 0 where
   open-in : (j : ℕ) → d j ≡ taken → P j
   kept-is : (j : ℕ) (v : Value) → d j ≡ kept v → WritesOut t (j ∷ []) (one v)
 
 -- what a call makes of nodes `is` below the nodes P
-record Made (t : List Node) (P : ℕ → Type 0) (d : Stages) (is : List ℕ) (f : Forest) (d′ : Stages) : Type 0 where
+record BuiltBelow (t : List Node) (P : ℕ → Type 0) (d : Stages) (is : List ℕ) (f : Forest) (d′ : Stages) : Type 0 where
   written : WritesOut t is f
-  known : Known t P d′
-  less : left d′ (length t) ≤ left d (length t)
+  known : KnownStages t P d′
+  less : freshLeft d′ (length t) ≤ freshLeft d (length t)
 
 join : {t : List Node} {i : ℕ} {is : List ℕ} {l : Label} {c r : Forest} → WritesOut t (i ∷ []) (node l c nil) → WritesOut t is r → WritesOut t (i ∷ is) (node l c r)
 join (afresh a nothing) b = afresh a b
@@ -111,14 +111,14 @@ module _ (t : List Node) (Good : ℕ → Type 0) (good-in : (i j : ℕ) → Good
     below : (j : ℕ) → P j → Contains t j i
 
   each-made : (P : ℕ → Type 0) (k : ℕ) (g : ℕ → Stages → Value × Stages)
-      → ((i : ℕ) (d : Stages) → left d (length t) < k → Ready P i → Known t P d → Made t P d (i ∷ []) (one (g i d .0)) (g i d .1))
-      → (is : List ℕ) (d : Stages) → left d (length t) < k → ((i : ℕ) → In i is → Ready P i) → Known t P d
-      → Made t P d is (each g is d .0) (each g is d .1)
+      → ((i : ℕ) (d : Stages) → freshLeft d (length t) < k → Ready P i → KnownStages t P d → BuiltBelow t P d (i ∷ []) (one (g i d .0)) (g i d .1))
+      → (is : List ℕ) (d : Stages) → freshLeft d (length t) < k → ((i : ℕ) → In i is → Ready P i) → KnownStages t P d
+      → BuiltBelow t P d is (each g is d .0) (each g is d .1)
   unfolding each
   each-made P k g h [] d l r kn = record { written = nothing; known = kn; less = omega arith }
   each-made P k g h (i ∷ is) d l r kn =
-      let a : Made t P d (i ∷ []) (one (g i d .0)) (g i d .1) = h i d l (r i here) kn in
-      let b : Made t P (g i d .1) is (each g is (g i d .1) .0) (each g is (g i d .1) .1) =
+      let a : BuiltBelow t P d (i ∷ []) (one (g i d .0)) (g i d .1) = h i d l (r i here) kn in
+      let b : BuiltBelow t P (g i d .1) is (each g is (g i d .1) .0) (each g is (g i d .1) .1) =
       each-made P k g h is (g i d .1) (omega arith) (λ j m. r j (there m)) (a .known) in
       record { written = join (a .written) (b .written); known = b .known; less = omega arith }
 
@@ -126,7 +126,7 @@ module _ (t : List Node) (Good : ℕ → Type 0) (good-in : (i j : ℕ) → Good
   With : (ℕ → Type 0) → ℕ → ℕ → Type 0
   With P i j = P j ⊎ (j ≡ i)
 
-  taken-known : (P : ℕ → Type 0) (i : ℕ) (d : Stages) → Known t P d → Known t (With P i) (stage i taken d)
+  taken-known : (P : ℕ → Type 0) (i : ℕ) (d : Stages) → KnownStages t P d → KnownStages t (With P i) (stage i taken d)
   unfolding With
   taken-known P i d kn = record { open-in = λ j e. go j (staged i taken d j) e; kept-is = λ j v e. go2 j v (staged i taken d j) e }
     where
@@ -138,7 +138,7 @@ module _ (t : List Node) (Good : ℕ → Type 0) (good-in : (i j : ℕ) → Good
       go2 j v (same p q) e = absurd (let z : _≡_ {A = ℕ} 0 1 = cc in omega arith)
       go2 j v (other p q) e = kn .kept-is j v (sym q ∙ e)
 
-  kept-known : (P : ℕ → Type 0) (i : ℕ) (v : Value) (d : Stages) → WritesOut t (i ∷ []) (one v) → Known t (With P i) d → Known t P (stage i (kept v) d)
+  kept-known : (P : ℕ → Type 0) (i : ℕ) (v : Value) (d : Stages) → WritesOut t (i ∷ []) (one v) → KnownStages t (With P i) d → KnownStages t P (stage i (kept v) d)
   unfolding With
   kept-known P i v d u kn = record { open-in = λ j e. go j (staged i (kept v) d j) e; kept-is = λ j w e. go2 j w (staged i (kept v) d j) e }
     where
@@ -154,7 +154,7 @@ module _ (t : List Node) (Good : ℕ → Type 0) (good-in : (i j : ℕ) → Good
       go2 j w (same p q) e = let s : v ≡ w = cc in rw (p, ← s) u
       go2 j w (other p q) e = kn .kept-is j w (sym q ∙ e)
 
-  not-blocked : (P : ℕ → Type 0) (i : ℕ) (d : Stages) → Ready P i → Known t P d → blocked t d i ≡ true → ⊥
+  not-blocked : (P : ℕ → Type 0) (i : ℕ) (d : Stages) → Ready P i → KnownStages t P d → blocked t d i ≡ true → ⊥
   unfolding blocked firstTaken
   not-blocked P i d r kn e = go (at t i .kids) refl (and-right (isObject (at t i .label)) (firstTaken d (at t i .kids)) e)
     where
@@ -167,7 +167,7 @@ module _ (t : List Node) (Good : ℕ → Type 0) (good-in : (i j : ℕ) → Good
       go [] q f = let z : _≡_ {A = ℕ} 0 1 = cc in omega arith
       go (x ∷ l) q f = bad x (rw q here) (d x) refl f
 
-  blocked-no : (P : ℕ → Type 0) (i : ℕ) (d : Stages) → Ready P i → Known t P d → blocked t d i ≡ false
+  blocked-no : (P : ℕ → Type 0) (i : ℕ) (d : Stages) → Ready P i → KnownStages t P d → blocked t d i ≡ false
   blocked-no P i d r kn = go (blocked t d i) refl
     where
       go : (b : Bool) → blocked t d i ≡ b → blocked t d i ≡ false
@@ -183,46 +183,46 @@ module _ (t : List Node) (Good : ℕ → Type 0) (good-in : (i j : ℕ) → Good
       go m (inr q) = rw q (direct h)
 
   -- the contents of i are made: so is i
-  finish-made : (P : ℕ → Type 0) (i : ℕ) (d : Stages) (p : Forest × Stages) → Made t (With P i) (stage i taken d) (at t i .kids) (p .0) (p .1)
-      → Made t P d (i ∷ []) (one (finish t i p .0)) (finish t i p .1)
+  finish-made : (P : ℕ → Type 0) (i : ℕ) (d : Stages) (p : Forest × Stages) → BuiltBelow t (With P i) (stage i taken d) (at t i .kids) (p .0) (p .1)
+      → BuiltBelow t P d (i ∷ []) (one (finish t i p .0)) (finish t i p .1)
   unfolding finish freshness
   finish-made P i d p m =
       let v : Value = record { label = at t i .label; contents = p .0 } in
       let u : WritesOut t (i ∷ []) (one v) = afresh (m .written) nothing in
       record { written = u; known = kept-known P i v (p .1) u (m .known); less = omega (arith, m .less, left-stage (p .1) i (kept v) (length t) refl, left-stage d i taken (length t) refl) }
 
-  build-made : (k : ℕ) (P : ℕ → Type 0) (i : ℕ) (d : Stages) → left d (length t) < k → Ready P i → Known t P d
-      → Made t P d (i ∷ []) (one (build t k i d .0)) (build t k i d .1)
+  build-made : (k : ℕ) (P : ℕ → Type 0) (i : ℕ) (d : Stages) → freshLeft d (length t) < k → Ready P i → KnownStages t P d
+      → BuiltBelow t P d (i ∷ []) (one (build t k i d .0)) (build t k i d .1)
   unfolding build each freshness
   build-made zero P i d l r kn = absurd (omega arith)
   build-made (suc k) P i d l r kn = go (d i) refl (build-made k)
     where
       go : (m : Stage) → d i ≡ m
-          → ((Q : ℕ → Type 0) (j : ℕ) (c : Stages) → left c (length t) < k → Ready Q j → Known t Q c → Made t Q c (j ∷ []) (one (build t k j c .0)) (build t k j c .1))
-          → Made t P d (i ∷ []) (one (build t (suc k) i d .0)) (build t (suc k) i d .1)
+          → ((Q : ℕ → Type 0) (j : ℕ) (c : Stages) → freshLeft c (length t) < k → Ready Q j → KnownStages t Q c → BuiltBelow t Q c (j ∷ []) (one (build t k j c .0)) (build t k j c .1))
+          → BuiltBelow t P d (i ∷ []) (one (build t (suc k) i d .0)) (build t (suc k) i d .1)
       go (kept v) e ih = rw (e, build) (record { written = kn .kept-is i v e; known = kn; less = omega arith })
       go taken e ih = absurd (acyclic i (r .good) (r .below i (kn .open-in i e)))
       go fresh e ih = rw (e, build, blocked-no P i d r kn) (finish-made P i d _ (inside (decLt i (length t))))
         where
-          inside : Dec (i < length t) → Made t (With P i) (stage i taken d) (at t i .kids) (each (build t k) (at t i .kids) (stage i taken d) .0) (each (build t k) (at t i .kids) (stage i taken d) .1)
+          inside : Dec (i < length t) → BuiltBelow t (With P i) (stage i taken d) (at t i .kids) (each (build t k) (at t i .kids) (stage i taken d) .0) (each (build t k) (at t i .kids) (stage i taken d) .1)
           inside (yes h) =
               each-made (With P i) k (build t k) (ih (With P i)) (at t i .kids) (stage i taken d) (let l₀ = left-less d i taken (length t) refl e h in omega arith) (ready-in P i r) (taken-known P i d kn)
-          inside (no h) = rw (outside t i h) (record { written = nothing; known = taken-known P i d kn; less = omega arith })
+          inside (no h) = rw (outside-nodes t i h) (record { written = nothing; known = taken-known P i d kn; less = omega arith })
 
 -- ---- demand 3
 
-none-known : (t : List Node) → Known t (λ (j : ℕ). ⊥) unbuilt
+none-known : (t : List Node) → KnownStages t (λ (j : ℕ). ⊥) unbuilt
 none-known t = record { open-in = λ j e. let z : _≡_ {A = ℕ} 0 1 = cc in omega arith; kept-is = λ j v e. absurd (let z : _≡_ {A = ℕ} 0 1 = cc in omega arith) }
 
-pub left-all : (n : ℕ) → left unbuilt n ≡ n
-unfolding left freshness
-left-all zero = refl
-left-all (suc n) = let h : left unbuilt n ≡ n = left-all n in omega arith
+pub fresh-left-all : (n : ℕ) → freshLeft unbuilt n ≡ n
+unfolding freshLeft freshness
+fresh-left-all zero = refl
+fresh-left-all (suc n) = let h : freshLeft unbuilt n ≡ n = fresh-left-all n in omega arith
 
 pub tree-writes-out : (t : List Node) (root : ℕ) → NothingContainsItself t root → WritesOut t (root ∷ []) (one (tree t root))
 unfolding tree NothingContainsItself Reachable
 tree-writes-out t root h =
-    (build-made t (Reachable t root) into h (suc (length t)) (λ (j : ℕ). ⊥) root unbuilt (omega (arith, left-all (length t))) (record { good = inl refl; below = λ j x. absurd x }) (none-known t)) .written
+    (build-made t (Reachable t root) into h (suc (length t)) (λ (j : ℕ). ⊥) root unbuilt (omega (arith, fresh-left-all (length t))) (record { good = inl refl; below = λ j x. absurd x }) (none-known t)) .written
   where
     into : (i j : ℕ) → Reachable t root i → In j (at t i .kids) → Reachable t root j
     into i j (inl q) m = inr (rw (← q) (direct m))

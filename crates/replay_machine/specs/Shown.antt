@@ -5,7 +5,7 @@ use Rattle.store.specs.declared.Counts.{Counts}
 use Rattle.store.specs.Rooms.{Rooms}
 use Rattle.store.specs.Effects.{Sound}
 
-pub record Shown (c : Counts) : Type 0 where
+pub record CountsInRange (c : Counts) : Type 0 where
   pub at : c .at ≤ 65536
   pub links : c .links ≤ 8192
   pub stack : c .stack ≤ 2048
@@ -13,7 +13,7 @@ pub record Shown (c : Counts) : Type 0 where
   pub memo : c .memo ≤ 1024
   pub nodes : c .nodes ≤ 4096
 
-pub shown : (r : Rooms) (c : Counts) → Sound r c → Shown c
+pub shown : (r : Rooms) (c : Counts) → Sound r c → CountsInRange c
 shown r c s =
     let f = s .firm in
     let p = f .lengths .pickle in

@@ -10,8 +10,8 @@ ghost use Prim.Native.Nat.{_≤_};
 ghost use lib.ListN.{length};
 ghost use Rattle.store.specs.Effects.{Sound};
 ghost use Rattle.machine.specs.RoomsOf.{roomsOf};
-ghost use Rattle.machine.specs.Ran.{start};
-ghost use Rattle.replay_machine.specs.Shown.{Shown};
+ghost use Rattle.machine.specs.Ran.{startCounts};
+ghost use Rattle.replay_machine.specs.Shown.{CountsInRange};
 
 fn blank() {
     io::write_all(1, b" ");
@@ -19,7 +19,7 @@ fn blank() {
 
 // Place and links; stack, marks, memo and nodes.
 fn show_step(c: Counts)
-    requires { ⌜ Shown c ⌝ }
+    requires { ⌜ CountsInRange c ⌝ }
 {
     io::print_hex(1, c.at as u64 * 65536 + c.links as u64, 16);
     io::print_hex(
@@ -41,7 +41,7 @@ fn steps(
     keys: &mut [u32],
     held: &mut [u16],
 ) -> Outcome
-    requires { ⌜ Sound (roomsOf (now pickle) (now nodes) (now owners) (now children) (now stack) (now marks) (now keys) (now held)) start ⌝ }
+    requires { ⌜ Sound (roomsOf (now pickle) (now nodes) (now owners) (now children) (now stack) (now marks) (now keys) (now held)) startCounts ⌝ }
 {
     let mut c = Counts {
         at: 0,
@@ -111,7 +111,7 @@ fn show(
     keys: &mut [u32],
     held: &mut [u16],
 )
-    requires { ⌜ Sound (roomsOf (now pickle) (now nodes) (now owners) (now children) (now stack) (now marks) (now keys) (now held)) start ⌝ }
+    requires { ⌜ Sound (roomsOf (now pickle) (now nodes) (now owners) (now children) (now stack) (now marks) (now keys) (now held)) startCounts ⌝ }
 {
     match steps(pickle, nodes, owners, children, stack, marks, keys, held) {
         Outcome::Stopped(c) => show_stop(nodes, owners, children, stack, c),

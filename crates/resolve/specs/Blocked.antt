@@ -16,23 +16,23 @@ headTaken d [] = false
 headTaken d (x ∷ l) = eqb (getD d x 0) 1
 
 -- an Object whose first child is
-unfoldable pub held : ℕ → List ℕ → List ℕ → Bool
-held kind l d = eqb kind 12 && headTaken d l
+unfoldable pub argumentsTaken : ℕ → List ℕ → List ℕ → Bool
+argumentsTaken kind l d = eqb kind 12 && headTaken d l
 
 -- ---- by case, as the code tests it
 
-pub held-other : (kind : ℕ) (l d : List ℕ) → kind ≢ 12 → held kind l d ≡ false
-unfolding held
+pub held-other : (kind : ℕ) (l d : List ℕ) → kind ≢ 12 → argumentsTaken kind l d ≡ false
+unfolding argumentsTaken
 held-other kind l d h = rw (ne-eqb kind 12 h)
 
-pub held-none : (kind i end : ℕ) (c d : List ℕ) → end ≤ i → held kind (slice i end c) d ≡ false
-unfolding held headTaken
-held-none kind i end c d h = ap (λ (x : List ℕ). held kind x d) (drop-of-length-le (take end c) {i = i} (rw length-take (omega arith))) ∙ go (eqb kind 12)
+pub held-none : (kind i end : ℕ) (c d : List ℕ) → end ≤ i → argumentsTaken kind (slice i end c) d ≡ false
+unfolding argumentsTaken headTaken
+held-none kind i end c d h = ap (λ (x : List ℕ). argumentsTaken kind x d) (drop-of-length-le (take end c) {i = i} (rw length-take (omega arith))) ∙ go (eqb kind 12)
   where
     go : (b : Bool) → (b && false) ≡ false
     go true = refl
     go false = refl
 
-pub held-first : (kind i end : ℕ) (c d : List ℕ) → kind ≡ 12 → i < end → end ≤ length c → held kind (slice i end c) d ≡ eqb (getD d (getD c i 0) 0) 1
-unfolding held headTaken
-held-first kind i end c d k l m = ap (λ (x : List ℕ). held kind x d) (slice-cons i end c 0 l m) ∙ rw k
+pub arguments-taken-first : (kind i end : ℕ) (c d : List ℕ) → kind ≡ 12 → i < end → end ≤ length c → argumentsTaken kind (slice i end c) d ≡ eqb (getD d (getD c i 0) 0) 1
+unfolding argumentsTaken headTaken
+arguments-taken-first kind i end c d k l m = ap (λ (x : List ℕ). argumentsTaken kind x d) (slice-cons i end c 0 l m) ∙ rw k

@@ -9,26 +9,26 @@ use native.Mathlib.Omega.{arith}
 use Rattle.steps.specs.State.{Node}
 use Rattle.reading.specs.Build.{at}
 use Rattle.reading.specs.Unfold.{In}
-use Rattle.resolve.specs.Length.{namesLen, textLen, Readable, len-global, len-object}
+use Rattle.resolve.specs.Length.{namesLen, textLen, LengthReadable, len-global, len-object}
 use Rattle.resolve.specs.Word.{packW, textsW, texts-pack}
-use Rattle.resolved.specs.Walk.{State}
+use Rattle.resolved.specs.Walk.{WalkState}
 use Rattle.resolved.specs.Noted.{isContainer, isTextLeaf, ahead, leafOf, LeafNoted, unseen, early, reached, Noted, noted-early}
 use Rattle.lists.specs.Kinds.{containerKind}
-use Rattle.resolve.specs.Facts.{wordOf, kindAt, classAt, Facts}
+use Rattle.resolve.specs.Facts.{valueWord, kindAt, classAt, Facts}
 use Rattle.resolve.specs.Known.{word-big, leaf-word, no-text}
 
 -- what the code needs
-pub record Owned (p ws measures : List ℕ) (n kind : ℕ) : Type 0 where
+pub record OwnTextReadable (p ws measures : List ℕ) (n kind : ℕ) : Type 0 where
   pub kind-is : kind ≡ kindAt ws n
   pub container : containerKind kind ≡ true
   pub long : 2 * n < length ws
   pub class-below : kind ≡ 12 → classAt ws n < length measures
-  pub class-reads : kind ≡ 12 → Readable p ws (classAt ws n)
+  pub class-reads : kind ≡ 12 → LengthReadable p ws (classAt ws n)
 
 -- the text's length, capped; the measures still fit
 unfoldable pub Owns : List ℕ → List ℕ → List ℕ → List ℕ → ℕ → ℕ → Type 0
 Owns p ws before after n r =
-    (starts : List ℕ) (t : List Node) (s : State) → Facts p ws starts t → Noted t wordOf before s → n < length t → (r ≡ min (textLen p ws n) 65537) × (Noted t wordOf after s)
+    (starts : List ℕ) (t : List Node) (s : WalkState) → Facts p ws starts t → Noted t valueWord before s → n < length t → (r ≡ min (textLen p ws n) 65537) × (Noted t valueWord after s)
 
 class-text : (p ws : List ℕ) (n : ℕ) → kindAt ws n ≡ 12 → kindAt ws (classAt ws n) ≡ 11 → textLen p ws (classAt ws n) ≡ textLen p ws n
 class-text p ws n e f =
@@ -50,38 +50,38 @@ leaf-text l = texts-pack 1 1 l (omega arith)
 early-text : (w : ℕ) → textsW (w + ahead) ≡ textsW w
 early-text w = omega arith
 
-module _ (p ws measures : List ℕ) (n kind : ℕ) (o : Owned p ws measures n kind) where
+module _ (p ws measures : List ℕ) (n kind : ℕ) (o : OwnTextReadable p ws measures n kind) where
   pub own-none : kind ≢ 12 → Owns p ws measures measures n 0
   unfolding Owns
   own-none d starts t s f m l = (no-text p ws n kind (o .kind-is) (o .container) d, m)
 
-  module _ (e : kind ≡ 12) (starts : List ℕ) (t : List Node) (s : State) (f : Facts p ws starts t) (m : Noted t wordOf measures s) (l : n < length t) where
+  module _ (e : kind ≡ 12) (starts : List ℕ) (t : List Node) (s : WalkState) (f : Facts p ws starts t) (m : Noted t valueWord measures s) (l : n < length t) where
     object : kindAt ws n ≡ 12
     object = sym (o .kind-is) ∙ e
 
-    class-word : packW 1 1 (textLen p ws (classAt ws n)) ≡ wordOf (leafOf t (classAt ws n))
+    class-word : packW 1 1 (textLen p ws (classAt ws n)) ≡ valueWord (leafOf t (classAt ws n))
     class-word = leaf-word t (classAt ws n) (textLen p ws (classAt ws n)) (f .lens-are (classAt ws n) (f .classes n l object .0))
 
     word-text : (w : ℕ) → w ≡ packW 1 1 (textLen p ws (classAt ws n)) → textsW w ≡ min (textLen p ws n) 65537
     word-text w x = ap textsW x ∙ (leaf-text (textLen p ws (classAt ws n)) ∙ ap (λ (z : ℕ). min z 65537) (class-text p ws n object (f .classes n l object .1)))
 
-    class-noted : LeafNoted t wordOf (s .done) (classAt ws n) (getD measures (classAt ws n) 0)
+    class-noted : LeafNoted t valueWord (s .done) (classAt ws n) (getD measures (classAt ws n) 0)
     class-noted = m .leaf (classAt ws n) (f .classes n l object .0) (class-leaf p ws starts t n f l object)
 
     kept-text : getD measures (classAt ws n) 0 ≢ 0 → textsW (getD measures (classAt ws n) 0) ≡ min (textLen p ws n) 65537
     kept-text d = go class-noted
       where
-        go : LeafNoted t wordOf (s .done) (classAt ws n) (getD measures (classAt ws n) 0)
+        go : LeafNoted t valueWord (s .done) (classAt ws n) (getD measures (classAt ws n) 0)
             → textsW (getD measures (classAt ws n) 0) ≡ min (textLen p ws n) 65537
         go (unseen x q) = absurd (d x)
-        go (early x q) = ap textsW x ∙ (early-text (wordOf (leafOf t (classAt ws n))) ∙ word-text _ (sym class-word))
+        go (early x q) = ap textsW x ∙ (early-text (valueWord (leafOf t (classAt ws n))) ∙ word-text _ (sym class-word))
         go (reached x q) = word-text _ (x ∙ sym class-word)
 
     new-noted : (w : ℕ) → getD measures (classAt ws n) 0 ≡ 0 → w ≡ packW 1 1 (textLen p ws (classAt ws n))
-        → Noted t wordOf (set measures (classAt ws n) (w + ahead)) s
-    new-noted w z x = rw (x ∙ class-word) (noted-early t wordOf measures s (classAt ws n) m (f .classes n l object .0) (class-leaf p ws starts t n f l object) (go class-noted))
+        → Noted t valueWord (set measures (classAt ws n) (w + ahead)) s
+    new-noted w z x = rw (x ∙ class-word) (noted-early t valueWord measures s (classAt ws n) m (f .classes n l object .0) (class-leaf p ws starts t n f l object) (go class-noted))
       where
-        go : LeafNoted t wordOf (s .done) (classAt ws n) (getD measures (classAt ws n) 0) → isTextLeaf (at t (classAt ws n) .label) ≡ true
+        go : LeafNoted t valueWord (s .done) (classAt ws n) (getD measures (classAt ws n) 0) → isTextLeaf (at t (classAt ws n) .label) ≡ true
             → ¬ In (classAt ws n) (s .done)
         go (unseen y q) = q
         go (early y q) = q

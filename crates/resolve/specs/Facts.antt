@@ -11,11 +11,11 @@ use Rattle.steps.specs.State.{Node}
 use Rattle.steps.specs.Opcodes.{isObject}
 use Rattle.reading.specs.Build.{taken, kept, at}
 use Rattle.reading.specs.Unfold.{In, here, there}
-use Rattle.reading.specs.Measures.{value}
-use Rattle.resolve.specs.Length.{textLen, Readable}
-use Rattle.resolve.specs.Word.{word}
-use Rattle.resolved.specs.Walk.{State}
-use Rattle.resolved.specs.Inside.{Within}
+use Rattle.reading.specs.Measures.{valueMeasure}
+use Rattle.resolve.specs.Length.{textLen, LengthReadable}
+use Rattle.resolve.specs.Word.{measureWord}
+use Rattle.resolved.specs.Walk.{WalkState}
+use Rattle.resolved.specs.Inside.{DoneWithin}
 use Rattle.resolved.specs.Dues.{isDue, dues}
 use Rattle.resolved.specs.Noted.{isContainer, isTextLeaf}
 use Rattle.resolved.specs.Fits.{FitsState}
@@ -26,8 +26,8 @@ use Rattle.resolved.specs.Shown.{isSorted}
 use Rattle.lists.specs.Kinds.{containerKind}
 
 -- the word of a value
-abbrev pub wordOf : Value → ℕ
-wordOf v = word (value v)
+abbrev pub valueWord : Value → ℕ
+valueWord v = measureWord (valueMeasure v)
 
 -- ---- the node table
 
@@ -43,7 +43,7 @@ pub record Facts (p ws starts : List ℕ) (t : List Node) : Type 0 where
   pub beyond : length t ≤ 4096
   pub words-long : 2 * length t ≤ length ws
   pub starts-long : length t < length starts
-  pub readable : (i : ℕ) → i < length t → Readable p ws i
+  pub readable : (i : ℕ) → i < length t → LengthReadable p ws i
   pub lens-are : (i : ℕ) → i < length t → textLen p ws i ≡ length (textOf (at t i .label))
   pub objects : (i : ℕ) → i < length t → isObject (at t i .label) ≡ eqb (kindAt ws i) 12
   pub containers : (i : ℕ) → i < length t → isContainer (at t i .label) ≡ containerKind (kindAt ws i)
@@ -56,14 +56,14 @@ pub record Facts (p ws starts : List ℕ) (t : List Node) : Type 0 where
 -- ---- the rooms
 
 -- every value that is kept is shallow enough for its word to tell its depth
-abbrev pub Shallow : State → Type 0
-Shallow s = (j : ℕ) (v : Value) → s .stages j ≡ kept v → value v .deep ≤ 64
+abbrev pub Shallow : WalkState → Type 0
+Shallow s = (j : ℕ) (v : Value) → s .stages j ≡ kept v → valueMeasure v .deep ≤ 64
 
 -- measures, children and dues hold the state s of a walk, the room of dues being `lent` at its beginning
-pub record HoldsWalk (t : List Node) (beyond : length t ≤ 4096) (starts lent measures sorted room : List ℕ) (s : State) : Type 0 where
-  pub fits : FitsState t 4096 beyond wordOf starts measures sorted s
+pub record HoldsWalk (t : List Node) (beyond : length t ≤ 4096) (starts lent measures sorted room : List ℕ) (s : WalkState) : Type 0 where
+  pub fits : FitsState t 4096 beyond valueWord starts measures sorted s
   pub small : Shallow s
-  pub within : Within t s
+  pub within : DoneWithin t s
   pub listed : Lists lent room (dues t (s .done))
 
 dues-short : (t : List Node) (l : List ℕ) → length (dues t l) ≤ length l
@@ -75,7 +75,7 @@ dues-short t (i ∷ l) = go (isDue (at t i .label)) (dues-short t l)
     go true h = omega arith
     go false h = omega arith
 
-module _ {t : List Node} {beyond : length t ≤ 4096} {starts lent measures sorted room : List ℕ} {s : State} (h : HoldsWalk t beyond starts lent measures sorted room s) (n : ℕ) (l : n < length t) (e : s .stages n ≡ taken) where
+module _ {t : List Node} {beyond : length t ≤ 4096} {starts lent measures sorted room : List ℕ} {s : WalkState} (h : HoldsWalk t beyond starts lent measures sorted room s) (n : ℕ) (l : n < length t) (e : s .stages n ≡ taken) where
   -- finished nodes are different nodes, and the one that is taken is none of them: another may be noted
   pub one-more : length (dues t (s .done)) < length t
   one-more =

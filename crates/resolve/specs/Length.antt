@@ -18,23 +18,23 @@ use Rattle.text.specs.declared.Decoded.the-variants as decoded
 use Rattle.text.specs.declared.Quoted.{Quoted}
 use Rattle.text.specs.declared.Quoted.the-variants as quoted
 use Rattle.text.specs.Pieces.{bytesOf, lengthOf}
-use Rattle.text.specs.Text.{inner, unescapeString, unescapeUnicode, measured, quotedSays, decodedSays}
+use Rattle.text.specs.Text.{inner, unescapeString, unescapeUnicode, stringMeasured, quotedSays, decodedSays}
 use Rattle.text.specs.Answers.{decoded-len, decoded-bad, quoted-plain, quoted-escaped, quoted-bad, quotes-two}
 use Rattle.value.specs.Value.{Label, NoneL, textOf}
 use Rattle.value.specs.Shape.{kindIn}
 use Rattle.steps.specs.NodeWords.{first, second, within, classIn, moduleOf, nameOf}
-use Rattle.resolved.specs.Shown.{labels, labelOf}
+use Rattle.resolved.specs.Shown.{nodeLabels, nodeLabel}
 
 -- of node i's label
 unfoldable pub textLen : List ℕ → List ℕ → ℕ → ℕ
-textLen p ws i = length (textOf (labelOf p ws i))
+textLen p ws i = length (textOf (nodeLabel p ws i))
 
 -- of the module and the name that the words a and b of a Global say
 unfoldable pub namesLen : List ℕ → ℕ → ℕ → ℕ
 namesLen p a b = length (moduleOf p a ++ nameOf p b)
 
 -- what the code needs to read it
-pub record Readable (p ws : List ℕ) (i : ℕ) : Type 0 where
+pub record LengthReadable (p ws : List ℕ) (i : ℕ) : Type 0 where
   pub short : length p ≤ 65536
   pub words : 2 * i + 1 < length ws
   pub class : kindIn (first ws i) ≡ 12 → 2 * classIn (first ws i) + 1 < length ws
@@ -43,7 +43,7 @@ pub record Readable (p ws : List ℕ) (i : ℕ) : Type 0 where
 
 -- of the label that the words a and b say
 unfoldable lenIs : List ℕ → List ℕ → ℕ → ℕ → ℕ
-lenIs p ws a b = length (textOf (getD (labels p ws a b) (kindIn a) NoneL))
+lenIs p ws a b = length (textOf (getD (nodeLabels p ws a b) (kindIn a) NoneL))
 
 len-none : (p ws : List ℕ) (a b : ℕ) → a % 16 ≢ 4 → a % 16 ≢ 5 → a % 16 ≢ 11 → a % 16 ≢ 12 → a % 16 ≢ 13 → a % 16 ≢ 14 → lenIs p ws a b ≡ 0
 unfolding lenIs kindIn
@@ -54,7 +54,7 @@ len-none p ws a b v w x y z t =
     let s₃ = set s₂ 11 (length (moduleOf p a ++ nameOf p b)) in
     let s₄ = set s₃ 12 (length (moduleOf p (first ws (classIn a)) ++ nameOf p (second ws (classIn a)))) in
     let s₅ = set s₄ 13 (length (bytesOf (unescapeString (within 32 b p)))) in
-    sym (List·getD-map (λ (l : Label). length (textOf l)) (labels p ws a b) (a % 16) NoneL)
+    sym (List·getD-map (λ (l : Label). length (textOf l)) (nodeLabels p ws a b) (a % 16) NoneL)
     ∙ getD-set-other s₅ 14 (a % 16) (length (bytesOf (unescapeUnicode (within 32 b p)))) 0 t ∙ getD-set-other s₄ 13 (a % 16) _ 0 z ∙ getD-set-other s₃ 12 (a % 16) _ 0 y ∙ getD-set-other s₂ 11 (a % 16) _ 0 x
     ∙ getD-set-other s₁ 5 (a % 16) _ 0 w ∙ getD-set-other s₀ 4 (a % 16) _ 0 v ∙ all (decLt (a % 16) 15)
   where
@@ -74,7 +74,7 @@ no-bytes : (r : Read (List ℕ)) (why : Refusal) (k : ℕ) → r ≡ refused why
 unfolding bytesOf
 no-bytes r why k e = rw e
 
-module _ (l : List ℕ) (r : Quoted) (y : quotedSays l r ≡ measured l) where
+module _ (l : List ℕ) (r : Quoted) (y : quotedSays l r ≡ stringMeasured l) where
   pub plain-two : r ≡ quoted.Plain → 2 ≤ length l
   plain-two z = quotes-two l (inner l) (quoted-plain l (rw z at y))
 
@@ -110,10 +110,10 @@ module _ (p : List ℕ) (a b : ℕ) (l m : List ℕ) (x y : ℕ) (el : l ≡ tak
 -- a and b are node i's words, n the text's length
 module _ (p ws : List ℕ) (i a b : ℕ) (ea : a ≡ getD ws (2 * i) 0) (eb : b ≡ getD ws (2 * i + 1) 0) where
   of-words : lenIs p ws a b ≡ textLen p ws i
-  unfolding textLen lenIs labelOf first second
+  unfolding textLen lenIs nodeLabel first second
   of-words = rw (ea, eb, add-one)
 
-  of-kind : (k : ℕ) → a % 16 ≡ k → length (textOf (getD (labels p ws a b) k NoneL)) ≡ textLen p ws i
+  of-kind : (k : ℕ) → a % 16 ≡ k → length (textOf (getD (nodeLabels p ws a b) k NoneL)) ≡ textLen p ws i
   unfolding lenIs kindIn
   of-kind k e = rw (← e) of-words
 
@@ -145,6 +145,6 @@ module _ (p ws : List ℕ) (i a b : ℕ) (ea : a ≡ getD ws (2 * i) 0) (eb : b 
   len-nothing u v w x y z = sym (len-none p ws a b u v w x y z) ∙ of-words
 
   -- an Object's class has its words too
-  pub class-words : Readable p ws i → a % 16 ≡ 12 → 2 * (a / 64) + 1 < length ws
+  pub class-words : LengthReadable p ws i → a % 16 ≡ 12 → 2 * (a / 64) + 1 < length ws
   unfolding first kindIn classIn
   class-words r e = rw ea (r .class (rw ea at e))

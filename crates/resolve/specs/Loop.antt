@@ -10,16 +10,16 @@ use Rattle.value.specs.Value.{Value, textOf}
 use Rattle.steps.specs.State.{Node}
 use Rattle.reading.specs.Build.{Stage, taken, kept, stage, at}
 use Rattle.reading.specs.Unfold.{In, here, there, Staged, same, other, staged}
-use Rattle.reading.specs.Measures.{Measure, nilM, pushM, value, measure}
+use Rattle.reading.specs.Measures.{Measure, nilM, pushM, valueMeasure, measure}
 use Rattle.resolve.specs.Word.{packW, deepW, valuesW, textsW, deep-pack, values-pack, texts-pack}
-use Rattle.resolved.specs.Walk.{State, Made, overwrite, eachR, finishR, walk}
-use Rattle.resolved.specs.Resolves.{Called, old-taken}
+use Rattle.resolved.specs.Walk.{WalkState, WalkMade, overwrite, eachR, finishR, walk}
+use Rattle.resolved.specs.Resolves.{WalkCalled, old-taken}
 use Rattle.resolved.specs.Resolving.{Resolved, each-resolves, walk-resolves}
 use Rattle.resolved.specs.Turns.{Turn, turn-next, turn-end, turn-deep, push-nil}
 use Rattle.resolved.specs.Dues.{dues}
 use Rattle.resolved.specs.Noted.{isContainer}
 use Rattle.resolved.specs.Fits.{FitsState, fits-put, fits-same, fits-finish}
-use Rattle.resolve.specs.Facts.{wordOf, kindAt, Facts, Shallow, HoldsWalk, one-more, note-fits}
+use Rattle.resolve.specs.Facts.{valueWord, kindAt, Facts, Shallow, HoldsWalk, one-more, note-fits}
 use Rattle.resolve.specs.Noting.{Notes}
 
 -- the rooms hold some state of a walk over some nodes, in which container n is at stage m with its children as they were; the room of dues, lent
@@ -27,7 +27,7 @@ use Rattle.resolve.specs.Noting.{Notes}
 pub record AtStage (m : Stage) (p ws starts measures sorted room : List ℕ) (n : ℕ) : Type 0 where
   pub nodes : List Node
   pub facts : Facts p ws starts nodes
-  pub state : State
+  pub state : WalkState
   pub lent : List ℕ
   pub roomy : length nodes < length lent
   pub holds : HoldsWalk nodes (facts .beyond) starts lent measures sorted room state
@@ -37,22 +37,22 @@ pub record AtStage (m : Stage) (p ws starts measures sorted room : List ℕ) (n 
   pub kids-are : state .kids n ≡ at nodes n .kids
 
 -- where the loop begins
-abbrev pub Entered : List ℕ → List ℕ → List ℕ → List ℕ → List ℕ → List ℕ → ℕ → Type 0
-Entered = AtStage taken
+abbrev pub LoopBegins : List ℕ → List ℕ → List ℕ → List ℕ → List ℕ → List ℕ → ℕ → Type 0
+LoopBegins = AtStage taken
 
 -- a child is done: w is the word of what the walk made of it, and the rooms hold the state after
-pub record Back (t : List Node) (beyond : length t ≤ 4096) (starts lent : List ℕ) (k : ℕ) (m : Made) (w : ℕ) (measures sorted room : List ℕ) : Type 0 where
-  pub is : w ≡ wordOf (m .value)
-  pub shallow : value (m .value) .deep ≤ k
+pub record ChildWalked (t : List Node) (beyond : length t ≤ 4096) (starts lent : List ℕ) (k : ℕ) (m : WalkMade) (w : ℕ) (measures sorted room : List ℕ) : Type 0 where
+  pub is : w ≡ valueWord (m .value)
+  pub shallow : valueMeasure (m .value) .deep ≤ k
   pub holds : HoldsWalk t beyond starts lent measures sorted room (m .after)
 
 -- ---- the child to come: what is left of a list
 
-pub record Headed (js : List ℕ) (c : ℕ) : Type 0 where
+pub record StartsWith (js : List ℕ) (c : ℕ) : Type 0 where
   pub rest : List ℕ
   pub head-is : js ≡ c ∷ rest
 
-headed : (f e : ℕ) (l is js : List ℕ) → slice f e l ≡ is ++ js → e ≤ length l → f + length is < e → Headed js (getD l (f + length is) 0)
+headed : (f e : ℕ) (l is js : List ℕ) → slice f e l ≡ is ++ js → e ≤ length l → f + length is < e → StartsWith js (getD l (f + length is) 0)
 headed f e l is [] h b c =
     let x = length-slice f e l b in
     let y : length (slice f e l) ≡ length is + 0 = ap length h ∙ length-append is [] in
@@ -69,18 +69,18 @@ over f e l is (x ∷ js) h b g c =
     let y : length (slice f e l) ≡ length is + suc (length js) = ap length h ∙ length-append is (x ∷ js) in
     absurd (omega arith)
 
-put-there : (t : List Node) (beyond : length t ≤ 4096) (starts measures sorted : List ℕ) (n : ℕ) (is js : List ℕ) (s : State) (i x place : ℕ)
+put-there : (t : List Node) (beyond : length t ≤ 4096) (starts measures sorted : List ℕ) (n : ℕ) (is js : List ℕ) (s : WalkState) (i x place : ℕ)
     → i ≡ place → x ≡ 4096
-    → FitsState t 4096 beyond wordOf starts measures (set sorted place 4096) (overwrite n (is ++ (4096 ∷ js)) s)
-    → FitsState t 4096 beyond wordOf starts measures (set sorted i 4096) (overwrite n (is ++ (x ∷ js)) s)
+    → FitsState t 4096 beyond valueWord starts measures (set sorted place 4096) (overwrite n (is ++ (4096 ∷ js)) s)
+    → FitsState t 4096 beyond valueWord starts measures (set sorted i 4096) (overwrite n (is ++ (x ∷ js)) s)
 put-there t beyond starts measures sorted n is js s i x place e f h = rw (e, f) h
 
-module _ {p ws starts measures₀ sorted₀ room₀ : List ℕ} {n : ℕ} (I : Entered p ws starts measures₀ sorted₀ room₀ n) (k : ℕ) where
+module _ {p ws starts measures₀ sorted₀ room₀ : List ℕ} {n : ℕ} (I : LoopBegins p ws starts measures₀ sorted₀ room₀ n) (k : ℕ) where
   -- Before a turn: `done` children and those `todo`, the state, the sums so far beside what they measure, and the place of the next child.
   pub record Midway (len : ℕ) (measures sorted room : List ℕ) (deepest values texts i : ℕ) : Type 0 where
     pub done : List ℕ
     pub todo : List ℕ
-    pub state : State
+    pub state : WalkState
     pub sum : Measure
     pub turn : Turn (I .nodes) 4096 (I .facts .beyond) (walk (I .nodes) 4096 k) n (I .state) done todo state sum
     pub holds : HoldsWalk (I .nodes) (I .facts .beyond) starts (I .lent) measures sorted room state
@@ -112,7 +112,7 @@ module _ {p ws starts measures₀ sorted₀ room₀ : List ℕ} {n : ℕ} (I : E
     lists : slice (getD starts n 0) (getD starts (suc n) 0) sorted ≡ T .done ++ T .todo
     lists = T .holds .fits .lies .lists n (I .below) ∙ T .turn .held
 
-    pub next : i < getD starts (suc n) 0 → Headed (T .todo) (getD sorted i 0)
+    pub next : i < getD starts (suc n) 0 → StartsWith (T .todo) (getD sorted i 0)
     next h =
         let e = T .place in
         let b = T .holds .fits .lies .bounds n (I .below) in
@@ -128,17 +128,17 @@ module _ {p ws starts measures₀ sorted₀ room₀ : List ℕ} {n : ℕ} (I : E
     child-below h = let a = next h in T .below (getD sorted i 0) (rw (a .head-is) here)
 
     -- what the walk makes of the next child
-    abbrev pub called : Made
+    abbrev pub called : WalkMade
     called = walk (I .nodes) 4096 k (getD sorted i 0) (T .state)
 
-    called-is : Called (I .nodes) 4096 (T .state) called
+    called-is : WalkCalled (I .nodes) 4096 (T .state) called
     called-is = walk-resolves (I .nodes) 4096 (I .facts .beyond) k (getD sorted i 0) (T .state) (T .holds .fits .resolves)
 
     module _ (h : i < getD starts (suc n) 0) where
       turn-at : Turn (I .nodes) 4096 (I .facts .beyond) (walk (I .nodes) 4096 k) n (I .state) (T .done) (getD sorted i 0 ∷ next h .rest) (T .state) (T .sum)
       turn-at = let e = next h .head-is in rw e at (T .turn)
 
-      pub too-deep : value (called .value) .deep ≤ measure (eachR (walk (I .nodes) 4096 k) n [] (at (I .nodes) n .kids) (I .state) .0) .deep
+      pub too-deep : valueMeasure (called .value) .deep ≤ measure (eachR (walk (I .nodes) 4096 k) n [] (at (I .nodes) n .kids) (I .state) .0) .deep
       too-deep = turn-deep (I .nodes) 4096 (I .facts .beyond) (walk (I .nodes) 4096 k) n (I .state) (T .done) (getD sorted i 0) (next h .rest) (T .state) (T .sum) turn-at .0
 
       after-taken : called .after .stages n ≡ taken
@@ -148,11 +148,11 @@ module _ {p ws starts measures₀ sorted₀ room₀ : List ℕ} {n : ℕ} (I : E
       after-kids = called-is .later .kids-stay n tt (old-taken _ (T .turn .open-still)) ∙ turn-at .held
 
       step : (k ≤ 64) → (w : ℕ) (measures′ sorted′ sorted″ room′ : List ℕ)
-          → Back (I .nodes) (I .facts .beyond) starts (I .lent) k called w measures′ sorted′ room′
-          → FitsState (I .nodes) 4096 (I .facts .beyond) wordOf starts measures′ sorted″ (overwrite n (T .done ++ (called .slot ∷ next h .rest)) (called .after))
+          → ChildWalked (I .nodes) (I .facts .beyond) starts (I .lent) k called w measures′ sorted′ room′
+          → FitsState (I .nodes) 4096 (I .facts .beyond) valueWord starts measures′ sorted″ (overwrite n (T .done ++ (called .slot ∷ next h .rest)) (called .after))
           → Midway len measures′ sorted″ room′ (max deepest (deepW w)) (values + valuesW w) (texts + textsW w) (i + 1)
       step q w measures′ sorted′ sorted″ room′ c f =
-          let v = value (called .value) in
+          let v = valueMeasure (called .value) in
           let d : deepW w ≡ v .deep = ap deepW (c .is) ∙ deep-pack (v .deep) (v .values) (v .texts) (omega (arith, c .shallow)) in
           let a : valuesW w ≡ min (v .values) 2049 = ap valuesW (c .is) ∙ values-pack (v .deep) (v .values) (v .texts) (omega (arith, c .shallow)) in
           let b : textsW w ≡ min (v .texts) 65537 = ap textsW (c .is) ∙ texts-pack (v .deep) (v .values) (v .texts) (omega (arith, c .shallow)) in
@@ -173,19 +173,19 @@ module _ {p ws starts measures₀ sorted₀ room₀ : List ℕ} {n : ℕ} (I : E
 
       -- the child stays what it is
       pub mid-same : (k ≤ 64) → (w : ℕ) (measures′ sorted′ room′ : List ℕ)
-          → Back (I .nodes) (I .facts .beyond) starts (I .lent) k called w measures′ sorted′ room′ → called .slot ≡ getD sorted i 0
+          → ChildWalked (I .nodes) (I .facts .beyond) starts (I .lent) k called w measures′ sorted′ room′ → called .slot ≡ getD sorted i 0
           → Midway len measures′ sorted′ room′ (max deepest (deepW w)) (values + valuesW w) (texts + textsW w) (i + 1)
       mid-same q w measures′ sorted′ room′ c e =
           step q w measures′ sorted′ sorted′ room′ c
-          (fits-same (I .nodes) 4096 (I .facts .beyond) wordOf starts measures′ sorted′ (called .after) (c .holds .fits) n after-taken (T .done ++ (called .slot ∷ next h .rest)) (rw e after-kids))
+          (fits-same (I .nodes) 4096 (I .facts .beyond) valueWord starts measures′ sorted′ (called .after) (c .holds .fits) n after-taken (T .done ++ (called .slot ∷ next h .rest)) (rw e after-kids))
 
       -- the child is None there
       pub mid-none : (k ≤ 64) → (w : ℕ) (measures′ sorted′ room′ : List ℕ)
-          → Back (I .nodes) (I .facts .beyond) starts (I .lent) k called w measures′ sorted′ room′ → called .slot ≡ 4096
+          → ChildWalked (I .nodes) (I .facts .beyond) starts (I .lent) k called w measures′ sorted′ room′ → called .slot ≡ 4096
           → Midway len measures′ (set sorted′ i 4096) room′ (max deepest (deepW w)) (values + valuesW w) (texts + textsW w) (i + 1)
       mid-none q w measures′ sorted′ room′ c e =
           step q w measures′ sorted′ (set sorted′ i 4096) room′ c
-          (put-there (I .nodes) (I .facts .beyond) starts measures′ sorted′ n (T .done) (next h .rest) (called .after) i (called .slot) _ (T .place) e (fits-put (I .nodes) 4096 (I .facts .beyond) wordOf starts measures′ sorted′ (called .after) (c .holds .fits) n (I .below) after-taken (T .done) (next h .rest) (getD sorted i 0) 4096 after-kids))
+          (put-there (I .nodes) (I .facts .beyond) starts measures′ sorted′ n (T .done) (next h .rest) (called .after) i (called .slot) _ (T .place) e (fits-put (I .nodes) 4096 (I .facts .beyond) valueWord starts measures′ sorted′ (called .after) (c .holds .fits) n (I .below) after-taken (T .done) (next h .rest) (getD sorted i 0) 4096 after-kids))
 
     -- all are done
     module _ (h : getD starts (suc n) 0 ≤ i) where
@@ -197,29 +197,29 @@ module _ {p ws starts measures₀ sorted₀ room₀ : List ℕ} {n : ℕ} (I : E
 
       pub mid-word : (w : ℕ) → len ≡ min (length (textOf (at (I .nodes) n .label))) 65537
           → w ≡ deepest + 1 + 128 * min values 2049 + 524288 * min texts 65537
-          → w ≡ wordOf (finishR (I .nodes) n (eachR (walk (I .nodes) 4096 k) n [] (at (I .nodes) n .kids) (I .state)) .value)
+          → w ≡ valueWord (finishR (I .nodes) n (eachR (walk (I .nodes) 4096 k) n [] (at (I .nodes) n .kids) (I .state)) .value)
       unfolding finishR packW
       mid-word w l e = let q = ended .1 in e ∙ rw q (omega (arith, T .deep-is, T .values-are, T .texts-are, l))
 
-      pub mid-shallow : value (finishR (I .nodes) n (eachR (walk (I .nodes) 4096 k) n [] (at (I .nodes) n .kids) (I .state)) .value) .deep ≤ k + 1
+      pub mid-shallow : valueMeasure (finishR (I .nodes) n (eachR (walk (I .nodes) 4096 k) n [] (at (I .nodes) n .kids) (I .state)) .value) .deep ≤ k + 1
       unfolding finishR
       mid-shallow = let q = ended .1 in rw q (omega (arith, T .shallow))
 
       -- the node's due noted, its measure the word
       pub mid-finish : (w : ℕ) (room′ : List ℕ) → (k ≤ 63) → Notes (kindAt ws n) n room room′
-          → w ≡ wordOf (finishR (I .nodes) n (eachR (walk (I .nodes) 4096 k) n [] (at (I .nodes) n .kids) (I .state)) .value)
+          → w ≡ valueWord (finishR (I .nodes) n (eachR (walk (I .nodes) 4096 k) n [] (at (I .nodes) n .kids) (I .state)) .value)
           → HoldsWalk (I .nodes) (I .facts .beyond) starts (I .lent) (set measures n w) sorted room′ (finishR (I .nodes) n (eachR (walk (I .nodes) 4096 k) n [] (at (I .nodes) n .kids) (I .state)) .after)
       unfolding finishR Notes dues
       mid-finish w room′ b c e =
           let q = ended .0 in
           let s = eachR (walk (I .nodes) 4096 k) n [] (at (I .nodes) n .kids) (I .state) in
           let r : Resolved (I .nodes) 4096 (I .facts .beyond) n [] (I .state) s = each-resolves (I .nodes) 4096 (I .facts .beyond) (walk (I .nodes) 4096 k) (λ j c. walk-resolves (I .nodes) 4096 (I .facts .beyond) k j c) n [] (at (I .nodes) n .kids) (I .state) (I .holds .fits .resolves) (I .stage-is) (I .kids-are) in
-          let f : FitsState (I .nodes) 4096 (I .facts .beyond) wordOf starts measures sorted (s .1) = rw q (T .holds .fits) in
+          let f : FitsState (I .nodes) 4096 (I .facts .beyond) valueWord starts measures sorted (s .1) = rw q (T .holds .fits) in
           let o : s .1 .stages n ≡ taken = rw q (T .turn .open-still) in
           let g = r .held in
           let d = I .facts .due-are n (I .below) in
           record {
-            fits = rw e (fits-finish (I .nodes) 4096 (I .facts .beyond) wordOf starts measures sorted (s .1) f n (I .below) (I .container) o (s .0) (rw g (r .stands)) (λ j m. r .final j (rw g at m)));
+            fits = rw e (fits-finish (I .nodes) 4096 (I .facts .beyond) valueWord starts measures sorted (s .1) f n (I .below) (I .container) o (s .0) (rw g (r .stands)) (λ j m. r .final j (rw g at m)));
             small = small-finish (s .0) (s .1) q (mid-shallow);
             within = within-finish (s .1) q;
             listed = rw (q, d) (c (I .lent) (dues (I .nodes) (T .state .done)) (T .holds .listed) (omega (arith, last-room, I .roomy)));
@@ -228,20 +228,20 @@ module _ {p ws starts measures₀ sorted₀ room₀ : List ℕ} {n : ℕ} (I : E
           last-room : length (dues (I .nodes) (T .state .done)) < length (I .nodes)
           last-room = one-more (T .holds) n (I .below) (T .turn .open-still)
 
-          within-finish : (x : State) → x ≡ T .state → (j : ℕ) → In j (n ∷ x .done) → j < length (I .nodes)
+          within-finish : (x : WalkState) → x ≡ T .state → (j : ℕ) → In j (n ∷ x .done) → j < length (I .nodes)
           within-finish x e j here = I .below
           within-finish x e j (there m) = T .holds .within j (rw e at m)
 
-          small-finish : (c : _) (x : State) → x ≡ T .state → value (record { label = at (I .nodes) n .label; contents = c }) .deep ≤ k + 1
+          small-finish : (c : _) (x : WalkState) → x ≡ T .state → valueMeasure (record { label = at (I .nodes) n .label; contents = c }) .deep ≤ k + 1
               → Shallow (record { stages = stage n (kept (record { label = at (I .nodes) n .label; contents = c })) (x .stages); kids = x .kids; done = n ∷ x .done })
           small-finish c x e l j v y = pick (staged n (kept (record { label = at (I .nodes) n .label; contents = c })) (x .stages) j)
             where
               u : Value
               u = record { label = at (I .nodes) n .label; contents = c }
 
-              pick : Staged n (kept u) (x .stages) j → value v .deep ≤ 64
+              pick : Staged n (kept u) (x .stages) j → valueMeasure v .deep ≤ 64
               pick (same a d) = let z : u ≡ v = cc in rw (← z) (omega arith)
-              pick (other a d) = let z : T .state .stages j ≡ kept v = ap (λ (m : State). m .stages j) (sym e) ∙ (sym d ∙ y) in T .holds .small j v z
+              pick (other a d) = let z : T .state .stages j ≡ kept v = ap (λ (m : WalkState). m .stages j) (sym e) ∙ (sym d ∙ y) in T .holds .small j v z
 
     -- there is room to note one
     pub mid-room : (n < 65536) × (getD room 0 0 < 65535) × (getD room 0 0 + 1 < length room)

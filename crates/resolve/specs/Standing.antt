@@ -15,7 +15,7 @@ use Rattle.store.specs.RoomReads.{node-at, nodes-length}
 use Rattle.store.specs.Effects.{Firm, Sound}
 use Rattle.reading.specs.Build.{at}
 use Rattle.reading.specs.Graph.{Graph}
-use Rattle.resolved.specs.Shown.{labels, labelOf}
+use Rattle.resolved.specs.Shown.{nodeLabels, nodeLabel}
 use Rattle.resolved.specs.Noted.{isContainer, isTextLeaf}
 use Rattle.resolved.specs.Dues.{isDue}
 use Rattle.resolved.specs.Ranges.{graph-inside}
@@ -33,7 +33,7 @@ pub record SaysNodes (p ws : List ℕ) (t : List Node) : Type 0 where
   pub nodes : t ≡ stateOf rooms counts .nodes
 
 -- kinds below 4 have no text
-textless : (p ws : List ℕ) (a b k : ℕ) → k < 4 → isTextLeaf (getD (labels p ws a b) k NoneL) ≡ false
+textless : (p ws : List ℕ) (a b k : ℕ) → k < 4 → isTextLeaf (getD (nodeLabels p ws a b) k NoneL) ≡ false
 textless p ws a b zero h = refl
 textless p ws a b (suc zero) h = refl
 textless p ws a b (suc (suc zero)) h = refl
@@ -59,14 +59,14 @@ module _ (p ws : List ℕ) (t : List Node) (s : SaysNodes p ws t) where
     node-is = ap (λ (n : List Node). getD n i (kidless NoneL)) (s .nodes) ∙ node-at (s .rooms) (s .counts) i (omega (arith, many-nodes))
 
     -- a node's label is the one that its words say
-    pub label-is : at t i .label ≡ labelOf p ws i
-    unfolding labelOf nodeIs
+    pub label-is : at t i .label ≡ nodeLabel p ws i
+    unfolding nodeLabel nodeIs
     label-is =
         rw (node-is, ← s .pickle, ← s .words)
         (sym (List·getD-map (λ (n : Node). n .label) (choices (s .rooms .pickle) (s .rooms .nodes) (kidsOf (s .rooms) (s .counts) i) (first (s .rooms .nodes) i) (second (s .rooms .nodes) i)) (kindIn (first (s .rooms .nodes) i)) (kidless NoneL)))
 
 pub facts : (p ws : List ℕ) (t : List Node) (starts sorted : List ℕ) → SaysNodes p ws t → Graph t starts sorted → length t ≤ 4096 → Facts p ws starts t
-unfolding nodeIs labelOf kindIn first classIn Classed Class textLen
+unfolding nodeIs nodeLabel kindIn first classIn Classed Class textLen
 facts p ws t starts sorted s g b =
     record {
       beyond = b;

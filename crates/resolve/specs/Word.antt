@@ -16,8 +16,8 @@ valuesW w = w / 128 % 4096
 abbrev pub textsW : ℕ → ℕ
 textsW w = w / 524288 % 131072
 
-abbrev pub word : Measure → ℕ
-word m = packW (m .deep) (m .values) (m .texts)
+abbrev pub measureWord : Measure → ℕ
+measureWord m = packW (m .deep) (m .values) (m .texts)
 
 -- ---- a word gives its parts back
 
@@ -33,6 +33,6 @@ pub texts-pack : (d v t : ℕ) → d < 128 → textsW (packW d v t) ≡ min t 65
 unfolding packW
 texts-pack d v t h = omega arith
 
-pub word-large : (m : Measure) → 1 ≤ m .values → 128 ≤ word m
+pub word-large : (m : Measure) → 1 ≤ m .values → 128 ≤ measureWord m
 unfolding packW
 word-large m h = omega arith

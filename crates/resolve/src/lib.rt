@@ -13,14 +13,14 @@ ghost use lib.ListN.{length, getD};
 ghost use lib.Seq.{slice};
 ghost use Rattle.text.specs.Pieces.{bytesOf};
 ghost use Rattle.text.specs.Text.{unescapeString, unescapeUnicode};
-ghost use Rattle.resolve.specs.Length.{namesLen, textLen, Readable};
+ghost use Rattle.resolve.specs.Length.{namesLen, textLen, LengthReadable};
 ghost use Rattle.resolve.specs.Word.{packW};
-ghost use Rattle.resolve.specs.Blocked.{held};
+ghost use Rattle.resolve.specs.Blocked.{argumentsTaken};
 ghost use Rattle.resolve.specs.Noting.{Notes};
-ghost use Rattle.resolve.specs.Class.{Owned, Owns};
+ghost use Rattle.resolve.specs.Class.{OwnTextReadable, Owns};
 ghost use Rattle.resolve.specs.Known.{Learns};
 ghost use Rattle.resolve.specs.Ends.{Opens, Walks};
-ghost use Rattle.resolve.specs.Rooted.{Begins, Roots};
+ghost use Rattle.resolve.specs.Rooted.{ReadyToResolve, Roots};
 
 // A measure: 0 for a fresh node, 1 for one taken out, 3 for an Object that is None for good, else a word, packed as store says: depth, values and text,
 // values capped at 2,049 and text at 65,537. The word of a leaf with a text is stored when the walk comes to it.
@@ -95,7 +95,7 @@ fn unicode_text_len(line: &[u8]) -> usize
 
 // Of a node; an Object's is its class's.
 fn node_text_len(pickle: &[u8], nodes: &[u64], node: NodeId) -> usize
-    requires { ⌜ Readable (now pickle) (now nodes) (node .0) ⌝ }
+    requires { ⌜ LengthReadable (now pickle) (now nodes) (node .0) ⌝ }
     ensures { λ r. ⌜ r ≡ textLen (now (pickle .entry)) (now (nodes .entry)) (node .0) ⌝ }
 {
     let i = node.0;
@@ -104,17 +104,17 @@ fn node_text_len(pickle: &[u8], nodes: &[u64], node: NodeId) -> usize
     let place = b % store::HALF;
     let len = b / store::HALF;
     let kind = a % store::KIND_RADIX;
-    if kind == value::BYTES {
+    if kind == value::KIND_BYTES {
         let bytes = value::cut(pickle, place, len);
         return bytes.len();
     }
-    if kind == value::STRING {
+    if kind == value::KIND_STRING {
         return repaired_len(value::cut(pickle, place, len));
     }
-    if kind == value::GLOBAL {
+    if kind == value::KIND_GLOBAL {
         return global_text_len(pickle, a, b);
     }
-    if kind == value::OBJECT {
+    if kind == value::KIND_OBJECT {
         let class = NodeId((a / store::CLASS) as usize);
         return global_text_len(pickle, nodes[2 * class.0], nodes[2 * class.0 + 1]);
     }
@@ -131,7 +131,7 @@ fn node_text_len(pickle: &[u8], nodes: &[u64], node: NodeId) -> usize
 
 // The word of a leaf.
 fn leaf_word(node: NodeId, pickle: &[u8], nodes: &[u64]) -> u64
-    requires { ⌜ Readable (now pickle) (now nodes) (node .0) ⌝ }
+    requires { ⌜ LengthReadable (now pickle) (now nodes) (node .0) ⌝ }
     ensures { λ r. ⌜ r ≡ packW 1 1 (textLen (now (pickle .entry)) (now (nodes .entry)) (node .0)) ⌝ }
 {
     LEAF + store::TEXT_AT * least(node_text_len(pickle, nodes, node) as u64, 65537)
@@ -139,14 +139,14 @@ fn leaf_word(node: NodeId, pickle: &[u8], nodes: &[u64]) -> u64
 
 // A node as far as no walk is needed for it.
 fn known(node: NodeId, pickle: &[u8], nodes: &[u64], measures: &mut [u64]) -> Seen
-    requires { ⌜ Readable (now pickle) (now nodes) (node .0) ⌝ }
+    requires { ⌜ LengthReadable (now pickle) (now nodes) (node .0) ⌝ }
     requires { ⌜ node .0 < length (now measures) ⌝ }
     ensures { λ r.
         ⌜ Learns (now (pickle .entry)) (now (nodes .entry)) (now (measures .entry)) (now (measures .exit)) (node .0) r ⌝ }
 {
     let n = node.0;
     let kind = nodes[2 * n] % store::KIND_RADIX;
-    if kind < value::BYTES {
+    if kind < value::KIND_BYTES {
         return Seen::Word(LEAF);
     }
     let m = measures[n];
@@ -171,11 +171,11 @@ fn known(node: NodeId, pickle: &[u8], nodes: &[u64], measures: &mut [u64]) -> Se
 
 // How long a container's own text is: an Object's is its class's, which is measured once.
 fn own_text_len(kind: u64, node: NodeId, pickle: &[u8], nodes: &[u64], measures: &mut [u64]) -> u64
-    requires { ⌜ Owned (now pickle) (now nodes) (now measures) (node .0) kind ⌝ }
+    requires { ⌜ OwnTextReadable (now pickle) (now nodes) (now measures) (node .0) kind ⌝ }
     ensures { λ r.
         ⌜ Owns (now (pickle .entry)) (now (nodes .entry)) (now (measures .entry)) (now (measures .exit)) (node .0) r ⌝ }
 {
-    if kind != value::OBJECT {
+    if kind != value::KIND_OBJECT {
         return 0;
     }
     let n = node.0;
@@ -194,9 +194,9 @@ fn own_text_len(kind: u64, node: NodeId, pickle: &[u8], nodes: &[u64], measures:
 fn blocked(kind: u64, at: usize, end: usize, sorted: &[u16], measures: &[u64]) -> bool
     requires { ⌜ end ≤ length (now sorted) ⌝ }
     requires { ⌜ (at < end → getD (now sorted) at 0 < length (now measures)) ⌝ }
-    ensures { λ r. ⌜ r ≡ held kind (slice at end (now (sorted .entry))) (now (measures .entry)) ⌝ }
+    ensures { λ r. ⌜ r ≡ argumentsTaken kind (slice at end (now (sorted .entry))) (now (measures .entry)) ⌝ }
 {
-    if kind != value::OBJECT {
+    if kind != value::KIND_OBJECT {
         false
     } else if at < end {
         let first = sorted[at] as usize;
@@ -309,7 +309,7 @@ pub fn measure_root(
     measures: &mut [u64],
     dues: &mut [u16],
 ) -> WalkAnswer
-    requires { ⌜ Begins (now pickle) (now nodes) (now starts) (now sorted) (now measures) (now dues) (node .0) ⌝ }
+    requires { ⌜ ReadyToResolve (now pickle) (now nodes) (now starts) (now sorted) (now measures) (now dues) (node .0) ⌝ }
     ensures { λ r.
         ⌜ Roots (now (pickle .entry)) (now (nodes .entry)) (now (starts .entry))
         (now (sorted .entry)) (now (measures .entry)) (now (dues .entry))

@@ -17,9 +17,9 @@ use Rattle.reading.specs.Unfold.{In, here, there, Staged, same, other, staged}
 use Rattle.resolved.specs.Resolved.{Kids, Stand, sNil, sNode}
 use Rattle.resolved.specs.Arrange.{byN, insertN, asSetN, itemsN}
 use Rattle.resolved.specs.Moved.{stand-count}
-use Rattle.resolved.specs.Walk.{State, Made, put, overwrite, stageR, eachR, finishR, walk, start}
+use Rattle.resolved.specs.Walk.{WalkState, WalkMade, withList, overwrite, stageR, eachR, finishR, walk, walkStart}
 use Rattle.resolved.specs.Tree.{walked, start-resolves}
-use Rattle.resolved.specs.Resolves.{Resolves, Called, open-not-done, overwrite-resolves, stage-own, put-same, old-taken}
+use Rattle.resolved.specs.Resolves.{Resolves, WalkCalled, open-not-done, overwrite-resolves, stage-own, with-list-same, old-taken}
 use Rattle.resolved.specs.Resolving.{Resolved, take-resolves, each-resolves, walk-resolves}
 
 module _ (weight : Label → Forest → ℕ) where
@@ -38,7 +38,7 @@ module _ (weight : Label → Forest → ℕ) where
   spent d [] = 0
   spent d (i ∷ l) = weightOf (d i) + spent d l
 
-  abbrev pub used : State → ℕ
+  abbrev pub used : WalkState → ℕ
   used s = spent (s .stages) (s .done)
 
   spent-stage : (d : Stages) (i : ℕ) (m : Stage) (l : List ℕ) → ((j : ℕ) → In j l → j ≢ i) → spent (stage i m d) l ≡ spent d l
@@ -51,29 +51,29 @@ module _ (weight : Label → Forest → ℕ) where
       go (other p q) ih = rw (q, ih)
 
   module _ (t : List Node) (nowhere : ℕ) (beyond : length t ≤ nowhere) where
-    each-spent : (g : ℕ → State → Made) → ((i : ℕ) (s : State) → Resolves t nowhere s → Called t nowhere s (g i s))
-        → ((i : ℕ) (s : State) → Resolves t nowhere s → used (g i s .after) ≤ used s + weighs (one (g i s .value)))
-        → (n : ℕ) (is js : List ℕ) (s : State) → Resolves t nowhere s → s .stages n ≡ taken → s .kids n ≡ is ++ js
+    each-spent : (g : ℕ → WalkState → WalkMade) → ((i : ℕ) (s : WalkState) → Resolves t nowhere s → WalkCalled t nowhere s (g i s))
+        → ((i : ℕ) (s : WalkState) → Resolves t nowhere s → used (g i s .after) ≤ used s + weighs (one (g i s .value)))
+        → (n : ℕ) (is js : List ℕ) (s : WalkState) → Resolves t nowhere s → s .stages n ≡ taken → s .kids n ≡ is ++ js
         → used (eachR g n is js s .1) ≤ used s + weighs (eachR g n is js s .0)
     unfolding eachR weighs
     each-spent g h u n is [] s r e k = omega arith
     each-spent g h u n is (i ∷ js) s r e k =
         let p = g i s in
-        let a : Called t nowhere s p = h i s r in
+        let a : WalkCalled t nowhere s p = h i s r in
         let e₁ : p .after .stages n ≡ taken = a .later .stages-stay n (old-taken _ e) ∙ e in
         let l = is ++ (p .slot ∷ js) in
         let b : p .after .kids n ≡ is ++ (i ∷ js) = a .later .kids-stay n tt (old-taken _ e) ∙ k in
         let m : length l ≡ length (p .after .kids n) = rw b (simp length-append) in
         let r₂ : Resolves t nowhere (overwrite n l (p .after)) = overwrite-resolves t nowhere beyond (p .after) n l (a .resolves) e₁ m in
         let v : used (p .after) ≤ used s + weighs (one (p .value)) = u i s r in
-        let k₂ : put n l (p .after .kids) n ≡ (is ++ (p .slot ∷ [])) ++ js = put-same n l (p .after .kids) ∙ simp append-assoc in
+        let k₂ : withList n l (p .after .kids) n ≡ (is ++ (p .slot ∷ [])) ++ js = with-list-same n l (p .after .kids) ∙ simp append-assoc in
         let w = each-spent g h u n (is ++ (p .slot ∷ [])) js (overwrite n l (p .after)) r₂ e₁ k₂ in
         omega arith
 
-    fresh-not-done : {s : State} → Resolves t nowhere s → (i : ℕ) → s .stages i ≡ fresh → (j : ℕ) → In j (s .done) → j ≢ i
+    fresh-not-done : {s : WalkState} → Resolves t nowhere s → (i : ℕ) → s .stages i ≡ fresh → (j : ℕ) → In j (s .done) → j ≢ i
     fresh-not-done {s} r i e j m p = let o = r .done-stands j m in let a = o .keeps in let b : s .stages j ≡ fresh = ap (s .stages) p ∙ e in let z : _≡_ {A = ℕ} 0 1 = cc in omega arith
 
-    finish-spent : (i : ℕ) (p : Forest × State) → Resolves t nowhere (p .1) → p .1 .stages i ≡ taken
+    finish-spent : (i : ℕ) (p : Forest × WalkState) → Resolves t nowhere (p .1) → p .1 .stages i ≡ taken
         → used (finishR t i p .after) ≡ used (p .1) + weight (at t i .label) (p .0)
     unfolding finishR spent
     finish-spent i p r e =
@@ -82,7 +82,7 @@ module _ (weight : Label → Forest → ℕ) where
         let b : stage i (kept v) (p .1 .stages) i ≡ kept v = stage-own i (kept v) (p .1 .stages) in
         rw (b, a) (omega arith)
 
-    enter-spent : (i : ℕ) (s : State) (p : Forest × State) → Resolves t nowhere s → s .stages i ≡ fresh
+    enter-spent : (i : ℕ) (s : WalkState) (p : Forest × WalkState) → Resolves t nowhere s → s .stages i ≡ fresh
         → Resolved t nowhere beyond i [] (stageR i taken s) p → used (p .1) ≤ used (stageR i taken s) + weighs (p .0)
         → used (finishR t i p .after) ≤ used s + weighs (one (finishR t i p .value))
     unfolding finishR weighs
@@ -93,14 +93,14 @@ module _ (weight : Label → Forest → ℕ) where
         let c = finish-spent i p (a .resolves) e₁ in
         omega arith
 
-    pub walk-spent : (k i : ℕ) (s : State) → Resolves t nowhere s
+    pub walk-spent : (k i : ℕ) (s : WalkState) → Resolves t nowhere s
         → used (walk t nowhere k i s .after) ≤ used s + weighs (one (walk t nowhere k i s .value))
     unfolding walk
     walk-spent zero i s r = omega arith
     walk-spent (suc k) i s r = go (s .stages i) refl (blocked t (s .stages) i) refl (walk-spent k)
       where
         go : (m : Stage) → s .stages i ≡ m → (b : Bool) → blocked t (s .stages) i ≡ b
-            → ((j : ℕ) (c : State) → Resolves t nowhere c → used (walk t nowhere k j c .after) ≤ used c + weighs (one (walk t nowhere k j c .value)))
+            → ((j : ℕ) (c : WalkState) → Resolves t nowhere c → used (walk t nowhere k j c .after) ≤ used c + weighs (one (walk t nowhere k j c .value)))
             → used (walk t nowhere (suc k) i s .after) ≤ used s + weighs (one (walk t nowhere (suc k) i s .value))
         go (kept v) e b f ih = rw (e, walk) (omega arith)
         go taken e b f ih = rw (e, walk) (omega arith)
@@ -170,16 +170,16 @@ own-most DictL c = omega arith
 own-most (GlobalL m n) c = omega arith
 own-most (ObjectL m n b) c = omega arith
 
-record Room (f : Forest) : Type 0 where
+record WeightFits (f : Forest) : Type 0 where
   side : weighs ownItems f + count f ≤ size f
   inner : weighs ownItems f + count (items f) ≤ size f
 
-room : (f : Forest) → Room f
+room : (f : Forest) → WeightFits f
 unfolding weighs count size items
 room nil = record { side = omega arith; inner = omega arith }
 room (node l c r) = go (isList l || isTuple l) refl (room c) (room r)
   where
-    go : (b : Bool) → (isList l || isTuple l) ≡ b → Room c → Room r → Room (node l c r)
+    go : (b : Bool) → (isList l || isTuple l) ≡ b → WeightFits c → WeightFits r → WeightFits (node l c r)
     go true e a b = let z = listed l c e in let m = own-most l c in record { side = omega arith; inner = rw e (omega arith) }
     go false e a b = let m = own-most l c in record { side = omega arith; inner = rw e (omega arith) }
 
@@ -233,7 +233,7 @@ module _ (t : List Node) (nowhere : ℕ) (beyond : length t ≤ nowhere) (k root
   pub items-spent : spent ownItems (walked t nowhere k root .after .stages) (walked t nowhere k root .after .done) + 1 ≤ size (one (walked t nowhere k root .value))
   unfolding spent count
   items-spent =
-      let a = walk-spent ownItems t nowhere beyond k root (start t) (start-resolves t nowhere beyond) in
+      let a = walk-spent ownItems t nowhere beyond k root (walkStart t) (start-resolves t nowhere beyond) in
       let b = items-room (one (walked t nowhere k root .value)) in
       omega arith
 
@@ -241,7 +241,7 @@ module _ (t : List Node) (nowhere : ℕ) (beyond : length t ≤ nowhere) (k root
   pub text-spent : spent ownText (walked t nowhere k root .after .stages) (walked t nowhere k root .after .done) ≤ length (text (one (walked t nowhere k root .value)))
   unfolding spent
   text-spent =
-      let a = walk-spent ownText t nowhere beyond k root (start t) (start-resolves t nowhere beyond) in
+      let a = walk-spent ownText t nowhere beyond k root (walkStart t) (start-resolves t nowhere beyond) in
       let b = text-weighs (one (walked t nowhere k root .value)) in
       omega arith
 
@@ -249,8 +249,8 @@ module _ (t : List Node) (nowhere : ℕ) (beyond : length t ≤ nowhere) (k root
   pub nodes-spent : length (walked t nowhere k root .after .done) ≤ size (one (walked t nowhere k root .value))
   unfolding spent
   nodes-spent =
-      let r = walk-resolves t nowhere beyond k root (start t) (start-resolves t nowhere beyond) .resolves in
-      let a = walk-spent ownOne t nowhere beyond k root (start t) (start-resolves t nowhere beyond) in
+      let r = walk-resolves t nowhere beyond k root (walkStart t) (start-resolves t nowhere beyond) .resolves in
+      let a = walk-spent ownOne t nowhere beyond k root (walkStart t) (start-resolves t nowhere beyond) in
       let b = one-weighs (one (walked t nowhere k root .value)) in
       let c = one-spent (walked t nowhere k root .after .stages) (walked t nowhere k root .after .done) (λ i m. let o = r .done-stands i m in (o .value, o .keeps)) in
       omega arith

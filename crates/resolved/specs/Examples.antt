@@ -6,7 +6,7 @@ use Rattle.value.specs.Order.{lex, labels, _then_}
 use Rattle.steps.specs.State.{Node, kidless}
 use Rattle.reading.specs.Build.{blocked, firstTaken}
 use Rattle.resolved.specs.Resolved.{Kids}
-use Rattle.resolved.specs.Walk.{State, start, eachR, finishR, walk}
+use Rattle.resolved.specs.Walk.{WalkState, walkStart, eachR, finishR, walk}
 use Rattle.resolved.specs.Arrange.{byN, insertN, asSetN, enterN, asDictN, itemsN, arrangeN}
 use Rattle.resolved.specs.Dues.{dues, settleN}
 use Rattle.resolved.specs.Compare.{forestsN, orderN, compareN}
@@ -22,8 +22,8 @@ nodes =
     ∷ record { label = TupleL; kids = 3 ∷ 4 ∷ [] }
     ∷ []
 
-after : State
-after = walk nodes 4096 64 5 (start nodes) .after
+after : WalkState
+after = walk nodes 4096 64 5 (walkStart nodes) .after
 
 finished : (after .done ≡ 5 ∷ 4 ∷ 3 ∷ 2 ∷ 1 ∷ 0 ∷ []) × (dues nodes (after .done) ≡ 4 ∷ 3 ∷ [])
 unfolding after walk eachR finishR blocked firstTaken dues

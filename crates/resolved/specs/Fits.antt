@@ -14,22 +14,22 @@ use Rattle.reading.specs.Graph.{Graph}
 use Rattle.reading.specs.Unfold.{In, freshness}
 use Rattle.resolved.specs.Resolved.{Stand}
 use Rattle.resolved.specs.Ordered.{Final}
-use Rattle.resolved.specs.Walk.{State, put, gone, overwrite, stageR, finishR, start}
-use Rattle.resolved.specs.Resolves.{Resolves, put-same, put-other, own-stays, overwrite-resolves, stage-resolves, finish-resolves}
+use Rattle.resolved.specs.Walk.{WalkState, withList, gone, overwrite, stageR, finishR, walkStart}
+use Rattle.resolved.specs.Resolves.{Resolves, with-list-same, put-other, own-stays, overwrite-resolves, stage-resolves, finish-resolves}
 use Rattle.resolved.specs.Resolving.{object-gone, take-resolves}
 use Rattle.resolved.specs.Tree.{start-resolves}
-use Rattle.resolved.specs.Ranges.{Lies, graph-lies, lies-put}
+use Rattle.resolved.specs.Ranges.{ListsLie, graph-lies, lies-put}
 use Rattle.resolved.specs.Noted.{isContainer, Noted, unseen, noted-stage, noted-done}
 
 module _ (t : List Node) (nowhere : ℕ) (beyond : length t ≤ nowhere) (word : Value → ℕ) (starts : List ℕ) where
-  pub record FitsState (words sorted : List ℕ) (s : State) : Type 0 where
+  pub record FitsState (words sorted : List ℕ) (s : WalkState) : Type 0 where
     pub resolves : Resolves t nowhere s
     pub noted : Noted t word words s
-    pub lies : Lies starts (length t) sorted (s .kids)
+    pub lies : ListsLie starts (length t) sorted (s .kids)
 
   -- before the walk
   pub fits-start : (words sorted : List ℕ) → Graph t starts sorted → length words ≡ length t → ((j : ℕ) → j < length t → getD words j 0 ≡ 0)
-      → FitsState words sorted (start t)
+      → FitsState words sorted (walkStart t)
   fits-start words sorted g n z =
       record {
         resolves = start-resolves t nowhere beyond;
@@ -37,7 +37,7 @@ module _ (t : List Node) (nowhere : ℕ) (beyond : length t ≤ nowhere) (word :
         lies = graph-lies t starts sorted g;
       }
 
-  module _ (words sorted : List ℕ) (s : State) (f : FitsState words sorted s) where
+  module _ (words sorted : List ℕ) (s : WalkState) (f : FitsState words sorted s) where
     -- measures[i] = 1
     pub fits-take : (i : ℕ) → i < length t → isContainer (at t i .label) ≡ true → s .stages i ≡ fresh → FitsState (set words i 1) sorted (stageR i taken s)
     fits-take i l c e = record { resolves = take-resolves t nowhere beyond s i (f .resolves) e; noted = noted-stage t word words s i 1 taken (f .noted) l c refl; lies = f .lies }
@@ -68,8 +68,8 @@ module _ (t : List Node) (nowhere : ℕ) (beyond : length t ≤ nowhere) (word :
           lies = record { bounds = f .lies .bounds; lists = λ j m. f .lies .lists j m ∙ go j (ℕ-discrete j n) };
         }
       where
-        go : (j : ℕ) → Dec (j ≡ n) → s .kids j ≡ put n l (s .kids) j
-        go j (yes p) = ap (s .kids) p ∙ (h ∙ (sym (put-same n l (s .kids)) ∙ ap (put n l (s .kids)) (sym p)))
+        go : (j : ℕ) → Dec (j ≡ n) → s .kids j ≡ withList n l (s .kids) j
+        go j (yes p) = ap (s .kids) p ∙ (h ∙ (sym (with-list-same n l (s .kids)) ∙ ap (withList n l (s .kids)) (sym p)))
         go j (no p) = sym (put-other n l (s .kids) j p)
 
     -- measures[i] = the word of what it keeps

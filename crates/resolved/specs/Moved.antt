@@ -33,8 +33,8 @@ stand-count (sNode a b) = let e = stand-count b in omega arith
 -- ---- copied
 
 -- kinds whose second word is a text place: Bytes, String, Global, Object
-unfoldable pub placed : ℕ → Bool
-placed a = eqb (a % 16) 4 || (eqb (a % 16) 5 || ltb 10 (a % 16))
+unfoldable pub hasTextPlace : ℕ → Bool
+hasTextPlace a = eqb (a % 16) 4 || (eqb (a % 16) 5 || ltb 10 (a % 16))
 
 -- records with texts from p on, as they are with texts from q on
 unfoldable pub moves : ℕ → ℕ → List ℕ → List ℕ
@@ -42,7 +42,7 @@ moves p q [] = []
 moves p q (a ∷ []) = []
 moves p q (a ∷ b ∷ []) = []
 moves p q (a ∷ b ∷ c ∷ []) = []
-moves p q (a ∷ b ∷ c ∷ d ∷ r) = a ∷ cond (placed a) (b - p + q) b ∷ c ∷ d ∷ moves p q r
+moves p q (a ∷ b ∷ c ∷ d ∷ r) = a ∷ cond (hasTextPlace a) (b - p + q) b ∷ c ∷ d ∷ moves p q r
 
 pub regroup : (a b c d : List ℕ) → (a ++ (b ++ c)) ++ d ≡ a ++ (b ++ (c ++ d))
 regroup a b c d = simp append-assoc
@@ -55,7 +55,7 @@ module _ (p q : ℕ) where
   object-kind b n = omega arith
 
   record-moves : (l : Label) (o n z : ℕ) (r : List ℕ) → moves p q (recordOf l (p + o) n z ++ r) ≡ recordOf l (q + o) n z ++ moves p q r
-  unfolding moves placed
+  unfolding moves hasTextPlace
   record-moves NoneL o n z r = refl
   record-moves (BoolL b) o n z r = refl
   record-moves (I64L i) o n z r = refl

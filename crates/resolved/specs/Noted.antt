@@ -17,7 +17,7 @@ use Rattle.reading.specs.Build.{Stage, fresh, taken, kept, stage, at, blocked}
 use Rattle.reading.specs.Unfold.{In, here, there, Staged, same, other, staged}
 use Rattle.resolved.specs.Resolved.{sNil, sNode, StandsFor, value-unique}
 use Rattle.resolved.specs.Ordered.{in-rest}
-use Rattle.resolved.specs.Walk.{State, Made, gone, stageR, eachR, finishR, walk}
+use Rattle.resolved.specs.Walk.{WalkState, WalkMade, gone, stageR, eachR, finishR, walk}
 use Rattle.resolved.specs.Resolves.{Resolves, childless}
 
 -- what has children
@@ -91,7 +91,7 @@ module _ (t : List Node) (word : Value → ℕ) where
     early : w ≡ word (leafOf t j) + ahead → (isTextLeaf (at t j .label) ≡ true → ¬ In j done) → LeafNoted done j w
     reached : w ≡ word (leafOf t j) → In j done → LeafNoted done j w
 
-  pub record Noted (words : List ℕ) (s : State) : Type 0 where
+  pub record Noted (words : List ℕ) (s : WalkState) : Type 0 where
     pub long : length words ≡ length t
     pub container : (j : ℕ) → j < length t → isContainer (at t j .label) ≡ true → getD words j 0 ≡ noted j (s .stages j)
     pub leaf : (j : ℕ) → j < length t → isContainer (at t j .label) ≡ false → LeafNoted (s .done) j (getD words j 0)
@@ -109,7 +109,7 @@ module _ (t : List Node) (word : Value → ℕ) where
 
   -- ---- a container gets a stage, and is finished
 
-  pub noted-stage : (words : List ℕ) (s : State) (i w : ℕ) (m : Stage) → Noted words s → i < length t → isContainer (at t i .label) ≡ true
+  pub noted-stage : (words : List ℕ) (s : WalkState) (i w : ℕ) (m : Stage) → Noted words s → i < length t → isContainer (at t i .label) ≡ true
       → w ≡ noted i m
       → Noted (set words i w) (stageR i m s)
   noted-stage words s i w m n l c e =
@@ -134,7 +134,7 @@ module _ (t : List Node) (word : Value → ℕ) where
           pick (same p q) = leaf-other i j c d p
           pick (other p q) = n .calm j d (sym q ∙ f)
 
-  pub noted-done : (words : List ℕ) (s : State) (i : ℕ) → Noted words s → isContainer (at t i .label) ≡ true
+  pub noted-done : (words : List ℕ) (s : WalkState) (i : ℕ) → Noted words s → isContainer (at t i .label) ≡ true
       → Noted words (record { stages = s .stages; kids = s .kids; done = i ∷ s .done })
   noted-done words s i n c = record { long = n .long; container = n .container; leaf = λ j k d. leaf-more (leaf-other i j c d) (n .leaf j k d); calm = n .calm }
 
@@ -158,7 +158,7 @@ module _ (t : List Node) (word : Value → ℕ) where
   stamp-there words i e = record { long = refl; others = λ j n. refl; own = λ done m. reached e m }
 
   -- nothing is stored for a leaf without text
-  pub stamp-textless : (words : List ℕ) (s : State) (i : ℕ) → Noted words s → i < length t → isContainer (at t i .label) ≡ false
+  pub stamp-textless : (words : List ℕ) (s : WalkState) (i : ℕ) → Noted words s → i < length t → isContainer (at t i .label) ≡ false
       → isTextLeaf (at t i .label) ≡ false
       → Stamped words words i
   stamp-textless words s i n l c h = record { long = refl; others = λ j k. refl; own = λ done m. go done m (n .leaf i l c) }
@@ -169,7 +169,7 @@ module _ (t : List Node) (word : Value → ℕ) where
       go done m (reached e f) = reached e m
 
   -- a leaf's word is stored ahead
-  pub noted-early : (words : List ℕ) (s : State) (i : ℕ) → Noted words s → i < length t → isContainer (at t i .label) ≡ false
+  pub noted-early : (words : List ℕ) (s : WalkState) (i : ℕ) → Noted words s → i < length t → isContainer (at t i .label) ≡ false
       → (isTextLeaf (at t i .label) ≡ true → ¬ In i (s .done)) → Noted (set words i (word (leafOf t i) + ahead)) s
   noted-early words s i n l c f =
       record {
@@ -191,13 +191,13 @@ module _ (t : List Node) (word : Value → ℕ) where
 
   -- ---- what a container's word says
 
-  pub data Reads (s : State) (i w : ℕ) : Type 0 where
+  pub data Reads (s : WalkState) (i w : ℕ) : Type 0 where
     is-fresh : s .stages i ≡ fresh → w ≡ 0 → Reads s i w
     is-taken : s .stages i ≡ taken → w ≡ 1 → Reads s i w
     is-gone : (v : Value) → s .stages i ≡ kept v → gone t i v ≡ true → w ≡ 3 → Reads s i w
     is-kept : (v : Value) → s .stages i ≡ kept v → gone t i v ≡ false → w ≡ word v → Reads s i w
 
-  pub reads : (words : List ℕ) (s : State) (i : ℕ) → Noted words s → i < length t → isContainer (at t i .label) ≡ true → Reads s i (getD words i 0)
+  pub reads : (words : List ℕ) (s : WalkState) (i : ℕ) → Noted words s → i < length t → isContainer (at t i .label) ≡ true → Reads s i (getD words i 0)
   reads words s i n l c = go (s .stages i) refl (n .container i l c)
     where
       go : (m : Stage) → s .stages i ≡ m → getD words i 0 ≡ noted i (s .stages i) → Reads s i (getD words i 0)
@@ -212,12 +212,12 @@ module _ (t : List Node) (word : Value → ℕ) where
   -- ---- a leaf needs no walk
 
   -- what is made of leaf i, and that the words fit what is then
-  pub record Leaf (words : List ℕ) (i : ℕ) (m : Made) : Type 0 where
+  pub record Leaf (words : List ℕ) (i : ℕ) (m : WalkMade) : Type 0 where
     pub value : m .value ≡ leafOf t i
     pub slot : m .slot ≡ i
     pub noted-still : Noted words (m .after)
 
-  module _ (nowhere : ℕ) (beyond : length t ≤ nowhere) (words words′ : List ℕ) (i : ℕ) (s : State) (n : Noted words s) (c : isContainer (at t i .label) ≡ false) (x : Stamped words words′ i) where
+  module _ (nowhere : ℕ) (beyond : length t ≤ nowhere) (words words′ : List ℕ) (i : ℕ) (s : WalkState) (n : Noted words s) (c : isContainer (at t i .label) ≡ false) (x : Stamped words words′ i) where
     leaf-stamped : (done : List ℕ) → In i done → ((j : ℕ) → j ≢ i → LeafNoted (s .done) j (getD words j 0) → LeafNoted done j (getD words j 0))
         → (j : ℕ) → j < length t → isContainer (at t j .label) ≡ false → LeafNoted done j (getD words′ j 0)
     leaf-stamped done m more j k d = pick (ℕ-discrete j i)

@@ -10,18 +10,18 @@ use native.Mathlib.Omega.{arith}
 use Rattle.steps.specs.State.{Node}
 use Rattle.reading.specs.Build.{at}
 use Rattle.reading.specs.Graph.{Graph}
-use Rattle.reading.specs.Unfold.{In, here, there, outside}
+use Rattle.reading.specs.Unfold.{In, here, there, outside-nodes}
 use Rattle.resolved.specs.Resolved.{Kids}
-use Rattle.resolved.specs.Walk.{put}
-use Rattle.resolved.specs.Resolves.{put-same, put-other}
+use Rattle.resolved.specs.Walk.{withList}
+use Rattle.resolved.specs.Resolves.{with-list-same, put-other}
 
 -- the lists that g gives the first n nodes are where `starts` says
-pub record Lies (starts : List ℕ) (n : ℕ) (sorted : List ℕ) (g : Kids) : Type 0 where
+pub record ListsLie (starts : List ℕ) (n : ℕ) (sorted : List ℕ) (g : Kids) : Type 0 where
   pub bounds : (i : ℕ) → i < n → (getD starts i 0 ≤ getD starts (suc i) 0) × (getD starts (suc i) 0 ≤ length sorted)
   pub lists : (i : ℕ) → i < n → slice (getD starts i 0) (getD starts (suc i) 0) sorted ≡ g i
 
 -- so are the nodes' own, before the walk
-pub graph-lies : (t : List Node) (starts sorted : List ℕ) → Graph t starts sorted → Lies starts (length t) sorted (λ i. at t i .kids)
+pub graph-lies : (t : List Node) (starts sorted : List ℕ) → Graph t starts sorted → ListsLie starts (length t) sorted (λ i. at t i .kids)
 graph-lies t starts sorted g = record { bounds = g .bounds; lists = g .kids }
 
 -- ---- a store, and a part of the room
@@ -39,7 +39,7 @@ set-before f t l k x h = go (decLt k t)
 set-inside : (f t : ℕ) (l : List ℕ) (m x : ℕ) → f + m < t → slice f t (set l (f + m) x) ≡ set (slice f t l) m x
 set-inside f t l m x h = rw (take-set-lt t l (f + m) x h) (drop-set-add f (take t l) m x)
 
-module _ (starts : List ℕ) (n : ℕ) (sorted : List ℕ) (g : Kids) (l : Lies starts n sorted g) where
+module _ (starts : List ℕ) (n : ℕ) (sorted : List ℕ) (g : Kids) (l : ListsLie starts n sorted g) where
   -- a later node's part is further behind
   behind : (i j : ℕ) → i < j → j < n → getD starts (suc i) 0 ≤ getD starts j 0
   behind i zero h k = absurd (omega arith)
@@ -51,7 +51,7 @@ module _ (starts : List ℕ) (n : ℕ) (sorted : List ℕ) (g : Kids) (l : Lies 
 
   -- x in the place of c, behind `is`, in node i's part
   pub lies-put : (i : ℕ) → i < n → (is js : List ℕ) (c x : ℕ) → g i ≡ is ++ (c ∷ js)
-      → Lies starts n (set sorted (getD starts i 0 + length is) x) (put i (is ++ (x ∷ js)) g)
+      → ListsLie starts n (set sorted (getD starts i 0 + length is) x) (withList i (is ++ (x ∷ js)) g)
   lies-put i h is js c x e = record { bounds = λ j m. (l .bounds j m .0, rw (length-set sorted place x) (l .bounds j m .1)); lists = go }
     where
       place : ℕ
@@ -65,14 +65,14 @@ module _ (starts : List ℕ) (n : ℕ) (sorted : List ℕ) (g : Kids) (l : Lies 
           omega arith
 
       go : (j : ℕ) → j < n
-          → slice (getD starts j 0) (getD starts (suc j) 0) (set sorted (getD starts i 0 + length is) x) ≡ put i (is ++ (x ∷ js)) g j
+          → slice (getD starts j 0) (getD starts (suc j) 0) (set sorted (getD starts i 0 + length is) x) ≡ withList i (is ++ (x ∷ js)) g j
       go j m = pick (ℕ-discrete j i)
         where
           pick : Dec (j ≡ i)
-              → slice (getD starts j 0) (getD starts (suc j) 0) (set sorted (getD starts i 0 + length is) x) ≡ put i (is ++ (x ∷ js)) g j
+              → slice (getD starts j 0) (getD starts (suc j) 0) (set sorted (getD starts i 0 + length is) x) ≡ withList i (is ++ (x ∷ js)) g j
           pick (yes q) =
               let a = l .lists i h in
-              rw (q, put-same i (is ++ (x ∷ js)) g, set-inside (getD starts i 0) (getD starts (suc i) 0) sorted (length is) x before-end, a, e) (set-append-seam is c js x)
+              rw (q, with-list-same i (is ++ (x ∷ js)) g, set-inside (getD starts i 0) (getD starts (suc i) 0) sorted (length is) x before-end, a, e) (set-append-seam is c js x)
           pick (no q) = rw (put-other i (is ++ (x ∷ js)) g j q) (side (decLt j i) ∙ l .lists j m)
             where
               side : Dec (j < i)
@@ -108,4 +108,4 @@ graph-inside t starts sorted g i j m = go (decLt i (length t))
         let e = g .kids i l in
         let m′ : In j (drop a (take b sorted)) = rw e m in
         in-below (length t) sorted (g .inside) (in-take b sorted (in-drop a (take b sorted) m′))
-    go (no l) = let z : In j [] = rw (outside t i l) at m in elim z [ ]
+    go (no l) = let z : In j [] = rw (outside-nodes t i l) at m in elim z [ ]

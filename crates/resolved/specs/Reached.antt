@@ -12,19 +12,19 @@ use Rattle.steps.specs.State.{Node}
 use Rattle.reading.specs.Build.{at}
 use Rattle.reading.specs.Unfold.{In, here, there}
 use Rattle.resolved.specs.Resolved.{stand-label}
-use Rattle.resolved.specs.Walk.{State, start}
+use Rattle.resolved.specs.Walk.{WalkState, walkStart}
 use Rattle.resolved.specs.Resolves.{Resolves, Stood}
 use Rattle.resolved.specs.Resolving.{walk-resolves}
 use Rattle.resolved.specs.Tree.{walked, start-resolves}
 use Rattle.resolved.specs.Capacity.{ownText, spent, text-spent}
 use Rattle.resolved.specs.Noted.{isContainer, isTextLeaf, ahead, leafOf, Noted, unseen, early, reached, LeafNoted, Reads, is-fresh, is-taken, is-gone, is-kept, reads}
-use Rattle.resolved.specs.Sums.{upTo, over, upTo-over}
+use Rattle.resolved.specs.Sums.{upTo, sumOver, upTo-over}
 
 -- the text of node j where it is due
 abbrev pub textIf : List Node → (ℕ → Bool) → ℕ → ℕ
 textIf t due j = cond (due j) (length (textOf (at t j .label))) 0
 
-module _ (t : List Node) (word : Value → ℕ) (nowhere : ℕ) (words : List ℕ) (s : State) (r : Resolves t nowhere s) (n : Noted t word words s) where
+module _ (t : List Node) (word : Value → ℕ) (nowhere : ℕ) (words : List ℕ) (s : WalkState) (r : Resolves t nowhere s) (n : Noted t word words s) where
   -- a container with a word is finished
   pub container-done : (j : ℕ) → j < length t → isContainer (at t j .label) ≡ true → 3 < getD words j 0 → In j (s .done)
   container-done j l c h = go (reads t word words s j n l c)
@@ -62,11 +62,11 @@ module _ (t : List Node) (word : Value → ℕ) (nowhere : ℕ) (words : List �
       let g = o .stays in
       n .container j l c ∙ rw (o .keeps, g)
 
-module _ (t : List Node) (nowhere : ℕ) (s : State) (r : Resolves t nowhere s) where
+module _ (t : List Node) (nowhere : ℕ) (s : WalkState) (r : Resolves t nowhere s) where
   -- finished nodes' texts are among those that the walk has spent
   pub due-texts : (due : ℕ → Bool) → ((j : ℕ) → j < length t → due j ≡ true → In j (s .done))
       → upTo (textIf t due) (length t) ≤ spent ownText (s .stages) (s .done)
-  unfolding over spent
+  unfolding sumOver spent
   due-texts due h = omega (arith, upTo-over (textIf t due) (length t) (s .done) some, each (s .done) (λ j m. m))
     where
       some : (j : ℕ) → j < length t → textIf t due j ≢ 0 → In j (s .done)
@@ -76,7 +76,7 @@ module _ (t : List Node) (nowhere : ℕ) (s : State) (r : Resolves t nowhere s) 
           go true e = h j l e
           go false e = absurd (d (rw e))
 
-      each : (l : List ℕ) → ((j : ℕ) → In j l → In j (s .done)) → over (textIf t due) l ≤ spent ownText (s .stages) l
+      each : (l : List ℕ) → ((j : ℕ) → In j l → In j (s .done)) → sumOver (textIf t due) l ≤ spent ownText (s .stages) l
       each [] h = omega arith
       each (j ∷ l) h = let ih = each l (λ i m. h i (there m)) in one-more (r .done-stands j (h j here)) ih
         where
@@ -84,7 +84,7 @@ module _ (t : List Node) (nowhere : ℕ) (s : State) (r : Resolves t nowhere s) 
           part true = omega arith
           part false = omega arith
 
-          one-more : Stood t s j → over (textIf t due) l ≤ spent ownText (s .stages) l → over (textIf t due) (j ∷ l) ≤ spent ownText (s .stages) (j ∷ l)
+          one-more : Stood t s j → sumOver (textIf t due) l ≤ spent ownText (s .stages) l → sumOver (textIf t due) (j ∷ l) ≤ spent ownText (s .stages) (j ∷ l)
           one-more o ih =
               let k = o .keeps in
               let e : o .value .label ≡ at t j .label = stand-label (o .stands) in
@@ -96,5 +96,5 @@ pub texts-held : (t : List Node) (nowhere : ℕ) (beyond : length t ≤ nowhere)
     → ((j : ℕ) → j < length t → due j ≡ true → In j (walked t nowhere k root .after .done))
     → upTo (textIf t due) (length t) ≤ length (text (one (walked t nowhere k root .value)))
 texts-held t nowhere beyond k root due h =
-    let r = walk-resolves t nowhere beyond k root (start t) (start-resolves t nowhere beyond) .resolves in
+    let r = walk-resolves t nowhere beyond k root (walkStart t) (start-resolves t nowhere beyond) .resolves in
     omega (arith, due-texts t nowhere (walked t nowhere k root .after) r due h, text-spent t nowhere beyond k root)

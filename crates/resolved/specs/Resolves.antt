@@ -13,30 +13,30 @@ use Rattle.value.specs.Value.{Label, Forest, Value, nil, node, kind, NoneL, Boo
 use Rattle.steps.specs.State.{Node, kidless}
 use Rattle.steps.specs.Opcodes.{isObject}
 use Rattle.reading.specs.Build.{Stage, Stages, fresh, taken, kept, stage, none, at}
-use Rattle.reading.specs.Unfold.{In, here, there, Staged, same, other, staged, freshness, outside}
+use Rattle.reading.specs.Unfold.{In, here, there, Staged, same, other, staged, freshness, outside-nodes}
 use Rattle.resolved.specs.Resolved.{Kids, Stand, sNil, sNode, StandsFor, Frame, frame}
-use Rattle.resolved.specs.Ordered.{Final, Ordered, oNext, ordered-closed, ordered-same}
-use Rattle.resolved.specs.Walk.{State, Made, put, gone, overwrite, stageR, finishR}
+use Rattle.resolved.specs.Ordered.{Final, ChildrenFirst, oNext, ordered-closed, ordered-same}
+use Rattle.resolved.specs.Walk.{WalkState, WalkMade, withList, gone, overwrite, stageR, finishR}
 
 -- ---- the invariant
 
 -- what is known of a finished node
-pub record Stood (t : List Node) (s : State) (j : ℕ) : Type 0 where
+pub record Stood (t : List Node) (s : WalkState) (j : ℕ) : Type 0 where
   pub value : Value
   pub keeps : s .stages j ≡ kept value
   pub stays : gone t j value ≡ false
   pub stands : StandsFor t (s .kids) j value
 
-pub record Resolves (t : List Node) (nowhere : ℕ) (s : State) : Type 0 where
+pub record Resolves (t : List Node) (nowhere : ℕ) (s : WalkState) : Type 0 where
   pub fresh-is : (j : ℕ) → s .stages j ≡ fresh → s .kids j ≡ at t j .kids
   pub kept-done : (j : ℕ) (v : Value) → s .stages j ≡ kept v → gone t j v ≡ false → In j (s .done)
   pub kept-none : (j : ℕ) (v : Value) → s .stages j ≡ kept v → gone t j v ≡ true → v ≡ none
   pub done-stands : (j : ℕ) → In j (s .done) → Stood t s j
-  pub ordered : Ordered nowhere (s .kids) (s .done)
+  pub ordered : ChildrenFirst nowhere (s .kids) (s .done)
   pub lengths : (j : ℕ) → length (s .kids j) ≡ length (at t j .kids)
 
 -- s′ comes after s: of the nodes Q, those taken or finished in s keep their lists, and all such nodes their stages
-pub record Later (Q : ℕ → Type 0) (s s′ : State) : Type 0 where
+pub record WalkLater (Q : ℕ → Type 0) (s s′ : WalkState) : Type 0 where
   pub stages-stay : (j : ℕ) → freshness (s .stages j) ≡ 0 → s′ .stages j ≡ s .stages j
   pub kids-stay : (j : ℕ) → Q j → freshness (s .stages j) ≡ 0 → s′ .kids j ≡ s .kids j
   pub more : (j : ℕ) → In j (s .done) → In j (s′ .done)
@@ -45,9 +45,9 @@ abbrev pub Any : ℕ → Type 0
 Any j = Unit {0}
 
 -- what is known of a call from the state s
-pub record Called (t : List Node) (nowhere : ℕ) (s : State) (m : Made) : Type 0 where
+pub record WalkCalled (t : List Node) (nowhere : ℕ) (s : WalkState) (m : WalkMade) : Type 0 where
   pub resolves : Resolves t nowhere (m .after)
-  pub later : Later Any s (m .after)
+  pub later : WalkLater Any s (m .after)
   pub stands : StandsFor t (m .after .kids) (m .slot) (m .value)
   pub final : Final nowhere (m .after .done) (m .slot)
 
@@ -68,14 +68,14 @@ pub not-old : (m : Stage) → m ≡ fresh → freshness m ≡ 0 → ⊥
 unfolding freshness
 not-old m e z = let o : freshness m ≡ 1 = rw e in omega arith
 
-pub put-same : (i : ℕ) (l : List ℕ) (g : Kids) → put i l g i ≡ l
-put-same i l g = go (eqb i i) (eqb-refl i)
+pub with-list-same : (i : ℕ) (l : List ℕ) (g : Kids) → withList i l g i ≡ l
+with-list-same i l g = go (eqb i i) (eqb-refl i)
   where
     go : (b : Bool) → T b → cond b l (g i) ≡ l
     go true h = refl
     go false h = absurd h
 
-pub put-other : (i : ℕ) (l : List ℕ) (g : Kids) (j : ℕ) → j ≢ i → put i l g j ≡ g j
+pub put-other : (i : ℕ) (l : List ℕ) (g : Kids) (j : ℕ) → j ≢ i → withList i l g j ≡ g j
 put-other i l g j n = go (eqb j i) refl
   where
     go : (b : Bool) → eqb j i ≡ b → cond b l (g j) ≡ g j
@@ -111,11 +111,11 @@ own-stays (ObjectL m n b) = refl
 
 module _ (t : List Node) (nowhere : ℕ) (beyond : length t ≤ nowhere) where
   -- a node without children has an empty list
-  pub childless : {s : State} → Resolves t nowhere s → (j : ℕ) → at t j .kids ≡ [] → s .kids j ≡ []
+  pub childless : {s : WalkState} → Resolves t nowhere s → (j : ℕ) → at t j .kids ≡ [] → s .kids j ≡ []
   childless {s} r j e = no-length (s .kids j) (r .lengths j ∙ ap length e)
 
-  pub resolves-empty : {s : State} → Resolves t nowhere s → s .kids nowhere ≡ []
-  resolves-empty r = childless r nowhere (outside t nowhere (omega arith))
+  pub resolves-empty : {s : WalkState} → Resolves t nowhere s → s .kids nowhere ≡ []
+  resolves-empty r = childless r nowhere (outside-nodes t nowhere (omega arith))
 
   -- `nowhere` stands for None
   pub nowhere-none : (g : Kids) → g nowhere ≡ [] → StandsFor t g nowhere none
@@ -126,7 +126,7 @@ module _ (t : List Node) (nowhere : ℕ) (beyond : length t ≤ nowhere) where
       rw a at x
 
   -- what finished nodes stand for is the same later
-  pub later-frame : {Q : ℕ → Type 0} {s s′ : State} → Resolves t nowhere s → Later Q s s′ → s′ .kids nowhere ≡ [] → ((j : ℕ) → In j (s .done) → Q j)
+  pub later-frame : {Q : ℕ → Type 0} {s s′ : WalkState} → Resolves t nowhere s → WalkLater Q s s′ → s′ .kids nowhere ≡ [] → ((j : ℕ) → In j (s .done) → Q j)
       → Frame (Final nowhere (s .done)) (s .kids) (s′ .kids)
   later-frame {Q} {s} {s′} r l z q = record { same = go; closed = go2 }
     where
@@ -140,30 +140,30 @@ module _ (t : List Node) (nowhere : ℕ) (beyond : length t ≤ nowhere) where
 
   -- ---- each step keeps it
 
-  pub open-not-done : {s : State} → Resolves t nowhere s → (n : ℕ) → s .stages n ≡ taken → (j : ℕ) → In j (s .done) → j ≢ n
+  pub open-not-done : {s : WalkState} → Resolves t nowhere s → (n : ℕ) → s .stages n ≡ taken → (j : ℕ) → In j (s .done) → j ≢ n
   open-not-done {s} r n e j m p = let o = r .done-stands j m in apart (s .stages j) (o .value) (o .keeps) (ap (s .stages) p ∙ e)
 
-  pub overwrite-later : (s : State) (n : ℕ) (l : List ℕ) → Later (λ j. j ≢ n) s (overwrite n l s)
+  pub overwrite-later : (s : WalkState) (n : ℕ) (l : List ℕ) → WalkLater (λ j. j ≢ n) s (overwrite n l s)
   overwrite-later s n l = record { stages-stay = λ j z. refl; kids-stay = λ j q z. put-other n l (s .kids) j q; more = λ j m. m }
 
-  put-length : (s : State) (n : ℕ) (l : List ℕ) → Resolves t nowhere s → length l ≡ length (s .kids n) → (j : ℕ)
-      → length (put n l (s .kids) j) ≡ length (at t j .kids)
+  put-length : (s : WalkState) (n : ℕ) (l : List ℕ) → Resolves t nowhere s → length l ≡ length (s .kids n) → (j : ℕ)
+      → length (withList n l (s .kids) j) ≡ length (at t j .kids)
   put-length s n l r e j = go (ℕ-discrete j n)
     where
-      go : Dec (j ≡ n) → length (put n l (s .kids) j) ≡ length (at t j .kids)
-      go (yes p) = let a = r .lengths n in rw (p, put-same n l (s .kids)) (e ∙ a)
+      go : Dec (j ≡ n) → length (withList n l (s .kids) j) ≡ length (at t j .kids)
+      go (yes p) = let a = r .lengths n in rw (p, with-list-same n l (s .kids)) (e ∙ a)
       go (no p) = rw (put-other n l (s .kids) j p) (r .lengths j)
 
   -- a new list, as long as the old, for a node that is taken
-  pub overwrite-resolves : (s : State) (n : ℕ) (l : List ℕ) → Resolves t nowhere s → s .stages n ≡ taken → length l ≡ length (s .kids n)
+  pub overwrite-resolves : (s : WalkState) (n : ℕ) (l : List ℕ) → Resolves t nowhere s → s .stages n ≡ taken → length l ≡ length (s .kids n)
       → Resolves t nowhere (overwrite n l s)
   overwrite-resolves s n l r e k =
       record { fresh-is = go; kept-done = r .kept-done; kept-none = r .kept-none; done-stands = go2; ordered = ordered-same (λ i m. put-other n l (s .kids) i (open-not-done r n e i m)) (r .ordered); lengths = put-length s n l r k }
     where
-      z : put n l (s .kids) nowhere ≡ []
-      z = no-length (put n l (s .kids) nowhere) (put-length s n l r k nowhere ∙ ap length (outside t nowhere (omega arith)))
+      z : withList n l (s .kids) nowhere ≡ []
+      z = no-length (withList n l (s .kids) nowhere) (put-length s n l r k nowhere ∙ ap length (outside-nodes t nowhere (omega arith)))
 
-      go : (j : ℕ) → s .stages j ≡ fresh → put n l (s .kids) j ≡ at t j .kids
+      go : (j : ℕ) → s .stages j ≡ fresh → withList n l (s .kids) j ≡ at t j .kids
       go j f = put-other n l (s .kids) j (λ p. let a : s .stages j ≡ taken = ap (s .stages) p ∙ e in let q : _≡_ {A = ℕ} 0 1 = cc in omega arith) ∙ r .fresh-is j f
 
       go2 : (j : ℕ) → In j (s .done) → Stood t (overwrite n l s) j
@@ -175,7 +175,7 @@ module _ (t : List Node) (nowhere : ℕ) (beyond : length t ≤ nowhere) where
           only i here = inr m
 
   -- a stage for a fresh node: taken, or None for good
-  pub stage-later : (s : State) (i : ℕ) (m : Stage) → s .stages i ≡ fresh → Later Any s (stageR i m s)
+  pub stage-later : (s : WalkState) (i : ℕ) (m : Stage) → s .stages i ≡ fresh → WalkLater Any s (stageR i m s)
   stage-later s i m e = record { stages-stay = go; kids-stay = λ j q z. refl; more = λ j h. h }
     where
       go : (j : ℕ) → freshness (s .stages j) ≡ 0 → stage i m (s .stages) j ≡ s .stages j
@@ -185,7 +185,7 @@ module _ (t : List Node) (nowhere : ℕ) (beyond : length t ≤ nowhere) where
           go2 (same p q) = absurd (not-old (s .stages j) (ap (s .stages) p ∙ e) z)
           go2 (other p q) = q
 
-  pub stage-resolves : (s : State) (i : ℕ) (m : Stage) → Resolves t nowhere s → s .stages i ≡ fresh → freshness m ≡ 0
+  pub stage-resolves : (s : WalkState) (i : ℕ) (m : Stage) → Resolves t nowhere s → s .stages i ≡ fresh → freshness m ≡ 0
       → ((v : Value) → m ≡ kept v → (gone t i v ≡ true) × (v ≡ none))
       → Resolves t nowhere (stageR i m s)
   stage-resolves s i m r e z g = record { fresh-is = go; kept-done = go2; kept-none = go3; done-stands = go4; ordered = r .ordered; lengths = r .lengths }
@@ -215,7 +215,7 @@ module _ (t : List Node) (nowhere : ℕ) (beyond : length t ≤ nowhere) where
       go4 j h = let o = r .done-stands j h in record { value = o .value; keeps = stage-later s i m e .stages-stay j (old-kept _ (o .value) (o .keeps)) ∙ o .keeps; stays = o .stays; stands = o .stands }
 
   -- a taken node is finished when its list is final
-  pub finish-resolves : (s : State) (i : ℕ) (c : Forest) → Resolves t nowhere s → s .stages i ≡ taken → Stand t (s .kids) (s .kids i) c
+  pub finish-resolves : (s : WalkState) (i : ℕ) (c : Forest) → Resolves t nowhere s → s .stages i ≡ taken → Stand t (s .kids) (s .kids i) c
       → ((j : ℕ) → In j (s .kids i) → Final nowhere (s .done) j)
       → Resolves t nowhere (finishR t i (c, s) .after)
   unfolding finishR

@@ -22,8 +22,8 @@ use Rattle.resolved.specs.Noted.{isContainer}
 -- ---- a node's label
 
 -- what the words a and b say for the kinds 0 to 14: 13 is a STRING with an escape and 14 a UNICODE, both as their lines
-abbrev pub labels : List ℕ → List ℕ → ℕ → ℕ → List Label
-labels p ws a b =
+abbrev pub nodeLabels : List ℕ → List ℕ → ℕ → ℕ → List Label
+nodeLabels p ws a b =
     NoneL
     ∷ BoolL (eqb b 1)
     ∷ I64L b
@@ -41,8 +41,8 @@ labels p ws a b =
     ∷ StringL (bytesOf (unescapeUnicode (within 32 b p)))
     ∷ []
 
-unfoldable pub labelOf : List ℕ → List ℕ → ℕ → Label
-labelOf p ws i = getD (labels p ws (first ws i) (second ws i)) (kindIn (first ws i)) NoneL
+unfoldable pub nodeLabel : List ℕ → List ℕ → ℕ → Label
+nodeLabel p ws i = getD (nodeLabels p ws (first ws i) (second ws i)) (kindIn (first ws i)) NoneL
 
 -- ---- its text
 
@@ -78,20 +78,20 @@ trailing DictL = []
 trailing (GlobalL m n) = n
 trailing (ObjectL m n b) = n
 
-abbrev pub hasText : Label → Bool
-hasText NoneL = false
-hasText (BoolL b) = false
-hasText (I64L n) = false
-hasText (F64L n) = false
-hasText (BytesL s) = true
-hasText (StringL s) = true
-hasText ListL = false
-hasText TupleL = false
-hasText SetL = false
-hasText FrozenSetL = false
-hasText DictL = false
-hasText (GlobalL m n) = true
-hasText (ObjectL m n b) = true
+abbrev pub labelHasText : Label → Bool
+labelHasText NoneL = false
+labelHasText (BoolL b) = false
+labelHasText (I64L n) = false
+labelHasText (F64L n) = false
+labelHasText (BytesL s) = true
+labelHasText (StringL s) = true
+labelHasText ListL = false
+labelHasText TupleL = false
+labelHasText SetL = false
+labelHasText FrozenSetL = false
+labelHasText DictL = false
+labelHasText (GlobalL m n) = true
+labelHasText (ObjectL m n b) = true
 
 -- A measure of 2 ^ 62 or more of a node with text: it was decoded. Below that bit are its place, the lengths of what leads and of what trails.
 unfoldable pub isDecoded : ℕ → Bool
@@ -166,7 +166,7 @@ pub record Shown (t : List Node) (h : Kids) (P : ℕ → Type 0) (p d ws starts 
   pub starts-long : length t < length starts
   pub measures-long : length t ≤ length measures
   pub rising : (i : ℕ) → i < length t → getD starts i 0 ≤ getD starts (suc i) 0
-  pub labels-are : (i : ℕ) → i < length t → at t i .label ≡ labelOf p ws i
+  pub labels-are : (i : ℕ) → i < length t → at t i .label ≡ nodeLabel p ws i
   pub classes : (i : ℕ) → i < length t → kindIn (first ws i) ≡ 12 → (classIn (first ws i) < length t) × (kindIn (first ws (classIn (first ws i))) ≡ 11)
   -- P are nodes, or the number of none
   pub nodes : (i : ℕ) → P i → (i ≡ 4096) ⊎ (i < length t)
@@ -175,4 +175,4 @@ pub record Shown (t : List Node) (h : Kids) (P : ℕ → Type 0) (p d ws starts 
   pub leaves : (i : ℕ) → P i → i < length t → isContainer (at t i .label) ≡ false → h i ≡ []
   pub inside : (i : ℕ) → P i → i < length t → isContainer (at t i .label) ≡ true → Inside ws starts sorted log measures i
   pub lists : (i : ℕ) → P i → i < length t → isContainer (at t i .label) ≡ true → listOf ws starts sorted log measures i ≡ h i
-  pub spelled : (i : ℕ) → P i → i < length t → hasText (at t i .label) ≡ true → Spelled p d ws measures i (at t i .label)
+  pub spelled : (i : ℕ) → P i → i < length t → labelHasText (at t i .label) ≡ true → Spelled p d ws measures i (at t i .label)

@@ -12,7 +12,7 @@ use native.Mathlib.Decide.{ℕ-discrete}
 use native.Mathlib.Omega.{arith}
 use Rattle.reading.specs.Unfold.{In, here, there}
 use Rattle.resolved.specs.Resolved.{Kids}
-use Rattle.resolved.specs.Ordered.{Ordered, oNil, oNext, in-rest}
+use Rattle.resolved.specs.Ordered.{ChildrenFirst, oNil, oNext, in-rest}
 
 -- of f at each number below n
 unfoldable pub upTo : (ℕ → ℕ) → ℕ → ℕ
@@ -20,17 +20,17 @@ upTo f zero = 0
 upTo f (suc n) = upTo f n + f n
 
 -- of f at each number of a list
-unfoldable pub over : (ℕ → ℕ) → List ℕ → ℕ
-over f [] = 0
-over f (i ∷ l) = f i + over f l
+unfoldable pub sumOver : (ℕ → ℕ) → List ℕ → ℕ
+sumOver f [] = 0
+sumOver f (i ∷ l) = f i + sumOver f l
 
 pub upTo-least : (f g : ℕ → ℕ) (n : ℕ) → ((j : ℕ) → f j ≤ g j) → upTo f n ≤ upTo g n
 unfolding upTo
 upTo-least f g zero h = omega arith
 upTo-least f g (suc n) h = omega (arith, upTo-least f g n h, h n)
 
-pub over-least : (f g : ℕ → ℕ) (l : List ℕ) → ((j : ℕ) → In j l → f j ≤ g j) → over f l ≤ over g l
-unfolding over
+pub over-least : (f g : ℕ → ℕ) (l : List ℕ) → ((j : ℕ) → In j l → f j ≤ g j) → sumOver f l ≤ sumOver g l
+unfolding sumOver
 over-least f g [] h = omega arith
 over-least f g (i ∷ l) h = omega (arith, over-least f g l (λ j m. h j (there m)), h i here)
 
@@ -40,24 +40,24 @@ pub data Apart : List ℕ → Type 0 where
   apartNil : Apart []
   apartNext : {i : ℕ} {l : List ℕ} → ¬ In i l → Apart l → Apart (i ∷ l)
 
-pub ordered-apart : {nowhere : ℕ} {g : Kids} {done : List ℕ} → Ordered nowhere g done → Apart done
+pub ordered-apart : {nowhere : ℕ} {g : Kids} {done : List ℕ} → ChildrenFirst nowhere g done → Apart done
 ordered-apart oNil = apartNil
 ordered-apart (oNext f c o) = apartNext f (ordered-apart o)
 
 -- 1 where the list has it
-abbrev has : List ℕ → ℕ → ℕ
-has [] j = 0
-has (i ∷ l) j = cond (eqb j i) 1 (has l j)
+abbrev oneIfIn : List ℕ → ℕ → ℕ
+oneIfIn [] j = 0
+oneIfIn (i ∷ l) j = cond (eqb j i) 1 (oneIfIn l j)
 
-has-most : (l : List ℕ) (j : ℕ) → has l j ≤ 1
+has-most : (l : List ℕ) (j : ℕ) → oneIfIn l j ≤ 1
 has-most [] j = omega arith
 has-most (i ∷ l) j = go (eqb j i) (has-most l j)
   where
-    go : (b : Bool) → has l j ≤ 1 → cond b 1 (has l j) ≤ 1
+    go : (b : Bool) → oneIfIn l j ≤ 1 → cond b 1 (oneIfIn l j) ≤ 1
     go true h = omega arith
     go false h = h
 
-has-not : (l : List ℕ) (j : ℕ) → ¬ In j l → has l j ≡ 0
+has-not : (l : List ℕ) (j : ℕ) → ¬ In j l → oneIfIn l j ≡ 0
 has-not [] j n = refl
 has-not (i ∷ l) j n =
     let d : j ≢ i = λ p. n (rw p here) in
@@ -78,23 +78,23 @@ unfolding upTo
 upTo-ones f zero h = omega arith
 upTo-ones f (suc n) h = omega (arith, upTo-ones f n h, h n)
 
-counted : (n : ℕ) {l : List ℕ} → Apart l → ((j : ℕ) → In j l → j < n) → length l ≤ upTo (has l) n
+counted : (n : ℕ) {l : List ℕ} → Apart l → ((j : ℕ) → In j l → j < n) → length l ≤ upTo (oneIfIn l) n
 counted n apartNil b = omega arith
 counted n (apartNext {i} {l} d a) b =
     let ih = counted n a (λ j m. b j (there m)) in
     let z = has-not l i d in
-    let e : has (i ∷ l) i ≡ 1 = rw (eq-eqb i i refl) in
-    omega (arith, upTo-more (has l) (has (i ∷ l)) i n more (omega arith) (b i here))
+    let e : oneIfIn (i ∷ l) i ≡ 1 = rw (eq-eqb i i refl) in
+    omega (arith, upTo-more (oneIfIn l) (oneIfIn (i ∷ l)) i n more (omega arith) (b i here))
   where
-    more : (j : ℕ) → has l j ≤ has (i ∷ l) j
+    more : (j : ℕ) → oneIfIn l j ≤ oneIfIn (i ∷ l) j
     more j = go (eqb j i) (has-most l j)
       where
-        go : (c : Bool) → has l j ≤ 1 → has l j ≤ cond c 1 (has l j)
+        go : (c : Bool) → oneIfIn l j ≤ 1 → oneIfIn l j ≤ cond c 1 (oneIfIn l j)
         go true h = h
         go false h = omega arith
 
 pub apart-short : (n : ℕ) {l : List ℕ} → Apart l → ((j : ℕ) → In j l → j < n) → length l ≤ n
-apart-short n {l} a b = omega (arith, counted n a b, upTo-ones (has l) n (has-most l))
+apart-short n {l} a b = omega (arith, counted n a b, upTo-ones (oneIfIn l) n (has-most l))
 
 -- ---- what counts only where a list has the number
 
@@ -112,8 +112,8 @@ without-one f i (suc n) = go (ℕ-discrete n i) (without-one f i n)
     go (yes p) ih = let e : f n ≡ f i = ap f p in (λ h. absurd (omega arith), omega (arith, ih .0 (omega arith)))
     go (no p) ih = let e = ne-eqb n i p in rw e (λ h. omega (arith, ih .0 (omega arith)), omega (arith, ih .1))
 
-pub upTo-over : (f : ℕ → ℕ) (n : ℕ) (l : List ℕ) → ((j : ℕ) → j < n → f j ≢ 0 → In j l) → upTo f n ≤ over f l
-unfolding over upTo
+pub upTo-over : (f : ℕ → ℕ) (n : ℕ) (l : List ℕ) → ((j : ℕ) → j < n → f j ≢ 0 → In j l) → upTo f n ≤ sumOver f l
+unfolding sumOver upTo
 upTo-over f n [] h = none n h
   where
     none : (n : ℕ) → ((j : ℕ) → j < n → f j ≢ 0 → In j []) → upTo f n ≤ 0
@@ -124,7 +124,7 @@ upTo-over f n [] h = none n h
         zip (yes p) ih = omega arith
         zip (no p) ih = elim (h n (omega arith) p) [ ]
 upTo-over f n (i ∷ l) h =
-    let ih : upTo (without i f) n ≤ over (without i f) l = upTo-over (without i f) n l less in
+    let ih : upTo (without i f) n ≤ sumOver (without i f) l = upTo-over (without i f) n l less in
     omega (arith, without-one f i n .1, over-least (without i f) f l (λ j m. part j))
   where
     part : (j : ℕ) → without i f j ≤ f j

@@ -10,21 +10,21 @@ use Rattle.value.specs.Value.{Value, one, depth, BytesL, ListL, TupleL, ObjectL
 use Rattle.steps.specs.State.{Node, kidless}
 use Rattle.steps.specs.Opcodes.{isObject}
 use Rattle.reading.specs.Build.{Stages, unbuilt, at, firstTaken, blocked, build, tree}
-use Rattle.reading.specs.Unfold.{left-all}
+use Rattle.reading.specs.Unfold.{fresh-left-all}
 use Rattle.reading.specs.Fuel.{build-fuel}
 use Rattle.reading.specs.Shallow.{deep, levels-back}
 use Rattle.resolved.specs.Resolved.{StandsFor}
-use Rattle.resolved.specs.Walk.{State, Made, start, eachR, finishR, walk, walk-build}
+use Rattle.resolved.specs.Walk.{WalkState, WalkMade, walkStart, eachR, finishR, walk, walk-build}
 use Rattle.resolved.specs.Ordered.{Final, oNil}
-use Rattle.resolved.specs.Resolves.{Resolves, Called}
+use Rattle.resolved.specs.Resolves.{Resolves, WalkCalled}
 use Rattle.resolved.specs.Resolving.{walk-resolves}
 
 -- from `root`, with k levels
-abbrev pub walked : List Node → ℕ → ℕ → ℕ → Made
-walked t nowhere k root = walk t nowhere k root (start t)
+abbrev pub walked : List Node → ℕ → ℕ → ℕ → WalkMade
+walked t nowhere k root = walk t nowhere k root (walkStart t)
 
 module _ (t : List Node) (nowhere : ℕ) (beyond : length t ≤ nowhere) where
-  pub start-resolves : Resolves t nowhere (start t)
+  pub start-resolves : Resolves t nowhere (walkStart t)
   start-resolves =
       record {
         fresh-is = λ j e. refl;
@@ -53,14 +53,14 @@ module _ (t : List Node) (nowhere : ℕ) (beyond : length t ≤ nowhere) where
   -- with too few levels the root stands for what `build` makes with them
   pub build-stands : (k root : ℕ) → StandsFor t (walked t nowhere (suc k) root .after .kids) root (build t (suc k) root unbuilt .0)
   build-stands k root =
-      let c : Called t nowhere (start t) (walked t nowhere (suc k) root) = walk-resolves t nowhere beyond (suc k) root (start t) start-resolves in
+      let c : WalkCalled t nowhere (walkStart t) (walked t nowhere (suc k) root) = walk-resolves t nowhere beyond (suc k) root (walkStart t) start-resolves in
       let a = c .stands in
-      let v : walked t nowhere (suc k) root .value ≡ build t (suc k) root unbuilt .0 = walk-build t nowhere (suc k) root (start t) .value in
+      let v : walked t nowhere (suc k) root .value ≡ build t (suc k) root unbuilt .0 = walk-build t nowhere (suc k) root (walkStart t) .value in
       rw (root-slot k root, v) at a
 
   pub root-final : (k root : ℕ) → Final nowhere (walked t nowhere (suc k) root .after .done) root
   root-final k root =
-      let a = walk-resolves t nowhere beyond (suc k) root (start t) start-resolves .final in
+      let a = walk-resolves t nowhere beyond (suc k) root (walkStart t) start-resolves .final in
       rw (root-slot k root) at a
 
   -- as many levels as the tree is deep suffice
@@ -68,7 +68,7 @@ module _ (t : List Node) (nowhere : ℕ) (beyond : length t ≤ nowhere) where
   unfolding tree deep
   levels-enough k root l =
       let n = length t in
-      let e : build t (suc n) root unbuilt ≡ build t (suc n + k) root unbuilt = build-fuel t (suc n) (suc n + k) root unbuilt (omega (arith, left-all n)) (omega (arith, left-all n)) in
+      let e : build t (suc n) root unbuilt ≡ build t (suc n + k) root unbuilt = build-fuel t (suc n) (suc n + k) root unbuilt (omega (arith, fresh-left-all n)) (omega (arith, fresh-left-all n)) in
       let b : build t (suc n + k) root unbuilt ≡ build t k root unbuilt = levels-back t k (suc n) root unbuilt (rw (← e) l) in
       sym (ap (λ (x : Value × Stages). x .0) (e ∙ b))
 
@@ -81,8 +81,8 @@ module _ (t : List Node) (nowhere : ℕ) (beyond : length t ≤ nowhere) where
 abbrev inOneAnother : List Node
 inOneAnother = record { label = ListL; kids = 1 ∷ [] } ∷ record { label = ListL; kids = 0 ∷ [] } ∷ record { label = TupleL; kids = 0 ∷ 1 ∷ [] } ∷ []
 
-pair-after : State
-pair-after = walk inOneAnother 4096 64 2 (start inOneAnother) .after
+pair-after : WalkState
+pair-after = walk inOneAnother 4096 64 2 (walkStart inOneAnother) .after
 
 pair-resolved : (pair-after .kids 0 ≡ 1 ∷ []) × (pair-after .kids 1 ≡ 4096 ∷ []) × (pair-after .kids 2 ≡ 0 ∷ 1 ∷ []) × (pair-after .done ≡ 2 ∷ 0 ∷ 1 ∷ [])
 unfolding pair-after walk eachR finishR blocked firstTaken
@@ -98,8 +98,8 @@ inItsArguments =
     ∷ record { label = TupleL; kids = 1 ∷ 2 ∷ [] }
     ∷ []
 
-object-after : State
-object-after = walk inItsArguments 4096 64 4 (start inItsArguments) .after
+object-after : WalkState
+object-after = walk inItsArguments 4096 64 4 (walkStart inItsArguments) .after
 
 object-resolved : (object-after .kids 0 ≡ 4096 ∷ []) × (object-after .kids 1 ≡ 0 ∷ []) × (object-after .kids 4 ≡ 1 ∷ 4096 ∷ []) × (object-after .done ≡ 4 ∷ 1 ∷ 0 ∷ [])
 unfolding object-after walk eachR finishR blocked firstTaken

@@ -7,9 +7,9 @@ use lib.ListN.{length, length-append}
 use native.Mathlib.Omega.{arith}
 use Rattle.steps.specs.State.{Node}
 use Rattle.reading.specs.Build.{taken, at}
-use Rattle.reading.specs.Measures.{Measure, nilM, pushM, measure, value}
-use Rattle.resolved.specs.Walk.{State, Made, overwrite, eachR}
-use Rattle.resolved.specs.Resolves.{Resolves, Called, overwrite-resolves, put-same, old-taken}
+use Rattle.reading.specs.Measures.{Measure, nilM, pushM, measure, valueMeasure}
+use Rattle.resolved.specs.Walk.{WalkState, WalkMade, overwrite, eachR}
+use Rattle.resolved.specs.Resolves.{Resolves, WalkCalled, overwrite-resolves, with-list-same, old-taken}
 
 -- ---- measures of values one behind the other
 
@@ -29,9 +29,9 @@ push-push a b c = same-measure (pushM a (pushM b c)) (pushM (pushM a b) c) (omeg
 
 -- ---- between turns
 
-module _ (t : List Node) (nowhere : ℕ) (beyond : length t ≤ nowhere) (g : ℕ → State → Made) where
+module _ (t : List Node) (nowhere : ℕ) (beyond : length t ≤ nowhere) (g : ℕ → WalkState → WalkMade) where
   -- Node n was entered in the state s₀; now the state is s, `is` are in place of the children done, `js` are to come, m is measured so far.
-  pub record Turn (n : ℕ) (s₀ : State) (is js : List ℕ) (s : State) (m : Measure) : Type 0 where
+  pub record Turn (n : ℕ) (s₀ : WalkState) (is js : List ℕ) (s : WalkState) (m : Measure) : Type 0 where
     pub resolves : Resolves t nowhere s
     pub open-still : s .stages n ≡ taken
     pub held : s .kids n ≡ is ++ js
@@ -39,9 +39,9 @@ module _ (t : List Node) (nowhere : ℕ) (beyond : length t ≤ nowhere) (g : �
     pub sum : measure (eachR g n [] (at t n .kids) s₀ .0) ≡ pushM m (measure (eachR g n is js s .0))
 
   -- one turn: a call, and the number in the child's place
-  pub turn-next : (n : ℕ) (s₀ : State) (is : List ℕ) (i : ℕ) (js : List ℕ) (s : State) (m : Measure) → Turn n s₀ is (i ∷ js) s m
-      → Called t nowhere s (g i s)
-      → Turn n s₀ (is ++ (g i s .slot ∷ [])) js (overwrite n (is ++ (g i s .slot ∷ js)) (g i s .after)) (pushM m (value (g i s .value)))
+  pub turn-next : (n : ℕ) (s₀ : WalkState) (is : List ℕ) (i : ℕ) (js : List ℕ) (s : WalkState) (m : Measure) → Turn n s₀ is (i ∷ js) s m
+      → WalkCalled t nowhere s (g i s)
+      → Turn n s₀ (is ++ (g i s .slot ∷ [])) js (overwrite n (is ++ (g i s .slot ∷ js)) (g i s .after)) (pushM m (valueMeasure (g i s .value)))
   unfolding eachR measure
   turn-next n s₀ is i js s m x a =
       let p = g i s in
@@ -53,18 +53,18 @@ module _ (t : List Node) (nowhere : ℕ) (beyond : length t ≤ nowhere) (g : �
       record {
         resolves = overwrite-resolves t nowhere beyond (p .after) n l (a .resolves) e₁ k;
         open-still = e₁;
-        held = put-same n l (p .after .kids) ∙ simp append-assoc;
+        held = with-list-same n l (p .after .kids) ∙ simp append-assoc;
         rest = x .rest;
-        sum = x .sum ∙ push-push m (value (p .value)) _;
+        sum = x .sum ∙ push-push m (valueMeasure (p .value)) _;
       }
 
-  pub turn-end : (n : ℕ) (s₀ : State) (is : List ℕ) (s : State) (m : Measure) → Turn n s₀ is [] s m
+  pub turn-end : (n : ℕ) (s₀ : WalkState) (is : List ℕ) (s : WalkState) (m : Measure) → Turn n s₀ is [] s m
       → (eachR g n [] (at t n .kids) s₀ .1 ≡ s) × (measure (eachR g n [] (at t n .kids) s₀ .0) ≡ m)
   unfolding eachR measure
   turn-end n s₀ is s m x = (x .rest, x .sum ∙ nil-push m)
 
   -- no child, and none before it, is deeper than all together
-  pub turn-deep : (n : ℕ) (s₀ : State) (is : List ℕ) (i : ℕ) (js : List ℕ) (s : State) (m : Measure) → Turn n s₀ is (i ∷ js) s m
-      → (value (g i s .value) .deep ≤ measure (eachR g n [] (at t n .kids) s₀ .0) .deep) × (m .deep ≤ measure (eachR g n [] (at t n .kids) s₀ .0) .deep)
+  pub turn-deep : (n : ℕ) (s₀ : WalkState) (is : List ℕ) (i : ℕ) (js : List ℕ) (s : WalkState) (m : Measure) → Turn n s₀ is (i ∷ js) s m
+      → (valueMeasure (g i s .value) .deep ≤ measure (eachR g n [] (at t n .kids) s₀ .0) .deep) × (m .deep ≤ measure (eachR g n [] (at t n .kids) s₀ .0) .deep)
   unfolding eachR measure
   turn-deep n s₀ is i js s m x = let e = ap (λ (y : Measure). y .deep) (x .sum) in (omega arith, omega arith)

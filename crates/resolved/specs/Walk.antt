@@ -11,47 +11,47 @@ use Rattle.steps.specs.Opcodes.{isObject}
 use Rattle.reading.specs.Build.{Stage, Stages, fresh, taken, kept, unbuilt, stage, none, before, at, blocked, finish, each, build}
 use Rattle.resolved.specs.Resolved.{Kids}
 
-pub record State : Type 0 where
+pub record WalkState : Type 0 where
   pub stages : Stages
   pub kids : Kids
   pub done : List ℕ
 
 -- g, but for node i, whose list is l
-abbrev pub put : ℕ → List ℕ → Kids → Kids
-put i l g = λ j. cond (eqb j i) l (g j)
+abbrev pub withList : ℕ → List ℕ → Kids → Kids
+withList i l g = λ j. cond (eqb j i) l (g j)
 
 -- node i is an Object that can never be made: the value that it keeps is no Object
 abbrev pub gone : List Node → ℕ → Value → Bool
 gone t i v = isObject (at t i .label) && eqb (kind (v .label)) 0
 
 -- what a call comes to: the number for its owner's list, the value, the state that it leaves
-pub record Made : Type 0 where
+pub record WalkMade : Type 0 where
   pub slot : ℕ
   pub value : Value
-  pub after : State
+  pub after : WalkState
 
 -- a new list for node n
-abbrev pub overwrite : ℕ → List ℕ → State → State
-overwrite n l s = record { stages = s .stages; kids = put n l (s .kids); done = s .done }
+abbrev pub overwrite : ℕ → List ℕ → WalkState → WalkState
+overwrite n l s = record { stages = s .stages; kids = withList n l (s .kids); done = s .done }
 
 -- a new stage for node i
-abbrev pub stageR : ℕ → Stage → State → State
+abbrev pub stageR : ℕ → Stage → WalkState → WalkState
 stageR i m s = record { stages = stage i m (s .stages); kids = s .kids; done = s .done }
 
 -- the children of node n from the first to the last, where `is` have come before: a number is replaced when its call has returned
-unfoldable pub eachR : (ℕ → State → Made) → ℕ → List ℕ → List ℕ → State → Forest × State
+unfoldable pub eachR : (ℕ → WalkState → WalkMade) → ℕ → List ℕ → List ℕ → WalkState → Forest × WalkState
 eachR g n is [] s = (nil, s)
 eachR g n is (i ∷ js) s =
     let p = g i s in
     let q = eachR g n (is ++ (p .slot ∷ [])) js (overwrite n (is ++ (p .slot ∷ js)) (p .after)) in
     (before (p .value) (q .0), q .1)
 
-unfoldable pub finishR : List Node → ℕ → Forest × State → Made
+unfoldable pub finishR : List Node → ℕ → Forest × WalkState → WalkMade
 finishR t i p =
     let v : Value = record { label = at t i .label; contents = p .0 } in
     record { slot = i; value = v; after = record { stages = stage i (kept v) (p .1 .stages); kids = p .1 .kids; done = i ∷ p .1 .done } }
 
-unfoldable pub walk : List Node → ℕ → ℕ → ℕ → State → Made
+unfoldable pub walk : List Node → ℕ → ℕ → ℕ → WalkState → WalkMade
 walk t nowhere zero i s = record { slot = nowhere; value = none; after = s }
 walk t nowhere (suc k) i s =
     elim (s .stages i) [
@@ -65,25 +65,25 @@ walk t nowhere (suc k) i s =
     ]
 
 -- every node is fresh, lists are the nodes' own
-abbrev pub start : List Node → State
-start t = record { stages = unbuilt; kids = λ i. at t i .kids; done = [] }
+abbrev pub walkStart : List Node → WalkState
+walkStart t = record { stages = unbuilt; kids = λ i. at t i .kids; done = [] }
 
 -- ---- a call, by the stage that it finds
 
-pub data View (t : List Node) (nowhere k i : ℕ) (s : State) : Type 0 where
+pub data WalkCase (t : List Node) (nowhere k i : ℕ) (s : WalkState) : Type 0 where
   copied : (v : Value) → s .stages i ≡ kept v → walk t nowhere (suc k) i s ≡ record { slot = cond (gone t i v) nowhere i; value = v; after = s }
-      → View t nowhere k i s
-  inside : s .stages i ≡ taken → walk t nowhere (suc k) i s ≡ record { slot = nowhere; value = none; after = s } → View t nowhere k i s
+      → WalkCase t nowhere k i s
+  inside : s .stages i ≡ taken → walk t nowhere (suc k) i s ≡ record { slot = nowhere; value = none; after = s } → WalkCase t nowhere k i s
   stuck : s .stages i ≡ fresh → blocked t (s .stages) i ≡ true
-      → walk t nowhere (suc k) i s ≡ record { slot = nowhere; value = none; after = stageR i (kept none) s } → View t nowhere k i s
+      → walk t nowhere (suc k) i s ≡ record { slot = nowhere; value = none; after = stageR i (kept none) s } → WalkCase t nowhere k i s
   entered : s .stages i ≡ fresh → blocked t (s .stages) i ≡ false
-      → walk t nowhere (suc k) i s ≡ finishR t i (eachR (walk t nowhere k) i [] (at t i .kids) (stageR i taken s)) → View t nowhere k i s
+      → walk t nowhere (suc k) i s ≡ finishR t i (eachR (walk t nowhere k) i [] (at t i .kids) (stageR i taken s)) → WalkCase t nowhere k i s
 
-pub view : (t : List Node) (nowhere k i : ℕ) (s : State) → View t nowhere k i s
+pub walk-case : (t : List Node) (nowhere k i : ℕ) (s : WalkState) → WalkCase t nowhere k i s
 unfolding walk
-view t nowhere k i s = go (s .stages i) refl (blocked t (s .stages) i) refl
+walk-case t nowhere k i s = go (s .stages i) refl (blocked t (s .stages) i) refl
   where
-    go : (m : Stage) → s .stages i ≡ m → (b : Bool) → blocked t (s .stages) i ≡ b → View t nowhere k i s
+    go : (m : Stage) → s .stages i ≡ m → (b : Bool) → blocked t (s .stages) i ≡ b → WalkCase t nowhere k i s
     go (kept v) e b f = copied v e (rw (e, walk))
     go taken e b f = inside e (rw (e, walk))
     go fresh e true f = stuck e f (rw (e, f, walk))
@@ -91,17 +91,17 @@ view t nowhere k i s = go (s .stages i) refl (blocked t (s .stages) i) refl
 
 -- ---- value and stages are those of `build`
 
-pub record AsBuilt (p : Made) (q : Value × Stages) : Type 0 where
+pub record AsBuilt (p : WalkMade) (q : Value × Stages) : Type 0 where
   pub value : p .value ≡ q .0
   pub staged : p .after .stages ≡ q .1
 
-record AsEach (p : Forest × State) (q : Forest × Stages) : Type 0 where
+record AsEach (p : Forest × WalkState) (q : Forest × Stages) : Type 0 where
   forest : p .0 ≡ q .0
   staged : p .1 .stages ≡ q .1
 
 module _ (t : List Node) (nowhere : ℕ) where
-  each-as : (g : ℕ → State → Made) (b : ℕ → Stages → Value × Stages) → ((i : ℕ) (s : State) → AsBuilt (g i s) (b i (s .stages)))
-      → (n : ℕ) (is js : List ℕ) (s : State) → AsEach (eachR g n is js s) (each b js (s .stages))
+  each-as : (g : ℕ → WalkState → WalkMade) (b : ℕ → Stages → Value × Stages) → ((i : ℕ) (s : WalkState) → AsBuilt (g i s) (b i (s .stages)))
+      → (n : ℕ) (is js : List ℕ) (s : WalkState) → AsEach (eachR g n is js s) (each b js (s .stages))
   unfolding each eachR
   each-as g b h n is [] s = record { forest = refl; staged = refl }
   each-as g b h n is (i ∷ js) s =
@@ -113,17 +113,17 @@ module _ (t : List Node) (nowhere : ℕ) where
       let y = e .staged in
       record { forest = ap₂ before (a .value) (x ∙ ap (λ (z : Forest × Stages). z .0) m); staged = y ∙ ap (λ (z : Forest × Stages). z .1) m }
 
-  finish-as : (i : ℕ) (p : Forest × State) (q : Forest × Stages) → AsEach p q → AsBuilt (finishR t i p) (finish t i q)
+  finish-as : (i : ℕ) (p : Forest × WalkState) (q : Forest × Stages) → AsEach p q → AsBuilt (finishR t i p) (finish t i q)
   unfolding finish finishR
   finish-as i p q a = let e = a .forest in let m = a .staged in record { value = rw e; staged = rw (e, m) }
 
-  pub walk-build : (k i : ℕ) (s : State) → AsBuilt (walk t nowhere k i s) (build t k i (s .stages))
+  pub walk-build : (k i : ℕ) (s : WalkState) → AsBuilt (walk t nowhere k i s) (build t k i (s .stages))
   unfolding walk build
   walk-build zero i s = record { value = refl; staged = refl }
   walk-build (suc k) i s = go (s .stages i) refl (blocked t (s .stages) i) refl (walk-build k)
     where
       go : (m : Stage) → s .stages i ≡ m → (b : Bool) → blocked t (s .stages) i ≡ b
-          → ((j : ℕ) (r : State) → AsBuilt (walk t nowhere k j r) (build t k j (r .stages)))
+          → ((j : ℕ) (r : WalkState) → AsBuilt (walk t nowhere k j r) (build t k j (r .stages)))
           → AsBuilt (walk t nowhere (suc k) i s) (build t (suc k) i (s .stages))
       go (kept v) e b f ih = rw (e, walk, build) (record { value = refl; staged = refl })
       go taken e b f ih = rw (e, walk, build) (record { value = refl; staged = refl })

@@ -13,35 +13,35 @@ use Rattle.reading.specs.Settle.{settle}
 use Rattle.reading.specs.Unfold.{In, Staged, same, other, staged}
 use Rattle.resolved.specs.Resolved.{Kids, Stand}
 use Rattle.resolved.specs.Ordered.{in-rest}
-use Rattle.resolved.specs.Walk.{State, Made, overwrite, stageR, eachR, finishR, walk, start, walk-build}
-use Rattle.resolved.specs.Resolves.{Called, resolves-empty}
+use Rattle.resolved.specs.Walk.{WalkState, WalkMade, overwrite, stageR, eachR, finishR, walk, walkStart, walk-build}
+use Rattle.resolved.specs.Resolves.{WalkCalled, resolves-empty}
 use Rattle.resolved.specs.Resolving.{walk-resolves}
 use Rattle.resolved.specs.Tree.{walked, start-resolves, levels-enough}
-use Rattle.resolved.specs.Inside.{Within, walk-within, tree-settled}
+use Rattle.resolved.specs.Inside.{DoneWithin, walk-within, tree-settled}
 use Rattle.resolved.specs.Dues.{dues, settleN, Orders, dues-settle, order-sorts}
 use Rattle.resolved.specs.Compare.{compareN, compare-nodes}
 
 -- what finished nodes keep is at most m deep
-abbrev pub Bounded : ℕ → State → Type 0
+abbrev pub Bounded : ℕ → WalkState → Type 0
 Bounded m s = (j : ℕ) → In j (s .done) → (v : Value) → s .stages j ≡ kept v → depth (one v) ≤ m
 
 module _ (t : List Node) (nowhere m : ℕ) where
-  each-bounded : (g : ℕ → State → Made) → ((i : ℕ) (s : State) → Bounded m s → depth (one (g i s .value)) ≤ m → Bounded m (g i s .after))
-      → (n : ℕ) (is js : List ℕ) (s : State) → Bounded m s → depth (eachR g n is js s .0) ≤ m → Bounded m (eachR g n is js s .1)
+  each-bounded : (g : ℕ → WalkState → WalkMade) → ((i : ℕ) (s : WalkState) → Bounded m s → depth (one (g i s .value)) ≤ m → Bounded m (g i s .after))
+      → (n : ℕ) (is js : List ℕ) (s : WalkState) → Bounded m s → depth (eachR g n is js s .0) ≤ m → Bounded m (eachR g n is js s .1)
   unfolding eachR depth
   each-bounded g h n is [] s b l = b
   each-bounded g h n is (i ∷ js) s b l =
       let p = g i s in
       each-bounded g h n (is ++ (p .slot ∷ [])) js (overwrite n (is ++ (p .slot ∷ js)) (p .after)) (h i s b (omega arith)) (omega arith)
 
-  stage-bounded : (s : State) (i : ℕ) (x : Stage) → ((v : Value) → x ≡ kept v → depth (one v) ≤ m) → Bounded m s → Bounded m (stageR i x s)
+  stage-bounded : (s : WalkState) (i : ℕ) (x : Stage) → ((v : Value) → x ≡ kept v → depth (one v) ≤ m) → Bounded m s → Bounded m (stageR i x s)
   stage-bounded s i x k b j h v e = go (staged i x (s .stages) j)
     where
       go : Staged i x (s .stages) j → depth (one v) ≤ m
       go (same p q) = k v (sym q ∙ e)
       go (other p q) = b j h v (sym q ∙ e)
 
-  finish-bounded : (i : ℕ) (p : Forest × State) → (depth (p .0) ≤ m → Bounded m (p .1)) → depth (one (finishR t i p .value)) ≤ m
+  finish-bounded : (i : ℕ) (p : Forest × WalkState) → (depth (p .0) ≤ m → Bounded m (p .1)) → depth (one (finishR t i p .value)) ≤ m
       → Bounded m (finishR t i p .after)
   unfolding finishR depth
   finish-bounded i p b l j h v e = go (staged i (kept u) (p .1 .stages) j)
@@ -53,13 +53,13 @@ module _ (t : List Node) (nowhere m : ℕ) where
       go (same x q) = let z : kept u ≡ kept v = sym q ∙ e in let w : u ≡ v = cc in rw (← w) l
       go (other x q) = b (omega arith) j (in-rest x h) v (sym q ∙ e)
 
-  pub walk-bounded : (k i : ℕ) (s : State) → Bounded m s → depth (one (walk t nowhere k i s .value)) ≤ m → Bounded m (walk t nowhere k i s .after)
+  pub walk-bounded : (k i : ℕ) (s : WalkState) → Bounded m s → depth (one (walk t nowhere k i s .value)) ≤ m → Bounded m (walk t nowhere k i s .after)
   unfolding walk
   walk-bounded zero i s b l = b
   walk-bounded (suc k) i s b l = go (s .stages i) refl (blocked t (s .stages) i) refl (walk-bounded k) l
     where
       go : (x : Stage) → s .stages i ≡ x → (f : Bool) → blocked t (s .stages) i ≡ f
-          → ((j : ℕ) (c : State) → Bounded m c → depth (one (walk t nowhere k j c .value)) ≤ m → Bounded m (walk t nowhere k j c .after))
+          → ((j : ℕ) (c : WalkState) → Bounded m c → depth (one (walk t nowhere k j c .value)) ≤ m → Bounded m (walk t nowhere k j c .after))
           → depth (one (walk t nowhere (suc k) i s .value)) ≤ m → Bounded m (walk t nowhere (suc k) i s .after)
       go (kept v) e f q ih = rw (e, walk) (λ z. b)
       go taken e f q ih = rw (e, walk) (λ z. b)
@@ -70,7 +70,7 @@ module _ (t : List Node) (nowhere m : ℕ) where
 
 module _ (t : List Node) (inside : (i j : ℕ) → In j (at t i .kids) → j < length t) (nowhere : ℕ) (beyond : length t ≤ nowhere) (root : ℕ) (is-node : root < length t) where
   -- what the walk with k + 1 levels leaves, and its graph with the dues put in order
-  abbrev pub afterWalk : ℕ → State
+  abbrev pub afterWalk : ℕ → WalkState
   afterWalk k = walked t nowhere (suc k) root .after
 
   abbrev pub settledGraph : ℕ → (Kids → ℕ → ℕ → Ordering) → Kids
@@ -79,11 +79,11 @@ module _ (t : List Node) (inside : (i j : ℕ) → In j (at t i .kids) → j < l
   pub value-stands : (k : ℕ) (cmp : Kids → ℕ → ℕ → Ordering) → Orders t k cmp → depth (one (tree t root)) ≤ suc k
       → Stand t (settledGraph k cmp) (root ∷ []) (settle (one (tree t root)))
   value-stands k cmp ord l =
-      let c : Called t nowhere (start t) (walked t nowhere (suc k) root) = walk-resolves t nowhere beyond (suc k) root (start t) (start-resolves t nowhere beyond) in
-      let w : Within t (afterWalk k) = walk-within t inside nowhere (suc k) root (start t) is-node (λ j m. elim m [ ]) in
+      let c : WalkCalled t nowhere (walkStart t) (walked t nowhere (suc k) root) = walk-resolves t nowhere beyond (suc k) root (walkStart t) (start-resolves t nowhere beyond) in
+      let w : DoneWithin t (afterWalk k) = walk-within t inside nowhere (suc k) root (walkStart t) is-node (λ j m. elim m [ ]) in
       let n : ¬ In nowhere (afterWalk k .done) = λ m. let z = w nowhere m in omega arith in
-      let e : walked t nowhere (suc k) root .value ≡ tree t root = walk-build t nowhere (suc k) root (start t) .value ∙ levels-enough t nowhere beyond (suc k) root l in
-      let b : Bounded (suc k) (afterWalk k) = walk-bounded t nowhere (suc k) (suc k) root (start t) (λ j m. elim m [ ]) (rw e l) in
+      let e : walked t nowhere (suc k) root .value ≡ tree t root = walk-build t nowhere (suc k) root (walkStart t) .value ∙ levels-enough t nowhere beyond (suc k) root l in
+      let b : Bounded (suc k) (afterWalk k) = walk-bounded t nowhere (suc k) (suc k) root (walkStart t) (λ j m. elim m [ ]) (rw e l) in
       let r = c .resolves in
       let o = order-sorts t nowhere beyond k cmp ord (afterWalk k .kids) (resolves-empty t nowhere beyond r) (afterWalk k .done) n (λ i m. let x = r .done-stands i m in (x .value, x .stands, b i m (x .value) (x .keeps))) in
       tree-settled t inside nowhere beyond k root is-node l (settledGraph k cmp)

@@ -16,10 +16,10 @@ use Rattle.resolved.specs.Moved.{stand-count, moves, moved}
 -- ---- a part of a room
 
 -- from a on, r has l
-abbrev pub Part : List ℕ → ℕ → List ℕ → Type 0
-Part r a l = take (length l) (drop a r) ≡ l
+abbrev pub HasAt : List ℕ → ℕ → List ℕ → Type 0
+HasAt r a l = take (length l) (drop a r) ≡ l
 
-pub part-join : (r : List ℕ) (a b : ℕ) (x y : List ℕ) → Part r a x → b ≡ a + length x → Part r b y → Part r a (x ++ y)
+pub part-join : (r : List ℕ) (a b : ℕ) (x y : List ℕ) → HasAt r a x → b ≡ a + length x → HasAt r b y → HasAt r a (x ++ y)
 part-join r a b x y p e q =
     let z : take (length y) (drop (length x) (drop a r)) ≡ y = rw (drop-drop (length x) a r, ← e) q in
     rw (length-append x y, take-add (length x) (length y) (drop a r), p, z)
@@ -30,7 +30,7 @@ drop-take (suc a) n [] = rw (suc-add, take-nil n)
 drop-take (suc a) n (y ∷ x) = rw suc-add (drop-take a n x)
 
 -- in another room that agrees with it up to e
-pub part-stays : (r s : List ℕ) (e a : ℕ) (l : List ℕ) → take e s ≡ take e r → a + length l ≤ e → Part r a l → Part s a l
+pub part-stays : (r s : List ℕ) (e a : ℕ) (l : List ℕ) → take e s ≡ take e r → a + length l ≤ e → HasAt r a l → HasAt s a l
 part-stays r s e a l h k p = early s ∙ (ap (λ (x : List ℕ). drop a (take (a + length l) x)) h ∙ (sym (early r) ∙ p))
   where
     early : (x : List ℕ) → take (length l) (drop a x) ≡ drop a (take (a + length l) (take e x))
@@ -40,8 +40,8 @@ part-stays r s e a l h k p = early s ∙ (ap (λ (x : List ℕ). drop a (take (a
 
 pub record Written (t : List Node) (h : Kids) (records bytes : List ℕ) (is : List ℕ) (f : Forest) (a p : ℕ) : Type 0 where
   pub stands : Stand t h is f
-  pub table-is : Part records (4 * a) (table f p)
-  pub text-is : Part bytes p (text f)
+  pub table-is : HasAt records (4 * a) (table f p)
+  pub text-is : HasAt bytes p (text f)
 
 module _ (t : List Node) (h : Kids) (records bytes : List ℕ) where
   pub written-none : (a p : ℕ) → Written t h records bytes [] nil a p
@@ -49,8 +49,8 @@ module _ (t : List Node) (h : Kids) (records bytes : List ℕ) where
   written-none a p = record { stands = sNil; table-is = refl; text-is = refl }
 
   -- a node's own record and text, then its contents
-  pub written-node : {i : ℕ} {c : Forest} (a p : ℕ) → Part records (4 * a) (recordOf (at t i .label) p (length (h i)) (suc (size c)))
-      → Part bytes p (textOf (at t i .label))
+  pub written-node : {i : ℕ} {c : Forest} (a p : ℕ) → HasAt records (4 * a) (recordOf (at t i .label) p (length (h i)) (suc (size c)))
+      → HasAt bytes p (textOf (at t i .label))
       → Written t h records bytes (h i) c (suc a) (p + length (textOf (at t i .label)))
       → Written t h records bytes (i ∷ []) (node (at t i .label) c nil) a p
   unfolding table text
@@ -65,11 +65,11 @@ module _ (t : List Node) (h : Kids) (records bytes : List ℕ) where
 -- copied to b and q: the records with their text places moved, the text as it is
 pub written-again : {t : List Node} {h : Kids} {records bytes : List ℕ} {is : List ℕ} {f : Forest} (records′ bytes′ : List ℕ) (a p b q : ℕ)
     → Written t h records bytes is f a p
-    → Part records′ (4 * b) (moves p q (take (4 * size f) (drop (4 * a) records))) → Part bytes′ q (take (length (text f)) (drop p bytes))
+    → HasAt records′ (4 * b) (moves p q (take (4 * size f) (drop (4 * a) records))) → HasAt bytes′ q (take (length (text f)) (drop p bytes))
     → Written t h records′ bytes′ is f b q
 written-again {records = records} {f = f} records′ bytes′ a p b q w r x =
     let e : take (4 * size f) (drop (4 * a) records) ≡ table f p = rw (← table-length f p) (w .table-is) in
-    let r′ : Part records′ (4 * b) (table f q) = rw (e, moved p q f) at r in
+    let r′ : HasAt records′ (4 * b) (table f q) = rw (e, moved p q f) at r in
     let g = w .text-is in
     record { stands = w .stands; table-is = r′; text-is = rw g at x }
 

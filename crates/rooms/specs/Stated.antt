@@ -33,11 +33,11 @@ abbrev pub stated : List ℕ
 stated = roomLengths ++ outputLengths
 
 -- the outputs, at the places 11 and 12
-abbrev pub tableOf : Slices → List ℕ
-tableOf l = getD l 11 []
+abbrev pub tableSlice : Slices → List ℕ
+tableSlice l = getD l 11 []
 
-abbrev pub textOf : Slices → List ℕ
-textOf l = getD l 12 []
+abbrev pub textSlice : Slices → List ℕ
+textSlice l = getD l 12 []
 
 -- ---- what a reading asks of its slices, and what it leaves
 
@@ -59,7 +59,7 @@ begun w s = w ++ drop (length w) s
 
 -- the rooms as they are, table and text begun with these
 unfoldable pub filled : List ℕ → List ℕ → Slices → Slices
-filled words bytes l = set (set l 11 (begun words (tableOf l))) 12 (begun bytes (textOf l))
+filled words bytes l = set (set l 11 (begun words (tableSlice l))) 12 (begun bytes (textSlice l))
 
 -- no slice is short and all rooms are zero: what the inner reading asks
 pub record Ready (l : Slices) : Type 0 where
@@ -81,8 +81,8 @@ AllZero (n ∷ ns) [] = ⊥
 AllZero (n ∷ ns) (s ∷ l) = (take n s ≡ replicate n 0) × AllZero ns l
 
 -- lists of slices are the same slice by slice
-pub same : {s t : List ℕ} {l m : Slices} → s ≡ t → l ≡ m → s ∷ l ≡ t ∷ m
-same e f = ap₂ (λ (x : List ℕ) (y : Slices). x ∷ y) e f
+pub same-slices : {s t : List ℕ} {l m : Slices} → s ≡ t → l ≡ m → s ∷ l ≡ t ∷ m
+same-slices e f = ap₂ (λ (x : List ℕ) (y : Slices). x ∷ y) e f
 
 true-false : true ≡ false → ⊥
 true-false q = subst (λ (x : Bool). cond x (Unit {0}) ⊥) q tt
@@ -131,7 +131,7 @@ blank-again : (ns : List ℕ) (l : Slices) → blank ns (blank ns l) ≡ blank n
 unfolding blank
 blank-again [] l = refl
 blank-again (n ∷ ns) [] = refl
-blank-again (n ∷ ns) (s ∷ l) = same (cleared-again n s) (blank-again ns l)
+blank-again (n ∷ ns) (s ∷ l) = same-slices (cleared-again n s) (blank-again ns l)
 
 blank-long : (ns ms : List ℕ) (l : Slices) → short (ns ++ ms) l ≡ false → short (ns ++ ms) (blank ns l) ≡ false
 unfolding short blank
@@ -173,10 +173,10 @@ unfolding filled
 filled-none l = rw (set-getD l 11 []) (set-getD l 12 [])
 
 module _ (l : Slices) (w b : List ℕ) (h : 13 ≤ length l) where
-  table-set : tableOf (set (set l 11 w) 12 b) ≡ w
+  table-set : tableSlice (set (set l 11 w) 12 b) ≡ w
   table-set = getD-set-other (set l 11 w) 12 11 b [] (λ q. omega arith) ∙ getD-set-same l 11 w [] (omega arith)
 
-  text-set : textOf (set (set l 11 w) 12 b) ≡ b
+  text-set : textSlice (set (set l 11 w) 12 b) ≡ b
   text-set = getD-set-same (set l 11 w) 12 b [] (rw length-set (omega arith))
 
 -- after a reading in slices that were made zero
@@ -187,13 +187,13 @@ module _ (words bytes : List ℕ) (l : Slices) (e : short stated l ≡ false) wh
   output-kept : (i : ℕ) → getD (blank roomLengths l) (11 + i) [] ≡ getD l (11 + i) []
   output-kept i = sym (getD-drop 11 (blank roomLengths l) i []) ∙ ap (λ (m : Slices). getD m i []) (behind roomLengths l) ∙ getD-drop 11 l i []
 
-  pub table-filled : tableOf (filled words bytes (blank roomLengths l)) ≡ begun words (tableOf l)
+  pub table-filled : tableSlice (filled words bytes (blank roomLengths l)) ≡ begun words (tableSlice l)
   unfolding filled
   table-filled = table-set (blank roomLengths l) _ _ all-there ∙ ap (begun words) (output-kept 0)
 
-  pub text-filled : textOf (filled words bytes (blank roomLengths l)) ≡ begun bytes (textOf l)
+  pub text-filled : textSlice (filled words bytes (blank roomLengths l)) ≡ begun bytes (textSlice l)
   unfolding filled
-  text-filled = text-set (blank roomLengths l) (begun words (tableOf (blank roomLengths l))) _ all-there ∙ ap (begun bytes) (output-kept 1)
+  text-filled = text-set (blank roomLengths l) (begun words (tableSlice (blank roomLengths l))) _ all-there ∙ ap (begun bytes) (output-kept 1)
 
 -- ---- filled slices are ready again
 
@@ -203,7 +203,7 @@ unfolding blank
 blank-set [] l i x h = refl
 blank-set (n ∷ ns) [] i x h = refl
 blank-set (n ∷ ns) (s ∷ l) zero x h = absurd (omega arith)
-blank-set (n ∷ ns) (s ∷ l) (suc i) x h = same refl (blank-set ns l i x (omega arith))
+blank-set (n ∷ ns) (s ∷ l) (suc i) x h = same-slices refl (blank-set ns l i x (omega arith))
 
 -- a slice that has become one as long, or longer
 long-set : (ns : List ℕ) (l : Slices) (i : ℕ) (x : List ℕ) → length (getD l i []) ≤ length x → short ns l ≡ false → short ns (set l i x) ≡ false
@@ -220,27 +220,27 @@ begun-long : (w s : List ℕ) → length s ≤ length (begun w s)
 begun-long w s = rw (length-append, length-drop) (omega arith)
 
 module _ (words bytes : List ℕ) (l : Slices) where
-  text-other : getD (set l 11 (begun words (tableOf l))) 12 [] ≡ textOf l
-  text-other = getD-set-other l 11 12 (begun words (tableOf l)) [] (λ q. omega arith)
+  text-other : getD (set l 11 (begun words (tableSlice l))) 12 [] ≡ textSlice l
+  text-other = getD-set-other l 11 12 (begun words (tableSlice l)) [] (λ q. omega arith)
 
   pub filled-ready : Ready l → Ready (filled words bytes l)
   unfolding filled
   filled-ready r = record {
-    long = long-set stated (set l 11 (begun words (tableOf l))) 12 (begun bytes (textOf l)) (rw text-other (begun-long bytes (textOf l))) (long-set stated l 11 (begun words (tableOf l)) (begun-long words (tableOf l)) (r .long));
+    long = long-set stated (set l 11 (begun words (tableSlice l))) 12 (begun bytes (textSlice l)) (rw text-other (begun-long bytes (textSlice l))) (long-set stated l 11 (begun words (tableSlice l)) (begun-long words (tableSlice l)) (r .long));
     zero =
-        blank-set roomLengths (set l 11 (begun words (tableOf l))) 12 (begun bytes (textOf l)) (omega arith)
-        ∙ ap (λ (m : Slices). set m 12 (begun bytes (textOf l))) (blank-set roomLengths l 11 (begun words (tableOf l)) (omega arith) ∙ ap (λ (m : Slices). set m 11 (begun words (tableOf l))) (r .zero));
+        blank-set roomLengths (set l 11 (begun words (tableSlice l))) 12 (begun bytes (textSlice l)) (omega arith)
+        ∙ ap (λ (m : Slices). set m 12 (begun bytes (textSlice l))) (blank-set roomLengths l 11 (begun words (tableSlice l)) (omega arith) ∙ ap (λ (m : Slices). set m 11 (begun words (tableSlice l))) (r .zero));
   }
 
   -- the rooms are as they were
   pub rooms-filled : take 11 (filled words bytes l) ≡ take 11 l
   unfolding filled
-  rooms-filled = take-set-le 11 (set l 11 (begun words (tableOf l))) 12 (begun bytes (textOf l)) (omega arith) ∙ take-set-le 11 l 11 (begun words (tableOf l)) (omega arith)
+  rooms-filled = take-set-le 11 (set l 11 (begun words (tableSlice l))) 12 (begun bytes (textSlice l)) (omega arith) ∙ take-set-le 11 l 11 (begun words (tableSlice l)) (omega arith)
 
   -- and the outputs begin anew
   module _ (r : Ready l) where
-    pub table-again : tableOf (filled words bytes l) ≡ begun words (tableOf l)
-    table-again = ap (λ (m : Slices). tableOf (filled words bytes m)) (sym (r .zero)) ∙ table-filled words bytes l (r .long)
+    pub table-again : tableSlice (filled words bytes l) ≡ begun words (tableSlice l)
+    table-again = ap (λ (m : Slices). tableSlice (filled words bytes m)) (sym (r .zero)) ∙ table-filled words bytes l (r .long)
 
-    pub text-again : textOf (filled words bytes l) ≡ begun bytes (textOf l)
-    text-again = ap (λ (m : Slices). textOf (filled words bytes m)) (sym (r .zero)) ∙ text-filled words bytes l (r .long)
+    pub text-again : textSlice (filled words bytes l) ≡ begun bytes (textSlice l)
+    text-again = ap (λ (m : Slices). textSlice (filled words bytes m)) (sym (r .zero)) ∙ text-filled words bytes l (r .long)

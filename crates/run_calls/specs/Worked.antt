@@ -7,16 +7,16 @@ use Rattle.op.specs.Table.{rowIn, rowOf, knownName, opcodeOf}
 use Rattle.op.specs.Edition.{evaluates as edition-evaluates}
 use Rattle.op.specs.declared.Edition.the-variants.{Full}
 use Rattle.input.specs.Bytes.{lowFirst}
-use Rattle.steps.specs.State.{State, ok, _>>=_, need, bytes, byte, pop, top, popMany, pushId, pushNode, push, link, nodeAt, extend, find, has, insert, get, put}
-use Rattle.steps.specs.Opcodes.{proto, lowBytes, binint1, made, tupleN, added, append, getBytes, putBytes}
+use Rattle.steps.specs.State.{State, ok, _>>=_, need, bytes, byte, pop, top, popMany, pushId, pushNode, push, link, nodeAt, extend, memoFind, memoHas, memoInsert, get, put}
+use Rattle.steps.specs.Opcodes.{proto, lowBytes, binint1, made, tupleN, addItems, append, getBytes, putBytes}
 use Rattle.steps.specs.Run.{goes, stops, going, does, decide, admit, step, start}
-use Rattle.steps.specs.Keeps.{after}
+use Rattle.steps.specs.Keeps.{stateAfter}
 use Rattle.machine.specs.Ran.{onward, afterSteps}
 use Rattle.de.specs.Shared.{shared}
 use Rattle.run_laws.specs.Late.{Has, what}
 
 unfoldable machine : Unit {0}
-unfolding lowFirst rowIn rowOf knownName opcodeOf edition-evaluates _>>=_ need bytes byte pop top popMany pushId pushNode push link extend find has insert get put proto lowBytes binint1 made tupleN added append getBytes putBytes going does decide admit step start onward afterSteps after
+unfolding lowFirst rowIn rowOf knownName opcodeOf edition-evaluates _>>=_ need bytes byte pop top popMany pushId pushNode push link extend memoFind memoHas memoInsert get put proto lowBytes binint1 made tupleN addItems append getBytes putBytes going does decide admit step start onward afterSteps stateAfter
 machine = tt
 
 -- placed twice, and empty

@@ -11,11 +11,11 @@ use Rattle.utf8.specs.Utf8.{valid}
 use Rattle.input.specs.Long.{denotes, inI64, longOf}
 use Rattle.number.specs.Space.{same, trimmed}
 use Rattle.number.specs.Number.{whole, invalid, turned, only, digits, natural, plus, integer, parseI64, parseU32, intLiteral, lessL, longLiteral}
-use Rattle.float.specs.Form.{behindSign, Number, number, formless, word}
-use Rattle.float.specs.Literal.{within, valued, value, floatLiteral, parseF64}
-use Rattle.text.specs.declared.Piece.{Piece}
-use Rattle.text.specs.declared.Piece.the-variants.{One, Bad}
-use Rattle.text.specs.Pieces.{before, after, texts}
+use Rattle.float.specs.Form.{behindSign, Number, number, formless, isWord}
+use Rattle.float.specs.Literal.{nearestWithin, valued, signedValue, floatLiteral, parseF64}
+use Rattle.text.specs.declared.TextPiece.{TextPiece}
+use Rattle.text.specs.declared.TextPiece.the-variants.{One, Bad}
+use Rattle.text.specs.Pieces.{bytesBefore, pieceThen, texts}
 use Rattle.text.specs.Text.{hasQuotes, unescapeString, unescapeUnicode}
 
 abbrev pub outer : ℕ → Bool
@@ -94,8 +94,8 @@ longLiteral-inner line = parseI64-inner (lessL line)
 
 -- ---- floats
 
-within-inner : (b m : Bool) (w up down : ℕ) → InnerRead (within b m w up down)
-unfolding within InnerRead
+within-inner : (b m : Bool) (w up down : ℕ) → InnerRead (nearestWithin b m w up down)
+unfolding nearestWithin InnerRead
 within-inner true m w up down = tt
 within-inner false m w up down = tt
 
@@ -104,28 +104,28 @@ unfolding valued InnerRead
 valued-inner true m w up down = tt
 valued-inner false m w up down = within-inner _ m w up down
 
-value-inner : (m : Bool) (n : Number) → InnerRead (value m n)
-unfolding value InnerRead
+value-inner : (m : Bool) (n : Number) → InnerRead (signedValue m n)
+unfolding signedValue InnerRead
 value-inner m (number w up down) = valued-inner _ m w up down
 value-inner m formless = tt
 
 pub parseF64-inner : (line : List ℕ) → InnerRead (parseF64 line)
 unfolding parseF64 floatLiteral InnerRead
-parseF64-inner line = either (valid line) _ _ (either (word (behindSign (trimmed line))) _ _ tt (value-inner _ _)) tt
+parseF64-inner line = either (valid line) _ _ (either (isWord (behindSign (trimmed line))) _ _ tt (value-inner _ _)) tt
 
 -- ---- texts
 
-before-inner : (l : List ℕ) (r : Read (List ℕ)) → InnerRead r → InnerRead (before l r)
-unfolding before InnerRead
+before-inner : (l : List ℕ) (r : Read (List ℕ)) → InnerRead r → InnerRead (bytesBefore l r)
+unfolding bytesBefore InnerRead
 before-inner l (got v) h = tt
 before-inner l (refused why at) h = h
 
-after-inner : (form : ℕ → List ℕ) (q : Piece) (at : ℕ) (rest : ℕ → Read (List ℕ)) → ((n : ℕ) → InnerRead (rest n)) → InnerRead (after form q at rest)
-unfolding after InnerRead
+after-inner : (form : ℕ → List ℕ) (q : TextPiece) (at : ℕ) (rest : ℕ → Read (List ℕ)) → ((n : ℕ) → InnerRead (rest n)) → InnerRead (pieceThen form q at rest)
+unfolding pieceThen InnerRead
 after-inner form (One v more) at rest h = before-inner (form v) (rest more) (h more)
 after-inner form Bad at rest h = tt
 
-texts-inner : (head : List ℕ → Piece) (form : ℕ → List ℕ) (n at : ℕ) (s : List ℕ) → InnerRead (texts head form n at s)
+texts-inner : (head : List ℕ → TextPiece) (form : ℕ → List ℕ) (n at : ℕ) (s : List ℕ) → InnerRead (texts head form n at s)
 unfolding texts InnerRead
 texts-inner head form zero at [] = tt
 texts-inner head form (suc n) at [] = tt

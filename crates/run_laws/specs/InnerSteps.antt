@@ -19,8 +19,8 @@ use Rattle.op.specs.declared.Objection.{Objection}
 use Rattle.op.specs.declared.Objection.the-variants.{Nothing, Outside, Unknown}
 use Rattle.input.specs.Long.{denotes}
 use Rattle.value.specs.Value.{Label, NoneL, BoolL, I64L, F64L, BytesL, StringL, ListL, TupleL, SetL, FrozenSetL, DictL, GlobalL, ObjectL, Forest}
-use Rattle.steps.specs.State.{Node, State, Res, ok, no, _>>=_, need, leaf, bytes, byte, line, pop, top, popMark, popMany, pushId, pushNode, push, link, nodeAt, find, get, put}
-use Rattle.steps.specs.Opcodes.{isList, isDict, classOf, proto, mark, popOne, popToMark, dup, int, lowBytes, binint, binint1, binint2, long, longN, float, binfloat, string, signedLength, binstring, shortBinstring, unicode, binunicode, global, made, list, tuple, tupleN, pairs, dict, added, append, appends, setitem, setitems, getLine, getBytes, putLine, putBytes, called, reduce, newobj, buildState}
+use Rattle.steps.specs.State.{Node, State, Res, ok, no, _>>=_, need, leaf, bytes, byte, line, pop, top, popMark, popMany, pushId, pushNode, push, link, nodeAt, memoFind, get, put}
+use Rattle.steps.specs.Opcodes.{isList, isDict, classOf, proto, mark, popOne, popToMark, dup, int, lowBytes, binint, binint1, binint2, long, longN, float, binfloat, string, signedLength, binstring, shortBinstring, unicode, binunicode, global, made, list, tuple, tupleN, pairs, dict, addItems, append, appends, setitem, setitems, getLine, getBytes, putLine, putBytes, called, reduce, newobj, buildState}
 use Rattle.steps.specs.Run.{Next, goes, stops, going, does, decide, admit, step, runs, start, run}
 use Rattle.reading.specs.Measure.{measured}
 use Rattle.run_laws.specs.Inner.{Inner, InnerRead, newline-inner, longOf-inner, parseU32-inner, intLiteral-inner, longLiteral-inner, parseF64-inner, unescapeString-inner, unescapeUnicode-inner}
@@ -36,10 +36,10 @@ pub fine : {A : Type 0} (a : A) → InnerOnly (ok a)
 unfolding InnerOnly
 fine a = tt
 
-pub joined : {A B : Type 0} (r : Res A) (f : A → Res B) → InnerOnly r → ((a : A) → InnerOnly (f a)) → InnerOnly (r >>= f)
+pub inner-joined : {A B : Type 0} (r : Res A) (f : A → Res B) → InnerOnly r → ((a : A) → InnerOnly (f a)) → InnerOnly (r >>= f)
 unfolding InnerOnly _>>=_
-joined (ok a) f h k = k a
-joined (no why) f h k = h
+inner-joined (ok a) f h k = k a
+inner-joined (no why) f h k = h
 
 checked : (b : Bool) (why : Refusal) → Inner why → InnerOnly (need b why)
 unfolding InnerOnly need
@@ -65,15 +65,15 @@ bytes-inner n s = after-check _ EndOfInput _ tt (fine _)
 
 byte-inner : (s : State) → InnerOnly (byte s)
 unfolding byte
-byte-inner s = joined _ _ (bytes-inner 1 s) λ p. fine _
+byte-inner s = inner-joined _ _ (bytes-inner 1 s) λ p. fine _
 
 line-inner : (s : State) → InnerOnly (line s)
 unfolding line
-line-inner s = joined _ _ (of-leaf _ (newline-inner (s .input) 0)) λ i. fine _
+line-inner s = inner-joined _ _ (of-leaf _ (newline-inner (s .input) 0)) λ i. fine _
 
 lowBytes-inner : (n : ℕ) (s : State) → InnerOnly (lowBytes n s)
 unfolding lowBytes
-lowBytes-inner n s = joined _ _ (bytes-inner n s) λ p. fine _
+lowBytes-inner n s = inner-joined _ _ (bytes-inner n s) λ p. fine _
 
 pub pop-inner : (s : State) → InnerOnly (pop s)
 unfolding pop
@@ -107,22 +107,22 @@ link-inner : (k : ℕ) (s : State) → InnerOnly (link k s)
 unfolding link
 link-inner k s = after-check _ LinksFull _ tt (fine _)
 
-find-inner : (m : List (ℕ × ℕ)) (k : ℕ) → InnerOnly (find m k)
-unfolding find InnerOnly
+find-inner : (m : List (ℕ × ℕ)) (k : ℕ) → InnerOnly (memoFind m k)
+unfolding memoFind InnerOnly
 find-inner [] k = tt
 find-inner (e ∷ m) k = go (eqb k (e .0)) (find-inner m k)
   where
-    go : (b : Bool) → InnerOnly (find m k) → InnerOnly (cond b (ok (e .1)) (find m k))
+    go : (b : Bool) → InnerOnly (memoFind m k) → InnerOnly (cond b (ok (e .1)) (memoFind m k))
     go true h = tt
     go false h = h
 
 get-inner : (k : ℕ) (s : State) → InnerOnly (get k s)
 unfolding get
-get-inner k s = joined _ _ (find-inner (s .memo) k) λ i. pushId-inner i s
+get-inner k s = inner-joined _ _ (find-inner (s .memo) k) λ i. pushId-inner i s
 
 put-inner : (k : ℕ) (s : State) → InnerOnly (put k s)
 unfolding put
-put-inner k s = joined _ _ (top-inner s) λ i. after-check _ MemoFull _ tt (fine _)
+put-inner k s = inner-joined _ _ (top-inner s) λ i. after-check _ MemoFull _ tt (fine _)
 
 classOf-inner : (l : Label) → InnerOnly (classOf l)
 unfolding InnerOnly
@@ -148,26 +148,26 @@ signed-inner (negsuc n) = tt
 -- a literal on a line
 line-then : {A : Type 0} (s : State) (read : List ℕ → Read A) (g : A → State → Res State) → ((l : List ℕ) → InnerRead (read l)) → ((a : A) (t : State) → InnerOnly (g a t))
     → InnerOnly (line s >>= λ p. leaf (read (p .0)) >>= λ a. g a (p .1))
-line-then s read g h k = joined _ _ (line-inner s) λ p. joined _ _ (of-leaf _ (h (p .0))) λ a. k a (p .1)
+line-then s read g h k = inner-joined _ _ (line-inner s) λ p. inner-joined _ _ (of-leaf _ (h (p .0))) λ a. k a (p .1)
 
 made-inner : (l : Label) (is : List ℕ) (s : State) → InnerOnly (made l is s)
 unfolding made
-made-inner l is s = joined _ _ (link-inner _ s) λ t. pushNode-inner _ t
+made-inner l is s = inner-joined _ _ (link-inner _ s) λ t. pushNode-inner _ t
 
-added-inner : (right : Label → Bool) (why : Refusal) (is : List ℕ) (s : State) → Inner why → InnerOnly (added right why is s)
-unfolding added
-added-inner right why is s h = joined _ _ (top-inner s) λ i. after-check _ why _ h (joined _ _ (link-inner _ s) λ t. fine _)
+added-inner : (right : Label → Bool) (why : Refusal) (is : List ℕ) (s : State) → Inner why → InnerOnly (addItems right why is s)
+unfolding addItems
+added-inner right why is s h = inner-joined _ _ (top-inner s) λ i. after-check _ why _ h (inner-joined _ _ (link-inner _ s) λ t. fine _)
 
 called-inner : (makes : List ℕ × List ℕ → ℕ → List ℕ → Node) (s : State) → InnerOnly (called makes s)
 unfolding called
-called-inner makes s = joined _ _ (pop-inner s) λ p. joined _ _ (pop-inner (p .1)) λ q. joined _ _ (classOf-inner (nodeAt (q .1) (q .0) .label)) λ c. after-check _ (Invalid Arguments) _ tt (pushNode-inner _ _)
+called-inner makes s = inner-joined _ _ (pop-inner s) λ p. inner-joined _ _ (pop-inner (p .1)) λ q. inner-joined _ _ (classOf-inner (nodeAt (q .1) (q .0) .label)) λ c. after-check _ (Invalid Arguments) _ tt (pushNode-inner _ _)
 
 -- ---- the opcodes
 
 module _ (s : State) where
   proto-inner : (v : ℕ) → InnerOnly (proto v s)
   unfolding proto
-  proto-inner v = joined _ _ (byte-inner s) λ p. after-check _ (UnsupportedProtocol (p .0)) _ tt (fine _)
+  proto-inner v = inner-joined _ _ (byte-inner s) λ p. after-check _ (UnsupportedProtocol (p .0)) _ tt (fine _)
 
   mark-inner : InnerOnly (mark s)
   unfolding mark
@@ -175,15 +175,15 @@ module _ (s : State) where
 
   popOne-inner : InnerOnly (popOne s)
   unfolding popOne
-  popOne-inner = joined _ _ (pop-inner s) λ p. fine _
+  popOne-inner = inner-joined _ _ (pop-inner s) λ p. fine _
 
   popToMark-inner : InnerOnly (popToMark s)
   unfolding popToMark
-  popToMark-inner = joined _ _ (popMark-inner s) λ p. fine _
+  popToMark-inner = inner-joined _ _ (popMark-inner s) λ p. fine _
 
   dup-inner : InnerOnly (dup s)
   unfolding dup
-  dup-inner = joined _ _ (top-inner s) λ i. pushId-inner i s
+  dup-inner = inner-joined _ _ (top-inner s) λ i. pushId-inner i s
 
   int-inner : InnerOnly (int s)
   unfolding int
@@ -215,79 +215,79 @@ module _ (s : State) where
 
   binint-inner : InnerOnly (binint s)
   unfolding binint
-  binint-inner = joined _ _ (bytes-inner 4 s) λ p. push-inner _ _
+  binint-inner = inner-joined _ _ (bytes-inner 4 s) λ p. push-inner _ _
 
   binint1-inner : InnerOnly (binint1 s)
   unfolding binint1
-  binint1-inner = joined _ _ (lowBytes-inner 1 s) λ p. push-inner _ _
+  binint1-inner = inner-joined _ _ (lowBytes-inner 1 s) λ p. push-inner _ _
 
   binint2-inner : InnerOnly (binint2 s)
   unfolding binint2
-  binint2-inner = joined _ _ (lowBytes-inner 2 s) λ p. push-inner _ _
+  binint2-inner = inner-joined _ _ (lowBytes-inner 2 s) λ p. push-inner _ _
 
   binfloat-inner : InnerOnly (binfloat s)
   unfolding binfloat
-  binfloat-inner = joined _ _ (bytes-inner 8 s) λ p. push-inner _ _
+  binfloat-inner = inner-joined _ _ (bytes-inner 8 s) λ p. push-inner _ _
 
   longN-inner : (n : ℕ) → InnerOnly (longN n s)
   unfolding longN
-  longN-inner n = joined _ _ (lowBytes-inner n s) λ p. joined _ _ (bytes-inner (p .0) (p .1)) λ q. joined _ _ (of-leaf _ (longOf-inner (q .0))) λ v. push-inner _ _
+  longN-inner n = inner-joined _ _ (lowBytes-inner n s) λ p. inner-joined _ _ (bytes-inner (p .0) (p .1)) λ q. inner-joined _ _ (of-leaf _ (longOf-inner (q .0))) λ v. push-inner _ _
 
   binstring-inner : InnerOnly (binstring s)
   unfolding binstring
-  binstring-inner = joined _ _ (bytes-inner 4 s) λ p. joined _ _ (signed-inner (denotes (p .0))) λ n. joined _ _ (bytes-inner n (p .1)) λ q. push-inner _ _
+  binstring-inner = inner-joined _ _ (bytes-inner 4 s) λ p. inner-joined _ _ (signed-inner (denotes (p .0))) λ n. inner-joined _ _ (bytes-inner n (p .1)) λ q. push-inner _ _
 
   shortBinstring-inner : InnerOnly (shortBinstring s)
   unfolding shortBinstring
-  shortBinstring-inner = joined _ _ (lowBytes-inner 1 s) λ p. joined _ _ (bytes-inner (p .0) (p .1)) λ q. push-inner _ _
+  shortBinstring-inner = inner-joined _ _ (lowBytes-inner 1 s) λ p. inner-joined _ _ (bytes-inner (p .0) (p .1)) λ q. push-inner _ _
 
   binunicode-inner : InnerOnly (binunicode s)
   unfolding binunicode
-  binunicode-inner = joined _ _ (lowBytes-inner 4 s) λ p. joined _ _ (bytes-inner (p .0) (p .1)) λ q. push-inner _ _
+  binunicode-inner = inner-joined _ _ (lowBytes-inner 4 s) λ p. inner-joined _ _ (bytes-inner (p .0) (p .1)) λ q. push-inner _ _
 
   global-inner : InnerOnly (global s)
   unfolding global
-  global-inner = joined _ _ (line-inner s) λ p. joined _ _ (line-inner (p .1)) λ q. push-inner _ _
+  global-inner = inner-joined _ _ (line-inner s) λ p. inner-joined _ _ (line-inner (p .1)) λ q. push-inner _ _
 
   list-inner : InnerOnly (list s)
   unfolding list
-  list-inner = joined _ _ (popMark-inner s) λ p. made-inner _ _ _
+  list-inner = inner-joined _ _ (popMark-inner s) λ p. made-inner _ _ _
 
   tuple-inner : InnerOnly (tuple s)
   unfolding tuple
-  tuple-inner = joined _ _ (popMark-inner s) λ p. made-inner _ _ _
+  tuple-inner = inner-joined _ _ (popMark-inner s) λ p. made-inner _ _ _
 
   tupleN-inner : (n : ℕ) → InnerOnly (tupleN n s)
   unfolding tupleN
-  tupleN-inner n = joined _ _ (popMany-inner n s) λ p. made-inner _ _ _
+  tupleN-inner n = inner-joined _ _ (popMany-inner n s) λ p. made-inner _ _ _
 
   dict-inner : InnerOnly (dict s)
   unfolding dict pairs
-  dict-inner = joined _ _ (popMark-inner s) λ p. after-check _ (Invalid DictItems) _ tt (made-inner _ _ _)
+  dict-inner = inner-joined _ _ (popMark-inner s) λ p. after-check _ (Invalid DictItems) _ tt (made-inner _ _ _)
 
   append-inner : InnerOnly (append s)
   unfolding append
-  append-inner = joined _ _ (pop-inner s) λ p. added-inner isList (Invalid AList) _ _ tt
+  append-inner = inner-joined _ _ (pop-inner s) λ p. added-inner isList (Invalid AList) _ _ tt
 
   appends-inner : InnerOnly (appends s)
   unfolding appends
-  appends-inner = joined _ _ (popMark-inner s) λ p. added-inner isList (Invalid AList) _ _ tt
+  appends-inner = inner-joined _ _ (popMark-inner s) λ p. added-inner isList (Invalid AList) _ _ tt
 
   setitem-inner : InnerOnly (setitem s)
   unfolding setitem
-  setitem-inner = joined _ _ (pop-inner s) λ p. joined _ _ (pop-inner (p .1)) λ q. added-inner isDict (Invalid ADict) _ _ tt
+  setitem-inner = inner-joined _ _ (pop-inner s) λ p. inner-joined _ _ (pop-inner (p .1)) λ q. added-inner isDict (Invalid ADict) _ _ tt
 
   setitems-inner : InnerOnly (setitems s)
   unfolding setitems pairs
-  setitems-inner = joined _ _ (popMark-inner s) λ p. after-check _ (Invalid DictItems) _ tt (added-inner isDict (Invalid ADict) _ _ tt)
+  setitems-inner = inner-joined _ _ (popMark-inner s) λ p. after-check _ (Invalid DictItems) _ tt (added-inner isDict (Invalid ADict) _ _ tt)
 
   getBytes-inner : (n : ℕ) → InnerOnly (getBytes n s)
   unfolding getBytes
-  getBytes-inner n = joined _ _ (lowBytes-inner n s) λ p. get-inner _ _
+  getBytes-inner n = inner-joined _ _ (lowBytes-inner n s) λ p. get-inner _ _
 
   putBytes-inner : (n : ℕ) → InnerOnly (putBytes n s)
   unfolding putBytes
-  putBytes-inner n = joined _ _ (lowBytes-inner n s) λ p. put-inner _ _
+  putBytes-inner n = inner-joined _ _ (lowBytes-inner n s) λ p. put-inner _ _
 
   reduce-inner : InnerOnly (reduce s)
   unfolding reduce
@@ -299,7 +299,7 @@ module _ (s : State) where
 
   build-inner : InnerOnly (buildState s)
   unfolding buildState
-  build-inner = joined _ _ (pop-inner s) λ p. joined _ _ (top-inner (p .1)) λ o. after-check _ (Invalid Object) _ tt (fine _)
+  build-inner = inner-joined _ _ (pop-inner s) λ p. inner-joined _ _ (top-inner (p .1)) λ o. after-check _ (Invalid Object) _ tt (fine _)
 
 going-inner : (r : Res State) → InnerOnly r → InnerOnly (going r)
 unfolding InnerOnly going
@@ -370,7 +370,7 @@ admit-inner Unknown b r h = tt
 
 pub step-inner : (ed : Edition) (s : State) → InnerOnly (step ed s)
 unfolding step
-step-inner ed s = joined _ _ (byte-inner s) λ p. admit-inner (against ed (p .0)) (p .0) _ (decide-inner (highest ed) (opcodeOf (p .0)) (p .0) (p .1))
+step-inner ed s = inner-joined _ _ (byte-inner s) λ p. admit-inner (against ed (p .0)) (p .0) _ (decide-inner (highest ed) (opcodeOf (p .0)) (p .0) (p .1))
 
 pub runs-inner : (ed : Edition) (k : ℕ) (s : State) → InnerOnly (runs ed k s)
 unfolding runs InnerOnly

@@ -17,21 +17,21 @@ use Rattle.value.specs.Value.{Forest, one}
 use Rattle.steps.specs.State.{State, Res, ok, no, _>>=_, need}
 use Rattle.reading.specs.Build.{tree}
 use Rattle.reading.specs.Measure.{measured}
-use Rattle.reading.specs.Reading.{Reading, told, pickleLimit, stopped, consumed, prefixIn, leaves, wholeIn, stopped-long, prefix-refused, whole-trailing, whole-prefix}
+use Rattle.reading.specs.Reading.{Reading, readingOf, pickleLimit, stopped, consumed, prefixIn, leaves, wholeIn, stopped-long, prefix-refused, whole-trailing, whole-prefix}
 use Rattle.run_laws.specs.Inner.{outer}
-use Rattle.run_laws.specs.InnerSteps.{InnerOnly, joined, fine, pop-inner, run-inner, measured-inner}
+use Rattle.run_laws.specs.InnerSteps.{InnerOnly, inner-joined, fine, pop-inner, run-inner, measured-inner}
 
 -- the number of a reading is none of the three
 abbrev InnerNumber : Reading → Type 0
 InnerNumber r = T (not (outer (r .answer .number)))
 
-told-inner : (n : ℕ) (f : Forest) → InnerNumber (told n f)
-unfolding told InnerOnly
+told-inner : (n : ℕ) (f : Forest) → InnerNumber (readingOf n f)
+unfolding readingOf InnerOnly
 told-inner n f = go (measured f) refl (measured-inner f)
   where
-    go : (r : Res (Unit {0})) → measured f ≡ r → InnerOnly r → InnerNumber (told n f)
-    go (no why) e h = rw (e, told) h
-    go (ok u) e h = rw (e, told) tt
+    go : (r : Res (Unit {0})) → measured f ≡ r → InnerOnly r → InnerNumber (readingOf n f)
+    go (no why) e h = rw (e, readingOf) h
+    go (ok u) e h = rw (e, readingOf) tt
 
 -- a check that is passed
 passed : {A : Type 0} (b : Bool) (why : Refusal) (f : Unit {0} → Res A) → b ≡ true → InnerOnly (f tt) → InnerOnly (need b why >>= f)
@@ -41,7 +41,7 @@ passed false why f e h = absurd (let z : _≡_ {A = ℕ} 0 1 = cc in omega arith
 
 stopped-inner : (ed : Edition) (p : List ℕ) → length p ≤ pickleLimit → InnerOnly (stopped ed p)
 unfolding stopped
-stopped-inner ed p h = passed _ TooLong _ (le-leb (length p) pickleLimit h) (joined _ _ (run-inner ed p) λ s. joined _ _ (pop-inner s) λ q. fine _)
+stopped-inner ed p h = passed _ TooLong _ (le-leb (length p) pickleLimit h) (inner-joined _ _ (run-inner ed p) λ s. inner-joined _ _ (pop-inner s) λ q. fine _)
 
 -- within the limit no reading up to STOP has one of the three
 prefix-inner : (ed : Edition) (p : List ℕ) → length p ≤ pickleLimit → InnerNumber (prefixIn ed p)

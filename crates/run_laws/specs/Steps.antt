@@ -13,9 +13,9 @@ use Rattle.store.specs.declared.Counts.{Counts}
 use Rattle.steps.specs.State.{State, Res, ok, no, _>>=_}
 use Rattle.steps.specs.Run.{Next, goes, stops, step, start, run}
 use Rattle.steps.specs.Out.{Out}
-use Rattle.steps.specs.Keeps.{after}
+use Rattle.steps.specs.Keeps.{stateAfter}
 use Rattle.steps.specs.Shrinks.{step-less}
-use Rattle.steps.specs.Fuel.{finish, run-finish, finish-refused, finish-stops, finish-goes}
+use Rattle.steps.specs.Fuel.{runFrom, run-finish, finish-refused, finish-stops, finish-goes}
 use Rattle.store.specs.Rooms.{Rooms, stateOf}
 use Rattle.effects.specs.declared.Step.the-variants as step-of
 use Rattle.effects.specs.Done.{meant, Done}
@@ -58,16 +58,16 @@ module _ (ed : Edition) (p : List ℕ) where
   one-step m s e = rw e
 
   -- s after m steps, with b - 1 bytes left at most
-  from : (b m : ℕ) (s : State) → length (s .input) < b → m + length (s .input) ≤ length p → afterSteps ed m p ≡ ok (goes s) → finish ed s ≡ run ed p → ((k : ℕ) → k < m → GoesOn ed p k) → InSteps ed p
-  unfolding Out after atEnd
+  from : (b m : ℕ) (s : State) → length (s .input) < b → m + length (s .input) ≤ length p → afterSteps ed m p ≡ ok (goes s) → runFrom ed s ≡ run ed p → ((k : ℕ) → k < m → GoesOn ed p k) → InSteps ed p
+  unfolding Out stateAfter atEnd
   from zero m s l r e f g = absurd (omega arith)
   from (suc b) m s l r e f g = go (step ed s) refl (step-less ed s) (from b (suc m))
     where
       last : (x : Res Next) → step ed s ≡ x → x ≡ atEnd (run ed p) → InSteps ed p
       last x q z = record { steps = suc m; few = omega arith; takes = record { ends = one-step m s e ∙ q ∙ z; before = up-to m s e g } }
 
-      go : (x : Res Next) → step ed s ≡ x → Out (λ (n : Next). length (after n .input) < length (s .input)) x
-          → ((t : State) → length (t .input) < b → suc m + length (t .input) ≤ length p → afterSteps ed (suc m) p ≡ ok (goes t) → finish ed t ≡ run ed p → ((k : ℕ) → k < suc m → GoesOn ed p k) → InSteps ed p)
+      go : (x : Res Next) → step ed s ≡ x → Out (λ (n : Next). length (stateAfter n .input) < length (s .input)) x
+          → ((t : State) → length (t .input) < b → suc m + length (t .input) ≤ length p → afterSteps ed (suc m) p ≡ ok (goes t) → runFrom ed t ≡ run ed p → ((k : ℕ) → k < suc m → GoesOn ed p k) → InSteps ed p)
           → InSteps ed p
       go (no why) q h more = last (no why) q (ap atEnd (sym (finish-refused ed s s why q) ∙ f))
       go (ok (stops t)) q h more = last (ok (stops t)) q (ap atEnd (sym (finish-stops ed s t q) ∙ f))
@@ -111,12 +111,12 @@ module _ (ed : Edition) (p : List ℕ) where
 
   -- ---- what is reached is what the run is from there
 
-  pub still-to-run : (k : ℕ) (s : State) → afterSteps ed k p ≡ ok (goes s) → finish ed s ≡ run ed p
+  pub still-to-run : (k : ℕ) (s : State) → afterSteps ed k p ≡ ok (goes s) → runFrom ed s ≡ run ed p
   unfolding afterSteps onward _>>=_
   still-to-run zero s e = let q : start p ≡ s = cc in rw (← q) (sym (run-finish ed p))
   still-to-run (suc k) s e = go (afterSteps ed k p) refl e (still-to-run k)
     where
-      go : (x : Res Next) → afterSteps ed k p ≡ x → (x >>= onward ed) ≡ ok (goes s) → ((t : State) → afterSteps ed k p ≡ ok (goes t) → finish ed t ≡ run ed p) → finish ed s ≡ run ed p
+      go : (x : Res Next) → afterSteps ed k p ≡ x → (x >>= onward ed) ≡ ok (goes s) → ((t : State) → afterSteps ed k p ≡ ok (goes t) → runFrom ed t ≡ run ed p) → runFrom ed s ≡ run ed p
       go (no why) q h more = absurd (let z : _≡_ {A = ℕ} 0 1 = cc in omega arith)
       go (ok (stops t)) q h more = absurd (let z : _≡_ {A = ℕ} 0 1 = cc in omega arith)
       go (ok (goes t)) q h more = sym (finish-goes ed t s h) ∙ more t q
@@ -126,7 +126,7 @@ module _ (ed : Edition) (p : List ℕ) where
 -- After n steps of `take_step` that go on comes one that stops, or refuses: that machine, or that refusal, is what the run gives, and what
 -- an outcome of `machine::run` on the same pickle means.
 module _ (ed : Edition) (f : ℕ → Rooms) (g : ℕ → Counts) (n : ℕ) (s : Steps ed f g n) (r : Rooms) (d : Counts) where
-  rest : finish ed (stateOf (f n) (g n)) ≡ run ed (f 0 .pickle)
+  rest : runFrom ed (stateOf (f n) (g n)) ≡ run ed (f 0 .pickle)
   rest = still-to-run ed (f 0 .pickle) n (stateOf (f n) (g n)) (sym (after-n-steps ed f g n s))
 
   pub steps-stop : Done (step-of.Stop d) (f n) r (step ed (stateOf (f n) (g n))) → run ed (f 0 .pickle) ≡ ok (stateOf r d)

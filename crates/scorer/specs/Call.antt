@@ -24,9 +24,9 @@ abbrev pub unscored : ℕ × ℕ → Scored
 unscored why = record { number = why .0; detail = why .1; score = 0; items = 0 }
 
 -- the answer for a value
-unfoldable pub told : Tally → Scored
-told Off = unscored sheetShape
-told (Sum s n) = record { number = 0; detail = 0; score = s; items = n }
+unfoldable pub scoredOf : Tally → Scored
+scoredOf Off = unscored sheetShape
+scoredOf (Sum s n) = record { number = 0; detail = 0; score = s; items = n }
 
 unfoldable pub tallyOf : Value → Tally
 tallyOf v = cond (isSheet v) (Sum (scoreOf v) (itemsOf v)) Off
@@ -38,7 +38,7 @@ Assesses w t r = (n : ℕ) (f : WellFormed w n t) → r ≡ tallyOf (f .value)
 -- the call, lent n records in w and the text t, answers r
 pub record Scores (w : List ℕ) (n : ℕ) (t : List ℕ) (r : Scored) : Type 0 where
   pub bad : (WellFormed w n t → ⊥) → r ≡ unscored (numberOf (BadTable First))
-  pub good : (f : WellFormed w n t) → r ≡ told (tallyOf (f .value))
+  pub good : (f : WellFormed w n t) → r ≡ scoredOf (tallyOf (f .value))
 
 -- the answer is determined
 pub score-one : {w : List ℕ} {n : ℕ} {t : List ℕ} {r s : Scored} → Scores w n t r → Scores w n t s → r ≡ s
@@ -54,5 +54,5 @@ module _ (w : List ℕ) (n : ℕ) (t : List ℕ) (r : Scored) where
   pub scores-bad : (WellFormed w n t → ⊥) → r ≡ unscored (numberOf (BadTable First)) → Scores w n t r
   scores-bad h e = record { bad = λ q. e; good = λ f. absurd (h f) }
 
-  pub scores-good : WellFormed w n t → ((f : WellFormed w n t) → r ≡ told (tallyOf (f .value))) → Scores w n t r
+  pub scores-good : WellFormed w n t → ((f : WellFormed w n t) → r ≡ scoredOf (tallyOf (f .value))) → Scores w n t r
   scores-good f h = record { bad = λ q. absurd (q f); good = h }

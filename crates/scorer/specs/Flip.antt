@@ -14,7 +14,7 @@ use Rattle.value.specs.Shape.{fitting, shaped}
 use Rattle.value.specs.Order.{lex}
 use Rattle.value.specs.OrderLaws.{lex-eq}
 use Rattle.value.specs.WellFormed.{WellFormed, ascending, keys, proper, settled}
-use Rattle.scorer.specs.Sheet.{bits, between, holds, answersKey, reverseKey, maxKey, flippedKey, isKey, under, answers, reverse, highest, flipped, inRange, answered, isSheet, Sheet, counted, sum, marked, scoreOf, itemsOf}
+use Rattle.scorer.specs.Sheet.{bits, between, holdsInt, answersKey, reverseKey, maxKey, flippedKey, isKey, under, answers, reverse, highestAnswer, flipped, inRange, allAnswered, isSheet, Sheet, counted, answersSum, marked, scoreOf, itemsOf}
 use Rattle.scorer.specs.Walk.{int-label}
 
 -- ---- a value's own table
@@ -47,29 +47,29 @@ own-table f = let e = ap length (f .texts) in let h = f .short in value-formed (
 -- ---- the flipped value
 
 -- the answers with m less the answer where the item is reversed
-unfoldable pub turned : ℕ → Forest → Forest → Forest
-turned m reversed nil = nil
-turned m reversed (node l c nil) = node l c nil
-turned m reversed (node l c (node a d r)) = node l c (node (cond (holds l reversed) (I64L (m - bits a)) a) d (turned m reversed r))
+unfoldable pub turnedItems : ℕ → Forest → Forest → Forest
+turnedItems m reversed nil = nil
+turnedItems m reversed (node l c nil) = node l c nil
+turnedItems m reversed (node l c (node a d r)) = node l c (node (cond (holdsInt l reversed) (I64L (m - bits a)) a) d (turnedItems m reversed r))
 
 -- a Dict's contents with another value under a key
-unfoldable pub put : List ℕ → Value → Forest → Forest
-put k v nil = nil
-put k v (node l c nil) = node l c nil
-put k v (node l c (node m d r)) = cond (isKey k l) (node l c (node (v .label) (v .contents) r)) (node l c (node m d (put k v r)))
+unfoldable pub putUnder : List ℕ → Value → Forest → Forest
+putUnder k v nil = nil
+putUnder k v (node l c nil) = node l c nil
+putUnder k v (node l c (node m d r)) = cond (isKey k l) (node l c (node (v .label) (v .contents) r)) (node l c (node m d (putUnder k v r)))
 
 abbrev turnedAnswers : Value → Value
-turnedAnswers v = record { label = answers v .label; contents = turned (bits (highest v .label)) (reverse v .contents) (answers v .contents) }
+turnedAnswers v = record { label = answers v .label; contents = turnedItems (bits (highestAnswer v .label)) (reverse v .contents) (answers v .contents) }
 
 abbrev marked-flag : Value → Value
 marked-flag v = record { label = BoolL true; contents = flipped v .contents }
 
 abbrev pub flip : Value → Value
-flip v = record { label = v .label; contents = put flippedKey (marked-flag v) (put answersKey (turnedAnswers v) (v .contents)) }
+flip v = record { label = v .label; contents = putUnder flippedKey (marked-flag v) (putUnder answersKey (turnedAnswers v) (v .contents)) }
 
 -- ---- values whose tables have the same form
 
-record Alike (f g : Forest) : Type 0 where
+record SameForm (f g : Forest) : Type 0 where
   sizes : size f ≡ size g
   counts : count f ≡ count g
   depths : depth f ≡ depth g
@@ -77,10 +77,10 @@ record Alike (f g : Forest) : Type 0 where
   shapes : shaped f ≡ shaped g
   orders : settled f ≡ settled g
 
-alike-same : (f : Forest) → Alike f f
+alike-same : (f : Forest) → SameForm f f
 alike-same f = record { sizes = refl; counts = refl; depths = refl; texts = refl; shapes = refl; orders = refl }
 
-alike-node : (l m : Label) (c d r s : Forest) → textOf l ≡ textOf m → fitting l (count c) ≡ fitting m (count d) → proper l c ≡ proper m d → Alike c d → Alike r s → Alike (node l c r) (node m d s)
+alike-node : (l m : Label) (c d r s : Forest) → textOf l ≡ textOf m → fitting l (count c) ≡ fitting m (count d) → proper l c ≡ proper m d → SameForm c d → SameForm r s → SameForm (node l c r) (node m d s)
 unfolding size count depth text shaped settled
 alike-node l m c d r s t f p a b =
     record {
@@ -97,37 +97,37 @@ record Like (v w : Value) : Type 0 where
   text : textOf (v .label) ≡ textOf (w .label)
   fits : fitting (v .label) (count (v .contents)) ≡ fitting (w .label) (count (w .contents))
   order : proper (v .label) (v .contents) ≡ proper (w .label) (w .contents)
-  inner : Alike (v .contents) (w .contents)
+  inner : SameForm (v .contents) (w .contents)
 
-put-alike : (k : List ℕ) (v : Value) (f : Forest) → Like (under k f) v → Alike f (put k v f)
-unfolding put under
+put-alike : (k : List ℕ) (v : Value) (f : Forest) → Like (under k f) v → SameForm f (putUnder k v f)
+unfolding putUnder under
 put-alike k v nil h = alike-same nil
 put-alike k v (node l c nil) h = alike-same (node l c nil)
 put-alike k v (node l c (node m d r)) h = go (isKey k l) (put-alike k v r) h
   where
-    go : (b : Bool) → (Like (under k r) v → Alike r (put k v r)) → Like (cond b (record { label = m; contents = d }) (under k r)) v → Alike (node l c (node m d r)) (cond b (node l c (node (v .label) (v .contents) r)) (node l c (node m d (put k v r))))
+    go : (b : Bool) → (Like (under k r) v → SameForm r (putUnder k v r)) → Like (cond b (record { label = m; contents = d }) (under k r)) v → SameForm (node l c (node m d r)) (cond b (node l c (node (v .label) (v .contents) r)) (node l c (node m d (putUnder k v r))))
     go true g h = alike-node l l c c (node m d r) (node (v .label) (v .contents) r) refl refl refl (alike-same c) (alike-node m (v .label) d (v .contents) r r (h .text) (h .fits) (h .order) (h .inner) (alike-same r))
-    go false g h = alike-node l l c c (node m d r) (node m d (put k v r)) refl refl refl (alike-same c) (alike-node m m d d r (put k v r) refl refl refl (alike-same d) (g h))
+    go false g h = alike-node l l c c (node m d r) (node m d (putUnder k v r)) refl refl refl (alike-same c) (alike-node m m d d r (putUnder k v r) refl refl refl (alike-same d) (g h))
 
-put-keys : (k : List ℕ) (v : Value) (f : Forest) → keys (put k v f) ≡ keys f
-unfolding put keys
+put-keys : (k : List ℕ) (v : Value) (f : Forest) → keys (putUnder k v f) ≡ keys f
+unfolding putUnder keys
 put-keys k v nil = refl
 put-keys k v (node l c nil) = refl
 put-keys k v (node l c (node m d r)) = go (isKey k l) (put-keys k v r)
   where
-    go : (b : Bool) → keys (put k v r) ≡ keys r → keys (cond b (node l c (node (v .label) (v .contents) r)) (node l c (node m d (put k v r)))) ≡ node l c (keys r)
+    go : (b : Bool) → keys (putUnder k v r) ≡ keys r → keys (cond b (node l c (node (v .label) (v .contents) r)) (node l c (node m d (putUnder k v r)))) ≡ node l c (keys r)
     go true e = refl
     go false e = ap (node l c) e
 
 -- ---- what is under the keys then
 
-put-same : (k : List ℕ) (v : Value) (f : Forest) → (kind (under k f .label) ≡ 0 → ⊥) → under k (put k v f) ≡ v
-unfolding put under
+put-same : (k : List ℕ) (v : Value) (f : Forest) → (kind (under k f .label) ≡ 0 → ⊥) → under k (putUnder k v f) ≡ v
+unfolding putUnder under
 put-same k v nil h = absurd (h refl)
 put-same k v (node l c nil) h = absurd (h refl)
 put-same k v (node l c (node m d r)) h = go (isKey k l) refl (put-same k v r) h
   where
-    go : (b : Bool) → isKey k l ≡ b → ((kind (under k r .label) ≡ 0 → ⊥) → under k (put k v r) ≡ v) → (kind (cond b (record { label = m; contents = d }) (under k r) .label) ≡ 0 → ⊥) → under k (cond b (node l c (node (v .label) (v .contents) r)) (node l c (node m d (put k v r)))) ≡ v
+    go : (b : Bool) → isKey k l ≡ b → ((kind (under k r .label) ≡ 0 → ⊥) → under k (putUnder k v r) ≡ v) → (kind (cond b (record { label = m; contents = d }) (under k r) .label) ≡ 0 → ⊥) → under k (cond b (node l c (node (v .label) (v .contents) r)) (node l c (node m d (putUnder k v r)))) ≡ v
     go true e g h = rw e
     go false e g h = rw e (g h)
 
@@ -147,13 +147,13 @@ not-both j k l n x y =
     equal : (s t : List ℕ) → isEq (lex s t) ≡ true → s ≡ t
     equal s t e = lex-eq s t (is (lex s t) e)
 
-put-other : (j k : List ℕ) (v : Value) (f : Forest) → (j ≡ k → ⊥) → under j (put k v f) ≡ under j f
-unfolding put under
+put-other : (j k : List ℕ) (v : Value) (f : Forest) → (j ≡ k → ⊥) → under j (putUnder k v f) ≡ under j f
+unfolding putUnder under
 put-other j k v nil n = refl
 put-other j k v (node l c nil) n = refl
 put-other j k v (node l c (node m d r)) n = go (isKey k l) (isKey j l) refl refl (put-other j k v r n)
   where
-    go : (b x : Bool) → isKey k l ≡ b → isKey j l ≡ x → under j (put k v r) ≡ under j r → under j (cond b (node l c (node (v .label) (v .contents) r)) (node l c (node m d (put k v r)))) ≡ cond x (record { label = m; contents = d }) (under j r)
+    go : (b x : Bool) → isKey k l ≡ b → isKey j l ≡ x → under j (putUnder k v r) ≡ under j r → under j (cond b (node l c (node (v .label) (v .contents) r)) (node l c (node m d (putUnder k v r)))) ≡ cond x (record { label = m; contents = d }) (under j r)
     go true true p q e = absurd (not-both j k l n q p)
     go true false p q e = rw q
     go false true p q e = rw q
@@ -206,7 +206,7 @@ dict-proper l c d k e =
     let i = dict-label l k in
     ap (λ (x : Label). proper x c) i ∙ ap ascending e ∙ ap (λ (x : Label). proper x d) (sym i)
 
-alike-through : (f g h : Forest) → Alike f g → Alike g h → Alike f h
+alike-through : (f g h : Forest) → SameForm f g → SameForm g h → SameForm f h
 alike-through f g h a b =
     record {
       sizes = a .sizes ∙ b .sizes;
@@ -219,46 +219,46 @@ alike-through f g h a b =
 
 -- ---- the turned answers
 
-turned-alike : (m : ℕ) (h f : Forest) → inRange m f ≡ true → Alike f (turned m h f)
-unfolding turned inRange
+turned-alike : (m : ℕ) (h f : Forest) → inRange m f ≡ true → SameForm f (turnedItems m h f)
+unfolding turnedItems inRange
 turned-alike m h nil e = alike-same nil
 turned-alike m h (node l c nil) e = alike-same (node l c nil)
 turned-alike m h (node l c (node a d r)) e =
     let p = both {a = between 1 200 l} e in
     let q = both {a = between 0 m a} (p .1) in
-    go (holds l h) (between-int 0 m a (q .0)) (turned-alike m h r (q .1))
+    go (holdsInt l h) (between-int 0 m a (q .0)) (turned-alike m h r (q .1))
   where
-    go : (b : Bool) → a ≡ I64L (bits a) → Alike r (turned m h r) → Alike (node l c (node a d r)) (node l c (node (cond b (I64L (m - bits a)) a) d (turned m h r)))
-    go false i g = alike-node l l c c (node a d r) (node a d (turned m h r)) refl refl refl (alike-same c) (alike-node a a d d r (turned m h r) refl refl refl (alike-same d) g)
-    go true i g = alike-node l l c c (node a d r) (node (I64L (m - bits a)) d (turned m h r)) refl refl refl (alike-same c) (alike-node a (I64L (m - bits a)) d d r (turned m h r) (ap textOf i) (ap (λ (x : Label). fitting x (count d)) i) (ap (λ (x : Label). proper x d) i) (alike-same d) g)
+    go : (b : Bool) → a ≡ I64L (bits a) → SameForm r (turnedItems m h r) → SameForm (node l c (node a d r)) (node l c (node (cond b (I64L (m - bits a)) a) d (turnedItems m h r)))
+    go false i g = alike-node l l c c (node a d r) (node a d (turnedItems m h r)) refl refl refl (alike-same c) (alike-node a a d d r (turnedItems m h r) refl refl refl (alike-same d) g)
+    go true i g = alike-node l l c c (node a d r) (node (I64L (m - bits a)) d (turnedItems m h r)) refl refl refl (alike-same c) (alike-node a (I64L (m - bits a)) d d r (turnedItems m h r) (ap textOf i) (ap (λ (x : Label). fitting x (count d)) i) (ap (λ (x : Label). proper x d) i) (alike-same d) g)
 
-turned-keys : (m : ℕ) (h f : Forest) → keys (turned m h f) ≡ keys f
-unfolding turned keys
+turned-keys : (m : ℕ) (h f : Forest) → keys (turnedItems m h f) ≡ keys f
+unfolding turnedItems keys
 turned-keys m h nil = refl
 turned-keys m h (node l c nil) = refl
 turned-keys m h (node l c (node a d r)) = ap (node l c) (turned-keys m h r)
 
-turned-range : (m : ℕ) (h f : Forest) → inRange m f ≡ true → inRange m (turned m h f) ≡ true
-unfolding turned inRange
+turned-range : (m : ℕ) (h f : Forest) → inRange m f ≡ true → inRange m (turnedItems m h f) ≡ true
+unfolding turnedItems inRange
 turned-range m h nil e = refl
 turned-range m h (node l c nil) e = e
 turned-range m h (node l c (node a d r)) e =
     let p = both {a = between 1 200 l} e in
     let q = both {a = between 0 m a} (p .1) in
-    go (holds l h) (p .0) (q .0) (turned-range m h r (q .1))
+    go (holdsInt l h) (p .0) (q .0) (turned-range m h r (q .1))
   where
-    go : (b : Bool) → between 1 200 l ≡ true → between 0 m a ≡ true → inRange m (turned m h r) ≡ true → (between 1 200 l && (between 0 m (cond b (I64L (m - bits a)) a) && inRange m (turned m h r))) ≡ true
+    go : (b : Bool) → between 1 200 l ≡ true → between 0 m a ≡ true → inRange m (turnedItems m h r) ≡ true → (between 1 200 l && (between 0 m (cond b (I64L (m - bits a)) a) && inRange m (turnedItems m h r))) ≡ true
     go false x y z = rw (x, y, z)
     go true x y z = rw (x, less-in m (m - bits a) (omega arith), z)
 
 -- with the mark set they sum up to what the answers do without it
-turned-sum : (m : ℕ) (h f : Forest) → sum m true h (turned m h f) ≡ sum m false h f
-unfolding turned sum
+turned-sum : (m : ℕ) (h f : Forest) → answersSum m true h (turnedItems m h f) ≡ answersSum m false h f
+unfolding turnedItems answersSum
 turned-sum m h nil = refl
 turned-sum m h (node l c nil) = refl
-turned-sum m h (node l c (node a d r)) = go (holds l h) (turned-sum m h r)
+turned-sum m h (node l c (node a d r)) = go (holdsInt l h) (turned-sum m h r)
   where
-    go : (b : Bool) → sum m true h (turned m h r) ≡ sum m false h r → bits (cond b (I64L (m - bits a)) a) + sum m true h (turned m h r) ≡ counted m false b (bits a) + sum m false h r
+    go : (b : Bool) → answersSum m true h (turnedItems m h r) ≡ answersSum m false h r → bits (cond b (I64L (m - bits a)) a) + answersSum m true h (turnedItems m h r) ≡ counted m false b (bits a) + answersSum m false h r
     go true e = ap (λ (x : ℕ). m - bits a + x) e
     go false e = ap (λ (x : ℕ). bits a + x) e
 
@@ -273,9 +273,9 @@ pub record Holds (v : Value) : Type 0 where
   pub answers-dict : kind (answers v .label) ≡ 10
   pub reverse-set : kind (reverse v .label) ≡ 8
   pub flipped-bool : kind (flipped v .label) ≡ 1
-  pub max-range : between 1 100 (highest v .label) ≡ true
-  pub range : inRange (bits (highest v .label)) (answers v .contents) ≡ true
-  pub all : answered (keys (answers v .contents)) (reverse v .contents) ≡ true
+  pub max-range : between 1 100 (highestAnswer v .label) ≡ true
+  pub range : inRange (bits (highestAnswer v .label)) (answers v .contents) ≡ true
+  pub all : allAnswered (keys (answers v .contents)) (reverse v .contents) ≡ true
 
 pub is-true : (b : Bool) → T b → b ≡ true
 is-true true h = refl
@@ -288,8 +288,8 @@ sheet-holds v h =
     let b = both {a = eqb (kind (answers v .label)) 10} (a .1) in
     let c = both {a = eqb (kind (reverse v .label)) 8} (b .1) in
     let d = both {a = eqb (kind (flipped v .label)) 1} (c .1) in
-    let e = both {a = between 1 100 (highest v .label)} (d .1) in
-    let f = both {a = inRange (bits (highest v .label)) (answers v .contents)} (e .1) in
+    let e = both {a = between 1 100 (highestAnswer v .label)} (d .1) in
+    let f = both {a = inRange (bits (highestAnswer v .label)) (answers v .contents)} (e .1) in
     record {
       dict = eqb-true (kind (v .label)) 10 (a .0);
       answers-dict = eqb-true (kind (answers v .label)) 10 (b .0);
@@ -309,26 +309,26 @@ module _ (v : Value) (s : Sheet v) where
   holds-all : Holds v
   holds-all = sheet-holds v s
 
-  flipped-before : under flippedKey (put answersKey (turnedAnswers v) (v .contents)) ≡ flipped v
+  flipped-before : under flippedKey (putUnder answersKey (turnedAnswers v) (v .contents)) ≡ flipped v
   flipped-before = put-other flippedKey answersKey (turnedAnswers v) (v .contents) (differ 0 flippedKey answersKey (λ e. omega arith))
 
   answers-flip : answers (flip v) ≡ turnedAnswers v
   answers-flip =
-      put-other answersKey flippedKey (marked-flag v) (put answersKey (turnedAnswers v) (v .contents)) (differ 0 answersKey flippedKey (λ e. omega arith))
+      put-other answersKey flippedKey (marked-flag v) (putUnder answersKey (turnedAnswers v) (v .contents)) (differ 0 answersKey flippedKey (λ e. omega arith))
       ∙ put-same answersKey (turnedAnswers v) (v .contents) (λ e. let k = holds-all .answers-dict in omega arith)
 
   reverse-flip : reverse (flip v) ≡ reverse v
   reverse-flip =
-      put-other reverseKey flippedKey (marked-flag v) (put answersKey (turnedAnswers v) (v .contents)) (differ 0 reverseKey flippedKey (λ e. omega arith))
+      put-other reverseKey flippedKey (marked-flag v) (putUnder answersKey (turnedAnswers v) (v .contents)) (differ 0 reverseKey flippedKey (λ e. omega arith))
       ∙ put-other reverseKey answersKey (turnedAnswers v) (v .contents) (differ 0 reverseKey answersKey (λ e. omega arith))
 
-  highest-flip : highest (flip v) ≡ highest v
+  highest-flip : highestAnswer (flip v) ≡ highestAnswer v
   highest-flip =
-      put-other maxKey flippedKey (marked-flag v) (put answersKey (turnedAnswers v) (v .contents)) (differ 0 maxKey flippedKey (λ e. omega arith))
+      put-other maxKey flippedKey (marked-flag v) (putUnder answersKey (turnedAnswers v) (v .contents)) (differ 0 maxKey flippedKey (λ e. omega arith))
       ∙ put-other maxKey answersKey (turnedAnswers v) (v .contents) (differ 0 maxKey answersKey (λ e. omega arith))
 
   flipped-flip : flipped (flip v) ≡ marked-flag v
-  flipped-flip = put-same flippedKey (marked-flag v) (put answersKey (turnedAnswers v) (v .contents)) (λ e. let k = holds-all .flipped-bool in let q = ap (λ (x : Value). kind (x .label)) flipped-before in omega arith)
+  flipped-flip = put-same flippedKey (marked-flag v) (putUnder answersKey (turnedAnswers v) (v .contents)) (λ e. let k = holds-all .flipped-bool in let q = ap (λ (x : Value). kind (x .label)) flipped-before in omega arith)
 
   -- it is a sheet, and its mark is set
   pub flip-sheet : isSheet (flip v) ≡ true
@@ -340,8 +340,8 @@ module _ (v : Value) (s : Sheet v) where
         reverse-set = ap (λ (x : Value). kind (x .label)) reverse-flip ∙ holds-all .reverse-set;
         flipped-bool = ap (λ (x : Value). kind (x .label)) flipped-flip;
         max-range = ap (λ (x : Value). between 1 100 (x .label)) highest-flip ∙ holds-all .max-range;
-        range = ap₂ (λ (x y : Value). inRange (bits (x .label)) (y .contents)) highest-flip answers-flip ∙ turned-range (bits (highest v .label)) (reverse v .contents) (answers v .contents) (holds-all .range);
-        all = ap₂ (λ (x y : Value). answered (keys (x .contents)) (y .contents)) answers-flip reverse-flip ∙ ap (λ (x : Forest). answered x (reverse v .contents)) (turned-keys (bits (highest v .label)) (reverse v .contents) (answers v .contents)) ∙ holds-all .all;
+        range = ap₂ (λ (x y : Value). inRange (bits (x .label)) (y .contents)) highest-flip answers-flip ∙ turned-range (bits (highestAnswer v .label)) (reverse v .contents) (answers v .contents) (holds-all .range);
+        all = ap₂ (λ (x y : Value). allAnswered (keys (x .contents)) (y .contents)) answers-flip reverse-flip ∙ ap (λ (x : Forest). allAnswered x (reverse v .contents)) (turned-keys (bits (highestAnswer v .label)) (reverse v .contents) (answers v .contents)) ∙ holds-all .all;
       })
 
   pub flip-marked : marked (flip v) ≡ true
@@ -351,11 +351,11 @@ module _ (v : Value) (s : Sheet v) where
   -- its items are as many, and its score is what the sheet's is without a mark
   pub flip-items : itemsOf (flip v) ≡ itemsOf v
   unfolding itemsOf
-  flip-items = ap (λ (x : Value). half (count (x .contents))) answers-flip ∙ ap half (sym (turned-alike (bits (highest v .label)) (reverse v .contents) (answers v .contents) (holds-all .range) .counts))
+  flip-items = ap (λ (x : Value). half (count (x .contents))) answers-flip ∙ ap half (sym (turned-alike (bits (highestAnswer v .label)) (reverse v .contents) (answers v .contents) (holds-all .range) .counts))
 
   pub flip-score : marked v ≡ false → scoreOf (flip v) ≡ scoreOf v
   unfolding scoreOf
-  flip-score e = rw (flip-marked, answers-flip, reverse-flip, highest-flip, e) (turned-sum (bits (highest v .label)) (reverse v .contents) (answers v .contents))
+  flip-score e = rw (flip-marked, answers-flip, reverse-flip, highest-flip, e) (turned-sum (bits (highestAnswer v .label)) (reverse v .contents) (answers v .contents))
 
   -- ---- its table
 
@@ -371,23 +371,23 @@ module _ (v : Value) (s : Sheet v) where
 
   answers-like : Like (answers v) (turnedAnswers v)
   answers-like =
-      let a = turned-alike (bits (highest v .label)) (reverse v .contents) (answers v .contents) (holds-all .range) in
+      let a = turned-alike (bits (highestAnswer v .label)) (reverse v .contents) (answers v .contents) (holds-all .range) in
       record {
         text = refl;
         fits = ap (fitting (answers v .label)) (a .counts);
-        order = dict-proper (answers v .label) (answers v .contents) _ (holds-all .answers-dict) (sym (turned-keys (bits (highest v .label)) (reverse v .contents) (answers v .contents)));
+        order = dict-proper (answers v .label) (answers v .contents) _ (holds-all .answers-dict) (sym (turned-keys (bits (highestAnswer v .label)) (reverse v .contents) (answers v .contents)));
         inner = a;
       }
 
-  contents-alike : Alike (v .contents) (flip v .contents)
+  contents-alike : SameForm (v .contents) (flip v .contents)
   contents-alike =
-      alike-through (v .contents) (put answersKey (turnedAnswers v) (v .contents)) (flip v .contents) (put-alike answersKey (turnedAnswers v) (v .contents) answers-like)
-      (put-alike flippedKey (marked-flag v) (put answersKey (turnedAnswers v) (v .contents)) (rw flipped-before flip-like))
+      alike-through (v .contents) (putUnder answersKey (turnedAnswers v) (v .contents)) (flip v .contents) (put-alike answersKey (turnedAnswers v) (v .contents) answers-like)
+      (put-alike flippedKey (marked-flag v) (putUnder answersKey (turnedAnswers v) (v .contents)) (rw flipped-before flip-like))
 
-  flip-alike : Alike (one v) (one (flip v))
+  flip-alike : SameForm (one v) (one (flip v))
   flip-alike =
       let a = contents-alike in
-      let k : keys (v .contents) ≡ keys (flip v .contents) = sym (put-keys flippedKey (marked-flag v) (put answersKey (turnedAnswers v) (v .contents)) ∙ put-keys answersKey (turnedAnswers v) (v .contents)) in
+      let k : keys (v .contents) ≡ keys (flip v .contents) = sym (put-keys flippedKey (marked-flag v) (putUnder answersKey (turnedAnswers v) (v .contents)) ∙ put-keys answersKey (turnedAnswers v) (v .contents)) in
       alike-node (v .label) (v .label) (v .contents) (flip v .contents) nil nil refl (ap (fitting (v .label)) (a .counts)) (dict-proper (v .label) (v .contents) (flip v .contents) (holds-all .dict) k) a (alike-same nil)
 
   pub flip-formed : {w : List ℕ} {n : ℕ} {t : List ℕ} (f : WellFormed w n t) → f .value ≡ v → WellFormed (table (one (flip v)) 0) n (text (one (flip v)))

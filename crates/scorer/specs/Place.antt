@@ -37,7 +37,7 @@ formed-lies {w} {n} {t} a =
     }
 
 -- the first value, its contents, and those behind it
-pub record Parts (w t : List ℕ) (i : ℕ) (l : Label) (c r : Forest) : Type 0 where
+pub record FirstAndRest (w t : List ℕ) (i : ℕ) (l : Label) (c r : Forest) : Type 0 where
   pub says : Says w t i l (count c)
   pub sized : sizeAt w i ≡ suc (size c)
   pub fits : T (fitting l (count c))
@@ -52,7 +52,7 @@ T-all true false x y = absurd y
 T-all false b x y = absurd x
 
 module _ {w t : List ℕ} {i : ℕ} {l : Label} {c r : Forest} where
-  pub parts : Lies w t i (node l c r) → Parts w t i l c r
+  pub parts : Lies w t i (node l c r) → FirstAndRest w t i l c r
   unfolding table text shaped
   parts q =
       let p = q .place in

@@ -13,10 +13,10 @@ use Rattle.value.specs.Shape.{kindIn, headOf, arityOf, fitting, shaped, and-l, 
 use Rattle.value.specs.Stands.{wordAt, arityAt, Says}
 use Rattle.value.specs.WellFormed.{WellFormed, ascending, keys, proper, settled}
 use Rattle.table.specs.Record.{half-twice}
-use Rattle.scorer.specs.Sheet.{bits, between, isKey, under, answersKey, reverseKey, answers, reverse, highest, flipped, isSheet, sum, marked, scoreOf, itemsOf}
+use Rattle.scorer.specs.Sheet.{bits, between, isKey, under, answersKey, reverseKey, answers, reverse, highestAnswer, flipped, isSheet, answersSum, marked, scoreOf, itemsOf}
 use Rattle.scorer.specs.Call.{tallyOf}
-use Rattle.scorer.specs.Walk.{walk, walk-is}
-use Rattle.scorer.specs.Place.{Lies, Parts, parts, formed-lies}
+use Rattle.scorer.specs.Walk.{tallyWalk, walk-is}
+use Rattle.scorer.specs.Place.{Lies, FirstAndRest, parts, formed-lies}
 use Rattle.scorer.specs.Steps.{kind-says, bits-says, mark-says, betweenAt, between-says, kind-read, Lain, Sought, Both}
 use Rattle.scorer.specs.declared.Tally.{Tally}
 use Rattle.scorer.specs.declared.Tally.the-variants.{Off}
@@ -58,20 +58,20 @@ under-settled k (node l c (node m d r)) h =
     go b true false z h p q g = absurd h
     go b false y z h p q g = absurd h
 
-pub dict-keys : (l : Label) (c : Forest) → kind l ≡ 10 → T (proper l c) → T (ascending (keys c))
-dict-keys NoneL c k h = absurd (omega arith)
-dict-keys (BoolL b) c k h = absurd (omega arith)
-dict-keys (I64L n) c k h = absurd (omega arith)
-dict-keys (F64L n) c k h = absurd (omega arith)
-dict-keys (BytesL t) c k h = absurd (omega arith)
-dict-keys (StringL t) c k h = absurd (omega arith)
-dict-keys ListL c k h = absurd (omega arith)
-dict-keys TupleL c k h = absurd (omega arith)
-dict-keys SetL c k h = absurd (omega arith)
-dict-keys FrozenSetL c k h = absurd (omega arith)
-dict-keys DictL c k h = h
-dict-keys (GlobalL m n) c k h = absurd (omega arith)
-dict-keys (ObjectL m n b) c k h = absurd (omega arith)
+pub dict-ascends : (l : Label) (c : Forest) → kind l ≡ 10 → T (proper l c) → T (ascending (keys c))
+dict-ascends NoneL c k h = absurd (omega arith)
+dict-ascends (BoolL b) c k h = absurd (omega arith)
+dict-ascends (I64L n) c k h = absurd (omega arith)
+dict-ascends (F64L n) c k h = absurd (omega arith)
+dict-ascends (BytesL t) c k h = absurd (omega arith)
+dict-ascends (StringL t) c k h = absurd (omega arith)
+dict-ascends ListL c k h = absurd (omega arith)
+dict-ascends TupleL c k h = absurd (omega arith)
+dict-ascends SetL c k h = absurd (omega arith)
+dict-ascends FrozenSetL c k h = absurd (omega arith)
+dict-ascends DictL c k h = h
+dict-ascends (GlobalL m n) c k h = absurd (omega arith)
+dict-ascends (ObjectL m n b) c k h = absurd (omega arith)
 
 set-items : (l : Label) (c : Forest) → kind l ≡ 8 → T (proper l c) → T (ascending c)
 set-items NoneL c k h = absurd (omega arith)
@@ -138,21 +138,21 @@ module _ (v : Value) where
   unfolding isSheet
   off-flipped e = off v (rw e (simp and-false))
 
-  pub off-range : between 1 100 (highest v .label) ≡ false → Off ≡ tallyOf v
+  pub off-range : between 1 100 (highestAnswer v .label) ≡ false → Off ≡ tallyOf v
   unfolding isSheet
   off-range e = off v (rw e (simp and-false))
 
-  no-int : eqb (kind (highest v .label)) 2 ≡ false → between 1 100 (highest v .label) ≡ false
+  no-int : eqb (kind (highestAnswer v .label)) 2 ≡ false → between 1 100 (highestAnswer v .label) ≡ false
   unfolding between
   no-int e = rw e
 
-  pub off-highest : eqb (kind (highest v .label)) 2 ≡ false → Off ≡ tallyOf v
+  pub off-highest : eqb (kind (highestAnswer v .label)) 2 ≡ false → Off ≡ tallyOf v
   off-highest e = off-range (no-int e)
 
 -- ---- what was sought
 
 module _ {w t : List ℕ} {v : Value} {k r : ℕ} (s : Sought w t v k r) (some : 0 < r) where
-  sought-parts : Parts w t r (v .label) (v .contents) nil
+  sought-parts : FirstAndRest w t r (v .label) (v .contents) nil
   sought-parts = parts (s .there some)
 
   pub sought-inside : 4 * r + 4 ≤ length w
@@ -170,7 +170,7 @@ module _ {w t : List ℕ} {v : Value} {k r : ℕ} (s : Sought w t v k r) (some :
 -- ---- the whole
 
 module _ {w : List ℕ} {n : ℕ} {t : List ℕ} (a : WellFormed w n t) where
-  root : Parts w t 0 (a .value .label) (a .value .contents) nil
+  root : FirstAndRest w t 0 (a .value .label) (a .value .contents) nil
   root = parts (formed-lies a)
 
   pub root-inside : 4 ≤ length w
@@ -224,8 +224,8 @@ module _ {w : List ℕ} {n : ℕ} {t : List ℕ} (a : WellFormed w n t) where
           let n₂ = a .few in
           omega arith
 
-      pub assessed : {f m : ℕ} → Sought w t (flipped (a .value)) 1 f → 0 < f → Sought w t (highest (a .value)) 2 m → 0 < m → betweenAt w m 1 100 ≡ true
-          → (r : Tally) → ((s : List ℕ) (g h : Forest) → Lies w s (i + 1) g → count g ≡ wordAt w i 1 + wordAt w i 1 → Lies w s (j + 1) h → count h ≡ wordAt w j 1 → r ≡ walk (wordAt w m 1) (eqb (wordAt w f 1) 1) (wordAt w i 1) 0 g h)
+      pub assessed : {f m : ℕ} → Sought w t (flipped (a .value)) 1 f → 0 < f → Sought w t (highestAnswer (a .value)) 2 m → 0 < m → betweenAt w m 1 100 ≡ true
+          → (r : Tally) → ((s : List ℕ) (g h : Forest) → Lies w s (i + 1) g → count g ≡ wordAt w i 1 + wordAt w i 1 → Lies w s (j + 1) h → count h ≡ wordAt w j 1 → r ≡ tallyWalk (wordAt w m 1) (eqb (wordAt w f 1) 1) (wordAt w i 1) 0 g h)
           → r ≡ tallyOf (a .value)
       unfolding tallyOf isSheet scoreOf itemsOf marked
       assessed {f} {m} z z₀ o o₀ range r ens =
@@ -236,14 +236,14 @@ module _ {w : List ℕ} {n : ℕ} {t : List ℕ} (a : WellFormed w n t) where
           let k₁ : eqb (kind (answers v .label)) 10 ≡ true = eq-eqb (kind (answers v .label)) 10 (x .right x₀) in
           let k₂ : eqb (kind (reverse v .label)) 8 ≡ true = eq-eqb (kind (reverse v .label)) 8 (y .right y₀) in
           let k₃ : eqb (kind (flipped v .label)) 1 ≡ true = eq-eqb (kind (flipped v .label)) 1 (z .right z₀) in
-          let k₄ : between 1 100 (highest v .label) ≡ true = sym (between-says 1 100 (sought-says o o₀)) ∙ range in
-          let e₁ : wordAt w m 1 ≡ bits (highest v .label) = bits-says (sought-says o o₀) (o .right o₀) in
+          let k₄ : between 1 100 (highestAnswer v .label) ≡ true = sym (between-says 1 100 (sought-says o o₀)) ∙ range in
+          let e₁ : wordAt w m 1 ≡ bits (highestAnswer v .label) = bits-says (sought-says o o₀) (o .right o₀) in
           let e₂ : eqb (wordAt w f 1) 1 ≡ eqb (bits (flipped v .label)) 1 = mark-says (sought-says z z₀) (z .right z₀) in
           let e₃ : half (count g) ≡ wordAt w i 1 = ap half answers-count ∙ half-twice (wordAt w i 1) in
           let inner = inner-order v (a .settle) in
-          let up = dict-keys (answers v .label) g (x .right x₀) (own-order (answers v) (under-settled answersKey (v .contents) inner)) in
+          let up = dict-ascends (answers v .label) g (x .right x₀) (own-order (answers v) (under-settled answersKey (v .contents) inner)) in
           let up₂ = set-items (reverse v .label) h (y .right y₀) (own-order (reverse v) (under-settled reverseKey (v .contents) inner)) in
-          let start : r ≡ walk (bits (highest v .label)) (eqb (bits (flipped v .label)) 1) (wordAt w i 1) 0 g h = rw (e₁, e₂) at (ens t g h (sought-lie x x₀) answers-count (sought-lie y y₀) reverse-count) in
-          let law = walk-is (bits (highest v .label)) (eqb (bits (flipped v .label)) 1) (wordAt w i 1) 0 g h (sought-shape x x₀) (sought-shape y y₀) up up₂ in
-          let zero : 0 + sum (bits (highest v .label)) (eqb (bits (flipped v .label)) 1) h g ≡ sum (bits (highest v .label)) (eqb (bits (flipped v .label)) 1) h g = omega arith in
+          let start : r ≡ tallyWalk (bits (highestAnswer v .label)) (eqb (bits (flipped v .label)) 1) (wordAt w i 1) 0 g h = rw (e₁, e₂) at (ens t g h (sought-lie x x₀) answers-count (sought-lie y y₀) reverse-count) in
+          let law = walk-is (bits (highestAnswer v .label)) (eqb (bits (flipped v .label)) 1) (wordAt w i 1) 0 g h (sought-shape x x₀) (sought-shape y y₀) up up₂ in
+          let zero : 0 + answersSum (bits (highestAnswer v .label)) (eqb (bits (flipped v .label)) 1) h g ≡ answersSum (bits (highestAnswer v .label)) (eqb (bits (flipped v .label)) 1) h g = omega arith in
           rw (k₀, k₁, k₂, k₃, k₄, e₃) (start ∙ law ∙ rw zero)

@@ -32,9 +32,9 @@ unfoldable pub sameInt : Label → Label → Bool
 sameInt l m = eqb (kind l) 2 && (eqb (kind m) 2 && eqb (bits l) (bits m))
 
 -- the I64 is one of the values
-unfoldable pub holds : Label → Forest → Bool
-holds l nil = false
-holds l (node m c r) = sameInt l m || holds l r
+unfoldable pub holdsInt : Label → Forest → Bool
+holdsInt l nil = false
+holdsInt l (node m c r) = sameInt l m || holdsInt l r
 
 -- ---- the four keys
 
@@ -67,8 +67,8 @@ answers v = under answersKey (v .contents)
 abbrev pub reverse : Value → Value
 reverse v = under reverseKey (v .contents)
 
-abbrev pub highest : Value → Value
-highest v = under maxKey (v .contents)
+abbrev pub highestAnswer : Value → Value
+highestAnswer v = under maxKey (v .contents)
 
 abbrev pub flipped : Value → Value
 flipped v = under flippedKey (v .contents)
@@ -82,9 +82,9 @@ inRange m (node l c nil) = false
 inRange m (node l c (node a d r)) = between 1 200 l && (between 0 m a && inRange m r)
 
 -- each of the reversed items is one of the item numbers
-unfoldable pub answered : Forest → Forest → Bool
-answered items nil = true
-answered items (node l c r) = holds l items && answered items r
+unfoldable pub allAnswered : Forest → Forest → Bool
+allAnswered items nil = true
+allAnswered items (node l c r) = holdsInt l items && allAnswered items r
 
 unfoldable pub isSheet : Value → Bool
 isSheet v =
@@ -92,8 +92,8 @@ isSheet v =
     (eqb (kind (answers v .label)) 10 &&
     (eqb (kind (reverse v .label)) 8 &&
     (eqb (kind (flipped v .label)) 1 &&
-    (between 1 100 (highest v .label) &&
-    (inRange (bits (highest v .label)) (answers v .contents) && answered (keys (answers v .contents)) (reverse v .contents))))))
+    (between 1 100 (highestAnswer v .label) &&
+    (inRange (bits (highestAnswer v .label)) (answers v .contents) && allAnswered (keys (answers v .contents)) (reverse v .contents))))))
 
 abbrev pub Sheet : Value → Type 0
 Sheet v = T (isSheet v)
@@ -106,16 +106,16 @@ counted m true reversed a = a
 counted m false true a = m - a
 counted m false false a = a
 
-unfoldable pub sum : ℕ → Bool → Forest → Forest → ℕ
-sum m mark reversed nil = 0
-sum m mark reversed (node l c nil) = 0
-sum m mark reversed (node l c (node a d r)) = counted m mark (holds l reversed) (bits a) + sum m mark reversed r
+unfoldable pub answersSum : ℕ → Bool → Forest → Forest → ℕ
+answersSum m mark reversed nil = 0
+answersSum m mark reversed (node l c nil) = 0
+answersSum m mark reversed (node l c (node a d r)) = counted m mark (holdsInt l reversed) (bits a) + answersSum m mark reversed r
 
 unfoldable pub marked : Value → Bool
 marked v = eqb (bits (flipped v .label)) 1
 
 unfoldable pub scoreOf : Value → ℕ
-scoreOf v = sum (bits (highest v .label)) (marked v) (reverse v .contents) (answers v .contents)
+scoreOf v = answersSum (bits (highestAnswer v .label)) (marked v) (reverse v .contents) (answers v .contents)
 
 unfoldable pub itemsOf : Value → ℕ
 itemsOf v = half (count (answers v .contents))

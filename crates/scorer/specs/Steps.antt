@@ -19,8 +19,8 @@ use Rattle.value.specs.Order.{lex}
 use Rattle.value.specs.WellFormed.{WellFormed}
 use Rattle.table.specs.Sound.{sizeAt}
 use Rattle.scorer.specs.Sheet.{bits, between, sameInt, isKey, under, counted}
-use Rattle.scorer.specs.Walk.{same-parts, first, past, walk, int-leaf}
-use Rattle.scorer.specs.Place.{Lies, Parts, parts}
+use Rattle.scorer.specs.Walk.{same-parts, isFirst, pastIf, tallyWalk, int-leaf}
+use Rattle.scorer.specs.Place.{Lies, FirstAndRest, parts}
 use Rattle.scorer.specs.declared.Tally.{Tally}
 use Rattle.scorer.specs.declared.Tally.the-variants.{Off, Sum}
 
@@ -106,7 +106,7 @@ pub record Seeking (w t : List ℕ) (k : List ℕ) (i left : ℕ) (v : Value) : 
   pub same : v ≡ under k rest
 
 -- the next of them
-pub record Entry (w t : List ℕ) (k : List ℕ) (i left : ℕ) (v : Value) : Type 0 where
+pub record KeyStep (w t : List ℕ) (k : List ℕ) (i left : ℕ) (v : Value) : Type 0 where
   pub key : Label
   pub found : Value
   pub reads : Reads w t i
@@ -121,13 +121,13 @@ pub record Entry (w t : List ℕ) (k : List ℕ) (i left : ℕ) (v : Value) : Ty
   pub no : isKey k key ≡ false → Seeking w t k (i + sizeAt w i + sizeAt w (i + sizeAt w i)) (left - 1) v
 
 module _ {w t : List ℕ} {k : List ℕ} {i left : ℕ} {v : Value} where
-  entry-of : (l m : Label) (c d r : Forest) → Lies w t i (node l c (node m d r)) → count r ≡ left - 1 + (left - 1) → v ≡ under k (node l c (node m d r)) → Entry w t k i left v
+  entry-of : (l m : Label) (c d r : Forest) → Lies w t i (node l c (node m d r)) → count r ≡ left - 1 + (left - 1) → v ≡ under k (node l c (node m d r)) → KeyStep w t k i left v
   unfolding under
   entry-of l m c d r h n e =
       let p = parts h in
       let z = p .sized in
       let here : i + 1 + size c ≡ i + sizeAt w i = omega arith in
-      let p₂ : Parts w t (i + sizeAt w i) m d r = parts (subst (λ (x : ℕ). Lies w t x (node m d r)) here (p .rest)) in
+      let p₂ : FirstAndRest w t (i + sizeAt w i) m d r = parts (subst (λ (x : ℕ). Lies w t x (node m d r)) here (p .rest)) in
       let z₂ = p₂ .sized in
       let behind : i + sizeAt w i + 1 + size d ≡ i + sizeAt w i + sizeAt w (i + sizeAt w i) = omega arith in
       let in₂ = p₂ .says .reads .inside in
@@ -147,11 +147,11 @@ module _ {w t : List ℕ} {k : List ℕ} {i left : ℕ} {v : Value} where
         no = λ q. record { rest = r; lies = subst (λ (x : ℕ). Lies w t x r) behind (p₂ .rest); counted = n; same = e ∙ rw q };
       }
 
-  pub entry : Seeking w t k i left v → 0 < left → Entry w t k i left v
+  pub entry : Seeking w t k i left v → 0 < left → KeyStep w t k i left v
   unfolding count
   entry s h = go (s .rest) (s .lies) (s .counted) (s .same)
     where
-      go : (f : Forest) → Lies w t i f → count f ≡ left + left → v ≡ under k f → Entry w t k i left v
+      go : (f : Forest) → Lies w t i f → count f ≡ left + left → v ≡ under k f → KeyStep w t k i left v
       go nil a b e = absurd (omega arith)
       go (node l c nil) a b e = absurd (omega arith)
       go (node l c (node m d r)) a b e = entry-of l m c d r a (omega arith) e
@@ -168,14 +168,14 @@ module _ {w t : List ℕ} {k : List ℕ} {i left : ℕ} {v : Value} where
 -- ---- from answer to answer
 
 -- so many answers are left from record i on, and so many reversed items from record j on; with the score so far they decide
-pub record Going (w t : List ℕ) (m : ℕ) (mark : Bool) (n i left j rest s : ℕ) (all : Tally) : Type 0 where
+pub record TallySoFar (w t : List ℕ) (m : ℕ) (mark : Bool) (n i left j rest s : ℕ) (all : Tally) : Type 0 where
   pub answers : Forest
   pub reversed : Forest
   pub answers-lie : Lies w t i answers
   pub reversed-lie : Lies w t j reversed
   pub answers-count : count answers ≡ left + left
   pub reversed-count : count reversed ≡ rest
-  pub same : all ≡ walk m mark n s answers reversed
+  pub same : all ≡ tallyWalk m mark n s answers reversed
 
 -- where they may lie at first
 pub record Both (w : List ℕ) (i left j rest : ℕ) : Type 0 where
@@ -187,19 +187,19 @@ pub record Both (w : List ℕ) (i left j rest : ℕ) : Type 0 where
 -- whatever answers and reversed items lie there: what the walk through them comes to
 abbrev pub AddsUp : List ℕ → ℕ → ℕ → ℕ → ℕ → ℕ → Bool → Tally → Type 0
 AddsUp w i left j rest m mark r =
-    (t : List ℕ) (f g : Forest) → Lies w t i f → count f ≡ left + left → Lies w t j g → count g ≡ rest → r ≡ walk m mark left 0 f g
+    (t : List ℕ) (f g : Forest) → Lies w t i f → count f ≡ left + left → Lies w t j g → count g ≡ rest → r ≡ tallyWalk m mark left 0 f g
 
 -- the next answer
-pub record Answer (w t : List ℕ) (m : ℕ) (mark : Bool) (n i left j rest s : ℕ) (all : Tally) : Type 0 where
+pub record AnswerStep (w t : List ℕ) (m : ℕ) (mark : Bool) (n i left j rest s : ℕ) (all : Tally) : Type 0 where
   pub inside : 4 * i + 8 ≤ length w
   pub reversed-inside : 0 < rest → 4 * j + 4 ≤ length w
   pub bad-item : betweenAt w i 1 200 ≡ false → all ≡ Off
   pub bad-answer : betweenAt w i 1 200 ≡ true → betweenAt w (i + 1) 0 m ≡ false → all ≡ Off
-  pub on : betweenAt w i 1 200 ≡ true → betweenAt w (i + 1) 0 m ≡ true → (b : Bool) → b ≡ hitAt w j rest (wordAt w i 1) → Going w t m mark n (i + 2) (left - 1) (j + bit b) (rest - bit b) (s + counted m mark b (wordAt w (i + 1) 1)) all
+  pub on : betweenAt w i 1 200 ≡ true → betweenAt w (i + 1) 0 m ≡ true → (b : Bool) → b ≡ hitAt w j rest (wordAt w i 1) → TallySoFar w t m mark n (i + 2) (left - 1) (j + bit b) (rest - bit b) (s + counted m mark b (wordAt w (i + 1) 1)) all
 
 -- the next reversed item is the one at hand
-first-hit : {w t : List ℕ} {j rest : ℕ} (l : Label) (f : Forest) → kind l ≡ 2 → Lies w t j f → count f ≡ rest → hitAt w j rest (bits l) ≡ first l f
-unfolding hitAt first sameInt count
+first-hit : {w t : List ℕ} {j rest : ℕ} (l : Label) (f : Forest) → kind l ≡ 2 → Lies w t j f → count f ≡ rest → hitAt w j rest (bits l) ≡ isFirst l f
+unfolding hitAt isFirst sameInt count
 first-hit l nil k h e = rw (← e)
 first-hit {w} {t} {j} {rest} l (node r c f) k h e =
     let q = parts h .says in
@@ -210,8 +210,8 @@ first-hit {w} {t} {j} {rest} l (node r c f) k h e =
     go true u = rw (bits-says (parts h .says) (eqb-true (kind r) 2 u))
     go false u = refl
 
-past-lies : {w t : List ℕ} {j rest : ℕ} (b : Bool) (l : Label) (f : Forest) → Lies w t j f → count f ≡ rest → b ≡ first l f → (Lies w t (j + bit b) (past b f)) × (count (past b f) ≡ rest - bit b)
-unfolding past first count size
+past-lies : {w t : List ℕ} {j rest : ℕ} (b : Bool) (l : Label) (f : Forest) → Lies w t j f → count f ≡ rest → b ≡ isFirst l f → (Lies w t (j + bit b) (pastIf b f)) × (count (pastIf b f) ≡ rest - bit b)
+unfolding pastIf isFirst count size
 past-lies {w} {t} {j} false l f h e q = (let z : j ≡ j + 0 = omega arith in subst (λ (x : ℕ). Lies w t x f) z h, omega arith)
 past-lies true l nil h e q = let z : _≡_ {A = ℕ} 0 1 = cc in absurd (omega arith)
 past-lies {w} {t} {j} true l (node r c f) h e q =
@@ -231,8 +231,8 @@ lies-inside nil y o = absurd (omega arith)
 lies-inside (node r c f) y o = parts y .says .reads .inside
 
 module _ {w t : List ℕ} {m : ℕ} {mark : Bool} {n i left j rest s : ℕ} {all : Tally} where
-  answer-of : (l a : Label) (c d g f : Forest) → Lies w t i (node l c (node a d g)) → Lies w t j f → count g ≡ left - 1 + (left - 1) → count f ≡ rest → all ≡ walk m mark n s (node l c (node a d g)) f → Answer w t m mark n i left j rest s all
-  unfolding walk size
+  answer-of : (l a : Label) (c d g f : Forest) → Lies w t i (node l c (node a d g)) → Lies w t j f → count g ≡ left - 1 + (left - 1) → count f ≡ rest → all ≡ tallyWalk m mark n s (node l c (node a d g)) f → AnswerStep w t m mark n i left j rest s all
+  unfolding tallyWalk size
   answer-of l a c d g f h y x z e =
       let p = parts h in
       let p₂ = parts (p .rest) in
@@ -252,13 +252,13 @@ module _ {w t : List ℕ} {m : ℕ} {mark : Bool} {n i left j rest s : ℕ} {all
             let fine : between 0 m a ≡ true = sym (between-says 0 m (said k)) ∙ v in
             let k₂ = between-kind 0 m a fine in
             let number : wordAt w (i + 1) 1 ≡ bits a = bits-says (said k) k₂ in
-            let hits : b ≡ first l f = u ∙ ap (hitAt w j rest) (bits-says (p .says) k) ∙ first-hit l f k y z in
+            let hits : b ≡ isFirst l f = u ∙ ap (hitAt w j rest) (bits-says (p .says) k) ∙ first-hit l f k y z in
             let behind : i + 1 + size c + 1 + size d ≡ i + 2 = let none = int-leaf a d k₂ (p₂ .fits) in let o = leaf k in rw none (omega arith) in
-            let step : all ≡ walk m mark n (s + counted m mark (first l f) (bits a)) g (past (first l f) f) = e ∙ rw (sym item ∙ q, fine) in
+            let step : all ≡ tallyWalk m mark n (s + counted m mark (isFirst l f) (bits a)) g (pastIf (isFirst l f) f) = e ∙ rw (sym item ∙ q, fine) in
             let after = past-lies b l f y z hits in
             record {
               answers = g;
-              reversed = past b f;
+              reversed = pastIf b f;
               answers-lie = subst (λ (o : ℕ). Lies w t o g) behind (p₂ .rest);
               reversed-lie = after .0;
               answers-count = x;
@@ -267,22 +267,22 @@ module _ {w t : List ℕ} {m : ℕ} {mark : Bool} {n i left j rest s : ℕ} {all
             };
       }
 
-  pub answer : Going w t m mark n i left j rest s all → 0 < left → Answer w t m mark n i left j rest s all
+  pub answer : TallySoFar w t m mark n i left j rest s all → 0 < left → AnswerStep w t m mark n i left j rest s all
   unfolding count
   answer q h = go (q .answers) (q .answers-lie) (q .answers-count) (q .same)
     where
-      go : (f : Forest) → Lies w t i f → count f ≡ left + left → all ≡ walk m mark n s f (q .reversed) → Answer w t m mark n i left j rest s all
+      go : (f : Forest) → Lies w t i f → count f ≡ left + left → all ≡ tallyWalk m mark n s f (q .reversed) → AnswerStep w t m mark n i left j rest s all
       go nil a b e = absurd (omega arith)
       go (node l c nil) a b e = absurd (omega arith)
       go (node l c (node v d r)) a b e = answer-of l v c d r (q .reversed) a (q .reversed-lie) (omega arith) (q .reversed-count) e
 
   -- no answer is left
-  module _ (q : Going w t m mark n i left j rest s all) (h : left ≡ 0) where
+  module _ (q : TallySoFar w t m mark n i left j rest s all) (h : left ≡ 0) where
     ended : (rest ≡ 0 → all ≡ Sum s n) × (0 < rest → all ≡ Off)
-    unfolding count walk
+    unfolding count tallyWalk
     ended = go (q .answers) (q .reversed) (q .answers-count) (q .reversed-count) (q .same)
       where
-        go : (f g : Forest) → count f ≡ left + left → count g ≡ rest → all ≡ walk m mark n s f g → (rest ≡ 0 → all ≡ Sum s n) × (0 < rest → all ≡ Off)
+        go : (f g : Forest) → count f ≡ left + left → count g ≡ rest → all ≡ tallyWalk m mark n s f g → (rest ≡ 0 → all ≡ Sum s n) × (0 < rest → all ≡ Off)
         go nil nil a b e = (λ o. e, λ o. absurd (omega arith))
         go nil (node l c r) a b e = (λ o. absurd (omega arith), λ o. e)
         go (node l c r) g a b e = absurd (omega arith)
@@ -324,7 +324,7 @@ module _ (w : List ℕ) (i : ℕ) (h : Head) (q : h ≡ headOf (getD w (4 * i) 0
   kind-read = rw (add-zero, q)
 
   -- the value under the key is at record i: of kind d, or not
-  module _ {t : List ℕ} {k : List ℕ} {from left : ℕ} {v : Value} (e : Entry w t k from left v) (at : i ≡ from + sizeAt w from) (y : isKey k (labelAt w t from) ≡ true) (d : ℕ) where
+  module _ {t : List ℕ} {k : List ℕ} {from left : ℕ} {v : Value} (e : KeyStep w t k from left v) (at : i ≡ from + sizeAt w from) (y : isKey k (labelAt w t from) ≡ true) (d : ℕ) where
     found-kind : kind (v .label) ≡ h .kind
     found-kind =
         let f : v ≡ e .found = e .yes (ap (isKey k) (sym (e .label)) ∙ y) in

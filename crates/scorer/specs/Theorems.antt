@@ -21,11 +21,11 @@ use Rattle.value.specs.Told.{compare-more}
 use Rattle.value.specs.Walk.{compare-same, eq-then, then-end}
 use Rattle.value.specs.WellFormed.{WellFormed, less, ascending, ascending-rest, keys}
 use Rattle.table.specs.Compare.{decided}
-use Rattle.scorer.specs.Sheet.{bits, between, holds, answersKey, answers, highest, inRange, isSheet, Sheet, sum, marked, scoreOf, itemsOf, reverse}
-use Rattle.scorer.specs.Call.{sheetShape, unscored, told, tallyOf, Scores}
+use Rattle.scorer.specs.Sheet.{bits, between, holdsInt, answersKey, answers, highestAnswer, inRange, isSheet, Sheet, answersSum, marked, scoreOf, itemsOf, reverse}
+use Rattle.scorer.specs.Call.{sheetShape, unscored, scoredOf, tallyOf, Scores}
 use Rattle.scorer.specs.Walk.{less-lt, int-label, int-leaf}
 use Rattle.scorer.specs.Steps.{counted-most}
-use Rattle.scorer.specs.Root.{dict-keys, own-order, inner-order, inner-shape, under-settled, under-shaped}
+use Rattle.scorer.specs.Root.{dict-ascends, own-order, inner-order, inner-shape, under-settled, under-shaped}
 use Rattle.scorer.specs.Flip.{sheet-holds, is-true, flip, flip-sheet, flip-marked, flip-items, flip-score, flip-formed, flip-value}
 use Rattle.scorer.specs.declared.Scored.{Scored}
 use Rattle.scorer.specs.declared.Tally.the-variants.{Off, Sum}
@@ -50,13 +50,13 @@ tally-none v h = go (isSheet v) h
 module _ {w : List ℕ} {n : ℕ} {t : List ℕ} {r : Scored} (c : Scores w n t r) (f : WellFormed w n t) where
   -- a sheet gets its score
   pub sheet-scored : Sheet (f .value) → r ≡ scored (scoreOf (f .value)) (itemsOf (f .value))
-  unfolding told
-  sheet-scored h = c .good f ∙ ap told (tally-sheet (f .value) h)
+  unfolding scoredOf
+  sheet-scored h = c .good f ∙ ap scoredOf (tally-sheet (f .value) h)
 
   -- anything else 24
   pub no-sheet : (Sheet (f .value) → ⊥) → r ≡ unscored sheetShape
-  unfolding told
-  no-sheet h = c .good f ∙ ap told (tally-none (f .value) h)
+  unfolding scoredOf
+  no-sheet h = c .good f ∙ ap scoredOf (tally-none (f .value) h)
 
 -- ---- flipping
 
@@ -83,8 +83,8 @@ flipped-by-hand f c h e =
 
 -- ---- a marked sheet
 
-sum-marked : (m n : ℕ) (g h f : Forest) → sum m true g f ≡ sum n true h f
-unfolding sum
+sum-marked : (m n : ℕ) (g h f : Forest) → answersSum m true g f ≡ answersSum n true h f
+unfolding answersSum
 sum-marked m n g h nil = refl
 sum-marked m n g h (node l c nil) = refl
 sum-marked m n g h (node l c (node a d r)) = ap (λ (x : ℕ). bits a + x) (sum-marked m n g h r)
@@ -95,7 +95,7 @@ unfolding scoreOf itemsOf
 marked-reverse f g c d h k x y e =
     let v = f .value in
     let z = g .value in
-    let s : scoreOf v ≡ scoreOf z = rw (x, y, e) (sum-marked (bits (highest v .label)) (bits (highest z .label)) (reverse v .contents) (reverse z .contents) (answers z .contents)) in
+    let s : scoreOf v ≡ scoreOf z = rw (x, y, e) (sum-marked (bits (highestAnswer v .label)) (bits (highestAnswer z .label)) (reverse v .contents) (reverse z .contents) (answers z .contents)) in
     let n : itemsOf v ≡ itemsOf z = rw e in
     sheet-scored c f h ∙ ap₂ scored s n ∙ sym (sheet-scored d g k)
 
@@ -168,15 +168,15 @@ first-one m (node l c (node a d r)) e =
     let p = both {a = eqb (kind l) 2 && (leb 1 (bits l) && leb (bits l) 200)} e .0 in
     leb-true 1 (bits l) (both {a = leb 1 (bits l)} (both {a = eqb (kind l) 2} p .1) .0)
 
-small-sum : (m : ℕ) (mark : Bool) (g f : Forest) → m ≤ 100 → inRange m f ≡ true → sum m mark g f ≤ 100 * half (count f)
-unfolding sum inRange count
+small-sum : (m : ℕ) (mark : Bool) (g f : Forest) → m ≤ 100 → inRange m f ≡ true → answersSum m mark g f ≤ 100 * half (count f)
+unfolding answersSum inRange count
 small-sum m mark g nil h e = omega arith
 small-sum m mark g (node l c nil) h e = omega arith
 small-sum m mark g (node l c (node a d r)) h e =
     let p = both {a = between 1 200 l} e in
     let q = both {a = between 0 m a} (p .1) in
     let i = in-range 0 m a (q .0) in
-    let most = counted-most m mark (holds l g) (bits a) (i .1) in
+    let most = counted-most m mark (holdsInt l g) (bits a) (i .1) in
     let rest = small-sum m mark g r h (q .1) in
     omega arith
 
@@ -185,10 +185,10 @@ unfolding scoreOf itemsOf
 sheet-small f h =
     let v = f .value in
     let s = sheet-holds v h in
-    let up = dict-keys (answers v .label) (answers v .contents) (s .answers-dict) (own-order (answers v) (under-settled answersKey (v .contents) (inner-order v (f .settle)))) in
-    let n : half (count (answers v .contents)) + first-item (answers v .contents) ≤ 201 = few-items (bits (highest v .label)) (answers v .contents) (under-shaped answersKey (v .contents) (inner-shape v (f .shape))) up (s .range) in
-    let one-more = first-one (bits (highest v .label)) (answers v .contents) (s .range) in
-    let total = small-sum (bits (highest v .label)) (marked v) (reverse v .contents) (answers v .contents) (in-range 1 100 (highest v .label) (s .max-range) .1) (s .range) in
+    let up = dict-ascends (answers v .label) (answers v .contents) (s .answers-dict) (own-order (answers v) (under-settled answersKey (v .contents) (inner-order v (f .settle)))) in
+    let n : half (count (answers v .contents)) + first-item (answers v .contents) ≤ 201 = few-items (bits (highestAnswer v .label)) (answers v .contents) (under-shaped answersKey (v .contents) (inner-shape v (f .shape))) up (s .range) in
+    let one-more = first-one (bits (highestAnswer v .label)) (answers v .contents) (s .range) in
+    let total = small-sum (bits (highestAnswer v .label)) (marked v) (reverse v .contents) (answers v .contents) (in-range 1 100 (highestAnswer v .label) (s .max-range) .1) (s .range) in
     (omega arith, omega arith)
 
 -- at most 20,000, of at most 200 items: also of a refusal, and so no sum wraps
@@ -226,4 +226,4 @@ pub words-behind : {w u : List ℕ} {n m : ℕ} {t s : List ℕ} {r q : Scored} 
 unfolding count
 words-behind f g e k c d =
     let v = table-one (one (f .value)) (one (g .value)) (f .shape) (g .shape) refl (sym (f .records) ∙ e ∙ g .records) (sym (f .texts) ∙ k ∙ g .texts) in
-    c .good f ∙ ap (λ (x : Value). told (tallyOf x)) (one-value (f .value) (g .value) v) ∙ sym (d .good g)
+    c .good f ∙ ap (λ (x : Value). scoredOf (tallyOf x)) (one-value (f .value) (g .value) v) ∙ sym (d .good g)

@@ -11,7 +11,7 @@ use Rattle.value.specs.Shape.{fitting, shaped, and-l, and-r}
 use Rattle.value.specs.Order.{order}
 use Rattle.value.specs.Total.{order-same, order-less}
 use Rattle.value.specs.WellFormed.{less, ascending, ascending-rest, keys}
-use Rattle.scorer.specs.Sheet.{bits, between, sameInt, holds, inRange, answered, counted, sum}
+use Rattle.scorer.specs.Sheet.{bits, between, sameInt, holdsInt, inRange, allAnswered, counted, answersSum}
 use Rattle.scorer.specs.declared.Tally.{Tally}
 use Rattle.scorer.specs.declared.Tally.the-variants.{Off, Sum}
 
@@ -120,37 +120,37 @@ ascending-before l c (node m d r) h =
     let e : o ≡ Ordering·lt = less-lt o (and-l (less o) (ascending (node m d r)) h) in
     (e, before-through (value l c) (value m d) r e (ascending-before m d r (and-r (less o) (ascending (node m d r)) h)))
 
-holds-before : (v : Value) (l : Label) (c f : Forest) → T (fitting l (count c)) → T (shaped f) → Before v f → holds l f ≡ true → order v (value l c) ≡ Ordering·lt
-unfolding holds Before shaped
+holds-before : (v : Value) (l : Label) (c f : Forest) → T (fitting l (count c)) → T (shaped f) → Before v f → holdsInt l f ≡ true → order v (value l c) ≡ Ordering·lt
+unfolding holdsInt Before shaped
 holds-before v l c nil x y h e = true-false (sym e)
 holds-before v l c (node m d r) x y h e =
     let fits : T (fitting m (count d)) = and-l (fitting m (count d)) (shaped d && shaped r) y in
     let rest : T (shaped r) = and-r (shaped d) (shaped r) (and-r (fitting m (count d)) (shaped d && shaped r) y) in
     go fits (sameInt l m) refl (λ q. holds-before v l c r x rest (h .1) q)
   where
-    go : T (fitting m (count d)) → (b : Bool) → sameInt l m ≡ b → (holds l r ≡ true → order v (value l c) ≡ Ordering·lt) → order v (value l c) ≡ Ordering·lt
+    go : T (fitting m (count d)) → (b : Bool) → sameInt l m ≡ b → (holdsInt l r ≡ true → order v (value l c) ≡ Ordering·lt) → order v (value l c) ≡ Ordering·lt
     go fits true q k = ap (order v) (same-value l m c d q x fits) ∙ h .0
     go fits false q k = k (rw q at e)
 
-holds-none : (l : Label) (c f : Forest) → T (fitting l (count c)) → T (shaped f) → Before (value l c) f → holds l f ≡ false
-holds-none l c f x y h = go (holds l f) refl
+holds-none : (l : Label) (c f : Forest) → T (fitting l (count c)) → T (shaped f) → Before (value l c) f → holdsInt l f ≡ false
+holds-none l c f x y h = go (holdsInt l f) refl
   where
-    go : (b : Bool) → holds l f ≡ b → holds l f ≡ false
+    go : (b : Bool) → holdsInt l f ≡ b → holdsInt l f ≡ false
     go true e = let p = holds-before (value l c) l c f x y h e in let q = order-same (value l c) in let z : _≡_ {A = ℕ} 0 1 = cc in absurd (omega arith)
     go false e = e
 
 -- ---- one item more or less that is not among them
 
-answered-skip : (l : Label) (c items f : Forest) → holds l f ≡ false → answered (node l c items) f ≡ answered items f
-unfolding answered holds
+answered-skip : (l : Label) (c items f : Forest) → holdsInt l f ≡ false → allAnswered (node l c items) f ≡ allAnswered items f
+unfolding allAnswered holdsInt
 answered-skip l c items nil h = refl
 answered-skip l c items (node x d r) h =
     let p = neither {a = sameInt l x} h in
     let e : sameInt x l ≡ false = same-sym x l ∙ p .0 in
     rw (e, answered-skip l c items r (p .1))
 
-sum-skip : (m : ℕ) (mark : Bool) (l r : Label) (c f g : Forest) → sameInt l r ≡ true → holds l (keys g) ≡ false → sum m mark (node r c f) g ≡ sum m mark f g
-unfolding sum holds keys
+sum-skip : (m : ℕ) (mark : Bool) (l r : Label) (c f g : Forest) → sameInt l r ≡ true → holdsInt l (keys g) ≡ false → answersSum m mark (node r c f) g ≡ answersSum m mark f g
+unfolding answersSum holdsInt keys
 sum-skip m mark l r c f nil e h = refl
 sum-skip m mark l r c f (node x d nil) e h = refl
 sum-skip m mark l r c f (node x d (node a b g)) e h =
@@ -173,29 +173,29 @@ keys-shaped (node l c (node m d r)) h =
 -- ---- the walk
 
 -- the first of the reversed items that are left is this item
-unfoldable pub first : Label → Forest → Bool
-first l nil = false
-first l (node m c r) = sameInt l m
+unfoldable pub isFirst : Label → Forest → Bool
+isFirst l nil = false
+isFirst l (node m c r) = sameInt l m
 
-unfoldable pub past : Bool → Forest → Forest
-past false f = f
-past true nil = nil
-past true (node l c r) = r
+unfoldable pub pastIf : Bool → Forest → Forest
+pastIf false f = f
+pastIf true nil = nil
+pastIf true (node l c r) = r
 
 -- with the score s so far, of n items
-unfoldable pub walk : ℕ → Bool → ℕ → ℕ → Forest → Forest → Tally
-walk m mark n s nil nil = Sum s n
-walk m mark n s nil (node r e f) = Off
-walk m mark n s (node l c nil) f = Off
-walk m mark n s (node l c (node a d g)) f =
-    cond (between 1 200 l) (cond (between 0 m a) (walk m mark n (s + counted m mark (first l f) (bits a)) g (past (first l f) f)) Off) Off
+unfoldable pub tallyWalk : ℕ → Bool → ℕ → ℕ → Forest → Forest → Tally
+tallyWalk m mark n s nil nil = Sum s n
+tallyWalk m mark n s nil (node r e f) = Off
+tallyWalk m mark n s (node l c nil) f = Off
+tallyWalk m mark n s (node l c (node a d g)) f =
+    cond (between 1 200 l) (cond (between 0 m a) (tallyWalk m mark n (s + counted m mark (isFirst l f) (bits a)) g (pastIf (isFirst l f) f)) Off) Off
 
 verdict : ℕ → Bool → ℕ → Tally
 verdict n b s = cond b (Sum s n) Off
 
 module _ (m : ℕ) (mark : Bool) (n : ℕ) where
-  walk-end : (s : ℕ) (f : Forest) → walk m mark n s nil f ≡ verdict n (inRange m nil && answered (keys nil) f) (s + sum m mark f nil)
-  unfolding walk verdict inRange answered keys holds sum
+  walk-end : (s : ℕ) (f : Forest) → tallyWalk m mark n s nil f ≡ verdict n (inRange m nil && allAnswered (keys nil) f) (s + answersSum m mark f nil)
+  unfolding tallyWalk verdict inRange allAnswered keys holdsInt answersSum
   walk-end s nil = let e : s ≡ s + 0 = omega arith in ap (λ (x : ℕ). Sum x n) e
   walk-end s (node l c r) = refl
 
@@ -204,40 +204,40 @@ module _ (m : ℕ) (mark : Bool) (n : ℕ) where
     -- what is left of the reversed items after it decides as all of them do
     abbrev Decides : Forest → Type 0
     Decides f =
-        verdict n (inRange m g && answered (keys g) (past (first l f) f)) (s + counted m mark (first l f) (bits a) + sum m mark (past (first l f) f) g)
-        ≡ verdict n (inRange m g && answered (node l c (keys g)) f) (s + (counted m mark (holds l f) (bits a) + sum m mark f g))
+        verdict n (inRange m g && allAnswered (keys g) (pastIf (isFirst l f) f)) (s + counted m mark (isFirst l f) (bits a) + answersSum m mark (pastIf (isFirst l f) f) g)
+        ≡ verdict n (inRange m g && allAnswered (node l c (keys g)) f) (s + (counted m mark (holdsInt l f) (bits a) + answersSum m mark f g))
 
-    regroup : (b : Bool) (f : Forest) → s + counted m mark b (bits a) + sum m mark f g ≡ s + (counted m mark b (bits a) + sum m mark f g)
-    regroup b f = let u = counted m mark b (bits a) in let v = sum m mark f g in omega arith
+    regroup : (b : Bool) (f : Forest) → s + counted m mark b (bits a) + answersSum m mark f g ≡ s + (counted m mark b (bits a) + answersSum m mark f g)
+    regroup b f = let u = counted m mark b (bits a) in let v = answersSum m mark f g in omega arith
 
     -- the item is reversed
     hit : (r : Label) (e f : Forest) → T (shaped f) → Before (value r e) f → T (fitting r (count e)) → sameInt l r ≡ true → Decides (node r e f)
-    unfolding first past answered holds
+    unfolding isFirst pastIf allAnswered holdsInt
     hit r e f y h z q =
         let t : sameInt r l ≡ true = same-turned l r q in
         let v : value l c ≡ value r e = same-value l r c e q x z in
-        let none : holds l f ≡ false = holds-none l c f x y (rw v h) in
-        let absent : holds l (keys g) ≡ false = holds-none l c (keys g) x items before in
+        let none : holdsInt l f ≡ false = holds-none l c f x y (rw v h) in
+        let absent : holdsInt l (keys g) ≡ false = holds-none l c (keys g) x items before in
         rw (q, t, answered-skip l c (keys g) f none, sum-skip m mark l r e f g q absent, regroup true f)
 
     -- it is not
-    miss : (f : Forest) → first l f ≡ false → holds l f ≡ false → Decides f
-    unfolding past
+    miss : (f : Forest) → isFirst l f ≡ false → holdsInt l f ≡ false → Decides f
+    unfolding pastIf
     miss f q none = rw (q, none, answered-skip l c (keys g) f none, regroup false f)
 
     -- it is, but a reversed item before it has no answer
-    lost : (r : Label) (e f : Forest) → T (shaped f) → Before (value r e) f → T (fitting r (count e)) → sameInt l r ≡ false → holds l f ≡ true → Decides (node r e f)
-    unfolding first past answered holds verdict
+    lost : (r : Label) (e f : Forest) → T (shaped f) → Before (value r e) f → T (fitting r (count e)) → sameInt l r ≡ false → holdsInt l f ≡ true → Decides (node r e f)
+    unfolding isFirst pastIf allAnswered holdsInt verdict
     lost r e f y h z q there =
         let t : sameInt r l ≡ false = same-sym r l ∙ q in
         let o : order (value r e) (value l c) ≡ Ordering·lt = holds-before (value r e) l c f x y h there in
-        let k : holds r (keys g) ≡ false = holds-none r e (keys g) z items (before-through (value r e) (value l c) (keys g) o before) in
+        let k : holdsInt r (keys g) ≡ false = holds-none r e (keys g) z items (before-through (value r e) (value l c) (keys g) o before) in
         rw (q, t, k, and-false (inRange m g))
 
     decides : (f : Forest) → T (shaped f) → T (ascending f) → Decides f
-    unfolding first holds shaped
+    unfolding isFirst holdsInt shaped
     decides nil y h = miss nil refl refl
-    decides (node r e f) y h = go (sameInt l r) (holds l f) refl refl
+    decides (node r e f) y h = go (sameInt l r) (holdsInt l f) refl refl
       where
         z : T (fitting r (count e))
         z = and-l (fitting r (count e)) (shaped e && shaped f) y
@@ -245,37 +245,37 @@ module _ (m : ℕ) (mark : Bool) (n : ℕ) where
         u : T (shaped f)
         u = and-r (shaped e) (shaped f) (and-r (fitting r (count e)) (shaped e && shaped f) y)
 
-        go : (p q : Bool) → sameInt l r ≡ p → holds l f ≡ q → Decides (node r e f)
+        go : (p q : Bool) → sameInt l r ≡ p → holdsInt l f ≡ q → Decides (node r e f)
         go true q i j = hit r e f u (ascending-before r e f h) z i
         go false true i j = lost r e f u (ascending-before r e f h) z i j
         go false false i j = miss (node r e f) i (rw (i, j))
 
-  past-shaped : (b : Bool) (f : Forest) → T (shaped f) → T (shaped (past b f))
-  unfolding past shaped
+  past-shaped : (b : Bool) (f : Forest) → T (shaped f) → T (shaped (pastIf b f))
+  unfolding pastIf shaped
   past-shaped false f h = h
   past-shaped true nil h = tt
   past-shaped true (node r e f) h = and-r (shaped e) (shaped f) (and-r (fitting r (count e)) (shaped e && shaped f) h)
 
-  past-ascending : (b : Bool) (f : Forest) → T (ascending f) → T (ascending (past b f))
-  unfolding past ascending
+  past-ascending : (b : Bool) (f : Forest) → T (ascending f) → T (ascending (pastIf b f))
+  unfolding pastIf ascending
   past-ascending false f h = h
   past-ascending true nil h = tt
   past-ascending true (node r e f) h = ascending-rest r e f h
 
-  pub walk-is : (s : ℕ) (g f : Forest) → T (shaped g) → T (shaped f) → T (ascending (keys g)) → T (ascending f) → walk m mark n s g f ≡ cond (inRange m g && answered (keys g) f) (Sum (s + sum m mark f g) n) Off
-  unfolding walk inRange keys sum shaped verdict
+  pub walk-is : (s : ℕ) (g f : Forest) → T (shaped g) → T (shaped f) → T (ascending (keys g)) → T (ascending f) → tallyWalk m mark n s g f ≡ cond (inRange m g && allAnswered (keys g) f) (Sum (s + answersSum m mark f g) n) Off
+  unfolding tallyWalk inRange keys answersSum shaped verdict
   walk-is s nil f x y h k = walk-end s f
   walk-is s (node l c nil) f x y h k = refl
   walk-is s (node l c (node a d g)) f x y h k =
       let fits : T (fitting l (count c)) = and-l (fitting l (count c)) (shaped c && (fitting a (count d) && (shaped d && shaped g))) x in
       let after : T (fitting a (count d) && (shaped d && shaped g)) = and-r (shaped c) (fitting a (count d) && (shaped d && shaped g)) (and-r (fitting l (count c)) (shaped c && (fitting a (count d) && (shaped d && shaped g))) x) in
       let rest : T (shaped g) = and-r (shaped d) (shaped g) (and-r (fitting a (count d)) (shaped d && shaped g) after) in
-      let others = walk-is (s + counted m mark (first l f) (bits a)) g (past (first l f) f) rest (past-shaped (first l f) f y) (ascending-rest l c (keys g) h) (past-ascending (first l f) f k) in
+      let others = walk-is (s + counted m mark (isFirst l f) (bits a)) g (pastIf (isFirst l f) f) rest (past-shaped (isFirst l f) f y) (ascending-rest l c (keys g) h) (past-ascending (isFirst l f) f k) in
       go (between 1 200 l) (between 0 m a) refl refl (others ∙ decides s l a c d g fits (ascending-before l c (keys g) h) (keys-shaped g rest) f y k)
     where
       go : (p q : Bool) → between 1 200 l ≡ p → between 0 m a ≡ q
-          → walk m mark n (s + counted m mark (first l f) (bits a)) g (past (first l f) f) ≡ cond (inRange m g && answered (node l c (keys g)) f) (Sum (s + (counted m mark (holds l f) (bits a) + sum m mark f g)) n) Off
-          → walk m mark n s (node l c (node a d g)) f ≡ cond (inRange m (node l c (node a d g)) && answered (keys (node l c (node a d g))) f) (Sum (s + sum m mark f (node l c (node a d g))) n) Off
+          → tallyWalk m mark n (s + counted m mark (isFirst l f) (bits a)) g (pastIf (isFirst l f) f) ≡ cond (inRange m g && allAnswered (node l c (keys g)) f) (Sum (s + (counted m mark (holdsInt l f) (bits a) + answersSum m mark f g)) n) Off
+          → tallyWalk m mark n s (node l c (node a d g)) f ≡ cond (inRange m (node l c (node a d g)) && allAnswered (keys (node l c (node a d g))) f) (Sum (s + answersSum m mark f (node l c (node a d g))) n) Off
       go false q i j o = rw i
       go true false i j o = rw (i, j)
       go true true i j o = rw (i, j) o

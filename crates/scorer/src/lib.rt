@@ -6,12 +6,12 @@ use refusal::detail;
 use refusal::number;
 use table::after;
 use table::well_formed;
-use value::BOOL;
-use value::BYTES;
-use value::DICT;
-use value::I64;
+use value::KIND_BOOL;
+use value::KIND_BYTES;
+use value::KIND_DICT;
+use value::KIND_I64;
+use value::KIND_SET;
 use value::Order;
-use value::SET;
 use value::compare_bytes;
 use value::head_of;
 use value::part;
@@ -60,7 +60,7 @@ fn is_key(words: &[u64], text: &[u8], i: usize, name: &[u8]) -> bool
     ensures { λ r. ⌜ r ≡ isKey (now (name .entry)) (labelAt (now (words .entry)) (now (text .entry)) i) ⌝ }
 {
     let kind = head_of(words[4 * i]).kind;
-    if kind != BYTES {
+    if kind != KIND_BYTES {
         return false;
     }
     let at = words[4 * i + 1];
@@ -95,7 +95,7 @@ fn is_between(words: &[u64], i: usize, low: u64, high: u64) -> bool
     requires { ⌜ 4 * i + 4 ≤ length (now words) ⌝ }
     ensures { λ r. ⌜ r ≡ betweenAt (now (words .entry)) i low high ⌝ }
 {
-    if head_of(words[4 * i]).kind != I64 {
+    if head_of(words[4 * i]).kind != KIND_I64 {
         return false;
     }
     let value = words[4 * i + 1];
@@ -113,7 +113,7 @@ fn hit(words: &[u64], j: usize, left: u64, item: u64) -> u64
     if left == 0 {
         return 0;
     }
-    if head_of(words[4 * j]).kind != I64 {
+    if head_of(words[4 * j]).kind != KIND_I64 {
         return 0;
     }
     if item == words[4 * j + 1] {
@@ -138,7 +138,7 @@ fn counted(max: u64, flipped: bool, reversed: u64, answer: u64) -> u64
 }
 
 // The answers from record `from` on and the reversed items from record `first` on, which both ascend: a walk through both at once.
-fn add_up(
+fn tally_answers(
     words: &[u64],
     from: usize,
     entries: u64,
@@ -183,23 +183,23 @@ fn assess(words: &[u64], text: &[u8]) -> Tally
     requires { ⌜ Tabled (now words) (now text) ⌝ }
     ensures { λ r. ⌜ Assesses (now (words .entry)) (now (text .entry)) r ⌝ }
 {
-    if head_of(words[0]).kind != DICT {
+    if head_of(words[0]).kind != KIND_DICT {
         return Tally::Off;
     }
     let entries = words[1];
-    let answers = seek(words, text, entries, b"answers", DICT);
+    let answers = seek(words, text, entries, b"answers", KIND_DICT);
     if answers == 0 {
         return Tally::Off;
     }
-    let reverse = seek(words, text, entries, b"reverse", SET);
+    let reverse = seek(words, text, entries, b"reverse", KIND_SET);
     if reverse == 0 {
         return Tally::Off;
     }
-    let flipped = seek(words, text, entries, b"flipped", BOOL);
+    let flipped = seek(words, text, entries, b"flipped", KIND_BOOL);
     if flipped == 0 {
         return Tally::Off;
     }
-    let highest = seek(words, text, entries, b"max", I64);
+    let highest = seek(words, text, entries, b"max", KIND_I64);
     if highest == 0 {
         return Tally::Off;
     }
@@ -208,7 +208,7 @@ fn assess(words: &[u64], text: &[u8]) -> Tally
     }
     let max = words[4 * highest + 1];
     let mark = words[4 * flipped + 1] == 1;
-    add_up(
+    tally_answers(
         words,
         answers + 1,
         words[4 * answers + 1],

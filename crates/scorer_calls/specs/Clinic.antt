@@ -31,14 +31,14 @@ use Rattle.reading.specs.Measure.{measured}
 use Rattle.reading.specs.Settle as Settle
 use Rattle.reading.specs.Settle.{settle}
 use Rattle.reading.specs.Unfold.{WritesOut, nothing, afresh, NothingContainsItself}
-use Rattle.reading.specs.Reading.{Reading, reads, told as readingOf, consumed, prefix, whole, leaves, whole-prefix, pickleLimit, told-fits, sharing-never-shows}
+use Rattle.reading.specs.Reading.{Reading, reads, readingOf, consumed, prefix, whole, leaves, whole-prefix, pickleLimit, told-fits, sharing-never-shows}
 use Rattle.outback.specs.WriteOut.{written-nothing-itself}
 use Rattle.rooms.specs.Stated.{Slices, stated, short}
 use Rattle.de.specs.Call.{ReadCall}
 use Rattle.de.specs.Theorems.{call-never-shows-sharing, call-answer}
 use Rattle.scorer.specs.Sheet as Sheet
 use Rattle.scorer.specs.Sheet.{answersKey, reverseKey, maxKey, flippedKey}
-use Rattle.scorer.specs.Call.{tallyOf, told, scores-good}
+use Rattle.scorer.specs.Call.{tallyOf, scoredOf, scores-good}
 use Rattle.scorer.specs.Flip.{value-formed, formed-value}
 use Rattle.scorer.specs.Theorems.{scored, one-value}
 use Rattle.scorer.specs.declared.Scored.{Scored}
@@ -48,7 +48,7 @@ use Rattle.scorer_calls.specs.Sharing.{ScoresLeft, ScoresPlain, shared-s
 -- ---- what computes
 
 unfoldable running : Unit {0}
-unfolding lastByte lowFirst utf8.evaluates Line.firstFrom Line.newlineOf Line.lessCr Line.lineOf Space.same Table.rowIn Table.rowOf Table.knownName Table.opcodeOf edition-evaluates _>>=_ State.need State.leaf State.bytes State.byte State.line State.pop State.top State.popMark State.popMany State.pushId State.pushNode State.push State.link State.extend State.find State.has State.insert State.get State.put Opcodes.proto Opcodes.mark Opcodes.lowBytes Opcodes.binint1 Opcodes.shortBinstring Opcodes.global Opcodes.made Opcodes.tupleN Opcodes.pairs Opcodes.added Opcodes.append Opcodes.setitems Opcodes.getBytes Opcodes.putBytes Opcodes.called Opcodes.reduced Opcodes.reduce Run.going Run.does Run.decide Run.admit Run.step Run.runs Run.start Run.run
+unfolding lastByte lowFirst utf8.evaluates Line.firstFrom Line.newlineOf Line.lessCr Line.lineOf Space.same Table.rowIn Table.rowOf Table.knownName Table.opcodeOf edition-evaluates _>>=_ State.need State.leaf State.bytes State.byte State.line State.pop State.top State.popMark State.popMany State.pushId State.pushNode State.push State.link State.extend State.memoFind State.memoHas State.memoInsert State.get State.put Opcodes.proto Opcodes.mark Opcodes.lowBytes Opcodes.binint1 Opcodes.shortBinstring Opcodes.global Opcodes.made Opcodes.tupleN Opcodes.pairs Opcodes.addItems Opcodes.append Opcodes.setitems Opcodes.getBytes Opcodes.putBytes Opcodes.called Opcodes.reduced Opcodes.reduce Run.going Run.does Run.decide Run.admit Run.step Run.runs Run.start Run.run
 running = tt
 
 unfoldable shaping : Unit {0}
@@ -56,7 +56,7 @@ unfolding shaped settled ascending keys text count size depth table Order._then_
 shaping = tt
 
 unfoldable scoring : Unit {0}
-unfolding shaping told tallyOf Sheet.isSheet Sheet.scoreOf Sheet.itemsOf Sheet.marked Sheet.sum Sheet.under Sheet.isKey Sheet.inRange Sheet.answered Sheet.between Sheet.sameInt Sheet.holds
+unfolding shaping scoredOf tallyOf Sheet.isSheet Sheet.scoreOf Sheet.itemsOf Sheet.marked Sheet.answersSum Sheet.under Sheet.isKey Sheet.inRange Sheet.allAnswered Sheet.between Sheet.sameInt Sheet.holdsInt
 scoring = tt
 
 -- ---- the pickles
@@ -64,9 +64,9 @@ scoring = tt
 abbrev beforeKey : List ℕ
 beforeKey = 0x62 ∷ 0x65 ∷ 0x66 ∷ 0x6F ∷ 0x72 ∷ 0x65 ∷ []
 
-unfoldable bytes : List ℕ → Bool
-bytes [] = true
-bytes (x ∷ l) = ltb x 256 && bytes l
+unfoldable allBytes : List ℕ → Bool
+allBytes [] = true
+allBytes (x ∷ l) = ltb x 256 && allBytes l
 
 -- NEWTRUE, NEWFALSE
 abbrev newBool : Bool → ℕ
@@ -75,8 +75,8 @@ newBool false = 0x89
 
 -- {'before': {'answers': {1: 3, 2: 0}, 'flipped': not mark, 'max': 4, 'reverse': set([2])}, ..}: then the same four keys again, with the mark
 -- and, by GET, the answers and the set that stand there
-abbrev pub sheet : Bool → List ℕ
-sheet mark =
+abbrev pub sheetPickle : Bool → List ℕ
+sheetPickle mark =
     0x80 ∷ 0x02 ∷ 0x7D ∷ 0x71 ∷ 0x00 ∷ 0x28
     ∷ 0x55 ∷ 0x06 ∷ 0x62 ∷ 0x65 ∷ 0x66 ∷ 0x6F ∷ 0x72 ∷ 0x65 ∷ 0x71 ∷ 0x01
     ∷ 0x7D ∷ 0x71 ∷ 0x02 ∷ 0x28
@@ -117,7 +117,7 @@ nodes mark =
 -- the nodes at STOP; the sheet that is scored is the root
 record Stops (mark : Bool) : Type 0 where
   state : State
-  runs : run Full (sheet mark) ≡ ok state
+  runs : run Full (sheetPickle mark) ≡ ok state
   made : state .nodes ≡ nodes mark
   root : state .stack ≡ 0 ∷ []
   whole : state .input ≡ []
@@ -203,46 +203,46 @@ formed-is true g = one-value (g .value) (value true) (well-formed-one _ _ _ g (f
 formed-is false g = one-value (g .value) (value false) (well-formed-one _ _ _ g (formed false) ∙ ap one (formed-value (value false) _ _ _ _ _ _ _))
 
 -- 3 and 0; or, where the item 2 was not flipped before, 3 and 4
-abbrev pub due : Bool → ℕ
-due true = 3
-due false = 7
+abbrev pub scoreDue : Bool → ℕ
+scoreDue true = 3
+scoreDue false = 7
 
-tally : (mark : Bool) → tallyOf (value mark) ≡ Sum (due mark) 2
+tally : (mark : Bool) → tallyOf (value mark) ≡ Sum (scoreDue mark) 2
 unfolding scoring
 tally true = refl
 tally false = refl
 
-plainly-scored : (mark : Bool) → ScoresPlain (forest mark) (scored (due mark) 2)
-unfolding told
-plainly-scored mark = rw (in-order mark) (scores-good _ _ _ _ (formed mark) (λ g. sym (ap told (ap tallyOf (formed-is mark g) ∙ tally mark))))
+plainly-scored : (mark : Bool) → ScoresPlain (forest mark) (scored (scoreDue mark) 2)
+unfolding scoredOf
+plainly-scored mark = rw (in-order mark) (scores-good _ _ _ _ (formed mark) (λ g. sym (ap scoredOf (ap tallyOf (formed-is mark g) ∙ tally mark))))
 
 -- ---- read and scored
 
-every-byte : (l : List ℕ) → T (bytes l) → Bytes l
-unfolding bytes
+every-byte : (l : List ℕ) → T (allBytes l) → Bytes l
+unfolding allBytes
 every-byte [] h i = omega arith
-every-byte (x ∷ l) h zero = ltb→lt x 256 (and-l (ltb x 256) (bytes l) h)
-every-byte (x ∷ l) h (suc i) = every-byte l (and-r (ltb x 256) (bytes l) h) i
+every-byte (x ∷ l) h zero = ltb→lt x 256 (and-l (ltb x 256) (allBytes l) h)
+every-byte (x ∷ l) h (suc i) = every-byte l (and-r (ltb x 256) (allBytes l) h) i
 
-sheet-bytes : (mark : Bool) → Bytes (sheet mark)
-unfolding bytes
-sheet-bytes true = every-byte (sheet true) tt
-sheet-bytes false = every-byte (sheet false) tt
+sheet-bytes : (mark : Bool) → Bytes (sheetPickle mark)
+unfolding allBytes
+sheet-bytes true = every-byte (sheetPickle true) tt
+sheet-bytes false = every-byte (sheetPickle false) tt
 
 -- the reading of a pickle into slices that are long enough succeeds, and the score call answers this of what it left; nothing is left of the
 -- pickle, so it is the whole reading too
-pub record Reads (p : List ℕ) (due : Scored) : Type 0 where
+pub record ReadsAndScores (p : List ℕ) (due : Scored) : Type 0 where
   pub accepted : (l l′ : Slices) (a : Answer) → short stated l ≡ false → ReadCall (prefix p) l l′ a → a .number ≡ 0
   pub scores : (l l′ : Slices) (a : Answer) (r : Scored) → short stated l ≡ false → ReadCall (prefix p) l l′ a → ScoresLeft l′ a r → r ≡ due
   pub both : whole p ≡ prefix p
 
 -- each of the two sheets is scored right: 3 of two items where the mark is set, and 7 where it is not
-pub each-right : (mark : Bool) → Reads (sheet mark) (scored (due mark) 2)
+pub each-right : (mark : Bool) → ReadsAndScores (sheetPickle mark) (scored (scoreDue mark) 2)
 unfolding leaves
 each-right mark = record { accepted = λ l l′ a long c. read l l′ a long c; scores = λ l l′ a r long c q. shared-scores p (sheet-bytes mark) s fits (e .runs) left apart f w l l′ a (read l l′ a long c) c q (plainly-scored mark); both = whole-prefix Full p ends }
   where
     p : List ℕ
-    p = sheet mark
+    p = sheetPickle mark
 
     e : Stops mark
     e = stops mark

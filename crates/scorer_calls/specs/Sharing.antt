@@ -18,9 +18,9 @@ use Rattle.steps.specs.Run.{run}
 use Rattle.reading.specs.Measure.{measured}
 use Rattle.reading.specs.Settle.{settle}
 use Rattle.reading.specs.Unfold.{WritesOut, NothingContainsItself}
-use Rattle.reading.specs.Reading.{Reading, reads, told, consumed, prefix, whole, leaves, whole-trailing, whole-prefix, pickleLimit, told-fits, sharing-never-shows}
+use Rattle.reading.specs.Reading.{Reading, reads, readingOf, consumed, prefix, whole, leaves, whole-trailing, whole-prefix, pickleLimit, told-fits, sharing-never-shows}
 use Rattle.reading.specs.Success.{Formed, prefix-well-formed}
-use Rattle.rooms.specs.Stated.{Slices, tableOf, textOf, begun}
+use Rattle.rooms.specs.Stated.{Slices, tableSlice, textSlice, begun}
 use Rattle.de.specs.Call.{reading, ReadCall}
 use Rattle.de.specs.Theorems.{call-never-shows-sharing, call-answer, call-table, call-text, call-long-enough, not-refused, prefix-call-formed}
 use Rattle.scorer.specs.Call.{Scores}
@@ -30,7 +30,7 @@ use Rattle.scorer.specs.declared.Scored.{Scored}
 
 -- the score call, lent the records and the text that a reading with the answer a left, answers r
 abbrev pub ScoresLeft : Slices → Answer → Scored → Type 0
-ScoresLeft l a r = Scores (tableOf l) (a .count) (take (textLength (tableOf l) (a .count)) (textOf l)) r
+ScoresLeft l a r = Scores (tableSlice l) (a .count) (take (textLength (tableSlice l) (a .count)) (textSlice l)) r
 
 -- the score call, lent the table of the values f put in order, answers q
 abbrev pub ScoresPlain : Forest → Scored → Type 0
@@ -56,26 +56,26 @@ text-left {w} {u} {n} {m} {t} {s} x f g c e q =
 module _ (p : List ℕ) (b : Bytes p) (s : State) (fits : length p ≤ pickleLimit) (stops : run Full p ≡ ok s) (left : 0 < length (s .stack)) (apart : NothingContainsItself (s .nodes) (last (s .stack))) (f : Forest) (w : WritesOut (s .nodes) (last (s .stack) ∷ []) f) (l l′ : Slices) (a : Answer) (z : a .number ≡ 0) where
   -- what the prefix reading left scores as the write-out does
   pub shared-scores : {r q : Scored} → ReadCall (prefix p) l l′ a → ScoresLeft l′ a r → ScoresPlain f q → r ≡ q
-  unfolding told Formed
+  unfolding readingOf Formed
   shared-scores {r} {q} c scored plain = go (measured f) refl
     where
-      call : ReadCall (told (consumed p s) f) l l′ a
+      call : ReadCall (readingOf (consumed p s) f) l l′ a
       call = call-never-shows-sharing Full p s fits stops left apart f w l l′ a c
 
       go : (m : Res (Unit {0})) → measured f ≡ m → r ≡ q
-      go (no why) e = absurd (not-refused (told (consumed p s) f) l l′ a call why z (rw (e, told)))
+      go (no why) e = absurd (not-refused (readingOf (consumed p s) f) l l′ a call why z (rw (e, readingOf)))
       go (ok u) e =
           let g = settle f in
-          let more = drop (length (table g 0)) (tableOf l) in
-          let x : told (consumed p s) f ≡ reads (consumed p s) g = told-fits (consumed p s) f e .0 in
-          let long = call-long-enough (told (consumed p s) f) l l′ a call z in
+          let more = drop (length (table g 0)) (tableSlice l) in
+          let x : readingOf (consumed p s) f ≡ reads (consumed p s) g = told-fits (consumed p s) f e .0 in
+          let long = call-long-enough (readingOf (consumed p s) f) l l′ a call z in
           let formed : WellFormed (table g 0) (size g) (text g) = subst Formed (sharing-never-shows Full p s fits stops left f apart w ∙ x) (prefix-well-formed Full p b) refl in
-          let words : tableOf l′ ≡ table g 0 ++ more = call-table (told (consumed p s) f) l l′ a call long ∙ ap (λ (y : Reading). begun (y .words) (tableOf l)) x in
-          let bytes : textOf l′ ≡ begun (text g) (textOf l) = call-text (told (consumed p s) f) l l′ a call long ∙ ap (λ (y : Reading). begun (y .bytes) (textOf l)) x in
-          let counted : a .count ≡ size g = ap (λ (y : Answer). y .count) (call-answer (told (consumed p s) f) l l′ a call long ∙ ap (λ (y : Reading). y .answer) x) in
+          let words : tableSlice l′ ≡ table g 0 ++ more = call-table (readingOf (consumed p s) f) l l′ a call long ∙ ap (λ (y : Reading). begun (y .words) (tableSlice l)) x in
+          let bytes : textSlice l′ ≡ begun (text g) (textSlice l) = call-text (readingOf (consumed p s) f) l l′ a call long ∙ ap (λ (y : Reading). begun (y .bytes) (textSlice l)) x in
+          let counted : a .count ≡ size g = ap (λ (y : Answer). y .count) (call-answer (readingOf (consumed p s) f) l l′ a call long ∙ ap (λ (y : Reading). y .answer) x) in
           let left-formed = prefix-call-formed Full p b l l′ a z c in
-          let same-words : take (4 * a .count) (tableOf l′) ≡ take (4 * size g) (table g 0) = rw (words, counted) (take-append-le (4 * size g) (table g 0) more (formed .lent)) in
-          let same-text : take (textLength (tableOf l′) (a .count)) (textOf l′) ≡ text g = text-left (drop (length (text g)) (textOf l)) left-formed formed counted same-words bytes in
+          let same-words : take (4 * a .count) (tableSlice l′) ≡ take (4 * size g) (table g 0) = rw (words, counted) (take-append-le (4 * size g) (table g 0) more (formed .lent)) in
+          let same-text : take (textLength (tableSlice l′) (a .count)) (textSlice l′) ≡ text g = text-left (drop (length (text g)) (textSlice l)) left-formed formed counted same-words bytes in
           words-behind left-formed formed same-words same-text scored plain
 
   -- and what the whole reading left

@@ -11,8 +11,8 @@ use borrow.Author.Tests.{le-leb, lt-leb, ne-eqb}
 use lib.ListN.{length, set, getD, take, drop}
 use lib.Seq.{sets, drop-drop}
 use Rattle.utf8.specs.Encode.{by-lt}
-use Rattle.output.specs.Put.{Put, Room, Left, left-more, left-room, left-none, room-first, sets-last}
-use Rattle.op.specs.Table.{numberOf, numberIn, isNamed, place}
+use Rattle.output.specs.Put.{Put, Room, StillToPut, left-more, left-room, left-none, room-first, sets-last}
+use Rattle.op.specs.Table.{codeOf, numberIn, isNamed, place}
 use Rattle.refusal.specs.Read.{Read, got, refused}
 use Rattle.input.specs.declared.LineEnd.{LineEnd}
 use Rattle.input.specs.declared.LineEnd.the-variants.{At, End}
@@ -20,16 +20,16 @@ use Rattle.input.specs.Bytes.{lastByte}
 use Rattle.input.specs.Line.{lineEnd, firstFrom, newlineOf}
 use Rattle.value.specs.Value.{bit}
 use Rattle.value.specs.declared.Head.{Head}
-use Rattle.value.specs.Shape.{kindIn, headOf, moduleOf, nameOf}
-use Rattle.table.specs.Record.{Below, below}
+use Rattle.value.specs.Shape.{kindIn, headOf, modulePart, namePart}
+use Rattle.table.specs.Record.{EachBelow, each-below}
 use Rattle.value.specs.Stands.{wordAt, labelAt}
 use Rattle.output.specs.Decimal.{signedText, either-way}
-use Rattle.output.specs.Put.{newline}
-use Rattle.ser.specs.Image.{low, high, inI32, int, float, bytes, string, global, builtin, setOpening, bool, joined, listBatch, dictBatch, batch, batchesUpTo, batches, appends, tupleOpcode, tupleMark, tuple, objectOpcode, built, object, framed}
+use Rattle.output.specs.Put.{newlineByte}
+use Rattle.ser.specs.Image.{low, high, inI32, intImage, floatImage, bytesImage, stringImage, globalImage, builtin, setOpening, boolImage, joined, listBatch, dictBatch, oneBatch, batchesUpTo, batches, itemsImage, tupleOpcode, tupleMark, tupleImage, objectOpcode, stateImage, objectImage, framed}
 use Rattle.ser.specs.Short.{high-length}
 use Rattle.ser.specs.Length.{batchesTake, appendsTake, tupleTakes, around, openingTakes, recordTakes, recordsTake, records-more}
 use Rattle.ser.specs.Writable.{hasNewline, endsCr, writable, writableLabel, writableFrom, from-more}
-use Rattle.ser.specs.Parts.{Same, Cuts, behind, ahead}
+use Rattle.ser.specs.Parts.{Same, Cuts, precededBy, followedBy}
 
 -- ---- put_low: the low bytes of what is left are left
 
@@ -38,14 +38,14 @@ unfolding low
 low-more zero n h = absurd (omega arith)
 low-more (suc k) n h = let e : suc k - 1 ≡ k = omega arith in rw e
 
-module _ {o₀ o b : List ℕ} {at next : ℕ} (k n : ℕ) (l : Left o₀ at b o next (low k n)) where
-  low-left : 0 < k → Left o₀ at b o next ((n % 256 ∷ []) ++ low (k - 1) (n / 256))
+module _ {o₀ o b : List ℕ} {at next : ℕ} (k n : ℕ) (l : StillToPut o₀ at b o next (low k n)) where
+  low-left : 0 < k → StillToPut o₀ at b o next ((n % 256 ∷ []) ++ low (k - 1) (n / 256))
   low-left h = rw (low-more k n h) at l
 
   pub low-room : Room o₀ at b → 0 < k → Room o next (n % 256 ∷ [])
   low-room r h = room-first (low (k - 1) (n / 256)) (left-room r (low-left h))
 
-  pub low-turn : {o′ : List ℕ} {q : ℕ} → 0 < k → Put o next (n % 256 ∷ []) o′ q → Left o₀ at b o′ q (low (k - 1) (n / 256))
+  pub low-turn : {o′ : List ℕ} {q : ℕ} → 0 < k → Put o next (n % 256 ∷ []) o′ q → StillToPut o₀ at b o′ q (low (k - 1) (n / 256))
   low-turn h p = left-more (low (k - 1) (n / 256)) (low-left h) p
 
   pub low-done : k ≤ 0 → Put o₀ at b o next
@@ -71,31 +71,31 @@ high-done o₀ o at (suc k) m count n h e = absurd (omega arith)
 
 -- the numbers compute
 unfoldable pub numbers : Unit {0}
-unfolding numberOf numberIn isNamed place
+unfolding codeOf numberIn isNamed place
 numbers = tt
 
-pub bool-true : (b : Bool) → b ≡ true → 0x88 ∷ [] ≡ bool b
-unfolding bool numbers
+pub bool-true : (b : Bool) → b ≡ true → 0x88 ∷ [] ≡ boolImage b
+unfolding boolImage numbers
 bool-true b e = sym (rw e)
 
-pub bool-false : (b : Bool) → b ≡ false → 0x89 ∷ [] ≡ bool b
-unfolding bool numbers
+pub bool-false : (b : Bool) → b ≡ false → 0x89 ∷ [] ≡ boolImage b
+unfolding boolImage numbers
 bool-false b e = sym (rw e)
 
 module _ (n : ℕ) where
-  pub tuple-0 : n ≡ 0 → 0x29 ≡ numberOf (tupleOpcode n)
+  pub tuple-0 : n ≡ 0 → 0x29 ≡ codeOf (tupleOpcode n)
   unfolding tupleOpcode numbers
   tuple-0 e = rw e
 
-  pub tuple-1 : n ≡ 1 → 0x85 ≡ numberOf (tupleOpcode n)
+  pub tuple-1 : n ≡ 1 → 0x85 ≡ codeOf (tupleOpcode n)
   unfolding tupleOpcode numbers
   tuple-1 e = rw e
 
-  pub tuple-2 : n ≡ 2 → 0x86 ≡ numberOf (tupleOpcode n)
+  pub tuple-2 : n ≡ 2 → 0x86 ≡ codeOf (tupleOpcode n)
   unfolding tupleOpcode numbers
   tuple-2 e = rw e
 
-  pub tuple-3 : n ≡ 3 → 0x87 ≡ numberOf (tupleOpcode n)
+  pub tuple-3 : n ≡ 3 → 0x87 ≡ codeOf (tupleOpcode n)
   unfolding tupleOpcode numbers
   tuple-3 e = rw e
 
@@ -107,7 +107,7 @@ module _ (n : ℕ) where
   unfolding tupleMark numbers
   mark-some h = sym (rw (lt-leb n 3 h))
 
-pub tuple-more : (n : ℕ) → n ≢ 0 → n ≢ 1 → n ≢ 2 → n ≢ 3 → 0x74 ≡ numberOf (tupleOpcode n)
+pub tuple-more : (n : ℕ) → n ≢ 0 → n ≢ 1 → n ≢ 2 → n ≢ 3 → 0x74 ≡ codeOf (tupleOpcode n)
 unfolding tupleOpcode numbers
 tuple-more zero a b c d = absurd (a refl)
 tuple-more (suc zero) a b c d = absurd (b refl)
@@ -117,47 +117,47 @@ tuple-more (suc (suc (suc (suc n)))) a b c d = refl
 
 -- ---- numbers and text
 
-pub int-1 : (b : ℕ) → b ≤ 255 → int b ≡ (0x4B ∷ []) ++ low 1 b
-unfolding int numbers
+pub int-1 : (b : ℕ) → b ≤ 255 → intImage b ≡ (0x4B ∷ []) ++ low 1 b
+unfolding intImage numbers
 int-1 b h = rw (le-leb b 255 h)
 
-pub int-2 : (b : ℕ) → 255 < b → b ≤ 65535 → int b ≡ (0x4D ∷ []) ++ low 2 b
-unfolding int numbers
+pub int-2 : (b : ℕ) → 255 < b → b ≤ 65535 → intImage b ≡ (0x4D ∷ []) ++ low 2 b
+unfolding intImage numbers
 int-2 b g h = rw (lt-leb b 255 g, le-leb b 65535 h)
 
-pub int-4 : (b : ℕ) → 65535 < b → inI32 b ≡ true → int b ≡ (0x4A ∷ []) ++ low 4 b
-unfolding int numbers
+pub int-4 : (b : ℕ) → 65535 < b → inI32 b ≡ true → intImage b ≡ (0x4A ∷ []) ++ low 4 b
+unfolding intImage numbers
 int-4 b g h = let e : 255 < b = omega arith in rw (lt-leb b 255 e, lt-leb b 65535 g, h)
 
-pub int-text : (b : ℕ) → 65535 < b → inI32 b ≡ false → int b ≡ (0x49 ∷ []) ++ (signedText b ++ (newline ∷ []))
-unfolding int numbers
+pub int-text : (b : ℕ) → 65535 < b → inI32 b ≡ false → intImage b ≡ (0x49 ∷ []) ++ (signedText b ++ (newlineByte ∷ []))
+unfolding intImage numbers
 int-text b g h = let e : 255 < b = omega arith in rw (lt-leb b 255 e, lt-leb b 65535 g, h)
 
-pub float-parts : (b : ℕ) → float b ≡ (0x47 ∷ []) ++ high 8 b
-unfolding float numbers
+pub float-parts : (b : ℕ) → floatImage b ≡ (0x47 ∷ []) ++ high 8 b
+unfolding floatImage numbers
 float-parts b = refl
 
-pub bytes-short : (t : List ℕ) → length t ≤ 255 → bytes t ≡ (0x55 ∷ []) ++ (low 1 (length t) ++ t)
-unfolding bytes numbers
+pub bytes-short : (t : List ℕ) → length t ≤ 255 → bytesImage t ≡ (0x55 ∷ []) ++ (low 1 (length t) ++ t)
+unfolding bytesImage numbers
 bytes-short t h = rw (le-leb (length t) 255 h)
 
-pub bytes-long : (t : List ℕ) → 255 < length t → bytes t ≡ (0x54 ∷ []) ++ (low 4 (length t) ++ t)
-unfolding bytes numbers
+pub bytes-long : (t : List ℕ) → 255 < length t → bytesImage t ≡ (0x54 ∷ []) ++ (low 4 (length t) ++ t)
+unfolding bytesImage numbers
 bytes-long t h = rw (lt-leb (length t) 255 h)
 
-pub string-parts : (t : List ℕ) → string t ≡ (0x58 ∷ []) ++ (low 4 (length t) ++ t)
-unfolding string numbers
+pub string-parts : (t : List ℕ) → stringImage t ≡ (0x58 ∷ []) ++ (low 4 (length t) ++ t)
+unfolding stringImage numbers
 string-parts t = refl
 
-pub global-parts : (m k : List ℕ) → global m k ≡ (0x63 ∷ []) ++ (m ++ ((newline ∷ []) ++ (k ++ (newline ∷ []))))
-unfolding global numbers
+pub global-parts : (m k : List ℕ) → globalImage m k ≡ (0x63 ∷ []) ++ (m ++ ((newlineByte ∷ []) ++ (k ++ (newlineByte ∷ []))))
+unfolding globalImage numbers
 global-parts m k = refl
 
-pub set-parts : (k : List ℕ) → setOpening k ≡ global builtin k ++ (0x5D ∷ [])
+pub set-parts : (k : List ℕ) → setOpening k ≡ globalImage builtin k ++ (0x5D ∷ [])
 unfolding setOpening numbers
 set-parts k = refl
 
-pub names-global : (t : List ℕ) (p c : ℕ) (m k : List ℕ) → m ≡ take (c / 2 ^ 32) (drop p t) → k ≡ take (c % 2 ^ 32) (drop (p + c / 2 ^ 32) t) → global m k ≡ global (moduleOf c (drop p t)) (nameOf c (drop p t))
+pub names-global : (t : List ℕ) (p c : ℕ) (m k : List ℕ) → m ≡ take (c / 2 ^ 32) (drop p t) → k ≡ take (c % 2 ^ 32) (drop (p + c / 2 ^ 32) t) → globalImage m k ≡ globalImage (modulePart c (drop p t)) (namePart c (drop p t))
 names-global t p c m k e f = rw (e, f, drop-drop (c / 2 ^ 32) p t)
 
 -- ---- names that can be read back: the search for a newline, and the last byte
@@ -195,10 +195,10 @@ empty-no-cr [] h = refl
 empty-no-cr (b ∷ s) h = absurd (omega arith)
 
 module _ (t : List ℕ) (p c : ℕ) {m : List ℕ} (e : m ≡ take (c / 2 ^ 32) (drop p t)) where
-  pub module-not : writable m ≡ false → false ≡ (writable (moduleOf c (drop p t)) && writable (nameOf c (drop p t)))
+  pub module-not : writable m ≡ false → false ≡ (writable (modulePart c (drop p t)) && writable (namePart c (drop p t)))
   module-not h = sym (rw (← e, h))
 
-  pub module-and : {k : List ℕ} → writable m ≡ true → k ≡ take (c % 2 ^ 32) (drop (p + c / 2 ^ 32) t) → writable k ≡ (writable (moduleOf c (drop p t)) && writable (nameOf c (drop p t)))
+  pub module-and : {k : List ℕ} → writable m ≡ true → k ≡ take (c % 2 ^ 32) (drop (p + c / 2 ^ 32) t) → writable k ≡ (writable (modulePart c (drop p t)) && writable (namePart c (drop p t)))
   module-and h f = sym (rw (← e, h, f, drop-drop (c / 2 ^ 32) p t))
 
 -- the records from i on are left to look at
@@ -227,7 +227,7 @@ module _ (k b c : ℕ) where
   unfolding openingTakes
   takes-low h = by-lt k 1 (λ l. let e : k ≡ 0 = omega arith in rw e) (λ l. let e : k ≡ 1 = omega arith in rw e)
 
-  pub takes-int : k ≡ 2 → openingTakes k b c ≡ length (int b)
+  pub takes-int : k ≡ 2 → openingTakes k b c ≡ length (intImage b)
   unfolding openingTakes
   takes-int e = rw e
 
@@ -269,8 +269,8 @@ module _ (k b c : ℕ) where
 
 module _ (k n : ℕ) where
   pub around-leaf : k < 6 → around k n ≡ 0
-  unfolding around Below
-  around-leaf h = below 6 (λ j. around j n ≡ 0) (refl, (refl, (refl, (refl, (refl, (refl, tt)))))) k h
+  unfolding around EachBelow
+  around-leaf h = each-below 6 (λ j. around j n ≡ 0) (refl, (refl, (refl, (refl, (refl, (refl, tt)))))) k h
 
   pub around-list : k ≡ 6 → around k n ≡ appendsTake n
   unfolding around
@@ -311,58 +311,58 @@ module _ (w : List ℕ) (i n sum m : ℕ) (l : sum + recordsTake w i (n - i) ≡
 
 -- ---- what the functions of the cycle make of the values
 
-pub batch-entry : {n : ℕ} (e : Bool) → e ≡ true → n ≡ 2 → Same n (batch e) (ahead joined (0x73 ∷ []))
-unfolding batch dictBatch ahead numbers
+pub batch-entry : {n : ℕ} (e : Bool) → e ≡ true → n ≡ 2 → Same n (oneBatch e) (followedBy joined (0x73 ∷ []))
+unfolding oneBatch dictBatch followedBy numbers
 batch-entry {n} e p h = record { same = λ s l. rw (p, l, h) }
 
-pub batch-entries : {n : ℕ} (e : Bool) → e ≡ true → n ≢ 2 → Same n (batch e) (behind (0x28 ∷ []) (ahead joined (0x75 ∷ [])))
-unfolding batch dictBatch behind ahead numbers
+pub batch-entries : {n : ℕ} (e : Bool) → e ≡ true → n ≢ 2 → Same n (oneBatch e) (precededBy (0x28 ∷ []) (followedBy joined (0x75 ∷ [])))
+unfolding oneBatch dictBatch precededBy followedBy numbers
 batch-entries {n} e p h = record { same = λ s l. rw (p, l, ne-eqb n 2 h) }
 
-pub batch-items : {n : ℕ} (e : Bool) → e ≡ false → Same n (batch e) (behind (0x28 ∷ []) (ahead joined (0x65 ∷ [])))
-unfolding batch listBatch behind ahead numbers
+pub batch-items : {n : ℕ} (e : Bool) → e ≡ false → Same n (oneBatch e) (precededBy (0x28 ∷ []) (followedBy joined (0x65 ∷ [])))
+unfolding oneBatch listBatch precededBy followedBy numbers
 batch-items {n} e p = record { same = λ s l. rw p }
 
-pub appends-one : {n : ℕ} → n ≡ 1 → Same n appends (ahead joined (0x61 ∷ []))
-unfolding appends ahead numbers
+pub appends-one : {n : ℕ} → n ≡ 1 → Same n itemsImage (followedBy joined (0x61 ∷ []))
+unfolding itemsImage followedBy numbers
 appends-one {n} h = record { same = same }
   where
-    same : (s : List (List ℕ)) → length s ≡ n → appends s ≡ joined s ++ (0x61 ∷ [])
+    same : (s : List (List ℕ)) → length s ≡ n → itemsImage s ≡ joined s ++ (0x61 ∷ [])
     same [] l = absurd (omega arith)
     same (x ∷ []) l = refl
     same (x ∷ y ∷ s) l = absurd (omega arith)
 
-pub appends-many : {n : ℕ} → n ≢ 1 → Same n appends (batches false)
-unfolding appends batches batchesUpTo
+pub appends-many : {n : ℕ} → n ≢ 1 → Same n itemsImage (batches false)
+unfolding itemsImage batches batchesUpTo
 appends-many {n} h = record { same = same }
   where
-    same : (s : List (List ℕ)) → length s ≡ n → appends s ≡ batches false s
+    same : (s : List (List ℕ)) → length s ≡ n → itemsImage s ≡ batches false s
     same [] l = refl
     same (x ∷ []) l = absurd (h (sym l))
     same (x ∷ y ∷ s) l = refl
 
-pub tuple-parts : (n b : ℕ) → b ≡ numberOf (tupleOpcode n) → Same n tuple (behind (tupleMark n) (ahead joined (b ∷ [])))
-unfolding tuple behind ahead
+pub tuple-parts : (n b : ℕ) → b ≡ codeOf (tupleOpcode n) → Same n tupleImage (precededBy (tupleMark n) (followedBy joined (b ∷ [])))
+unfolding tupleImage precededBy followedBy
 tuple-parts n b h = record { same = λ s l. rw (l, h) }
 
-pub object-cuts : (new : Bool) (b m : ℕ) → b ≡ numberOf (objectOpcode new) → Cuts 1 (suc m) m (object new) joined (behind (b ∷ []) built)
-unfolding object joined behind
+pub object-cuts : (new : Bool) (b m : ℕ) → b ≡ codeOf (objectOpcode new) → Cuts 1 (suc m) m (objectImage new) joined (precededBy (b ∷ []) stateImage)
+unfolding objectImage joined precededBy
 object-cuts new b m q = record { sum = omega arith; cuts = cuts }
   where
-    cuts : (s : List (List ℕ)) → length s ≡ suc m → object new s ≡ joined (take 1 s) ++ behind (b ∷ []) built (drop 1 s)
+    cuts : (s : List (List ℕ)) → length s ≡ suc m → objectImage new s ≡ joined (take 1 s) ++ precededBy (b ∷ []) stateImage (drop 1 s)
     cuts [] l = absurd (omega arith)
     cuts (x ∷ s) l = rw q
 
-pub built-one : Same 1 built (ahead joined (0x62 ∷ []))
-unfolding built ahead numbers
+pub built-one : Same 1 stateImage (followedBy joined (0x62 ∷ []))
+unfolding stateImage followedBy numbers
 built-one = record { same = same }
   where
-    same : (s : List (List ℕ)) → length s ≡ 1 → built s ≡ joined s ++ (0x62 ∷ [])
+    same : (s : List (List ℕ)) → length s ≡ 1 → stateImage s ≡ joined s ++ (0x62 ∷ [])
     same [] l = absurd (omega arith)
     same (x ∷ s) l = refl
 
-pub built-none : built [] ≡ []
-unfolding built
+pub built-none : stateImage [] ≡ []
+unfolding stateImage
 built-none = refl
 
 pub bit-one : (s : Bool) → s ≡ true → bit s ≡ 1
@@ -371,6 +371,6 @@ bit-one s e = rw e
 pub bit-none : (s : Bool) → s ≡ false → bit s ≤ 0
 bit-none s e = rw e (omega arith)
 
-pub framed-parts : {n : ℕ} → Same n framed (behind (0x80 ∷ []) (behind (2 ∷ []) (ahead joined (0x2E ∷ []))))
-unfolding framed behind ahead numbers
+pub framed-parts : {n : ℕ} → Same n framed (precededBy (0x80 ∷ []) (precededBy (2 ∷ []) (followedBy joined (0x2E ∷ []))))
+unfolding framed precededBy followedBy numbers
 framed-parts = record { same = λ s l. refl }

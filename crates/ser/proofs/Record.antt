@@ -11,12 +11,12 @@ use lib.ListN.{getD, take, drop}
 use Rattle.utf8.specs.Encode.{by-lt}
 use Rattle.value.specs.declared.Head.{Head}
 use Rattle.value.specs.Value.{Label, bit, NoneL}
-use Rattle.value.specs.Shape.{kindIn, newIn, stateIn, headOf, holding, labelsOf, labelOf, arityOf, moduleOf, nameOf, and-l, nothing-held}
+use Rattle.value.specs.Shape.{kindIn, newIn, stateIn, headOf, holding, labelsOf, labelOf, arityOf, modulePart, namePart, and-l, nothing-held}
 use Rattle.value.specs.Stands.{wordAt, labelAt, arityAt, Reads}
-use Rattle.table.specs.Record.{Below, below}
+use Rattle.table.specs.Record.{EachBelow, each-below}
 use Rattle.output.specs.Put.{Put}
-use Rattle.ser.specs.Image.{int, float, bytes, string, global, set, frozenset, setOpening, bool, opening, appends, tuple, object, batches, contents, joined}
-use Rattle.ser.specs.Parts.{Same, ahead, wrote-none, value-wrote}
+use Rattle.ser.specs.Image.{intImage, floatImage, bytesImage, stringImage, globalImage, set, frozenset, setOpening, boolImage, opening, itemsImage, tupleImage, objectImage, batches, contents, joined}
+use Rattle.ser.specs.Parts.{Same, followedBy, wrote-none, value-wrote}
 use Rattle.ser.specs.Walk.{Wrote}
 use Rattle.ser.specs.Writable.{writable, writableLabel}
 use Rattle.ser.proofs.Laws.{numbers}
@@ -29,7 +29,7 @@ module _ {w t : List ℕ} {i : ℕ} (r : Reads w t i) {h : Head} (q : h ≡ head
   label = labelAt w t i
 
   abbrev names : List ℕ
-  names = global (moduleOf (wordAt w i 2) (drop (wordAt w i 1) t)) (nameOf (wordAt w i 2) (drop (wordAt w i 1) t))
+  names = globalImage (modulePart (wordAt w i 2) (drop (wordAt w i 1) t)) (namePart (wordAt w i 2) (drop (wordAt w i 1) t))
 
   kind₀ : kindIn (wordAt w i 0) ≡ h .kind
   kind₀ = rw (add-zero, q)
@@ -46,19 +46,19 @@ module _ {w t : List ℕ} {i : ℕ} (r : Reads w t i) {h : Head} (q : h ≡ head
       (λ l. let e : h .kind ≡ 12 = omega (arith, known) in sym (rw (kind₀, e)))
 
   -- whether they can be read back; no other label has any
-  pub names-writable : 10 < h .kind → (writable (moduleOf (wordAt w i 2) (drop (wordAt w i 1) t)) && writable (nameOf (wordAt w i 2) (drop (wordAt w i 1) t))) ≡ writableLabel label
+  pub names-writable : 10 < h .kind → (writable (modulePart (wordAt w i 2) (drop (wordAt w i 1) t)) && writable (namePart (wordAt w i 2) (drop (wordAt w i 1) t))) ≡ writableLabel label
   unfolding writableLabel labelAt labelOf
   names-writable g =
       by-lt (h .kind) 12 (λ l. let e : h .kind ≡ 11 = omega arith in sym (rw (kind₀, e)))
       (λ l. let e : h .kind ≡ 12 = omega (arith, known) in sym (rw (kind₀, e)))
 
   pub no-names : h .kind ≤ 10 → true ≡ writableLabel label
-  unfolding writableLabel labelAt labelOf Below
+  unfolding writableLabel labelAt labelOf EachBelow
   no-names g =
       let a = wordAt w i 0 in
       let b = wordAt w i 1 in
       let c = wordAt w i 2 in
-      rw kind₀ (below 11 (λ k. true ≡ writableLabel (getD (labelsOf a b c (drop b t)) k NoneL)) (refl, (refl, (refl, (refl, (refl, (refl, (refl, (refl, (refl, (refl, (refl, tt))))))))))) (h .kind) (omega arith))
+      rw kind₀ (each-below 11 (λ k. true ≡ writableLabel (getD (labelsOf a b c (drop b t)) k NoneL)) (refl, (refl, (refl, (refl, (refl, (refl, (refl, (refl, (refl, (refl, (refl, tt))))))))))) (h .kind) (omega arith))
 
   pub opens-list : h .kind ≡ 6 → 0x5D ∷ [] ≡ opening label
   unfolding opening labelAt labelOf numbers
@@ -84,33 +84,33 @@ module _ {w t : List ℕ} {i : ℕ} (r : Reads w t i) {h : Head} (q : h ≡ head
   unfolding opening labelAt labelOf numbers
   opens-none e = sym (rw (kind₀, e))
 
-  pub opens-bool : h .kind ≡ 1 → bool (eqb (wordAt w i 1) 1) ≡ opening label
+  pub opens-bool : h .kind ≡ 1 → boolImage (eqb (wordAt w i 1) 1) ≡ opening label
   unfolding opening labelAt labelOf
   opens-bool e = sym (rw (kind₀, e))
 
-  pub opens-int : h .kind ≡ 2 → int (wordAt w i 1) ≡ opening label
+  pub opens-int : h .kind ≡ 2 → intImage (wordAt w i 1) ≡ opening label
   unfolding opening labelAt labelOf
   opens-int e = sym (rw (kind₀, e))
 
-  pub opens-float : h .kind ≡ 3 → float (wordAt w i 1) ≡ opening label
+  pub opens-float : h .kind ≡ 3 → floatImage (wordAt w i 1) ≡ opening label
   unfolding opening labelAt labelOf
   opens-float e = sym (rw (kind₀, e))
 
   module _ (s : List ℕ) (p : s ≡ take (wordAt w i 2) (drop (wordAt w i 1) t)) where
-    pub opens-bytes : h .kind ≡ 4 → bytes s ≡ opening label
+    pub opens-bytes : h .kind ≡ 4 → bytesImage s ≡ opening label
     unfolding opening labelAt labelOf
     opens-bytes e = rw p (sym (rw (kind₀, e)))
 
-    pub opens-string : h .kind ≡ 5 → string s ≡ opening label
+    pub opens-string : h .kind ≡ 5 → stringImage s ≡ opening label
     unfolding opening labelAt labelOf
     opens-string e = rw p (sym (rw (kind₀, e)))
 
   -- ---- the contents
 
   none-made : (k : ℕ) → k < 13 → holding k ≡ false → contents (getD (labelsOf (wordAt w i 0) (wordAt w i 1) (wordAt w i 2) (drop (wordAt w i 1) t)) k NoneL) [] ≡ []
-  unfolding contents Below
+  unfolding contents EachBelow
   none-made =
-      below 13 (λ k. holding k ≡ false → contents (getD (labelsOf (wordAt w i 0) (wordAt w i 1) (wordAt w i 2) (drop (wordAt w i 1) t)) k NoneL) [] ≡ [])
+      each-below 13 (λ k. holding k ≡ false → contents (getD (labelsOf (wordAt w i 0) (wordAt w i 1) (wordAt w i 2) (drop (wordAt w i 1) t)) k NoneL) [] ≡ [])
       ((λ e. refl), ((λ e. refl), ((λ e. refl), ((λ e. refl), ((λ e. refl), ((λ e. refl), ((λ e. never e), ((λ e. never e), ((λ e. never e), ((λ e. never e), ((λ e. never e), ((λ e. refl), ((λ e. never e), tt)))))))))))))
 
   -- a record with nothing in it is written with its opening
@@ -125,15 +125,15 @@ module _ {w t : List ℕ} {i : ℕ} (r : Reads w t i) {h : Head} (q : h ≡ head
   object-arity e = let s : stateIn (wordAt w i 0) ≡ h .state = rw (add-zero, q) in rw (kind₀, e, s)
 
   module _ {n : ℕ} where
-    pub makes-object : h .kind ≡ 12 → Same n (contents label) (object (h .new))
+    pub makes-object : h .kind ≡ 12 → Same n (contents label) (objectImage (h .new))
     unfolding contents labelAt labelOf
     makes-object e = let b : newIn (wordAt w i 0) ≡ h .new = rw (add-zero, q) in record { same = λ s l. rw (kind₀, e, b) }
 
-    pub makes-list : h .kind ≡ 6 → Same n (contents label) appends
+    pub makes-list : h .kind ≡ 6 → Same n (contents label) itemsImage
     unfolding contents labelAt labelOf
     makes-list e = record { same = λ s l. rw (kind₀, e) }
 
-    pub makes-tuple : h .kind ≡ 7 → Same n (contents label) tuple
+    pub makes-tuple : h .kind ≡ 7 → Same n (contents label) tupleImage
     unfolding contents labelAt labelOf
     makes-tuple e = record { same = λ s l. rw (kind₀, e) }
 
@@ -141,8 +141,8 @@ module _ {w t : List ℕ} {i : ℕ} (r : Reads w t i) {h : Head} (q : h ≡ head
     unfolding contents labelAt labelOf
     makes-dict e = record { same = λ s l. rw (kind₀, e) }
 
-    pub makes-set : holding (h .kind) ≡ true → h .kind ≢ 12 → h .kind ≢ 6 → h .kind ≢ 7 → h .kind ≢ 10 → Same n (contents label) (ahead appends ((0x85 ∷ []) ++ (0x52 ∷ [])))
-    unfolding contents labelAt labelOf ahead numbers
+    pub makes-set : holding (h .kind) ≡ true → h .kind ≢ 12 → h .kind ≢ 6 → h .kind ≢ 7 → h .kind ≢ 10 → Same n (contents label) (followedBy itemsImage ((0x85 ∷ []) ++ (0x52 ∷ [])))
+    unfolding contents labelAt labelOf followedBy numbers
     makes-set e object list tuple dict =
         let l = ltb→lt 5 (h .kind) (and-l (ltb 5 (h .kind)) (not (eqb (h .kind) 11)) (rw e tt)) in
         let global : h .kind ≢ 11 = λ f. never (sym (rw f at e)) in

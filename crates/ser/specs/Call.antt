@@ -15,7 +15,7 @@ use Rattle.table.specs.Call.{Told, told, done, answered, answered-full, Call, c
 use Rattle.table.specs.Compare.{formed-stands}
 use Rattle.output.specs.Whole.{whole-one, put-answered}
 use Rattle.ser.specs.Image.{framed, pickled}
-use Rattle.ser.specs.Walk.{Ready, Puts}
+use Rattle.ser.specs.Walk.{ReadyToWrite, Puts}
 use Rattle.ser.specs.Short.{written-short}
 use Rattle.ser.specs.Length.{recordsTake, pickled-length}
 use Rattle.ser.specs.Writable.{writableIn, writableFrom, from-values, Readable, values-read}
@@ -41,7 +41,7 @@ module _ (w : List ℕ) (n : ℕ) (t : List ℕ) where
   pub length-few : WellFormed w n t → recordsTake w 0 n + 3 < 2 ^ 64
   length-few f = omega (arith, pickled-length w n t f, written-short w n t f)
 
-  pub ready-all : (o : List ℕ) → WellFormed w n t → recordsTake w 0 n + 3 ≤ length o → Ready framed w t 0 1 o 0
+  pub ready-all : (o : List ℕ) → WellFormed w n t → recordsTake w 0 n + 3 ≤ length o → ReadyToWrite framed w t 0 1 o 0
   unfolding pickled
   ready-all o f h = record { values = one (f .value); stands = formed-stands w n t f; counted = whole-one w n t f; room = record { fits = omega (arith, pickled-length w n t f, h) } }
 

@@ -4,14 +4,14 @@ use mathlib.Core.Bool.{true}
 use mathlib.Core.List.{List, [], _∷_, _++_}
 use mathlib.Core.Path.{_≡_, refl}
 use lib.ListN.{replicate}
-use Rattle.op.specs.Table.{numberOf, numberIn, isNamed, place}
+use Rattle.op.specs.Table.{codeOf, numberIn, isNamed, place}
 use Rattle.value.specs.Value.{Forest, NoneL, I64L, ListL, TupleL, SetL, DictL, ObjectL, nil, node}
 use Rattle.output.specs.Decimal.{figure, figures, noZeros, decimalText, signedText}
-use Rattle.ser.specs.Image.{low, high, inI32, int, float, bytes, string, global, setOpening, bool, opening, joined, listBatch, dictBatch, batch, batchSize, batchesUpTo, batches, appends, tupleMark, tupleOpcode, tuple, objectOpcode, built, object, contents, images, framed, pickled}
+use Rattle.ser.specs.Image.{low, high, inI32, intImage, floatImage, bytesImage, stringImage, globalImage, setOpening, boolImage, opening, joined, listBatch, dictBatch, oneBatch, batchSize, batchesUpTo, batches, itemsImage, tupleMark, tupleOpcode, tupleImage, objectOpcode, stateImage, objectImage, contents, images, framed, pickled}
 
 -- what computes on given values
 unfoldable evaluates : Unit {0}
-unfolding numberOf numberIn isNamed place figure figures noZeros decimalText signedText low high inI32 int float bytes string global setOpening bool opening joined listBatch dictBatch batch batchSize batchesUpTo batches appends tupleMark tupleOpcode tuple objectOpcode built object contents images framed pickled
+unfolding codeOf numberIn isNamed place figure figures noZeros decimalText signedText low high inI32 intImage floatImage bytesImage stringImage globalImage setOpening boolImage opening joined listBatch dictBatch oneBatch batchSize batchesUpTo batches itemsImage tupleMark tupleOpcode tupleImage objectOpcode stateImage objectImage contents images framed pickled
 evaluates = tt
 
 abbrev i64 : ℕ → Forest → Forest
@@ -40,7 +40,7 @@ unfolding evaluates
 anObject = refl
 
 -- integers at the ends of their ranges: 255, 256, 65535, 65536, -1, the ends of i32 and the numbers behind them
-pub ints : int 255 ∷ int 256 ∷ int 65535 ∷ int 65536 ∷ int (2 ^ 64 - 1) ∷ int (2 ^ 31 - 1) ∷ int (2 ^ 31) ∷ int (2 ^ 64 - 2 ^ 31) ∷ int (2 ^ 64 - 2 ^ 31 - 1) ∷ []
+pub ints : intImage 255 ∷ intImage 256 ∷ intImage 65535 ∷ intImage 65536 ∷ intImage (2 ^ 64 - 1) ∷ intImage (2 ^ 31 - 1) ∷ intImage (2 ^ 31) ∷ intImage (2 ^ 64 - 2 ^ 31) ∷ intImage (2 ^ 64 - 2 ^ 31 - 1) ∷ []
     ≡ (0x4B ∷ 0xFF ∷ [])
     ∷ (0x4D ∷ 0 ∷ 1 ∷ [])
     ∷ (0x4D ∷ 0xFF ∷ 0xFF ∷ [])
@@ -55,20 +55,20 @@ unfolding evaluates
 ints = refl
 
 -- 1.0, and 'a' and u'a'
-pub aFloat : float 0x3FF0_0000_0000_0000 ≡ 0x47 ∷ 0x3F ∷ 0xF0 ∷ 0 ∷ 0 ∷ 0 ∷ 0 ∷ 0 ∷ 0 ∷ []
+pub aFloat : floatImage 0x3FF0_0000_0000_0000 ≡ 0x47 ∷ 0x3F ∷ 0xF0 ∷ 0 ∷ 0 ∷ 0 ∷ 0 ∷ 0 ∷ 0 ∷ []
 unfolding evaluates
 aFloat = refl
 
-pub texts : bytes (0x61 ∷ []) ++ string (0x61 ∷ []) ≡ 0x55 ∷ 1 ∷ 0x61 ∷ 0x58 ∷ 1 ∷ 0 ∷ 0 ∷ 0 ∷ 0x61 ∷ []
+pub texts : bytesImage (0x61 ∷ []) ++ stringImage (0x61 ∷ []) ≡ 0x55 ∷ 1 ∷ 0x61 ∷ 0x58 ∷ 1 ∷ 0 ∷ 0 ∷ 0 ∷ 0x61 ∷ []
 unfolding evaluates
 texts = refl
 
 -- 255 bytes are short, 256 are not
-pub short : bytes (replicate 255 0x78) ≡ 0x55 ∷ 0xFF ∷ replicate 255 0x78
+pub short : bytesImage (replicate 255 0x78) ≡ 0x55 ∷ 0xFF ∷ replicate 255 0x78
 unfolding evaluates
 short = refl
 
-pub long : bytes (replicate 256 0x78) ≡ 0x54 ∷ 0 ∷ 1 ∷ 0 ∷ 0 ∷ replicate 256 0x78
+pub long : bytesImage (replicate 256 0x78) ≡ 0x54 ∷ 0 ∷ 1 ∷ 0 ∷ 0 ∷ replicate 256 0x78
 unfolding evaluates
 long = refl
 
@@ -76,11 +76,11 @@ long = refl
 abbrev nones : ℕ → List (List ℕ)
 nones n = replicate n (0x4E ∷ [])
 
-pub thousand : appends (nones 1000) ≡ 0x28 ∷ replicate 1000 0x4E ++ (0x65 ∷ [])
+pub thousand : itemsImage (nones 1000) ≡ 0x28 ∷ replicate 1000 0x4E ++ (0x65 ∷ [])
 unfolding evaluates
 thousand = refl
 
-pub one-more : appends (nones 1001) ≡ 0x28 ∷ replicate 1000 0x4E ++ (0x65 ∷ 0x28 ∷ 0x4E ∷ 0x65 ∷ [])
+pub one-more : itemsImage (nones 1001) ≡ 0x28 ∷ replicate 1000 0x4E ++ (0x65 ∷ 0x28 ∷ 0x4E ∷ 0x65 ∷ [])
 unfolding evaluates
 one-more = refl
 

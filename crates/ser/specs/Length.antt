@@ -11,14 +11,14 @@ use lib.Seq.{length-take-le}
 use borrow.Author.Tests.{le-ltb, ne-eqb}
 use Rattle.utf8.specs.Encode.{by-lt}
 use Rattle.value.specs.Value.{Label, Forest, one, kind, count, size, NoneL, BoolL, I64L, F64L, BytesL, StringL, ListL, TupleL, SetL, FrozenSetL, DictL, GlobalL, ObjectL, nil, node}
-use Rattle.value.specs.Shape.{kindIn, labelsOf, labelOf, moduleOf, nameOf, namesEnd, fitting, shaped, and-l, and-r}
+use Rattle.value.specs.Shape.{kindIn, labelsOf, labelOf, modulePart, namePart, namesEnd, fitting, shaped, and-l, and-r}
 use Rattle.value.specs.Stands.{wordAt, labelAt, arityAt, textEnd, Reads, Stands}
 use Rattle.value.specs.Left.{kind-at}
-use Rattle.table.specs.Record.{Below, below}
+use Rattle.table.specs.Record.{EachBelow, each-below}
 use Rattle.table.specs.Compare.{formed-stands}
 use Rattle.value.specs.WellFormed.{WellFormed}
 use Rattle.op.specs.declared.Opcode.the-variants.{MARK, BINSTRING, «SHORT_BINSTRING», SETITEM, SETITEMS}
-use Rattle.ser.specs.Image.{op, low, int, float, bytes, string, global, setOpening, bool, opening, tupleOpcode, joined, listBatch, dictBatch, batch, batchSize, batchesUpTo, batches, appends, tupleMark, tuple, built, object, contents, images, framed, pickled}
+use Rattle.ser.specs.Image.{op, low, intImage, floatImage, bytesImage, stringImage, globalImage, setOpening, boolImage, opening, tupleOpcode, joined, listBatch, dictBatch, oneBatch, batchSize, batchesUpTo, batches, itemsImage, tupleMark, tupleImage, stateImage, objectImage, contents, images, framed, pickled}
 use Rattle.ser.specs.Parts.{images-length, size-some}
 use Rattle.ser.specs.Short.{low-length, high-length, joined-append}
 
@@ -49,8 +49,8 @@ batchTakes : Bool → ℕ → ℕ
 batchTakes true n = cond (eqb n 2) 1 2
 batchTakes false n = 2
 
-batch-length : (e : Bool) (s : List (List ℕ)) → length (batch e s) ≡ length (joined s) + batchTakes e (length s)
-unfolding batch listBatch dictBatch batchTakes
+batch-length : (e : Bool) (s : List (List ℕ)) → length (oneBatch e s) ≡ length (joined s) + batchTakes e (length s)
+unfolding oneBatch listBatch dictBatch batchTakes
 batch-length true s = go (eqb (length s) 2)
   where
     go : (c : Bool) → length (cond c (joined s ++ op SETITEM) (op MARK ++ (joined s ++ op SETITEMS))) ≡ length (joined s) + cond c 1 2
@@ -96,26 +96,26 @@ up-to-length (suc k) e (x ∷ s) h =
     let j : length (joined (x ∷ s)) ≡ length (joined a) + length (joined r) = ap (λ (u : List (List ℕ)). length (joined u)) (sym (take-append-drop b (x ∷ s))) ∙ ap length (joined-append a r) ∙ length-append (joined a) (joined r) in
     let l : length r ≡ suc (length s) - b = length-drop b (x ∷ s) in
     let f : length a ≡ min b (suc (length s)) = length-take b (x ∷ s) in
-    let one : length (batch e a) ≡ length (joined a) + batchTakes e (min b (suc (length s))) = batch-length e a ∙ rw f in
+    let one : length (oneBatch e a) ≡ length (joined a) + batchTakes e (min b (suc (length s))) = batch-length e a ∙ rw f in
     let rest : length (batchesUpTo k e r) ≡ length (joined r) + batchesTake e (suc (length s) - b) = up-to-length k e r (omega (arith, size-some e)) ∙ rw l in
-    length-append (batch e a) _ ∙ omega (arith, one, rest, j, take-more e (suc (length s)) (omega arith))
+    length-append (oneBatch e a) _ ∙ omega (arith, one, rest, j, take-more e (suc (length s)) (omega arith))
 
-appends-length : (s : List (List ℕ)) → length (appends s) ≡ length (joined s) + appendsTake (length s)
-unfolding appends batches appendsTake joined
+appends-length : (s : List (List ℕ)) → length (itemsImage s) ≡ length (joined s) + appendsTake (length s)
+unfolding itemsImage batches appendsTake joined
 appends-length [] = refl
 appends-length (x ∷ []) = length-append (joined (x ∷ [])) _
 appends-length (x ∷ y ∷ s) = rw (le-ltb (suc (suc (length s))) 2 (omega arith)) (up-to-length (length (x ∷ y ∷ s)) false (x ∷ y ∷ s) (omega arith))
 
-tuple-length : (s : List (List ℕ)) → length (tuple s) ≡ length (joined s) + tupleTakes (length s)
-unfolding tuple tupleMark tupleTakes
+tuple-length : (s : List (List ℕ)) → length (tupleImage s) ≡ length (joined s) + tupleTakes (length s)
+unfolding tupleImage tupleMark tupleTakes
 tuple-length s = go (leb (length s) 3)
   where
     go : (c : Bool) → length (cond c [] (op MARK) ++ (joined s ++ op (tupleOpcode (length s)))) ≡ length (joined s) + cond c 1 2
     go true = length-append (joined s) _
     go false = rw (length-append (joined s)) (omega arith)
 
-object-length : (b : Bool) (s : List (List ℕ)) → 0 < length s → length s < 3 → length (object b s) ≡ length (joined s) + length s
-unfolding object built joined
+object-length : (b : Bool) (s : List (List ℕ)) → 0 < length s → length s < 3 → length (objectImage b s) ≡ length (joined s) + length s
+unfolding objectImage stateImage joined
 object-length b [] h g = absurd (omega arith)
 object-length b (x ∷ []) h g = rw (length-append (x ++ []), length-append x) (omega arith)
 object-length b (x ∷ y ∷ []) h g =
@@ -138,8 +138,8 @@ contents-length (BytesL t) s h = omega (arith, none-joined s h)
 contents-length (StringL t) s h = omega (arith, none-joined s h)
 contents-length ListL s h = appends-length s
 contents-length TupleL s h = tuple-length s
-contents-length SetL s h = rw (length-append (appends s)) (omega (arith, appends-length s))
-contents-length FrozenSetL s h = rw (length-append (appends s)) (omega (arith, appends-length s))
+contents-length SetL s h = rw (length-append (itemsImage s)) (omega (arith, appends-length s))
+contents-length FrozenSetL s h = rw (length-append (itemsImage s)) (omega (arith, appends-length s))
 contents-length DictL s h = up-to-length (length s) true s (omega arith)
 contents-length (GlobalL m k) s h = sym (none-joined s (and-l (eqb (length s) 0) (ltb (length k) (2 ^ 32)) h))
 contents-length (ObjectL m k b) s h =
@@ -152,22 +152,22 @@ contents-length (ObjectL m k b) s h =
 unfoldable pub openingTakes : ℕ → ℕ → ℕ → ℕ
 openingTakes k b c =
     let names = c / 2 ^ 32 + c % 2 ^ 32 + 3 in
-    getD (1 ∷ 1 ∷ length (int b) ∷ 9 ∷ cond (leb c 255) (c + 2) (c + 5) ∷ (c + 5) ∷ 1 ∷ 0 ∷ 18 ∷ 24 ∷ 1 ∷ names ∷ names ∷ []) k 0
+    getD (1 ∷ 1 ∷ length (intImage b) ∷ 9 ∷ cond (leb c 255) (c + 2) (c + 5) ∷ (c + 5) ∷ 1 ∷ 0 ∷ 18 ∷ 24 ∷ 1 ∷ names ∷ names ∷ []) k 0
 
-bytes-length : (t : List ℕ) → length (bytes t) ≡ cond (leb (length t) 255) (length t + 2) (length t + 5)
-unfolding bytes
+bytes-length : (t : List ℕ) → length (bytesImage t) ≡ cond (leb (length t) 255) (length t + 2) (length t + 5)
+unfolding bytesImage
 bytes-length t = go (leb (length t) 255)
   where
     go : (d : Bool) → length (cond d (op «SHORT_BINSTRING» ++ low 1 (length t)) (op BINSTRING ++ low 4 (length t)) ++ t) ≡ cond d (length t + 2) (length t + 5)
     go true = rw (length-append (low 1 (length t)), low-length 1 (length t)) (omega arith)
     go false = rw (length-append (low 4 (length t)), low-length 4 (length t)) (omega arith)
 
-string-length : (t : List ℕ) → length (string t) ≡ length t + 5
-unfolding string
+string-length : (t : List ℕ) → length (stringImage t) ≡ length t + 5
+unfolding stringImage
 string-length t = rw (length-append (low 4 (length t)), low-length 4 (length t)) (omega arith)
 
-global-length : (m k : List ℕ) → length (global m k) ≡ length m + length k + 3
-unfolding global
+global-length : (m k : List ℕ) → length (globalImage m k) ≡ length m + length k + 3
+unfolding globalImage
 global-length m k = rw (length-append m, length-append k) (omega arith)
 
 -- a record's words, and the text
@@ -175,20 +175,20 @@ module _ (a b c : ℕ) (t : List ℕ) where
   text-takes : b + c ≤ length t → (f : List ℕ → List ℕ) (g : ℕ → ℕ) → ((s : List ℕ) → length (f s) ≡ g (length s)) → length (f (take c (drop b t))) ≡ g c
   text-takes h f g e = e (take c (drop b t)) ∙ ap g (length-take-le c (drop b t) (omega (arith, length-drop b t)))
 
-  names-take : namesEnd b c ≤ length t → length (global (moduleOf c (drop b t)) (nameOf c (drop b t))) ≡ c / 2 ^ 32 + c % 2 ^ 32 + 3
+  names-take : namesEnd b c ≤ length t → length (globalImage (modulePart c (drop b t)) (namePart c (drop b t))) ≡ c / 2 ^ 32 + c % 2 ^ 32 + 3
   names-take h =
       let u = drop b t in
       let x = length-take-le (c / 2 ^ 32) u (omega (arith, length-drop b t)) in
       let y = length-take-le (c % 2 ^ 32) (drop (c / 2 ^ 32) u) (omega (arith, length-drop (c / 2 ^ 32) u, length-drop b t)) in
-      global-length (moduleOf c u) (nameOf c u) ∙ omega (arith, x, y)
+      global-length (modulePart c u) (namePart c u) ∙ omega (arith, x, y)
 
   abbrev Takes : ℕ → Type 0
   Takes k = getD (0 ∷ 0 ∷ 0 ∷ 0 ∷ (b + c) ∷ (b + c) ∷ 0 ∷ 0 ∷ 0 ∷ 0 ∷ 0 ∷ namesEnd b c ∷ namesEnd b c ∷ []) k 0 ≤ length t → length (opening (getD (labelsOf a b c (drop b t)) k NoneL)) ≡ openingTakes k b c
 
   kind-takes : (k : ℕ) → k < 13 → Takes k
-  unfolding opening openingTakes bool float setOpening global Below
+  unfolding opening openingTakes boolImage floatImage setOpening globalImage EachBelow
   kind-takes =
-      below 13 Takes (
+      each-below 13 Takes (
         (λ h. refl),
         (
           (λ h. refl),
@@ -197,8 +197,8 @@ module _ (a b c : ℕ) (t : List ℕ) where
             (
               (λ h. ap suc (high-length 8 b)),
               (
-                (λ h. text-takes h bytes (λ n. cond (leb n 255) (n + 2) (n + 5)) bytes-length),
-                ((λ h. text-takes h string (λ n. n + 5) string-length), ((λ h. refl), ((λ h. refl), ((λ h. refl), ((λ h. refl), ((λ h. refl), ((λ h. names-take h), ((λ h. names-take h), tt)))))))),
+                (λ h. text-takes h bytesImage (λ n. cond (leb n 255) (n + 2) (n + 5)) bytes-length),
+                ((λ h. text-takes h stringImage (λ n. n + 5) string-length), ((λ h. refl), ((λ h. refl), ((λ h. refl), ((λ h. refl), ((λ h. refl), ((λ h. names-take h), ((λ h. names-take h), tt)))))))),
               ),
             ),
           ),

@@ -11,15 +11,15 @@ use Rattle.utf8.specs.Encode.{by-lt}
 use Rattle.value.specs.Value.{Label, Forest, count, size, count-size, nil, node}
 use Rattle.value.specs.Stands.{labelAt, arityAt, Reads, Says, Stands}
 use Rattle.output.specs.Put.{Put, Room, put-same, put-then, put-none, room-first, room-then}
-use Rattle.ser.specs.Image.{opening, contents, images, joined, batch, batchSize, batchesUpTo, batches}
-use Rattle.ser.specs.Walk.{Maker, Ready, Wrote}
+use Rattle.ser.specs.Image.{opening, contents, images, joined, oneBatch, batchSize, batchesUpTo, batches}
+use Rattle.ser.specs.Walk.{Maker, ReadyToWrite, Wrote}
 
 -- bytes before what F makes, and behind it
-unfoldable pub behind : List ℕ → Maker → Maker
-behind b F s = b ++ F s
+unfoldable pub precededBy : List ℕ → Maker → Maker
+precededBy b F s = b ++ F s
 
-unfoldable pub ahead : Maker → List ℕ → Maker
-ahead F b s = F s ++ b
+unfoldable pub followedBy : Maker → List ℕ → Maker
+followedBy F b s = F s ++ b
 
 -- two makers make the same of n parts
 pub record Same (n : ℕ) (F G : Maker) : Type 0 where
@@ -31,8 +31,8 @@ pub record Cuts (k n m : ℕ) (F G H : Maker) : Type 0 where
   pub cuts : (s : List (List ℕ)) → length s ≡ n → F s ≡ G (take k s) ++ H (drop k s)
 
 -- n values stood from record `from` on; writing those that are left, from record i on, will have written them all
-pub record Going (F : Maker) (w t : List ℕ) (from n : ℕ) (o₀ : List ℕ) (at : ℕ) (o : List ℕ) (i left next : ℕ) : Type 0 where
-  pub ready : Ready F w t i left o next
+pub record WrittenSoFar (F : Maker) (w t : List ℕ) (from n : ℕ) (o₀ : List ℕ) (at : ℕ) (o : List ℕ) (i left next : ℕ) : Type 0 where
+  pub ready : ReadyToWrite F w t i left o next
   pub later : from ≤ i
   pub kept : length o ≡ length o₀
   pub rest : (o′ : List ℕ) (j q : ℕ) → Wrote F w t i left o next o′ j q → Wrote F w t from n o₀ at o′ j q
@@ -110,13 +110,13 @@ module _ {w t : List ℕ} where
     cuts-at : (f : Forest) → count f ≡ n → (x : Cut w t i k f) → F (images f) ≡ G (images (x .first)) ++ H (images (x .rest))
     cuts-at f q x = e .cuts (images f) (images-length f ∙ q) ∙ rw (x .takes, x .drops)
 
-    pub ready-cut : {o : List ℕ} {at : ℕ} → Ready F w t i n o at → Ready G w t i k o at
+    pub ready-cut : {o : List ℕ} {at : ℕ} → ReadyToWrite F w t i n o at → ReadyToWrite G w t i k o at
     ready-cut y =
         let x = cut w t k i (y .values) (y .stands) (omega (arith, y .counted, e .sum)) in
         record { values = x .first; stands = x .stands; counted = x .counted; room = room-first _ (rw (cuts-at (y .values) (y .counted) x) at (y .room)) }
 
     module _ {o o₁ : List ℕ} {at j p : ℕ} (a : Wrote G w t i k o at o₁ j p) where
-      pub ready-rest : Ready F w t i n o at → Ready H w t j m o₁ p
+      pub ready-rest : ReadyToWrite F w t i n o at → ReadyToWrite H w t j m o₁ p
       ready-rest y =
           let x = cut w t k i (y .values) (y .stands) (omega (arith, y .counted, e .sum)) in
           let l : count (x .rest) ≡ m = omega (arith, x .others, y .counted, e .sum) in
@@ -147,7 +147,7 @@ module _ {w t : List ℕ} where
   -- ---- the same by another maker
 
   module _ {F G : Maker} {n : ℕ} (e : Same n F G) {i : ℕ} where
-    pub ready-as : {o : List ℕ} {at : ℕ} → Ready F w t i n o at → Ready G w t i n o at
+    pub ready-as : {o : List ℕ} {at : ℕ} → ReadyToWrite F w t i n o at → ReadyToWrite G w t i n o at
     ready-as y = record { values = y .values; stands = y .stands; counted = y .counted; room = rw (e .same (images (y .values)) (images-length (y .values) ∙ y .counted)) at (y .room) }
 
     pub wrote-as : {o o′ : List ℕ} {at j p : ℕ} → Wrote G w t i n o at o′ j p → Wrote F w t i n o at o′ j p
@@ -156,35 +156,35 @@ module _ {w t : List ℕ} where
   -- ---- bytes before the values and behind them
 
   module _ (F : Maker) (b : List ℕ) {i n : ℕ} where
-    pub ready-front : {o : List ℕ} {at : ℕ} → Ready (behind b F) w t i n o at → Room o at b
-    unfolding behind
+    pub ready-front : {o : List ℕ} {at : ℕ} → ReadyToWrite (precededBy b F) w t i n o at → Room o at b
+    unfolding precededBy
     ready-front y = room-first _ (y .room)
 
-    pub ready-after : {at p : ℕ} {o o₁ : List ℕ} → Ready (behind b F) w t i n o at → Put o at b o₁ p → Ready F w t i n o₁ p
-    unfolding behind
+    pub ready-after : {at p : ℕ} {o o₁ : List ℕ} → ReadyToWrite (precededBy b F) w t i n o at → Put o at b o₁ p → ReadyToWrite F w t i n o₁ p
+    unfolding precededBy
     ready-after y x = record { values = y .values; stands = y .stands; counted = y .counted; room = room-then _ x (y .room) }
 
-    pub wrote-after : {at p j q : ℕ} {o o₁ o₂ : List ℕ} → Put o at b o₁ p → Wrote F w t i n o₁ p o₂ j q → Wrote (behind b F) w t i n o at o₂ j q
-    unfolding behind
+    pub wrote-after : {at p j q : ℕ} {o o₁ o₂ : List ℕ} → Put o at b o₁ p → Wrote F w t i n o₁ p o₂ j q → Wrote (precededBy b F) w t i n o at o₂ j q
+    unfolding precededBy
     wrote-after x a = record { puts = λ f s c. put-then x (a .puts f s c); passed = a .passed }
 
-    pub ready-before : {o : List ℕ} {at : ℕ} → Ready (ahead F b) w t i n o at → Ready F w t i n o at
-    unfolding ahead
+    pub ready-before : {o : List ℕ} {at : ℕ} → ReadyToWrite (followedBy F b) w t i n o at → ReadyToWrite F w t i n o at
+    unfolding followedBy
     ready-before y = record { values = y .values; stands = y .stands; counted = y .counted; room = room-first _ (y .room) }
 
-    pub ready-end : {at j p : ℕ} {o o₁ : List ℕ} → Ready (ahead F b) w t i n o at → Wrote F w t i n o at o₁ j p → Room o₁ p b
-    unfolding ahead
+    pub ready-end : {at j p : ℕ} {o o₁ : List ℕ} → ReadyToWrite (followedBy F b) w t i n o at → Wrote F w t i n o at o₁ j p → Room o₁ p b
+    unfolding followedBy
     ready-end y a = room-then _ (a .puts (y .values) (y .stands) (y .counted)) (y .room)
 
-    pub wrote-before : {at p j q : ℕ} {o o₁ o₂ : List ℕ} → Wrote F w t i n o at o₁ j p → Put o₁ p b o₂ q → Wrote (ahead F b) w t i n o at o₂ j q
-    unfolding ahead
+    pub wrote-before : {at p j q : ℕ} {o o₁ o₂ : List ℕ} → Wrote F w t i n o at o₁ j p → Put o₁ p b o₂ q → Wrote (followedBy F b) w t i n o at o₂ j q
+    unfolding followedBy
     wrote-before a x = record { puts = λ f s c. put-then (a .puts f s c) x; passed = a .passed }
 
   -- the next record is no earlier one
-  pub wrote-later : {F : Maker} {i n at j p : ℕ} {o o₁ : List ℕ} → Ready F w t i n o at → Wrote F w t i n o at o₁ j p → i ≤ j
+  pub wrote-later : {F : Maker} {i n at j p : ℕ} {o o₁ : List ℕ} → ReadyToWrite F w t i n o at → Wrote F w t i n o at o₁ j p → i ≤ j
   wrote-later y a = omega (arith, a .passed (y .values) (y .stands) (y .counted))
 
-  pub wrote-kept : {F : Maker} {i n at j p : ℕ} {o o₁ : List ℕ} → Ready F w t i n o at → Wrote F w t i n o at o₁ j p → length o₁ ≡ length o
+  pub wrote-kept : {F : Maker} {i n at j p : ℕ} {o o₁ : List ℕ} → ReadyToWrite F w t i n o at → Wrote F w t i n o at o₁ j p → length o₁ ≡ length o
   wrote-kept y a = ap length (a .puts (y .values) (y .stands) (y .counted) .wrote) ∙ simp length-sets
 
   -- no values
@@ -201,10 +201,10 @@ module _ {w t : List ℕ} where
   -- ---- a loop
 
   module _ {F : Maker} {from n at : ℕ} {o₀ : List ℕ} where
-    pub going-all : Ready F w t from n o₀ at → Going F w t from n o₀ at o₀ from n at
+    pub going-all : ReadyToWrite F w t from n o₀ at → WrittenSoFar F w t from n o₀ at o₀ from n at
     going-all y = record { ready = y; later = omega arith; kept = refl; rest = λ o′ j q a. a }
 
-    pub going-again : {G : Maker} {k m i left next j q : ℕ} {o o′ : List ℕ} → Cuts k left m F G F → Going F w t from n o₀ at o i left next → Wrote G w t i k o next o′ j q → Going F w t from n o₀ at o′ j m q
+    pub going-again : {G : Maker} {k m i left next j q : ℕ} {o o′ : List ℕ} → Cuts k left m F G F → WrittenSoFar F w t from n o₀ at o i left next → Wrote G w t i k o next o′ j q → WrittenSoFar F w t from n o₀ at o′ j m q
     going-again e g a =
         record {
           ready = ready-rest e a (g .ready);
@@ -213,7 +213,7 @@ module _ {w t : List ℕ} where
           rest = λ o₂ j₂ q₂ b. g .rest o₂ j₂ q₂ (wrote-cut e a b);
         }
 
-    pub going-none : {i left next : ℕ} {o : List ℕ} → F [] ≡ [] → left ≤ 0 → Going F w t from n o₀ at o i left next → Wrote F w t from n o₀ at o i next
+    pub going-none : {i left next : ℕ} {o : List ℕ} → F [] ≡ [] → left ≤ 0 → WrittenSoFar F w t from n o₀ at o i left next → Wrote F w t from n o₀ at o i next
     going-none e h g = g .rest _ _ _ (wrote-none h e)
 
   -- ---- a value
@@ -225,7 +225,7 @@ module _ {w t : List ℕ} where
     single-of (node l c nil) s q r = record { label = l; inside = c; says = s .0; stands = s .1; room = rw append-nil at r }
     single-of (node l c (node m d f)) s q r = absurd (omega arith)
 
-    module _ (y : Ready joined w t i 1 o at) where
+    module _ (y : ReadyToWrite joined w t i 1 o at) where
       single : Single w t i o at
       single = single-of (y .values) (y .stands) (y .counted) (y .room)
 
@@ -235,7 +235,7 @@ module _ {w t : List ℕ} where
       pub value-room : Room o at (opening (labelAt w t i))
       value-room = rw (single .says .label) (room-first _ (single .room))
 
-      pub value-inside : {o₁ : List ℕ} {p : ℕ} → Put o at (opening (labelAt w t i)) o₁ p → Ready (contents (labelAt w t i)) w t (i + 1) (arityAt w i) o₁ p
+      pub value-inside : {o₁ : List ℕ} {p : ℕ} → Put o at (opening (labelAt w t i)) o₁ p → ReadyToWrite (contents (labelAt w t i)) w t (i + 1) (arityAt w i) o₁ p
       value-inside x =
           record {
             values = single .inside;
@@ -258,7 +258,7 @@ module _ {w t : List ℕ} where
       passed (node l c nil) s e = omega (arith, a .passed c (s .1) (sym (s .0 .arity)))
       passed (node l c (node m d f)) s e = absurd (omega arith)
 
-  pub value-arity : {i : ℕ} {o : List ℕ} {at : ℕ} → Ready joined w t i 1 o at → arityAt w i ≤ length w
+  pub value-arity : {i : ℕ} {o : List ℕ} {at : ℕ} → ReadyToWrite joined w t i 1 o at → arityAt w i ≤ length w
   value-arity {i} y =
       let x = single y in
       omega (arith, x .says .arity, count-size (x .inside), inside w t (x .inside) (i + 1) (x .stands) (omega (arith, x .says .reads .inside)))
@@ -295,7 +295,7 @@ module _ (e : Bool) where
   fuel (suc k) (suc m) (x ∷ s) h g =
       let r = drop (batchSize e) (x ∷ s) in
       let l : length r ≡ suc (length s) - batchSize e = length-drop (batchSize e) (x ∷ s) in
-      ap (λ (y : List ℕ). batch e (take (batchSize e) (x ∷ s)) ++ y) (fuel k m r (omega (arith, size-some e)) (omega (arith, size-some e)))
+      ap (λ (y : List ℕ). oneBatch e (take (batchSize e) (x ∷ s)) ++ y) (fuel k m r (omega (arith, size-some e)) (omega (arith, size-some e)))
 
   take-min : (b n : ℕ) (s : List (List ℕ)) → length s ≡ n → take (min b n) s ≡ take b s
   take-min b n s q =
@@ -305,17 +305,17 @@ module _ (e : Bool) where
   drop-min b n s q =
       by-lt n b (λ l. let m : min b n ≡ n = omega arith in rw m (drop-of-length-le s {i = n} (omega arith) ∙ sym (drop-of-length-le s {i = b} (omega arith)))) (λ l. let m : min b n ≡ b = omega arith in rw m)
 
-  pub batches-cuts : (n : ℕ) → 0 < n → Cuts (min (batchSize e) n) n (n - min (batchSize e) n) (batches e) (batch e) (batches e)
+  pub batches-cuts : (n : ℕ) → 0 < n → Cuts (min (batchSize e) n) n (n - min (batchSize e) n) (batches e) (oneBatch e) (batches e)
   unfolding batches batchesUpTo
   batches-cuts n h = record { sum = omega arith; cuts = cuts }
     where
-      cuts : (s : List (List ℕ)) → length s ≡ n → batches e s ≡ batch e (take (min (batchSize e) n) s) ++ batches e (drop (min (batchSize e) n) s)
+      cuts : (s : List (List ℕ)) → length s ≡ n → batches e s ≡ oneBatch e (take (min (batchSize e) n) s) ++ batches e (drop (min (batchSize e) n) s)
       cuts [] q = absurd (omega arith)
       cuts (x ∷ s) q =
           let b = batchSize e in
           let r = drop b (x ∷ s) in
           let l : length r ≡ suc (length s) - b = length-drop b (x ∷ s) in
-          rw (take-min b n (x ∷ s) q, drop-min b n (x ∷ s) q) (ap (λ (y : List ℕ). batch e (take b (x ∷ s)) ++ y) (fuel (length s) (length r) r (omega (arith, size-some e)) (omega arith)))
+          rw (take-min b n (x ∷ s) q, drop-min b n (x ∷ s) q) (ap (λ (y : List ℕ). oneBatch e (take b (x ∷ s)) ++ y) (fuel (length s) (length r) r (omega (arith, size-some e)) (omega arith)))
 
   pub batches-none : batches e [] ≡ []
   unfolding batches batchesUpTo

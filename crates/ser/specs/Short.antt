@@ -9,7 +9,7 @@ use lib.ListN.{length, length-append, length-drop, take, drop, take-append-drop}
 use Rattle.value.specs.Value.{Label, Forest, Value, one, textOf, text, count, size, NoneL, BoolL, I64L, F64L, BytesL, StringL, ListL, TupleL, SetL, FrozenSetL, DictL, GlobalL, ObjectL, nil, node}
 use Rattle.value.specs.WellFormed.{WellFormed}
 use Rattle.output.specs.Decimal.{signedText, signed-short, either-way}
-use Rattle.ser.specs.Image.{low, high, inI32, int, float, bytes, string, global, builtin, set, frozenset, setOpening, bool, opening, joined, listBatch, dictBatch, batch, batchSize, batchesUpTo, batches, appends, tupleMark, tuple, built, object, contents, images, framed, pickled}
+use Rattle.ser.specs.Image.{low, high, inI32, intImage, floatImage, bytesImage, stringImage, globalImage, builtin, set, frozenset, setOpening, boolImage, opening, joined, listBatch, dictBatch, oneBatch, batchSize, batchesUpTo, batches, itemsImage, tupleMark, tupleImage, stateImage, objectImage, contents, images, framed, pickled}
 use Rattle.ser.specs.Parts.{images-length, size-some}
 
 pub low-length : (k n : ℕ) → length (low k n) ≡ k
@@ -24,35 +24,35 @@ high-length (suc k) n = rw (length-append (high k (n / 256)), high-length k (n /
 
 -- ---- before the parts
 
-int-short : (b : ℕ) → length (int b) ≤ 24
-unfolding int
+int-short : (b : ℕ) → length (intImage b) ≤ 24
+unfolding intImage
 int-short b =
     let P : List ℕ → Type 0 = λ (u : List ℕ). length u ≤ 24 in
     let t : length (signedText b ++ (0x0A ∷ [])) ≤ 22 = rw (length-append (signedText b)) (omega (arith, signed-short b)) in
     either-way P (leb b 255) _ _ (omega (arith, low-length 1 b))
     (either-way P (leb b 65535) _ _ (omega (arith, low-length 2 b)) (either-way P (inI32 b) _ _ (omega (arith, low-length 4 b)) (omega arith)))
 
-bytes-short : (t : List ℕ) → length (bytes t) ≤ 24 + length t
-unfolding bytes
+bytes-short : (t : List ℕ) → length (bytesImage t) ≤ 24 + length t
+unfolding bytesImage
 bytes-short t =
     let n = length t in
     rw (length-append (cond (leb n 255) _ _))
     (either-way (λ (u : List ℕ). length u + n ≤ 24 + n) (leb n 255) _ _ (omega (arith, low-length 1 n)) (omega (arith, low-length 4 n)))
 
-string-short : (t : List ℕ) → length (string t) ≤ 24 + length t
-unfolding string
+string-short : (t : List ℕ) → length (stringImage t) ≤ 24 + length t
+unfolding stringImage
 string-short t = rw (length-append (low 4 (length t))) (omega (arith, low-length 4 (length t)))
 
-global-short : (m k : List ℕ) → length (global m k) ≤ 3 + length (m ++ k)
-unfolding global
+global-short : (m k : List ℕ) → length (globalImage m k) ≤ 3 + length (m ++ k)
+unfolding globalImage
 global-short m k = rw (length-append m, length-append m, length-append k) (omega arith)
 
 set-short : (k : List ℕ) → length (setOpening k) ≤ 15 + length k
 unfolding setOpening
-set-short k = rw (length-append (global builtin k)) (omega (arith, global-short builtin k))
+set-short k = rw (length-append (globalImage builtin k)) (omega (arith, global-short builtin k))
 
 opening-short : (l : Label) → length (opening l) ≤ 24 + length (textOf l)
-unfolding opening float bool
+unfolding opening floatImage boolImage
 opening-short NoneL = omega arith
 opening-short (BoolL b) = omega arith
 opening-short (I64L i) = omega (arith, int-short i)
@@ -74,8 +74,8 @@ unfolding joined
 joined-append [] r = refl
 joined-append (x ∷ s) r = rw (joined-append s r, append-assoc x)
 
-batch-short : (e : Bool) (s : List (List ℕ)) → length (batch e s) ≤ 2 + length (joined s)
-unfolding batch listBatch dictBatch
+batch-short : (e : Bool) (s : List (List ℕ)) → length (oneBatch e s) ≤ 2 + length (joined s)
+unfolding oneBatch listBatch dictBatch
 batch-short true s =
     either-way (λ (u : List ℕ). length u ≤ 2 + length (joined s)) (eqb (length s) 2) _ _ (rw (length-append (joined s)) (omega arith)) (rw (length-append (joined s)) (omega arith))
 batch-short false s = rw (length-append (joined s)) (omega arith)
@@ -90,28 +90,28 @@ up-to-short (suc k) e (x ∷ s) =
     let r = drop b (x ∷ s) in
     let j : length (joined (x ∷ s)) ≡ length (joined a) + length (joined r) = ap (λ (u : List (List ℕ)). length (joined u)) (sym (take-append-drop b (x ∷ s))) ∙ ap length (joined-append a r) ∙ length-append (joined a) (joined r) in
     let l : length r ≡ suc (length s) - b = length-drop b (x ∷ s) in
-    rw (length-append (batch e a)) (omega (arith, batch-short e a, up-to-short k e r, size-some e))
+    rw (length-append (oneBatch e a)) (omega (arith, batch-short e a, up-to-short k e r, size-some e))
 
-appends-short : (s : List (List ℕ)) → length (appends s) ≤ length (joined s) + 2 * length s
-unfolding appends batches
+appends-short : (s : List (List ℕ)) → length (itemsImage s) ≤ length (joined s) + 2 * length s
+unfolding itemsImage batches
 appends-short [] = omega arith
 appends-short (x ∷ []) = rw (length-append (joined (x ∷ []))) (omega arith)
 appends-short (x ∷ y ∷ s) = up-to-short (length (x ∷ y ∷ s)) false (x ∷ y ∷ s)
 
-tuple-short : (s : List (List ℕ)) → length (tuple s) ≤ 2 + length (joined s)
-unfolding tuple tupleMark
+tuple-short : (s : List (List ℕ)) → length (tupleImage s) ≤ 2 + length (joined s)
+unfolding tupleImage tupleMark
 tuple-short s =
     let n = length s in
     rw (length-append (cond (leb n 3) _ _), length-append (joined s))
     (either-way (λ (u : List ℕ). length u + (length (joined s) + 1) ≤ 2 + length (joined s)) (leb n 3) _ _ (omega arith) (omega arith))
 
-built-short : (s : List (List ℕ)) → length (built s) ≤ 1 + length (joined s)
-unfolding built
+built-short : (s : List (List ℕ)) → length (stateImage s) ≤ 1 + length (joined s)
+unfolding stateImage
 built-short [] = omega arith
 built-short (x ∷ s) = rw (length-append (joined (x ∷ s))) (omega arith)
 
-object-short : (b : Bool) (s : List (List ℕ)) → length (object b s) ≤ 2 + length (joined s)
-unfolding object joined
+object-short : (b : Bool) (s : List (List ℕ)) → length (objectImage b s) ≤ 2 + length (joined s)
+unfolding objectImage joined
 object-short b [] = omega arith
 object-short b (x ∷ s) = rw (length-append (joined (x ∷ [])), length-append x, length-append x) (omega (arith, built-short s))
 
@@ -125,8 +125,8 @@ contents-short (BytesL t) s = omega arith
 contents-short (StringL t) s = omega arith
 contents-short ListL s = omega (arith, appends-short s)
 contents-short TupleL s = omega (arith, tuple-short s)
-contents-short SetL s = rw (length-append (appends s)) (omega (arith, appends-short s))
-contents-short FrozenSetL s = rw (length-append (appends s)) (omega (arith, appends-short s))
+contents-short SetL s = rw (length-append (itemsImage s)) (omega (arith, appends-short s))
+contents-short FrozenSetL s = rw (length-append (itemsImage s)) (omega (arith, appends-short s))
 contents-short DictL s = omega (arith, up-to-short (length s) true s)
 contents-short (GlobalL m k) s = omega arith
 contents-short (ObjectL m k b) s = omega (arith, object-short b s)

@@ -13,7 +13,7 @@ abbrev pub Maker : Type 0
 Maker = List (List ℕ) → List ℕ
 
 -- n values stand from record i on, and the output has room at `at` for what F makes of them
-pub record Ready (F : Maker) (w t : List ℕ) (i n : ℕ) (o : List ℕ) (at : ℕ) : Type 0 where
+pub record ReadyToWrite (F : Maker) (w t : List ℕ) (i n : ℕ) (o : List ℕ) (at : ℕ) : Type 0 where
   pub values : Forest
   pub stands : Stands w t i values
   pub counted : count values ≡ n

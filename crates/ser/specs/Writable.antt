@@ -11,11 +11,11 @@ use lib.ListN.{length}
 use Rattle.input.specs.Bytes.{lt-or-le, lastByte}
 use Rattle.value.specs.Value.{Label, Forest, size, count-size, NoneL, BoolL, I64L, F64L, BytesL, StringL, ListL, TupleL, SetL, FrozenSetL, DictL, GlobalL, ObjectL, nil, node}
 use Rattle.value.specs.Stands.{labelAt, arityAt, Reads, Stands}
-use Rattle.output.specs.Put.{newline}
+use Rattle.output.specs.Put.{newlineByte}
 
 unfoldable pub hasNewline : List ℕ → Bool
 hasNewline [] = false
-hasNewline (b ∷ s) = eqb b newline || hasNewline s
+hasNewline (b ∷ s) = eqb b newlineByte || hasNewline s
 
 unfoldable pub endsCr : List ℕ → Bool
 endsCr s = eqb (lastByte s) 0x0D
@@ -61,7 +61,7 @@ pub can-be : writable (m ∷ []) ∷ writable [] ∷ writable (m ∷ cr ∷ m �
 unfolding evaluates
 can-be = refl
 
-pub can-not : writable (newline ∷ []) ∷ writable (newline ∷ m ∷ []) ∷ writable (m ∷ newline ∷ m ∷ []) ∷ writable (m ∷ newline ∷ []) ∷ writable (cr ∷ []) ∷ writable (m ∷ cr ∷ cr ∷ []) ∷ []
+pub can-not : writable (newlineByte ∷ []) ∷ writable (newlineByte ∷ m ∷ []) ∷ writable (m ∷ newlineByte ∷ m ∷ []) ∷ writable (m ∷ newlineByte ∷ []) ∷ writable (cr ∷ []) ∷ writable (m ∷ cr ∷ cr ∷ []) ∷ []
     ≡ false ∷ false ∷ false ∷ false ∷ false ∷ false ∷ []
 unfolding evaluates
 can-not = refl

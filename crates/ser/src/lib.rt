@@ -6,18 +6,18 @@ use output::Place;
 use refusal::Answer;
 use refusal::Refusal;
 use refusal::Which;
-use value::BOOL;
-use value::BYTES;
-use value::DICT;
-use value::F64;
-use value::FROZEN_SET;
-use value::I64;
-use value::LIST;
-use value::NONE;
-use value::OBJECT;
-use value::SET;
-use value::STRING;
-use value::TUPLE;
+use value::KIND_BOOL;
+use value::KIND_BYTES;
+use value::KIND_DICT;
+use value::KIND_F64;
+use value::KIND_FROZEN_SET;
+use value::KIND_I64;
+use value::KIND_LIST;
+use value::KIND_NONE;
+use value::KIND_OBJECT;
+use value::KIND_SET;
+use value::KIND_STRING;
+use value::KIND_TUPLE;
 ghost use mathlib.Core.Path.{_≡_};
 ghost use mathlib.Core.Bool.{_&&_};
 ghost use Prim.Native.Nat.{_+_, _*_, _^_, _≤_, _<_, suc, min};
@@ -25,10 +25,10 @@ ghost use lib.ListN.{length, drop};
 ghost use Rattle.value.specs.Value.{bit};
 ghost use Rattle.value.specs.Stands.{wordAt, labelAt, arityAt, Reads};
 ghost use Rattle.output.specs.Put.{Put, Room};
-ghost use Rattle.op.specs.Table.{numberOf};
-ghost use Rattle.value.specs.Shape.{kindIn, namesEnd, moduleOf, nameOf};
-ghost use Rattle.ser.specs.Image.{low, high, inI32, int, float, bytes, string, global, setOpening, bool, opening, joined, batch, batchSize, batches, appends, tupleMark, tupleOpcode, tuple, objectOpcode, object, framed};
-ghost use Rattle.ser.specs.Walk.{Ready, Puts, Wrote};
+ghost use Rattle.op.specs.Table.{codeOf};
+ghost use Rattle.value.specs.Shape.{kindIn, namesEnd, modulePart, namePart};
+ghost use Rattle.ser.specs.Image.{low, high, inI32, intImage, floatImage, bytesImage, stringImage, globalImage, setOpening, boolImage, opening, joined, oneBatch, batchSize, batches, itemsImage, tupleMark, tupleOpcode, tupleImage, objectOpcode, objectImage, framed};
+ghost use Rattle.ser.specs.Walk.{ReadyToWrite, Puts, Wrote};
 ghost use Rattle.ser.specs.Length.{batchesTake, appendsTake, around, openingTakes, recordTakes, recordsTake};
 ghost use Rattle.ser.specs.Writable.{endsCr, writable, writableLabel, writableFrom, Readable};
 ghost use Rattle.ser.specs.Call.{WriteCall};
@@ -65,8 +65,8 @@ fn put_high(n: u64, count: usize, output: &mut [u8], at: usize) -> usize
 }
 
 fn encode_bool(value: bool, output: &mut [u8], at: usize) -> usize
-    requires { ⌜ Room (now output) at (bool value) ⌝ }
-    ensures { λ r. ⌜ Put (now (output .entry)) at (bool value) (now (output .exit)) r ⌝ }
+    requires { ⌜ Room (now output) at (boolImage value) ⌝ }
+    ensures { λ r. ⌜ Put (now (output .entry)) at (boolImage value) (now (output .exit)) r ⌝ }
 {
     if value {
         return output::put_byte(op::NEWTRUE, output, at);
@@ -86,8 +86,8 @@ fn in_i32(bits: u64) -> bool
 
 // An i64, from its 64 bits.
 fn encode_i64(bits: u64, output: &mut [u8], at: usize) -> usize
-    requires { ⌜ Room (now output) at (int bits) ⌝ }
-    ensures { λ r. ⌜ Put (now (output .entry)) at (int bits) (now (output .exit)) r ⌝ }
+    requires { ⌜ Room (now output) at (intImage bits) ⌝ }
+    ensures { λ r. ⌜ Put (now (output .entry)) at (intImage bits) (now (output .exit)) r ⌝ }
 {
     if bits <= 255 {
         let next = output::put_byte(op::BININT1, output, at);
@@ -107,16 +107,16 @@ fn encode_i64(bits: u64, output: &mut [u8], at: usize) -> usize
 }
 
 fn encode_f64(bits: u64, output: &mut [u8], at: usize) -> usize
-    requires { ⌜ Room (now output) at (float bits) ⌝ }
-    ensures { λ r. ⌜ Put (now (output .entry)) at (float bits) (now (output .exit)) r ⌝ }
+    requires { ⌜ Room (now output) at (floatImage bits) ⌝ }
+    ensures { λ r. ⌜ Put (now (output .entry)) at (floatImage bits) (now (output .exit)) r ⌝ }
 {
     let next = output::put_byte(op::BINFLOAT, output, at);
     put_high(bits, 8, output, next)
 }
 
 fn encode_bytes(value: &[u8], output: &mut [u8], at: usize) -> usize
-    requires { ⌜ Room (now output) at (bytes (now value)) ⌝ }
-    ensures { λ r. ⌜ Put (now (output .entry)) at (bytes (now (value .entry))) (now (output .exit)) r ⌝ }
+    requires { ⌜ Room (now output) at (bytesImage (now value)) ⌝ }
+    ensures { λ r. ⌜ Put (now (output .entry)) at (bytesImage (now (value .entry))) (now (output .exit)) r ⌝ }
 {
     let len = value.len();
     if len <= 255 {
@@ -130,8 +130,8 @@ fn encode_bytes(value: &[u8], output: &mut [u8], at: usize) -> usize
 }
 
 fn encode_string(value: &[u8], output: &mut [u8], at: usize) -> usize
-    requires { ⌜ Room (now output) at (string (now value)) ⌝ }
-    ensures { λ r. ⌜ Put (now (output .entry)) at (string (now (value .entry))) (now (output .exit)) r ⌝ }
+    requires { ⌜ Room (now output) at (stringImage (now value)) ⌝ }
+    ensures { λ r. ⌜ Put (now (output .entry)) at (stringImage (now (value .entry))) (now (output .exit)) r ⌝ }
 {
     let next = output::put_byte(op::BINUNICODE, output, at);
     let end = put_low(value.len() as u64, 4, output, next);
@@ -139,8 +139,8 @@ fn encode_string(value: &[u8], output: &mut [u8], at: usize) -> usize
 }
 
 fn encode_global(module: &[u8], name: &[u8], output: &mut [u8], at: usize) -> usize
-    requires { ⌜ Room (now output) at (global (now «module») (now name)) ⌝ }
-    ensures { λ r. ⌜ Put (now (output .entry)) at (global (now («module» .entry)) (now (name .entry))) (now (output .exit)) r ⌝ }
+    requires { ⌜ Room (now output) at (globalImage (now «module») (now name)) ⌝ }
+    ensures { λ r. ⌜ Put (now (output .entry)) at (globalImage (now («module» .entry)) (now (name .entry))) (now (output .exit)) r ⌝ }
 {
     let a = output::put_byte(op::GLOBAL, output, at);
     let b = output::put_run(module, output, a);
@@ -161,9 +161,9 @@ fn encode_set(name: &[u8], output: &mut [u8], at: usize) -> usize
 // A module and a name, whose texts stand side by side from `from` on; `lengths` has the module's in its upper half.
 fn encode_names(text: &[u8], from: u64, lengths: u64, output: &mut [u8], at: usize) -> usize
     requires { ⌜ namesEnd from lengths ≤ length (now text) ⌝ }
-    requires { ⌜ Room (now output) at (global (moduleOf lengths (drop from (now text))) (nameOf lengths (drop from (now text)))) ⌝ }
+    requires { ⌜ Room (now output) at (globalImage (modulePart lengths (drop from (now text))) (namePart lengths (drop from (now text)))) ⌝ }
     ensures { λ r. ⌜ Put (now (output .entry)) at
-        (global (moduleOf lengths (drop from (now (text .entry)))) (nameOf lengths (drop from (now (text .entry)))))
+        (globalImage (modulePart lengths (drop from (now (text .entry)))) (namePart lengths (drop from (now (text .entry)))))
         (now (output .exit)) r ⌝ }
 {
     let start = from as usize;
@@ -186,38 +186,38 @@ fn encode_opening(words: &[u64], text: &[u8], i: usize, output: &mut [u8], at: u
     let kind = value::head_of(words[4 * i]).kind;
     let second = words[4 * i + 1];
     let third = words[4 * i + 2];
-    if kind > DICT {
+    if kind > KIND_DICT {
         return encode_names(text, second, third, output, at);
     }
-    if kind > STRING {
-        if kind == LIST {
+    if kind > KIND_STRING {
+        if kind == KIND_LIST {
             return output::put_byte(op::EMPTY_LIST, output, at);
         }
-        if kind == TUPLE {
+        if kind == KIND_TUPLE {
             return at;
         }
-        if kind == SET {
+        if kind == KIND_SET {
             return encode_set(b"set", output, at);
         }
-        if kind == FROZEN_SET {
+        if kind == KIND_FROZEN_SET {
             return encode_set(b"frozenset", output, at);
         }
         return output::put_byte(op::EMPTY_DICT, output, at);
     }
-    if kind == NONE {
+    if kind == KIND_NONE {
         return output::put_byte(op::NONE, output, at);
     }
-    if kind == BOOL {
+    if kind == KIND_BOOL {
         return encode_bool(second == 1, output, at);
     }
-    if kind == I64 {
+    if kind == KIND_I64 {
         return encode_i64(second, output, at);
     }
-    if kind == F64 {
+    if kind == KIND_F64 {
         return encode_f64(second, output, at);
     }
     let value = value::part(text, second as usize, third as usize);
-    if kind == BYTES {
+    if kind == KIND_BYTES {
         return encode_bytes(value, output, at);
     }
     encode_string(value, output, at)
@@ -250,7 +250,7 @@ fn batch_of(left: usize, entries: bool) -> usize
 // The value that begins at record i. This function and those below call one another; with each call fewer records are left, or as
 // many for a function that asks less of them.
 fn encode(words: &[u64], text: &[u8], i: usize, output: &mut [u8], at: usize) -> Place
-    requires { ⌜ Ready joined (now words) (now text) i 1 (now output) at ⌝ }
+    requires { ⌜ ReadyToWrite joined (now words) (now text) i 1 (now output) at ⌝ }
     ensures { λ r. ⌜ Wrote joined (now (words .entry)) (now (text .entry)) i 1 (now (output .entry)) at (now (output .exit)) (r .record) (r .at) ⌝ }
 {
     let head = value::head_of(words[4 * i]);
@@ -262,17 +262,17 @@ fn encode(words: &[u64], text: &[u8], i: usize, output: &mut [u8], at: usize) ->
             at: next,
         };
     }
-    if kind == OBJECT {
+    if kind == KIND_OBJECT {
         return encode_object(words, text, i + 1, head.new, head.state, output, next);
     }
     let count = value::arity(words, i);
-    if kind == LIST {
+    if kind == KIND_LIST {
         return encode_appends(words, text, i + 1, count, output, next);
     }
-    if kind == TUPLE {
+    if kind == KIND_TUPLE {
         return encode_tuple(words, text, i + 1, count, output, next);
     }
-    if kind == DICT {
+    if kind == KIND_DICT {
         return encode_batches(words, text, i + 1, count, true, output, next);
     }
     let end = encode_appends(words, text, i + 1, count, output, next);
@@ -293,7 +293,7 @@ fn encode_items(
     output: &mut [u8],
     at: usize,
 ) -> Place
-    requires { ⌜ Ready joined (now words) (now text) from count (now output) at ⌝ }
+    requires { ⌜ ReadyToWrite joined (now words) (now text) from count (now output) at ⌝ }
     ensures { λ r. ⌜ Wrote joined (now (words .entry)) (now (text .entry)) from count (now (output .entry)) at (now (output .exit)) (r .record) (r .at) ⌝ }
 {
     let mut i = from;
@@ -326,8 +326,8 @@ fn encode_batch(
     output: &mut [u8],
     at: usize,
 ) -> Place
-    requires { ⌜ Ready (batch entries) (now words) (now text) from count (now output) at ⌝ }
-    ensures { λ r. ⌜ Wrote (batch entries) (now (words .entry)) (now (text .entry)) from count
+    requires { ⌜ ReadyToWrite (oneBatch entries) (now words) (now text) from count (now output) at ⌝ }
+    ensures { λ r. ⌜ Wrote (oneBatch entries) (now (words .entry)) (now (text .entry)) from count
         (now (output .entry)) at (now (output .exit)) (r .record) (r .at) ⌝ }
 {
     if entries {
@@ -363,7 +363,7 @@ fn encode_batches(
     output: &mut [u8],
     at: usize,
 ) -> Place
-    requires { ⌜ Ready (batches entries) (now words) (now text) from count (now output) at ⌝ }
+    requires { ⌜ ReadyToWrite (batches entries) (now words) (now text) from count (now output) at ⌝ }
     ensures { λ r. ⌜ Wrote (batches entries) (now (words .entry)) (now (text .entry)) from count
         (now (output .entry)) at (now (output .exit)) (r .record) (r .at) ⌝ }
 {
@@ -392,8 +392,8 @@ fn encode_appends(
     output: &mut [u8],
     at: usize,
 ) -> Place
-    requires { ⌜ Ready appends (now words) (now text) from count (now output) at ⌝ }
-    ensures { λ r. ⌜ Wrote appends (now (words .entry)) (now (text .entry)) from count (now (output .entry)) at (now (output .exit)) (r .record) (r .at) ⌝ }
+    requires { ⌜ ReadyToWrite itemsImage (now words) (now text) from count (now output) at ⌝ }
+    ensures { λ r. ⌜ Wrote itemsImage (now (words .entry)) (now (text .entry)) from count (now (output .entry)) at (now (output .exit)) (r .record) (r .at) ⌝ }
 {
     if count == 1 {
         let item = encode_items(words, text, from, count, output, at);
@@ -416,7 +416,7 @@ fn tuple_mark(len: usize, output: &mut [u8], at: usize) -> usize
 }
 
 fn tuple_opcode(len: usize) -> u8
-    ensures { λ r. ⌜ r ≡ numberOf (tupleOpcode len) ⌝ }
+    ensures { λ r. ⌜ r ≡ codeOf (tupleOpcode len) ⌝ }
 {
     if len == 0 {
         return op::EMPTY_TUPLE;
@@ -441,8 +441,8 @@ fn encode_tuple(
     output: &mut [u8],
     at: usize,
 ) -> Place
-    requires { ⌜ Ready tuple (now words) (now text) from count (now output) at ⌝ }
-    ensures { λ r. ⌜ Wrote tuple (now (words .entry)) (now (text .entry)) from count (now (output .entry)) at (now (output .exit)) (r .record) (r .at) ⌝ }
+    requires { ⌜ ReadyToWrite tupleImage (now words) (now text) from count (now output) at ⌝ }
+    ensures { λ r. ⌜ Wrote tupleImage (now (words .entry)) (now (text .entry)) from count (now (output .entry)) at (now (output .exit)) (r .record) (r .at) ⌝ }
 {
     let next = tuple_mark(count, output, at);
     let end = encode_items(words, text, from, count, output, next);
@@ -453,7 +453,7 @@ fn encode_tuple(
 }
 
 fn object_opcode(new: bool) -> u8
-    ensures { λ r. ⌜ r ≡ numberOf (objectOpcode new) ⌝ }
+    ensures { λ r. ⌜ r ≡ codeOf (objectOpcode new) ⌝ }
 {
     if new {
         return op::NEWOBJ;
@@ -471,8 +471,8 @@ fn encode_object(
     output: &mut [u8],
     at: usize,
 ) -> Place
-    requires { ⌜ Ready (object new) (now words) (now text) from (suc (bit state)) (now output) at ⌝ }
-    ensures { λ r. ⌜ Wrote (object new) (now (words .entry)) (now (text .entry)) from (suc (bit state))
+    requires { ⌜ ReadyToWrite (objectImage new) (now words) (now text) from (suc (bit state)) (now output) at ⌝ }
+    ensures { λ r. ⌜ Wrote (objectImage new) (now (words .entry)) (now (text .entry)) from (suc (bit state))
         (now (output .entry)) at (now (output .exit)) (r .record) (r .at) ⌝ }
 {
     let args = encode(words, text, from, output, at);
@@ -493,7 +493,7 @@ fn encode_object(
 // ---- the length, by arithmetic: no byte is looked at
 
 fn int_len(bits: u64) -> usize
-    ensures { λ r. ⌜ r ≡ length (int bits) ⌝ }
+    ensures { λ r. ⌜ r ≡ length (intImage bits) ⌝ }
 {
     if bits <= 255 {
         return 2;
@@ -513,34 +513,34 @@ fn opening_len(kind: u64, second: u64, third: u64) -> usize
     requires { ⌜ openingTakes kind second third < 2 ^ 64 ⌝ }
     ensures { λ r. ⌜ r ≡ openingTakes kind second third ⌝ }
 {
-    if kind > DICT {
+    if kind > KIND_DICT {
         return (third / 0x1_0000_0000) as usize + (third % 0x1_0000_0000) as usize + 3;
     }
-    if kind > STRING {
-        if kind == TUPLE {
+    if kind > KIND_STRING {
+        if kind == KIND_TUPLE {
             return 0;
         }
-        if kind == SET {
+        if kind == KIND_SET {
             return 18;
         }
-        if kind == FROZEN_SET {
+        if kind == KIND_FROZEN_SET {
             return 24;
         }
         return 1;
     }
-    if kind == I64 {
+    if kind == KIND_I64 {
         return int_len(second);
     }
-    if kind == F64 {
+    if kind == KIND_F64 {
         return 9;
     }
-    if kind == BYTES {
+    if kind == KIND_BYTES {
         if third <= 255 {
             return third as usize + 2;
         }
         return third as usize + 5;
     }
-    if kind == STRING {
+    if kind == KIND_STRING {
         return third as usize + 5;
     }
     1
@@ -576,22 +576,22 @@ fn contents_len(kind: u64, count: usize) -> usize
     requires { ⌜ count ≤ 2048 ⌝ }
     ensures { λ r. ⌜ r ≡ around kind count ⌝ }
 {
-    if kind < LIST {
+    if kind < KIND_LIST {
         return 0;
     }
-    if kind == LIST {
+    if kind == KIND_LIST {
         return appends_len(count);
     }
-    if kind == TUPLE {
+    if kind == KIND_TUPLE {
         if count <= 3 {
             return 1;
         }
         return 2;
     }
-    if kind < DICT {
+    if kind < KIND_DICT {
         return appends_len(count) + 2;
     }
-    if kind == DICT {
+    if kind == KIND_DICT {
         return batches_len(count, true);
     }
     count
@@ -627,7 +627,7 @@ fn pickle_len(words: &[u64], count: usize, text: &[u8]) -> usize
 
 // PROTO 2, the value, STOP.
 fn encode_pickle(words: &[u64], text: &[u8], output: &mut [u8]) -> usize
-    requires { ⌜ Ready framed (now words) (now text) 0 1 (now output) 0 ⌝ }
+    requires { ⌜ ReadyToWrite framed (now words) (now text) 0 1 (now output) 0 ⌝ }
     ensures { λ r. ⌜ Puts framed (now (words .entry)) (now (text .entry)) 0 1 (now (output .entry)) 0 (now (output .exit)) r ⌝ }
 {
     let proto = output::put_byte(op::PROTO, output, 0);
@@ -659,7 +659,7 @@ fn name_is_writable(name: &[u8]) -> bool
 // The same of a module and a name, which stand as for `encode_names`.
 fn names_are_writable(text: &[u8], from: u64, lengths: u64) -> bool
     requires { ⌜ namesEnd from lengths ≤ length (now text) ⌝ }
-    ensures { λ r. ⌜ r ≡ (writable (moduleOf lengths (drop from (now (text .entry)))) && writable (nameOf lengths (drop from (now (text .entry))))) ⌝ }
+    ensures { λ r. ⌜ r ≡ (writable (modulePart lengths (drop from (now (text .entry)))) && writable (namePart lengths (drop from (now (text .entry))))) ⌝ }
 {
     let start = from as usize;
     let first = (lengths / 0x1_0000_0000) as usize;
@@ -676,7 +676,7 @@ fn record_is_writable(words: &[u64], text: &[u8], i: usize) -> bool
     ensures { λ r. ⌜ r ≡ writableLabel (labelAt (now (words .entry)) (now (text .entry)) i) ⌝ }
 {
     let kind = value::head_of(words[4 * i]).kind;
-    if kind > DICT {
+    if kind > KIND_DICT {
         return names_are_writable(text, words[4 * i + 1], words[4 * i + 2]);
     }
     true

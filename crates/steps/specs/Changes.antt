@@ -15,8 +15,8 @@ use Rattle.steps.specs.State.{Node, State, kidless}
 use Rattle.steps.specs.Opcodes.{isObject}
 use Rattle.steps.specs.Run.{Next, step}
 use Rattle.steps.specs.Out.{Out, weaken}
-use Rattle.steps.specs.Effect.{TakesItems, grows-inside, object-inside, Effect, same, marked, cut, again, new, grown, built, noted}
-use Rattle.steps.specs.Keeps.{after, step-effected}
+use Rattle.steps.specs.Effect.{TakesItems, grows-inside, object-inside, StateEffect, same, marked, cut, again, new, grown, built, noted}
+use Rattle.steps.specs.Keeps.{stateAfter, step-effected}
 
 -- from the node n to the node m
 pub data Changed (n : Node) : Node → Type 0 where
@@ -38,7 +38,7 @@ set-change l o x h c = record { more = rw length-set (omega arith); each = λ i 
     go i true q = let e = eqb-true i o q in rw (e, getD-set-same l o x (kidless NoneL) h) c
     go i false q = rw (getD-set-other l o i x (kidless NoneL) (eqb-false i o q)) stays
 
-pub effect-changes : (s t : State) → Effect s t → Changes (s .nodes) (t .nodes)
+pub effect-changes : (s t : State) → StateEffect s t → Changes (s .nodes) (t .nodes)
 effect-changes s t same = no-change (s .nodes)
 effect-changes s t (marked h) = no-change (s .nodes)
 effect-changes s t (cut st ms a b) = no-change (s .nodes)
@@ -48,8 +48,8 @@ effect-changes s t (grown o is st ms a b c d e f) = set-change (s .nodes) o _ (g
 effect-changes s t (built o i st a b c d) = set-change (s .nodes) o _ (object-inside (s .nodes) o d) (stated i d)
 effect-changes s t (noted k i a b) = no-change (s .nodes)
 
-pub step-changes : (ed : Edition) (s : State) → Out (λ (n : Next). Changes (s .nodes) (after n .nodes)) (step ed s)
-step-changes ed s = weaken _ _ _ (step-effected ed s) (λ n e. effect-changes _ (after n) (e .effect))
+pub step-changes : (ed : Edition) (s : State) → Out (λ (n : Next). Changes (s .nodes) (stateAfter n .nodes)) (step ed s)
+step-changes ed s = weaken _ _ _ (step-effected ed s) (λ n e. effect-changes _ (stateAfter n) (e .effect))
 
 -- ---- what stays for good
 

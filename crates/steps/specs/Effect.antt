@@ -11,7 +11,7 @@ use lib.Dec.{ltb, T}
 use native.Mathlib.Omega.{arith}
 use Rattle.op.specs.Table.{Stack, values, toMark, aMark}
 use Rattle.value.specs.Value.{Label, NoneL, BoolL, I64L, F64L, BytesL, StringL, ListL, TupleL, SetL, FrozenSetL, DictL, GlobalL, ObjectL}
-use Rattle.steps.specs.State.{Node, State, ok, kidless, stackLimit, marksLimit, memoLimit, nodesLimit, linksLimit, withStack, withMarks, withMemo, last, butLast, nodeAt, find, has, insert}
+use Rattle.steps.specs.State.{Node, State, ok, kidless, stackLimit, marksLimit, memoLimit, nodesLimit, linksLimit, withStack, withMarks, withMemo, last, butLast, nodeAt, memoFind, memoHas, memoInsert}
 use Rattle.steps.specs.Opcodes.{isList, isTuple, isDict, isObject}
 use Rattle.steps.specs.Out.{Every, every-of}
 
@@ -57,7 +57,7 @@ labelled P (x ∷ l) (suc i) n h = let u = labelled P l i n h in omega arith
 -- a node number that the machine has: on the stack, in the memo, or in a node
 pub data Known (s : State) : ℕ → Type 0 where
   stacked : (k : ℕ) → k < length (s .stack) → Known s (getD (s .stack) k 0)
-  kept : (k i : ℕ) → find (s .memo) k ≡ ok i → Known s i
+  kept : (k i : ℕ) → memoFind (s .memo) k ≡ ok i → Known s i
   inside : (j k : ℕ) → k < length (nodeAt s j .kids) → Known s (getD (nodeAt s j .kids) k 0)
 
 -- what stands on the stack from n on is known
@@ -70,8 +70,8 @@ known-drop s n =
 -- ---- the effects
 
 -- the beginning of a list
-unfoldable pub Part : List ℕ → List ℕ → Type 0
-Part a b = (n : ℕ) × (a ≡ take n b)
+unfoldable pub BeginningOf : List ℕ → List ℕ → Type 0
+BeginningOf a b = (n : ℕ) × (a ≡ take n b)
 
 -- items that a list takes, and those that a dict takes
 unfoldable pub TakesItems : Label → ℕ → Type 0
@@ -84,35 +84,35 @@ grows-inside l i n g = labelled (λ (x : Label). TakesItems x n) l i (λ h. ⊎-
 pub object-inside : (l : List Node) (i : ℕ) → T (isObject (getD l i (kidless NoneL) .label)) → i < length l
 object-inside l i h = labelled (λ (x : Label). T (isObject x)) l i (λ u. u) h
 
-pub data Effect (s : State) : State → Type 0 where
+pub data StateEffect (s : State) : State → Type 0 where
   -- PROTO
-  same : Effect s s
+  same : StateEffect s s
   -- MARK
-  marked : length (s .marks) < marksLimit → Effect s (withMarks s (s .marks ++ (length (s .stack) ∷ [])))
+  marked : length (s .marks) < marksLimit → StateEffect s (withMarks s (s .marks ++ (length (s .stack) ∷ [])))
   -- POP, POP_MARK
-  cut : (st ms : List ℕ) → Part st (s .stack) → Part ms (s .marks) → Effect s (withMarks (withStack s st) ms)
+  cut : (st ms : List ℕ) → BeginningOf st (s .stack) → BeginningOf ms (s .marks) → StateEffect s (withMarks (withStack s st) ms)
   -- DUP and the GETs: a number once more
-  again : (i : ℕ) → Known s i → length (s .stack) < stackLimit → Effect s (withStack s (s .stack ++ (i ∷ [])))
+  again : (i : ℕ) → Known s i → length (s .stack) < stackLimit → StateEffect s (withStack s (s .stack ++ (i ∷ [])))
   -- one node more, on top of what is left of the stack
   new :
-      (n : Node) (st ms : List ℕ) (lk : ℕ) → Part st (s .stack) → Part ms (s .marks) → Every (Known s) (n .kids) → Right (s .nodes) (n .label) (n .kids)
+      (n : Node) (st ms : List ℕ) (lk : ℕ) → BeginningOf st (s .stack) → BeginningOf ms (s .marks) → Every (Known s) (n .kids) → Right (s .nodes) (n .label) (n .kids)
       → length (s .nodes) < nodesLimit → length st < stackLimit
       → lk ≡ s .links + held n → (s .links ≤ linksLimit → lk ≤ linksLimit)
-      → Effect s (record { input = s .input; nodes = s .nodes ++ (n ∷ []); stack = st ++ (length (s .nodes) ∷ []); marks = ms; memo = s .memo; links = lk })
+      → StateEffect s (record { input = s .input; nodes = s .nodes ++ (n ∷ []); stack = st ++ (length (s .nodes) ∷ []); marks = ms; memo = s .memo; links = lk })
   -- APPEND, APPENDS, SETITEM, SETITEMS: a list or a dict has items more
   grown :
-      (o : ℕ) (is st ms : List ℕ) → Part st (s .stack) → Part ms (s .marks) → Known s o → TakesItems (nodeAt s o .label) (length is)
+      (o : ℕ) (is st ms : List ℕ) → BeginningOf st (s .stack) → BeginningOf ms (s .marks) → Known s o → TakesItems (nodeAt s o .label) (length is)
       → Every (Known s) is → s .links + length is ≤ linksLimit
-      → Effect s (record { input = s .input; nodes = set (s .nodes) o (record { label = nodeAt s o .label; kids = nodeAt s o .kids ++ is }); stack = st; marks = ms; memo = s .memo; links = s .links + length is })
+      → StateEffect s (record { input = s .input; nodes = set (s .nodes) o (record { label = nodeAt s o .label; kids = nodeAt s o .kids ++ is }); stack = st; marks = ms; memo = s .memo; links = s .links + length is })
   -- BUILD: an Object has a state
   built :
-      (o i : ℕ) (st : List ℕ) → Part st (s .stack) → Known s o → Known s i → T (isObject (nodeAt s o .label))
-      → Effect s (record { input = s .input; nodes = set (s .nodes) o (record { label = nodeAt s o .label; kids = getD (nodeAt s o .kids) 0 0 ∷ i ∷ [] }); stack = st; marks = s .marks; memo = s .memo; links = s .links })
+      (o i : ℕ) (st : List ℕ) → BeginningOf st (s .stack) → Known s o → Known s i → T (isObject (nodeAt s o .label))
+      → StateEffect s (record { input = s .input; nodes = set (s .nodes) o (record { label = nodeAt s o .label; kids = getD (nodeAt s o .kids) 0 0 ∷ i ∷ [] }); stack = st; marks = s .marks; memo = s .memo; links = s .links })
   -- the PUTs
-  noted : (k i : ℕ) → Known s i → T (cond (has (s .memo) k) true (ltb (length (s .memo)) memoLimit)) → Effect s (withMemo s (insert (s .memo) k i))
+  noted : (k i : ℕ) → Known s i → T (cond (memoHas (s .memo) k) true (ltb (length (s .memo)) memoLimit)) → StateEffect s (withMemo s (memoInsert (s .memo) k i))
 
 -- only reading changes the input
-pub effect-input : (s t : State) → Effect s t → t .input ≡ s .input
+pub effect-input : (s t : State) → StateEffect s t → t .input ≡ s .input
 effect-input s t same = refl
 effect-input s t (marked h) = refl
 effect-input s t (cut st ms a b) = refl
@@ -157,5 +157,5 @@ moved s t k j b x h l e c =
 
 -- the effect and the stack together
 pub record Did (tk lv : Stack) (s t : State) : Type 0 where
-  pub effect : Effect s t
+  pub effect : StateEffect s t
   pub stacks : Stacks tk lv s t

@@ -10,13 +10,13 @@ use Rattle.input.specs.Bytes.{lowFirst}
 use Rattle.input.specs.Line.{firstFrom, newlineOf}
 use Rattle.input.specs.Long.{evaluates as long-evaluates}
 use Rattle.value.specs.Value.{I64L, ListL, TupleL}
-use Rattle.steps.specs.State.{ok, no, _>>=_, need, leaf, bytes, byte, line, pop, top, popMark, popMany, pushId, pushNode, push, link, extend, find, has, insert, get, put}
-use Rattle.steps.specs.Opcodes.{proto, lowBytes, binint1, longN, signedLength, binstring, global, made, tupleN, added, append, getBytes, putBytes}
+use Rattle.steps.specs.State.{ok, no, _>>=_, need, leaf, bytes, byte, line, pop, top, popMark, popMany, pushId, pushNode, push, link, extend, memoFind, memoHas, memoInsert, get, put}
+use Rattle.steps.specs.Opcodes.{proto, lowBytes, binint1, longN, signedLength, binstring, global, made, tupleN, addItems, append, getBytes, putBytes}
 use Rattle.steps.specs.Run.{going, does, decide, admit, step, runs, start, run}
 
 -- opens what the examples compute with
 unfoldable evaluates : Unit {0}
-unfolding rowIn rowOf knownName opcodeOf edition-evaluates lowFirst firstFrom newlineOf long-evaluates _>>=_ need leaf bytes byte line pop top popMark popMany pushId pushNode push link extend find has insert get put proto lowBytes binint1 longN signedLength binstring global made tupleN added append getBytes putBytes going does decide admit step runs start run
+unfolding rowIn rowOf knownName opcodeOf edition-evaluates lowFirst firstFrom newlineOf long-evaluates _>>=_ need leaf bytes byte line pop top popMark popMany pushId pushNode push link extend memoFind memoHas memoInsert get put proto lowBytes binint1 longN signedLength binstring global made tupleN addItems append getBytes putBytes going does decide admit step runs start run
 evaluates = tt
 
 -- the listing's input, 80 02 5D 71 00 68 00 4B 05 61 86 2E: a tuple of one list twice, the 5 appended after it was placed

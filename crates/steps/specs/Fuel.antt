@@ -9,38 +9,38 @@ use Rattle.op.specs.declared.Edition.{Edition}
 use Rattle.steps.specs.State.{State, Res, ok, no}
 use Rattle.steps.specs.Run.{Next, goes, stops, step, runs, start, run}
 use Rattle.steps.specs.Out.{Out, of-out}
-use Rattle.steps.specs.Keeps.{after}
+use Rattle.steps.specs.Keeps.{stateAfter}
 use Rattle.steps.specs.Shrinks.{step-less}
 
 pub runs-enough : (ed : Edition) (k j : ℕ) (s : State) → length (s .input) < k → length (s .input) < j → runs ed k s ≡ runs ed j s
-unfolding runs Out after
+unfolding runs Out stateAfter
 runs-enough ed zero j s h u = absurd (omega arith)
 runs-enough ed (suc k) zero s h u = absurd (omega arith)
 runs-enough ed (suc k) (suc j) s h u = go (step ed s) refl (step-less ed s) (runs-enough ed k j)
   where
-    go : (r : Res Next) → step ed s ≡ r → Out (λ (n : Next). length (after n .input) < length (s .input)) r → ((t : State) → length (t .input) < k → length (t .input) < j → runs ed k t ≡ runs ed j t) → runs ed (suc k) s ≡ runs ed (suc j) s
+    go : (r : Res Next) → step ed s ≡ r → Out (λ (n : Next). length (stateAfter n .input) < length (s .input)) r → ((t : State) → length (t .input) < k → length (t .input) < j → runs ed k t ≡ runs ed j t) → runs ed (suc k) s ≡ runs ed (suc j) s
     go (no why) e l more = rw (e, runs)
     go (ok (stops t)) e l more = rw (e, runs)
     go (ok (goes t)) e l more = rw (e, runs) (more t (omega arith) (omega arith))
 
 -- the run from any state to STOP
-unfoldable pub finish : Edition → State → Res State
-finish ed s = runs ed (suc (length (s .input))) s
+unfoldable pub runFrom : Edition → State → Res State
+runFrom ed s = runs ed (suc (length (s .input))) s
 
-pub run-finish : (ed : Edition) (p : List ℕ) → run ed p ≡ finish ed (start p)
-unfolding run finish start
+pub run-finish : (ed : Edition) (p : List ℕ) → run ed p ≡ runFrom ed (start p)
+unfolding run runFrom start
 run-finish ed p = refl
 
 -- its three equations
 module _ (ed : Edition) (s t : State) where
-  pub finish-refused : (why : Refusal) → step ed s ≡ no why → finish ed s ≡ no why
-  unfolding finish runs
+  pub finish-refused : (why : Refusal) → step ed s ≡ no why → runFrom ed s ≡ no why
+  unfolding runFrom runs
   finish-refused why e = rw (e, runs)
 
-  pub finish-stops : step ed s ≡ ok (stops t) → finish ed s ≡ ok t
-  unfolding finish runs
+  pub finish-stops : step ed s ≡ ok (stops t) → runFrom ed s ≡ ok t
+  unfolding runFrom runs
   finish-stops e = rw (e, runs)
 
-  pub finish-goes : step ed s ≡ ok (goes t) → finish ed s ≡ finish ed t
-  unfolding finish runs after
+  pub finish-goes : step ed s ≡ ok (goes t) → runFrom ed s ≡ runFrom ed t
+  unfolding runFrom runs stateAfter
   finish-goes e = rw (e, runs) (runs-enough ed (length (s .input)) (suc (length (t .input))) t (of-out _ (step ed s) (goes t) (step-less ed s) e) (omega arith))

@@ -250,8 +250,8 @@ dict s = do
   made DictL is s₁
 
 -- items to the container on top, which must be of its kind; LinksFull
-unfoldable pub added : (Label → Bool) → Refusal → List ℕ → State → Res State
-added right why is s = do
+unfoldable pub addItems : (Label → Bool) → Refusal → List ℕ → State → Res State
+addItems right why is s = do
   i ← top s
   _ ← need (right (nodeAt s i .label)) why
   s₁ ← link (length is) s
@@ -260,24 +260,24 @@ added right why is s = do
 unfoldable pub append : State → Res State
 append s = do
   (i, s₁) ← pop s
-  added isList (Invalid AList) (i ∷ []) s₁
+  addItems isList (Invalid AList) (i ∷ []) s₁
 
 unfoldable pub appends : State → Res State
 appends s = do
   (is, s₁) ← popMark s
-  added isList (Invalid AList) is s₁
+  addItems isList (Invalid AList) is s₁
 
 unfoldable pub setitem : State → Res State
 setitem s = do
   (v, s₁) ← pop s
   (k, s₂) ← pop s₁
-  added isDict (Invalid ADict) (k ∷ v ∷ []) s₂
+  addItems isDict (Invalid ADict) (k ∷ v ∷ []) s₂
 
 unfoldable pub setitems : State → Res State
 setitems s = do
   (is, s₁) ← popMark s
   _ ← pairs is
-  added isDict (Invalid ADict) is s₁
+  addItems isDict (Invalid ADict) is s₁
 
 -- ---- the memo
 

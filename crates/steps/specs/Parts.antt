@@ -14,18 +14,18 @@ use Rattle.op.specs.Table.{Stack, values, toMark, aMark}
 use Rattle.number.specs.Space.{same as sameText}
 use Rattle.value.specs.Value.{Label, SetL, FrozenSetL, ListL, TupleL, DictL}
 use Rattle.steps.specs.State.{Node, State, Res, _>>=_, kidless, linksLimit, withStack, withMarks, withLinks, last, butLast, pop, top, popMark, popMany, pushId, pushNode, push, link, nodeAt, extend, get, put}
-use Rattle.steps.specs.Opcodes.{isList, isDict, isTuple, mark, popOne, popToMark, dup, made, list, tuple, tupleN, pairs, dict, added, append, appends, setitem, setitems, builtin, setName, frozensetName, object, setOf, reduced, called, reduce, newobj, buildState}
+use Rattle.steps.specs.Opcodes.{isList, isDict, isTuple, mark, popOne, popToMark, dup, made, list, tuple, tupleN, pairs, dict, addItems, append, appends, setitem, setitems, builtin, setName, frozensetName, object, setOf, reduced, called, reduce, newobj, buildState}
 use Rattle.steps.specs.Out.{Out, out, bind-any, bind-need, join-need, Every, every-of}
-use Rattle.steps.specs.Effect.{linked, linked-none, held, Right, Known, stacked, kept, inside, known-drop, Part, TakesItems, same, marked, cut, again, new, grown, built, noted, moved, Stacks, Did}
+use Rattle.steps.specs.Effect.{linked, linked-none, held, Right, Known, stacked, kept, inside, known-drop, BeginningOf, TakesItems, same, marked, cut, again, new, grown, built, noted, moved, Stacks, Did}
 
 -- ---- parts of a list
 
-pub whole : (l : List ℕ) → Part l l
-unfolding Part
-whole l = (length l, sym (take-length l))
+pub beginning-of-all : (l : List ℕ) → BeginningOf l l
+unfolding BeginningOf
+beginning-of-all l = (length l, sym (take-length l))
 
-pub upto : (n : ℕ) (l : List ℕ) → Part (take n l) l
-unfolding Part
+pub upto : (n : ℕ) (l : List ℕ) → BeginningOf (take n l) l
+unfolding BeginningOf
 upto n l = (n, refl)
 
 last-take : (n : ℕ) (l : List ℕ) → 0 < n → n ≤ length l → last (take n l) ≡ getD l (n - 1) 0
@@ -102,7 +102,7 @@ mark-did s = bind-need _ _ _ _ λ h. out _ _ (record { effect = marked (ltb→lt
 pub pop-did : (s : State) → Out (Did (values 1) (values 0) s) (popOne s)
 unfolding popOne
 pop-did s = bind-pop _ s _ λ h. out _ _ (record {
-  effect = cut (butLast (s .stack)) (s .marks) (upto (length (s .stack) - 1) (s .stack)) (whole (s .marks));
+  effect = cut (butLast (s .stack)) (s .marks) (upto (length (s .stack) - 1) (s .stack)) (beginning-of-all (s .marks));
   stacks = by-values 1 0 (length (s .stack) - 1) [] s _ (omega arith) (omega arith) (omega arith) (sym (append-nil _)) (omega arith) refl;
 })
 
@@ -153,7 +153,7 @@ put-did k s = bind-top _ s _ λ u. bind-need _ _ _ _ λ h. out _ _ (record {
 -- a new node, on what is left of the stack
 node-did :
     (tk : Stack) (s : State) (n : Node) (st ms : List ℕ) (lk : ℕ)
-    → Part st (s .stack) → Part ms (s .marks) → Every (Known s) (n .kids) → Right (s .nodes) (n .label) (n .kids) → lk ≡ s .links + held n → (s .links ≤ linksLimit → lk ≤ linksLimit)
+    → BeginningOf st (s .stack) → BeginningOf ms (s .marks) → Every (Known s) (n .kids) → Right (s .nodes) (n .label) (n .kids) → lk ≡ s .links + held n → (s .links ≤ linksLimit → lk ≤ linksLimit)
     → ((t : State) → t .stack ≡ st ++ (length (s .nodes) ∷ []) → t .marks ≡ ms → Stacks tk (values 1) s t)
     → Out (Did tk (values 1) s) (pushNode n (record { input = s .input; nodes = s .nodes; stack = st; marks = ms; memo = s .memo; links = lk }))
 unfolding pushNode pushId
@@ -164,11 +164,11 @@ node-did tk s n st ms lk a b c d e r f =
 -- a value, or an empty container
 pub push-did : (l : Label) (s : State) → Right (s .nodes) l [] → Out (Did (values 0) (values 1) s) (push l s)
 unfolding push Every held
-push-did l s r = node-did (values 0) s (kidless l) (s .stack) (s .marks) (s .links) (whole (s .stack)) (whole (s .marks)) tt r (rw (linked-none l) (omega arith)) (λ h. h) (one-more (length (s .nodes)) s)
+push-did l s r = node-did (values 0) s (kidless l) (s .stack) (s .marks) (s .links) (beginning-of-all (s .stack)) (beginning-of-all (s .marks)) tt r (rw (linked-none l) (omega arith)) (λ h. h) (one-more (length (s .nodes)) s)
 
 -- a container with items: a link each
 made-did :
-    (tk : Stack) (s : State) (l : Label) (is st ms : List ℕ) → Part st (s .stack) → Part ms (s .marks) → Every (Known s) is → Right (s .nodes) l is → linked l (length is) ≡ length is
+    (tk : Stack) (s : State) (l : Label) (is st ms : List ℕ) → BeginningOf st (s .stack) → BeginningOf ms (s .marks) → Every (Known s) is → Right (s .nodes) l is → linked l (length is) ≡ length is
     → ((t : State) → t .stack ≡ st ++ (length (s .nodes) ∷ []) → t .marks ≡ ms → Stacks tk (values 1) s t)
     → Out (Did tk (values 1) s) (made l is (withMarks (withStack s st) ms))
 unfolding made held
@@ -199,16 +199,16 @@ pub tupleN-did : (n : ℕ) (s : State) → Out (Did (values n) (values 1) s) (tu
 unfolding tupleN Right linked
 tupleN-did n s = bind-popMany _ s n _ λ h.
     let z = length (s .stack) - n in
-    made-did (values n) s TupleL (drop z (s .stack)) (take z (s .stack)) (s .marks) (upto z (s .stack)) (whole (s .marks)) (known-drop s z) tt refl
+    made-did (values n) s TupleL (drop z (s .stack)) (take z (s .stack)) (s .marks) (upto z (s .stack)) (beginning-of-all (s .marks)) (known-drop s z) tt refl
     λ t a b. by-values n 1 z (length (s .nodes) ∷ []) s t h (omega arith) (omega arith) a (omega arith) b
 
 -- APPEND, APPENDS, SETITEM, SETITEMS: n values are left, the container the last of them
 added-did :
-    (tk : Stack) (s : State) (right : Label → Bool) (why : Refusal) (is : List ℕ) (n : ℕ) (ms : List ℕ) → n ≤ length (s .stack) → Part ms (s .marks) → Every (Known s) is
+    (tk : Stack) (s : State) (right : Label → Bool) (why : Refusal) (is : List ℕ) (n : ℕ) (ms : List ℕ) → n ≤ length (s .stack) → BeginningOf ms (s .marks) → Every (Known s) is
     → ((l : Label) → T (right l) → TakesItems l (length is))
     → (0 < n → (t : State) → t .stack ≡ take n (s .stack) ++ [] → t .marks ≡ ms → Stacks tk (values 1) s t)
-    → Out (Did tk (values 1) s) (added right why is (withMarks (withStack s (take n (s .stack))) ms))
-unfolding added extend
+    → Out (Did tk (values 1) s) (addItems right why is (withMarks (withStack s (take n (s .stack))) ms))
+unfolding addItems extend
 added-did tk s right why is n ms h b c g f =
     bind-top _ (withMarks (withStack s (take n (s .stack))) ms) _ λ u. bind-need _ _ _ _ λ v. bind-link _ (withMarks (withStack s (take n (s .stack))) ms) (length is) _ λ w.
     let z = rw length-take at u in
@@ -222,7 +222,7 @@ added-did tk s right why is n ms h b c g f =
 batch-did :
     (right : Label → Bool) (why : Refusal) (s : State) → 0 < length (s .marks) → last (s .marks) ≤ length (s .stack)
     → ((l : Label) → T (right l) → TakesItems l (length (drop (last (s .marks)) (s .stack))))
-    → Out (Did (toMark 1) (values 1) s) (added right why (drop (last (s .marks)) (s .stack)) (withMarks (withStack s (take (last (s .marks)) (s .stack))) (butLast (s .marks))))
+    → Out (Did (toMark 1) (values 1) s) (addItems right why (drop (last (s .marks)) (s .stack)) (withMarks (withStack s (take (last (s .marks)) (s .stack))) (butLast (s .marks))))
 batch-did right why s h u g =
     let m = last (s .marks) in
     added-did (toMark 1) s right why (drop m (s .stack)) m (butLast (s .marks)) u (upto (length (s .marks) - 1) (s .marks)) (known-drop s m) g
@@ -232,7 +232,7 @@ pub append-did : (s : State) → Out (Did (values 2) (values 1) s) (append s)
 unfolding append Every TakesItems
 append-did s = bind-pop _ s _ λ h.
     let n = length (s .stack) - 1 in
-    added-did (values 2) s isList _ (last (s .stack) ∷ []) n (s .marks) (omega arith) (whole (s .marks)) (topmost s h, tt) (λ l v. inl v)
+    added-did (values 2) s isList _ (last (s .stack) ∷ []) n (s .marks) (omega arith) (beginning-of-all (s .marks)) (topmost s h, tt) (λ l v. inl v)
     λ z t a b. by-values 2 1 n [] s t (omega arith) (omega arith) (omega arith) a (omega arith) b
 
 pub appends-did : (s : State) → Out (Did (toMark 1) (values 1) s) (appends s)
@@ -243,7 +243,7 @@ pub setitem-did : (s : State) → Out (Did (values 3) (values 1) s) (setitem s)
 unfolding setitem Every TakesItems
 setitem-did s = bind-pops _ s _ λ h.
     let n = length (s .stack) - 2 in
-    added-did (values 3) s isDict _ (getD (s .stack) n 0 ∷ last (s .stack) ∷ []) n (s .marks) (omega arith) (whole (s .marks)) (stacked n (omega arith), (topmost s (omega arith), tt)) (λ l v. inr (v, refl))
+    added-did (values 3) s isDict _ (getD (s .stack) n 0 ∷ last (s .stack) ∷ []) n (s .marks) (omega arith) (beginning-of-all (s .marks)) (stacked n (omega arith), (topmost s (omega arith), tt)) (λ l v. inr (v, refl))
     λ z t a b. by-values 3 1 n [] s t (omega arith) (omega arith) (omega arith) a (omega arith) b
 
 pub setitems-did : (s : State) → Out (Did (toMark 1) (values 1) s) (setitems s)
@@ -275,7 +275,7 @@ unfolding called
 called-did makes s f = bind-pops _ s _ λ h. bind-any _ _ _ λ c e. bind-need _ _ _ _ λ v.
     let n = length (s .stack) - 2 in
     let k = f c (last (s .stack)) (topmost s (omega arith)) v in
-    node-did (values 2) s (makes c (last (s .stack)) (nodeAt s (last (s .stack)) .kids)) (take n (s .stack)) (s .marks) (s .links) (upto n (s .stack)) (whole (s .marks)) (k .known) (k .right) (rw (k .free) (sym (add-zero (s .links)))) (λ u. u)
+    node-did (values 2) s (makes c (last (s .stack)) (nodeAt s (last (s .stack)) .kids)) (take n (s .stack)) (s .marks) (s .links) (upto n (s .stack)) (beginning-of-all (s .marks)) (k .known) (k .right) (rw (k .free) (sym (add-zero (s .links)))) (λ u. u)
     λ t a b. by-values 2 1 n (length (s .nodes) ∷ []) s t (omega arith) (omega arith) (omega arith) a (omega arith) b
 
 object-calls : (s : State) (c : List ℕ × List ℕ) (isNew : Bool) (args : ℕ) → Known s args → T (isTuple (nodeAt s args .label)) → Calls s (object c isNew args)

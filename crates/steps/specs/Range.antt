@@ -8,11 +8,11 @@ use lib.Dec.{eqb}
 use native.Mathlib.Omega.{arith}
 use Rattle.op.specs.declared.Edition.{Edition}
 use Rattle.value.specs.Value.{NoneL}
-use Rattle.steps.specs.State.{Node, State, ok, kidless, withInput, nodeAt, find, insert}
+use Rattle.steps.specs.State.{Node, State, ok, kidless, withInput, nodeAt, memoFind, memoInsert}
 use Rattle.steps.specs.Run.{Next, step, start, run}
 use Rattle.steps.specs.Out.{Out, Every, every-append, every-take, every-at, every-more}
-use Rattle.steps.specs.Effect.{Known, stacked, kept, inside, Part, object-inside, Effect, same, marked, cut, again, new, grown, built, noted}
-use Rattle.steps.specs.Keeps.{after, step-keeps, run-keeps}
+use Rattle.steps.specs.Effect.{Known, stacked, kept, inside, BeginningOf, object-inside, StateEffect, same, marked, cut, again, new, grown, built, noted}
+use Rattle.steps.specs.Keeps.{stateAfter, step-keeps, run-keeps}
 
 -- numbers below n: in a list, in the memo's entries, in the nodes' contents
 abbrev pub Below : ℕ → List ℕ → Type 0
@@ -31,12 +31,12 @@ pub record InRange (s : State) : Type 0 where
 
 -- ---- what is known is in range
 
-found : (n : ℕ) (m : List (ℕ × ℕ)) (k i : ℕ) → Entries n m → find m k ≡ ok i → i < n
-unfolding Every find
+found : (n : ℕ) (m : List (ℕ × ℕ)) (k i : ℕ) → Entries n m → memoFind m k ≡ ok i → i < n
+unfolding Every memoFind
 found n [] k i a e = let c : _≡_ {A = ℕ} 0 1 = cc in absurd (omega arith)
 found n (x ∷ m) k i a e = go (eqb k (x .0)) e (found n m k i (a .1))
   where
-    go : (b : Bool) → cond b (ok (x .1)) (find m k) ≡ ok i → (find m k ≡ ok i → i < n) → i < n
+    go : (b : Bool) → cond b (ok (x .1)) (memoFind m k) ≡ ok i → (memoFind m k ≡ ok i → i < n) → i < n
     go true h f = let c : x .1 ≡ i = cc in rw c at (a .0)
     go false h f = f h
 
@@ -56,8 +56,8 @@ knowns-below s l r a = every-more (Known s) _ l (λ i k. known-below s i r k) a
 
 -- ---- what the effects do
 
-part-below : (n : ℕ) (a b : List ℕ) → Part a b → Below n b → Below n a
-unfolding Part
+part-below : (n : ℕ) (a b : List ℕ) → BeginningOf a b → Below n b → Below n a
+unfolding BeginningOf
 part-below n a b p h = rw (p .1) (every-take _ (p .0) b h)
 
 first-below : (n : ℕ) (l : List ℕ) → 0 < n → Below n l → getD l 0 0 < n
@@ -81,12 +81,12 @@ contents-set n [] i x a b = tt
 contents-set n (y ∷ l) zero x a b = (b, a .1)
 contents-set n (y ∷ l) (suc i) x a b = (a .0, contents-set n l i x (a .1) b)
 
-entries-insert : (n : ℕ) (m : List (ℕ × ℕ)) (k i : ℕ) → Entries n m → i < n → Entries n (insert m k i)
-unfolding Every insert
+entries-insert : (n : ℕ) (m : List (ℕ × ℕ)) (k i : ℕ) → Entries n m → i < n → Entries n (memoInsert m k i)
+unfolding Every memoInsert
 entries-insert n [] k i a h = (h, tt)
 entries-insert n (e ∷ m) k i a h = go (eqb k (e .0)) (entries-insert n m k i (a .1) h)
   where
-    go : (b : Bool) → Entries n (insert m k i) → Entries n (cond b ((k, i) ∷ m) (e ∷ insert m k i))
+    go : (b : Bool) → Entries n (memoInsert m k i) → Entries n (cond b ((k, i) ∷ m) (e ∷ memoInsert m k i))
     go true r = (h, a .1)
     go false r = (a .0, r)
 
@@ -94,7 +94,7 @@ entries-insert n (e ∷ m) k i a h = go (eqb k (e .0)) (entries-insert n m k i (
 range-set : (s : State) (o : ℕ) (x : Node) (st ms : List ℕ) (lk : ℕ) → InRange s → Below (length (s .nodes)) st → Below (length (s .nodes)) (x .kids) → InRange (record { input = s .input; nodes = set (s .nodes) o x; stack = st; marks = ms; memo = s .memo; links = lk })
 range-set s o x st ms lk r a b = record { on-stack = rw length-set a; in-memo = rw length-set (r .in-memo); in-nodes = rw length-set (contents-set _ (s .nodes) o x (r .in-nodes) b) }
 
-pub range-effect : (s t : State) → InRange s → Effect s t → InRange t
+pub range-effect : (s t : State) → InRange s → StateEffect s t → InRange t
 unfolding Every
 range-effect s t r same = r
 range-effect s t r (marked h) = record { on-stack = r .on-stack; in-memo = r .in-memo; in-nodes = r .in-nodes }
@@ -123,7 +123,7 @@ pub start-range : (p : List ℕ) → InRange (start p)
 unfolding start Every
 start-range p = record { on-stack = tt; in-memo = tt; in-nodes = tt }
 
-pub step-range : (ed : Edition) (s : State) → InRange s → Out (λ (n : Next). InRange (after n)) (step ed s)
+pub step-range : (ed : Edition) (s : State) → InRange s → Out (λ (n : Next). InRange (stateAfter n)) (step ed s)
 step-range = step-keeps InRange range-reads range-effect
 
 pub run-range : (ed : Edition) (p : List ℕ) → Out InRange (run ed p)

@@ -16,7 +16,7 @@ use Rattle.steps.specs.State.{Node, State, kidless}
 use Rattle.steps.specs.Opcodes.{isTuple, isObject}
 use Rattle.steps.specs.Run.{start, run}
 use Rattle.steps.specs.Out.{Out}
-use Rattle.steps.specs.Effect.{Right, labelled, TakesItems, Effect, same, marked, cut, again, new, grown, built, noted}
+use Rattle.steps.specs.Effect.{Right, labelled, TakesItems, StateEffect, same, marked, cut, again, new, grown, built, noted}
 use Rattle.steps.specs.Keeps.{run-keeps}
 use Rattle.steps.specs.Changes.{Changed, stays, longer, stated, changed-label, Changes, effect-changes}
 
@@ -108,7 +108,7 @@ shaped-more l n c r s i h = ⊎-elim (λ u. shaped-old l (l ++ (n ∷ [])) c s i
     last : length l ≤ i → Right (l ++ (n ∷ [])) (getD (l ++ (n ∷ [])) i (kidless NoneL) .label) (getD (l ++ (n ∷ [])) i (kidless NoneL) .kids)
     last u = let e : i ≡ length l = let z = rw length-append at h in omega arith in rw (e, getD-append-seam l n [] (kidless NoneL)) (right-later l (l ++ (n ∷ [])) c (n .label) (n .kids) r)
 
-pub shaped-effect : (s t : State) → Shaped (s .nodes) → Effect s t → Shaped (t .nodes)
+pub shaped-effect : (s t : State) → Shaped (s .nodes) → StateEffect s t → Shaped (t .nodes)
 shaped-effect s t h same = h
 shaped-effect s t h (marked a) = h
 shaped-effect s t h (cut st ms a b) = h

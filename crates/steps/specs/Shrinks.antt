@@ -10,7 +10,7 @@ use Rattle.steps.specs.State.{State, Res, ok, no, withInput}
 use Rattle.steps.specs.Run.{Next, goes, stops, step, runs, start, run}
 use Rattle.steps.specs.Out.{Out, weaken}
 use Rattle.steps.specs.Effect.{effect-input}
-use Rattle.steps.specs.Keeps.{after, Effected, step-effected}
+use Rattle.steps.specs.Keeps.{stateAfter, Effected, step-effected}
 
 -- t's input is i less its first bytes, `least` at least
 pub record Later (least : ℕ) (i : List ℕ) (t : State) : Type 0 where
@@ -23,10 +23,10 @@ later : {least : ℕ} (s t : State) → Effected least s t → Later least (s .i
 later s t e = record { read = e .read; enough = e .enough; inside = e .inside; left = effect-input (withInput s (drop (e .read) (s .input))) t (e .effect) }
 
 -- a step: a byte at least
-pub step-later : (ed : Edition) (s : State) → Out (λ (n : Next). Later 1 (s .input) (after n)) (step ed s)
-step-later ed s = weaken _ _ _ (step-effected ed s) (λ n e. later s (after n) e)
+pub step-later : (ed : Edition) (s : State) → Out (λ (n : Next). Later 1 (s .input) (stateAfter n)) (step ed s)
+step-later ed s = weaken _ _ _ (step-effected ed s) (λ n e. later s (stateAfter n) e)
 
-pub step-less : (ed : Edition) (s : State) → Out (λ (n : Next). length (after n .input) < length (s .input)) (step ed s)
+pub step-less : (ed : Edition) (s : State) → Out (λ (n : Next). length (stateAfter n .input) < length (s .input)) (step ed s)
 step-less ed s = weaken _ _ _ (step-later ed s) λ n l. rw (l .left, length-drop) (let a = l .enough in let b = l .inside in omega arith)
 
 -- ---- the whole run
@@ -42,11 +42,11 @@ later-later i s t x y =
 
 -- what is left at STOP is a pickle's end, less a byte at least
 pub runs-later : (ed : Edition) (i : List ℕ) (k : ℕ) (s : State) → Later 0 i s → Out (Later 1 i) (runs ed k s)
-unfolding runs Out after
+unfolding runs Out stateAfter
 runs-later ed i zero s l = tt
 runs-later ed i (suc k) s l = go (step ed s) refl (step-later ed s) (runs-later ed i k)
   where
-    go : (r : Res Next) → step ed s ≡ r → Out (λ (n : Next). Later 1 (s .input) (after n)) r → ((t : State) → Later 0 i t → Out (Later 1 i) (runs ed k t)) → Out (Later 1 i) (runs ed (suc k) s)
+    go : (r : Res Next) → step ed s ≡ r → Out (λ (n : Next). Later 1 (s .input) (stateAfter n)) r → ((t : State) → Later 0 i t → Out (Later 1 i) (runs ed k t)) → Out (Later 1 i) (runs ed (suc k) s)
     go (no why) e h more = rw (e, runs) tt
     go (ok (stops t)) e h more = rw (e, runs) (later-later i s t l h)
     go (ok (goes t)) e h more =

@@ -169,28 +169,28 @@ extend i items s = withNodes s (set (s .nodes) i (record { label = nodeAt s i .l
 
 -- ---- the memo
 
-unfoldable pub find : List (ℕ × ℕ) → ℕ → Res ℕ
-find [] k = no (MissingMemo k)
-find (e ∷ m) k = cond (eqb k (e .0)) (ok (e .1)) (find m k)
+unfoldable pub memoFind : List (ℕ × ℕ) → ℕ → Res ℕ
+memoFind [] k = no (MissingMemo k)
+memoFind (e ∷ m) k = cond (eqb k (e .0)) (ok (e .1)) (memoFind m k)
 
-unfoldable pub has : List (ℕ × ℕ) → ℕ → Bool
-has [] k = false
-has (e ∷ m) k = cond (eqb k (e .0)) true (has m k)
+unfoldable pub memoHas : List (ℕ × ℕ) → ℕ → Bool
+memoHas [] k = false
+memoHas (e ∷ m) k = cond (eqb k (e .0)) true (memoHas m k)
 
 -- an entry replaced, or a new one at the end
-unfoldable pub insert : List (ℕ × ℕ) → ℕ → ℕ → List (ℕ × ℕ)
-insert [] k i = (k, i) ∷ []
-insert (e ∷ m) k i = cond (eqb k (e .0)) ((k, i) ∷ m) (e ∷ insert m k i)
+unfoldable pub memoInsert : List (ℕ × ℕ) → ℕ → ℕ → List (ℕ × ℕ)
+memoInsert [] k i = (k, i) ∷ []
+memoInsert (e ∷ m) k i = cond (eqb k (e .0)) ((k, i) ∷ m) (e ∷ memoInsert m k i)
 
 -- MissingMemo, then StackFull
 unfoldable pub get : ℕ → State → Res State
 get k s = do
-  i ← find (s .memo) k
+  i ← memoFind (s .memo) k
   pushId i s
 
 -- the top (6), then MemoFull; a number that is there already is replaced
 unfoldable pub put : ℕ → State → Res State
 put k s = do
   i ← top s
-  _ ← need (cond (has (s .memo) k) true (ltb (length (s .memo)) memoLimit)) MemoFull
-  ok (withMemo s (insert (s .memo) k i))
+  _ ← need (cond (memoHas (s .memo) k) true (ltb (length (s .memo)) memoLimit)) MemoFull
+  ok (withMemo s (memoInsert (s .memo) k i))

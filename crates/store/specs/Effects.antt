@@ -12,7 +12,7 @@ use Rattle.refusal.specs.declared.Refusal.the-variants.{MemoFull}
 use Rattle.value.specs.Shape.{kindIn}
 use Rattle.store.specs.declared.Effect.{Effect}
 use Rattle.store.specs.declared.Effect.the-variants.{Push, Share, Mark, Go, Make, Extend, Remember, Build, Stop, Refused}
-use Rattle.steps.specs.State.{State, Res, ok, no, _>>=_, need, memoLimit, nodesLimit, linksLimit, stackLimit, marksLimit, withNodes, withMemo, top, pushId, pushNode, link, nodeAt, extend, has, insert, put}
+use Rattle.steps.specs.State.{State, Res, ok, no, _>>=_, need, memoLimit, nodesLimit, linksLimit, stackLimit, marksLimit, withNodes, withMemo, top, pushId, pushNode, link, nodeAt, extend, memoHas, memoInsert, put}
 use Rattle.steps.specs.Opcodes.{mark, made}
 use Rattle.steps.specs.Run.{Next, goes, stops, going}
 use Rattle.steps.specs.Range.{InRange}
@@ -24,8 +24,8 @@ use Rattle.steps.specs.NodeWords.{first, nodeIs, HoldsLinks}
 -- `put` behind the top: MemoFull, else the entry
 unfoldable pub remember : ℕ → ℕ → State → Res State
 remember k i s = do
-  _ ← need (cond (has (s .memo) k) true (ltb (length (s .memo)) memoLimit)) MemoFull
-  ok (withMemo s (insert (s .memo) k i))
+  _ ← need (cond (memoHas (s .memo) k) true (ltb (length (s .memo)) memoLimit)) MemoFull
+  ok (withMemo s (memoInsert (s .memo) k i))
 
 pub put-is : (k : ℕ) (s : State) → put k s ≡ (top s >>= λ i. remember k i s)
 unfolding put remember
@@ -38,8 +38,8 @@ grow o is s = do
   ok (extend o is s₁)
 
 -- `build` behind the Object: its state is i
-unfoldable pub state : ℕ → ℕ → State → State
-state o i s = withNodes s (set (s .nodes) o (record { label = nodeAt s o .label; kids = getD (nodeAt s o .kids) 0 0 ∷ i ∷ [] }))
+unfoldable pub withState : ℕ → ℕ → State → State
+withState o i s = withNodes s (set (s .nodes) o (record { label = nodeAt s o .label; kids = getD (nodeAt s o .kids) 0 0 ∷ i ∷ [] }))
 
 -- the values above the first n, of h on the stack
 unfoldable pub above : ℕ → ℕ → List ℕ → List ℕ
@@ -58,7 +58,7 @@ enacted (Go c) r h = ok (goes (stateOf r c))
 enacted (Make c k) r h = going (container k r (above (c .stack) h (r .stack)) (stateOf r c))
 enacted (Extend c o) r h = going (grow (o .0) (above (c .stack) h (r .stack)) (stateOf r c))
 enacted (Remember c i w k) r h = going (remember (k .0) (i .0) (stateOf r c))
-enacted (Build c o i) r h = ok (goes (state (o .0) (i .0) (stateOf r c)))
+enacted (Build c o i) r h = ok (goes (withState (o .0) (i .0) (stateOf r c)))
 enacted (Stop c) r h = ok (stops (stateOf r c))
 enacted (Refused c v w why) r h = no why
 
@@ -123,7 +123,7 @@ Fits (Stop c) r h = Firm r c
 Fits (Refused c v w why) r h = Unit {0}
 
 -- e is the step n of the machine with the rooms r and counts c
-pub record Says (e : Effect) (r : Rooms) (c : Counts) (n : Res Next) : Type 0 where
+pub record IsStep (e : Effect) (r : Rooms) (c : Counts) (n : Res Next) : Type 0 where
   pub enacts : enacted e r (c .stack) ≡ n
   pub fits : Fits e r (c .stack)
 
@@ -131,7 +131,7 @@ pub record Says (e : Effect) (r : Rooms) (c : Counts) (n : Res Next) : Type 0 wh
 abbrev pub refusing : Counts → Refusal → Effect
 refusing c why = Refused c 0 0 why
 
-pub says-refused : (why : Refusal) (r : Rooms) (c : Counts) (n : Res Next) → n ≡ no why → Says (refusing c why) r c n
+pub says-refused : (why : Refusal) (r : Rooms) (c : Counts) (n : Res Next) → n ≡ no why → IsStep (refusing c why) r c n
 unfolding enacted Fits
 says-refused why r c n e = record { enacts = sym e; fits = tt }
 
@@ -143,4 +143,4 @@ pub record SomeRooms (c : Counts) (P : Rooms → Type 0) : Type 0 where
 
 -- in all such rooms e is the step that `does` is
 unfoldable pub Decides : Counts → (Rooms → Type 0) → (State → Res Next) → Effect → Type 0
-Decides c P does e = (r : Rooms) → Sound r c → P r → Says e r c (does (stateOf r c))
+Decides c P does e = (r : Rooms) → Sound r c → P r → IsStep e r c (does (stateOf r c))

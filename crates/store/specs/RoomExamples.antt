@@ -12,12 +12,12 @@ use Rattle.value.specs.Shape.{kindIn, newIn, stateIn}
 use Rattle.steps.specs.State.{ok, kidless}
 use Rattle.steps.specs.Run.{run}
 use Rattle.steps.specs.Examples.{shared}
-use Rattle.store.specs.Rooms.{Rooms, Counts, tab, items, entries, stateOf}
+use Rattle.store.specs.Rooms.{Rooms, Counts, tabulated, linkedItems, entries, stateOf}
 use Rattle.steps.specs.NodeWords.{first, second, within, classIn, moduleOf, nameOf, partsOf, nodeIs}
 
 -- opens what the examples compute with
 unfoldable evaluates : Unit {0}
-unfolding utf8-evaluates text-evaluates bytesOf kindIn newIn stateIn tab items entries first second within classIn moduleOf nameOf partsOf nodeIs stateOf
+unfolding utf8-evaluates text-evaluates bytesOf kindIn newIn stateIn tabulated linkedItems entries first second within classIn moduleOf nameOf partsOf nodeIs stateOf
 evaluates = tt
 
 -- the pickle of `shared`: a List of the 5, and a Tuple of it twice; what lies behind the counts does not count

@@ -9,7 +9,7 @@ use lib.Seq.{getD-set-same, getD-set-other, getD-at}
 use native.Mathlib.Decide.{ℕ-discrete}
 use native.Mathlib.Omega.{arith}
 use Rattle.value.specs.Shape.{kindIn}
-use Rattle.store.specs.Rooms.{items, Owned, Holding, Class, Classed, Counted, Together, Placed, Kept}
+use Rattle.store.specs.Rooms.{linkedItems, Owned, Holding, Class, Classed, Counted, Together, Placed, Kept}
 use Rattle.steps.specs.NodeWords.{first, second, wordsSet, classIn, HoldsLinks, aList, aTuple, aDict, WithState, first-other, second-other, first-set, second-set, words-second, holds-below, objectWord, object-made}
 use Rattle.store.specs.RoomLists.{items-own, items-other, items-new}
 
@@ -128,17 +128,17 @@ module _ (b : ℕ) (small : suc (b % 2 ^ 32) < 2 ^ 32) where
 
 module _ (ws owners children : List ℕ) (links n : ℕ) (h : Counted ws owners children links n) where
   -- words set for a node that is no container with items
-  set-counted : (o a b : ℕ) → suc (2 * o) < length ws → (HoldsLinks a → b % 2 ^ 32 ≡ length (items (take links owners) (take links children) o)) → (i : ℕ) → (i ≢ o → i < n)
-      → HoldsLinks (first (wordsSet ws o a b) i) → second (wordsSet ws o a b) i % 2 ^ 32 ≡ length (items (take links owners) (take links children) i)
+  set-counted : (o a b : ℕ) → suc (2 * o) < length ws → (HoldsLinks a → b % 2 ^ 32 ≡ length (linkedItems (take links owners) (take links children) o)) → (i : ℕ) → (i ≢ o → i < n)
+      → HoldsLinks (first (wordsSet ws o a b) i) → second (wordsSet ws o a b) i % 2 ^ 32 ≡ length (linkedItems (take links owners) (take links children) i)
   unfolding Counted
   set-counted o a b room new i l = go (ℕ-discrete i o)
     where
-      go : Dec (i ≡ o) → HoldsLinks (first (wordsSet ws o a b) i) → second (wordsSet ws o a b) i % 2 ^ 32 ≡ length (items (take links owners) (take links children) i)
+      go : Dec (i ≡ o) → HoldsLinks (first (wordsSet ws o a b) i) → second (wordsSet ws o a b) i % 2 ^ 32 ≡ length (linkedItems (take links owners) (take links children) i)
       go (yes e) = rw (e, first-set ws o a b room, second-set ws o a b room) new
       go (no d) = rw (first-other ws o a b i d, second-other ws o a b i d) (h i (l d))
 
   -- a node more, which owns nothing yet
-  pub counted-node : (a b : ℕ) → suc (2 * n) < length ws → items (take links owners) (take links children) n ≡ [] → Empty links a b → Counted (wordsSet ws n a b) owners children links (suc n)
+  pub counted-node : (a b : ℕ) → suc (2 * n) < length ws → linkedItems (take links owners) (take links children) n ≡ [] → Empty links a b → Counted (wordsSet ws n a b) owners children links (suc n)
   unfolding Counted Empty
   counted-node a b room none new i z = set-counted n a b room (λ t. new t .0 ∙ sym (ap length none)) i (λ d. omega arith)
 
@@ -159,7 +159,7 @@ module _ (ws owners children : List ℕ) (links n : ℕ) (h : Counted ws owners 
       b : ℕ
       b = suc (second ws o)
 
-      go : Dec (i ≡ o) → HoldsLinks (first (wordsSet ws o a b) i) → second (wordsSet ws o a b) i % 2 ^ 32 ≡ length (items (take (suc links) (set owners links o)) (take (suc links) (set children links k)) i)
+      go : Dec (i ≡ o) → HoldsLinks (first (wordsSet ws o a b) i) → second (wordsSet ws o a b) i % 2 ^ 32 ≡ length (linkedItems (take (suc links) (set owners links o)) (take (suc links) (set children links k)) i)
       go (yes e) = rw (e, first-set ws o a b room, second-set ws o a b room, items-own owners children links o k l l′, length-append, suc-low (second ws o) small) (λ t. let v = h o z t in omega arith)
       go (no d) = rw (first-other ws o a b i d, second-other ws o a b i d, items-other owners children links o k l l′ i d) (h i y)
 
@@ -185,12 +185,12 @@ module _ (b k links : ℕ) (is children : List ℕ) (t : Together b is children 
 
 module _ (ws owners children : List ℕ) (links n : ℕ) (h : Placed ws owners children links n) where
   -- words set for a node that is no Tuple with items
-  set-placed : (o a b : ℕ) → suc (2 * o) < length ws → (kindIn a ≡ 7 → Together b (items (take links owners) (take links children) o) children links) → (i : ℕ) → (i ≢ o → i < n)
-      → kindIn (first (wordsSet ws o a b) i) ≡ 7 → Together (second (wordsSet ws o a b) i) (items (take links owners) (take links children) i) children links
+  set-placed : (o a b : ℕ) → suc (2 * o) < length ws → (kindIn a ≡ 7 → Together b (linkedItems (take links owners) (take links children) o) children links) → (i : ℕ) → (i ≢ o → i < n)
+      → kindIn (first (wordsSet ws o a b) i) ≡ 7 → Together (second (wordsSet ws o a b) i) (linkedItems (take links owners) (take links children) i) children links
   unfolding Placed
   set-placed o a b room new i l = go (ℕ-discrete i o)
     where
-      go : Dec (i ≡ o) → kindIn (first (wordsSet ws o a b) i) ≡ 7 → Together (second (wordsSet ws o a b) i) (items (take links owners) (take links children) i) children links
+      go : Dec (i ≡ o) → kindIn (first (wordsSet ws o a b) i) ≡ 7 → Together (second (wordsSet ws o a b) i) (linkedItems (take links owners) (take links children) i) children links
       go (yes e) = rw (e, first-set ws o a b room, second-set ws o a b room) new
       go (no d) = rw (first-other ws o a b i d, second-other ws o a b i d) (h i (l d))
 
@@ -218,13 +218,13 @@ module _ (ws owners children : List ℕ) (links n : ℕ) (h : Placed ws owners c
       b : ℕ
       b = suc (second ws o)
 
-      go : Dec (i ≡ o) → kindIn (first (wordsSet ws o a b) i) ≡ 7 → Together (second (wordsSet ws o a b) i) (items (take (suc links) (set owners links o)) (take (suc links) (set children links k)) i) (set children links k) (suc links)
+      go : Dec (i ≡ o) → kindIn (first (wordsSet ws o a b) i) ≡ 7 → Together (second (wordsSet ws o a b) i) (linkedItems (take (suc links) (set owners links o)) (take (suc links) (set children links k)) i) (set children links k) (suc links)
       go (yes e) =
           rw (e, first-set ws o a b room, second-set ws o a b room, items-own owners children links o k l l′)
-          (λ t. together-own (second ws o) k links (items (take links owners) (take links children) o) children (h o z t) (counted o z (aTuple t)) (end t) l′ small)
+          (λ t. together-own (second ws o) k links (linkedItems (take links owners) (take links children) o) children (h o z t) (counted o z (aTuple t)) (end t) l′ small)
       go (no d) =
           rw (first-other ws o a b i d, second-other ws o a b i d, items-other owners children links o k l l′ i d)
-          (λ t. together-more (second ws i) k links (items (take links owners) (take links children) i) children (h i y t))
+          (λ t. together-more (second ws i) k links (linkedItems (take links owners) (take links children) i) children (h i y t))
 
 -- ---- all of it together
 

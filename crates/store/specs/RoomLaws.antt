@@ -9,11 +9,11 @@ use native.Mathlib.Decide.{ℕ-discrete}
 use native.Mathlib.Omega.{arith}
 use Rattle.value.specs.Value.{NoneL}
 use Rattle.value.specs.Shape.{kindIn}
-use Rattle.steps.specs.State.{Node, kidless, withInput, withNodes, withStack, withMarks, withMemo, withLinks, nodeAt, extend, insert}
+use Rattle.steps.specs.State.{Node, kidless, withInput, withNodes, withStack, withMarks, withMemo, withLinks, nodeAt, extend, memoInsert}
 use Rattle.store.specs.RoomLists.{getD-tab, tab-same, tab-set, items-own, items-other, items-new}
 use Rattle.steps.specs.NodeWords.{first-other, second-other, first-set, second-set, words-second, holds-below, first, second, wordsSet, classIn, nodeIs, HoldsLinks, WithState, node-grown, node-count, node-with-state, node-words, words-other}
 use Rattle.store.specs.RoomMemo.{insert-absent, insert-present}
-use Rattle.store.specs.Rooms.{Rooms, Counts, tab, kidsOf, nodeOf, nodesOf, stateOf, wordsIn, logIn, stackIn, marksIn, memoIn, atTo, nodesTo, linksTo, stackTo, marksTo, memoTo, Owned, Class, Classed, Absent}
+use Rattle.store.specs.Rooms.{Rooms, Counts, tabulated, kidsOf, nodeOf, nodesOf, stateOf, wordsIn, logIn, stackIn, marksIn, memoIn, atTo, nodesTo, linksTo, stackTo, marksTo, memoTo, Owned, Class, Classed, Absent}
 
 -- ---- the pickle, the stack and the marks
 
@@ -71,7 +71,7 @@ module _ (r : Rooms) (c : Counts) where
 
   pub node-more : (a b : ℕ) → suc (2 * c .nodes) < length (r .nodes) → c .links ≤ length (r .owners) → Owned (r .owners) (c .links) (c .nodes) → Classed (r .nodes) (c .nodes) → Class (r .nodes) (c .nodes) a
       → stateOf (wordsIn r (wordsSet (r .nodes) (c .nodes) a b)) (nodesTo c (suc (c .nodes))) ≡ withNodes (stateOf r c) (stateOf r c .nodes ++ (nodeIs (r .pickle) (r .nodes) [] a b ∷ []))
-  unfolding stateOf tab Owned Classed Class
+  unfolding stateOf tabulated Owned Classed Class
   node-more a b h l own cl new = ap (withNodes (stateOf r c)) (ap₂ (λ (x : List Node) (y : Node). x ++ (y ∷ [])) (tab-same (nodeOf r c) (nodeOf r₁ c₁) (c .nodes) old) last)
     where
       r₁ : Rooms
@@ -92,13 +92,13 @@ module _ (r : Rooms) (c : Counts) where
 
   -- an entry more
   pub memo-more : (k i : ℕ) → c .memo < length (r .keys) → c .memo < length (r .held) → Absent (r .keys) (c .memo) k
-      → stateOf (memoIn r (set (r .keys) (c .memo) k) (set (r .held) (c .memo) i)) (memoTo c (suc (c .memo))) ≡ withMemo (stateOf r c) (insert (stateOf r c .memo) k i)
+      → stateOf (memoIn r (set (r .keys) (c .memo) k) (set (r .held) (c .memo) i)) (memoTo c (suc (c .memo))) ≡ withMemo (stateOf r c) (memoInsert (stateOf r c .memo) k i)
   unfolding stateOf
   memo-more k i h h′ none = ap (withMemo (stateOf r c)) (insert-absent (r .keys) (r .held) (c .memo) k (omega arith) (omega arith) none i h h′)
 
   -- one replaced, which stands at j
   pub memo-replaced : (k i j : ℕ) → c .memo ≤ length (r .keys) → c .memo ≤ length (r .held) → j < c .memo → getD (r .keys) j 0 ≡ k → Absent (r .keys) j k
-      → stateOf (memoIn r (r .keys) (set (r .held) j i)) c ≡ withMemo (stateOf r c) (insert (stateOf r c .memo) k i)
+      → stateOf (memoIn r (r .keys) (set (r .held) j i)) c ≡ withMemo (stateOf r c) (memoInsert (stateOf r c .memo) k i)
   unfolding stateOf
   memo-replaced k i j h h′ l e before = ap (withMemo (stateOf r c)) (insert-present (r .keys) (r .held) (c .memo) k h h′ j l e before i)
 

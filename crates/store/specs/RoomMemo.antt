@@ -1,4 +1,4 @@
--- The memo as two rooms, its numbers and their nodes: what `find`, `has` and `insert` say of them.
+-- The memo as two rooms, its numbers and their nodes: what `memoFind`, `memoHas` and `memoInsert` say of them.
 use Prim.Native.Nat.{ℕ, suc, zero, _+_, _<_, _≤_, max}
 use mathlib.Core.Bool.{Bool, true, false, cond}
 use mathlib.Core.List.{List, [], _∷_, _++_}
@@ -11,7 +11,7 @@ use borrow.Author.Tests.{eq-eqb, ne-eqb, ltb-true, ltb-false}
 use native.Mathlib.Decide.{ℕ-discrete}
 use native.Mathlib.Omega.{arith}
 use Rattle.refusal.specs.declared.Refusal.the-variants.{MissingMemo}
-use Rattle.steps.specs.State.{ok, find, has, insert}
+use Rattle.steps.specs.State.{ok, memoFind, memoHas, memoInsert}
 use Rattle.steps.specs.State as state
 use Rattle.steps.specs.Memo.{find-missing}
 use Rattle.store.specs.Rooms.{entries, Absent, Passed, Numbered}
@@ -29,31 +29,31 @@ entries-length [] hs e = refl
 entries-length (x ∷ ks) [] e = absurd (omega arith)
 entries-length (x ∷ ks) (y ∷ hs) e = ap suc (entries-length ks hs (omega arith))
 
-insert-new : (m : List (ℕ × ℕ)) (k i : ℕ) → has m k ≡ false → insert m k i ≡ m ++ ((k, i) ∷ [])
-unfolding insert has
+insert-new : (m : List (ℕ × ℕ)) (k i : ℕ) → memoHas m k ≡ false → memoInsert m k i ≡ m ++ ((k, i) ∷ [])
+unfolding memoInsert memoHas
 insert-new [] k i h = refl
 insert-new (e ∷ m) k i h = go (eqb k (e .0)) h (insert-new m k i)
   where
-    go : (b : Bool) → cond b true (has m k) ≡ false → (has m k ≡ false → insert m k i ≡ m ++ ((k, i) ∷ [])) → cond b ((k, i) ∷ m) (e ∷ insert m k i) ≡ e ∷ (m ++ ((k, i) ∷ []))
+    go : (b : Bool) → cond b true (memoHas m k) ≡ false → (memoHas m k ≡ false → memoInsert m k i ≡ m ++ ((k, i) ∷ [])) → cond b ((k, i) ∷ m) (e ∷ memoInsert m k i) ≡ e ∷ (m ++ ((k, i) ∷ []))
     go true h f = let c : _≡_ {A = ℕ} 0 1 = cc in absurd (omega arith)
     go false h f = ap (e ∷_) (f h)
 
-has-entries : (ks hs : List ℕ) (k : ℕ) → Absent ks (length ks) k → has (entries ks hs) k ≡ false
-unfolding has entries Absent
+has-entries : (ks hs : List ℕ) (k : ℕ) → Absent ks (length ks) k → memoHas (entries ks hs) k ≡ false
+unfolding memoHas entries Absent
 has-entries [] hs k h = refl
 has-entries (x ∷ ks) [] k h = refl
 has-entries (x ∷ ks) (y ∷ hs) k h = rw (ne-eqb k x (λ e. h 0 (omega arith) (sym e))) (has-entries ks hs k (λ i l. h (suc i) (omega arith)))
 
 module _ (k i : ℕ) where
-  insert-entries : (ks hs : List ℕ) (j : ℕ) → j < length ks → j < length hs → getD ks j 0 ≡ k → Absent ks j k → entries ks (set hs j i) ≡ insert (entries ks hs) k i
-  unfolding entries insert Absent
+  insert-entries : (ks hs : List ℕ) (j : ℕ) → j < length ks → j < length hs → getD ks j 0 ≡ k → Absent ks j k → entries ks (set hs j i) ≡ memoInsert (entries ks hs) k i
+  unfolding entries memoInsert Absent
   insert-entries [] hs j l l′ e h = absurd (omega arith)
   insert-entries (x ∷ ks) [] j l l′ e h = absurd (omega arith)
   insert-entries (x ∷ ks) (y ∷ hs) zero l l′ e h = rw (e, eq-eqb k k refl)
   insert-entries (x ∷ ks) (y ∷ hs) (suc j) l l′ e h = rw (ne-eqb k x (λ q. h 0 (omega arith) (sym q))) (ap ((x, y) ∷_) (insert-entries ks hs j (omega arith) (omega arith) e (λ n m. h (suc n) (omega arith))))
 
-find-entries : (k : ℕ) (ks hs : List ℕ) (j : ℕ) → j < length ks → j < length hs → getD ks j 0 ≡ k → Absent ks j k → find (entries ks hs) k ≡ ok (getD hs j 0)
-unfolding entries find Absent
+find-entries : (k : ℕ) (ks hs : List ℕ) (j : ℕ) → j < length ks → j < length hs → getD ks j 0 ≡ k → Absent ks j k → memoFind (entries ks hs) k ≡ ok (getD hs j 0)
+unfolding entries memoFind Absent
 find-entries k [] hs j l l′ e h = absurd (omega arith)
 find-entries k (x ∷ ks) [] j l l′ e h = absurd (omega arith)
 find-entries k (x ∷ ks) (y ∷ hs) zero l l′ e h = rw (e, eq-eqb k k refl)
@@ -70,25 +70,25 @@ module _ (keys held : List ℕ) (n k : ℕ) (h : n ≤ length keys) (h′ : n �
 
   -- a number that is not there
   module _ (none : Absent keys n k) where
-    pub has-absent : has (entries (take n keys) (take n held)) k ≡ false
+    pub has-absent : memoHas (entries (take n keys) (take n held)) k ≡ false
     has-absent = has-entries (take n keys) (take n held) k (rw (length-take-le n keys h) (absent-take n (omega arith) none))
 
-    pub find-absent : find (entries (take n keys) (take n held)) k ≡ state.no (MissingMemo k)
+    pub find-absent : memoFind (entries (take n keys) (take n held)) k ≡ state.no (MissingMemo k)
     find-absent = find-missing (entries (take n keys) (take n held)) k has-absent
 
-    pub insert-absent : (i : ℕ) → n < length keys → n < length held → entries (take (suc n) (set keys n k)) (take (suc n) (set held n i)) ≡ insert (entries (take n keys) (take n held)) k i
+    pub insert-absent : (i : ℕ) → n < length keys → n < length held → entries (take (suc n) (set keys n k)) (take (suc n) (set held n i)) ≡ memoInsert (entries (take n keys) (take n held)) k i
     insert-absent i l l′ =
         rw (take-suc-set keys n k l, take-suc-set held n i l′)
         (entries-append (take n keys) (take n held) k i (length-take-le n keys h ∙ sym (length-take-le n held h′)) ∙ sym (insert-new (entries (take n keys) (take n held)) k i has-absent))
 
   -- one that stands at j first
   module _ (j : ℕ) (l : j < n) (e : getD keys j 0 ≡ k) (before : Absent keys j k) where
-    pub find-present : find (entries (take n keys) (take n held)) k ≡ ok (getD held j 0)
+    pub find-present : memoFind (entries (take n keys) (take n held)) k ≡ ok (getD held j 0)
     find-present =
         find-entries k (take n keys) (take n held) j (rw (length-take-le n keys h) l) (rw (length-take-le n held h′) l) (getD-take n keys j 0 l ∙ e) (absent-take j (omega arith) before)
         ∙ ap ok (getD-take n held j 0 l)
 
-    pub insert-present : (i : ℕ) → entries (take n keys) (take n (set held j i)) ≡ insert (entries (take n keys) (take n held)) k i
+    pub insert-present : (i : ℕ) → entries (take n keys) (take n (set held j i)) ≡ memoInsert (entries (take n keys) (take n held)) k i
     insert-present i =
         rw (take-set-lt n held j i l)
         (insert-entries k i (take n keys) (take n held) j (rw (length-take-le n keys h) l) (rw (length-take-le n held h′) l) (getD-take n keys j 0 l ∙ e) (absent-take j (omega arith) before))

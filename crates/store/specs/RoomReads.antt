@@ -6,12 +6,12 @@ use lib.Seq.{length-take-le}
 use Rattle.value.specs.Value.{NoneL}
 use Rattle.steps.specs.State.{kidless, nodeAt}
 use Rattle.steps.specs.Run.{start}
-use Rattle.store.specs.Rooms.{Rooms, Counts, tab, entries, nodeOf, memoOf, stateOf}
+use Rattle.store.specs.Rooms.{Rooms, Counts, tabulated, entries, nodeOf, memoOf, stateOf}
 use Rattle.store.specs.RoomLists.{length-tab, getD-tab}
 
 -- with nothing read yet
 pub start-of : (r : Rooms) → stateOf r (record { at = 0; nodes = 0; links = 0; stack = 0; deepest = 0; marks = 0; most = 0; memo = 0; greatest = 0 }) ≡ start (r .pickle)
-unfolding stateOf tab entries start
+unfolding stateOf tabulated entries start
 start-of r = refl
 
 module _ (r : Rooms) (c : Counts) where

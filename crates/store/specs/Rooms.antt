@@ -25,15 +25,15 @@ pub record Rooms : Type 0 where
 -- ---- lists read off rooms
 
 -- f 0, .., f (n - 1)
-unfoldable pub tab : {A : Type 0} → (ℕ → A) → ℕ → List A
-tab f zero = []
-tab f (suc n) = tab f n ++ (f n ∷ [])
+unfoldable pub tabulated : {A : Type 0} → (ℕ → A) → ℕ → List A
+tabulated f zero = []
+tabulated f (suc n) = tabulated f n ++ (f n ∷ [])
 
 -- the children of those links of the log that o owns, in order
-unfoldable pub items : List ℕ → List ℕ → ℕ → List ℕ
-items [] cs o = []
-items (w ∷ ws) [] o = []
-items (w ∷ ws) (c ∷ cs) o = cond (eqb w o) (c ∷ items ws cs o) (items ws cs o)
+unfoldable pub linkedItems : List ℕ → List ℕ → ℕ → List ℕ
+linkedItems [] cs o = []
+linkedItems (w ∷ ws) [] o = []
+linkedItems (w ∷ ws) (c ∷ cs) o = cond (eqb w o) (c ∷ linkedItems ws cs o) (linkedItems ws cs o)
 
 -- memo numbers, each with its node
 unfoldable pub entries : List ℕ → List ℕ → List (ℕ × ℕ)
@@ -45,7 +45,7 @@ entries (k ∷ ks) (h ∷ hs) = (k, h) ∷ entries ks hs
 
 -- the children of node i's links, of the part of the log that is used
 abbrev pub kidsOf : Rooms → Counts → ℕ → List ℕ
-kidsOf r c i = items (take (c .links) (r .owners)) (take (c .links) (r .children)) i
+kidsOf r c i = linkedItems (take (c .links) (r .owners)) (take (c .links) (r .children)) i
 
 -- node i
 abbrev pub nodeOf : Rooms → Counts → ℕ → Node
@@ -53,7 +53,7 @@ nodeOf r c i = nodeIs (r .pickle) (r .nodes) (kidsOf r c i) (first (r .nodes) i)
 
 -- all of them
 abbrev pub nodesOf : Rooms → Counts → List Node
-nodesOf r c = tab (nodeOf r c) (c .nodes)
+nodesOf r c = tabulated (nodeOf r c) (c .nodes)
 
 -- the memo
 abbrev pub memoOf : Rooms → Counts → List (ℕ × ℕ)
@@ -129,7 +129,7 @@ pub record Numbered (keys : List ℕ) (n m : ℕ) : Type 0 where
 
 -- the low half of a container's second word is the number of its items
 unfoldable pub Counted : List ℕ → List ℕ → List ℕ → ℕ → ℕ → Type 0
-Counted ws owners children links n = (i : ℕ) → i < n → HoldsLinks (first ws i) → second ws i % 2 ^ 32 ≡ length (items (take links owners) (take links children) i)
+Counted ws owners children links n = (i : ℕ) → i < n → HoldsLinks (first ws i) → second ws i % 2 ^ 32 ≡ length (linkedItems (take links owners) (take links children) i)
 
 -- `is` are the children of links that stand together: the halves of the word b are their number and the place of the first
 pub record Together (b : ℕ) (is children : List ℕ) (links : ℕ) : Type 0 where
@@ -138,7 +138,7 @@ pub record Together (b : ℕ) (is children : List ℕ) (links : ℕ) : Type 0 wh
 
 -- a Tuple's links do, as it never grows
 unfoldable pub Placed : List ℕ → List ℕ → List ℕ → ℕ → ℕ → Type 0
-Placed ws owners children links n = (i : ℕ) → i < n → kindIn (first ws i) ≡ 7 → Together (second ws i) (items (take links owners) (take links children) i) children links
+Placed ws owners children links n = (i : ℕ) → i < n → kindIn (first ws i) ≡ 7 → Together (second ws i) (linkedItems (take links owners) (take links children) i) children links
 
 -- every owner is a List, Tuple or Dict
 unfoldable pub Holding : List ℕ → List ℕ → ℕ → Type 0

@@ -18,8 +18,8 @@ use Rattle.value.specs.Stands.{Stands, Begins}
 use Rattle.value.specs.Tabled.{table-stands}
 use Rattle.value.specs.Order.{order}
 use Rattle.value.specs.WellFormed.{WellFormed}
-use Rattle.table.specs.Find.{row, find}
-use Rattle.table.specs.Check.{Lent, answer}
+use Rattle.table.specs.Find.{findMany, find}
+use Rattle.table.specs.Check.{Lent, checkedOf}
 use Rattle.table.specs.Verdict.{formed-found, found-formed}
 use Rattle.table.specs.declared.Compared.{Compared}
 use Rattle.table.specs.declared.Checked.{Checked}
@@ -50,7 +50,7 @@ pub record Compares (w : List ℕ) (n : ℕ) (t : List ℕ) (v : List ℕ) (m : 
 pub decided : (w : List ℕ) (n : ℕ) (t : List ℕ) → WellFormed w n t ⊎ (WellFormed w n t → ⊥)
 decided w n t = go (ltb 2048 n) (ltb (length w) (4 * n)) (ltb 65536 (length t)) refl refl refl
   where
-    last : Lent w n t → (s : Checked) → answer (row (find w n t 64) 1 0 0) ≡ s → WellFormed w n t ⊎ (WellFormed w n t → ⊥)
+    last : Lent w n t → (s : Checked) → checkedOf (findMany (find w n t 64) 1 0 0) ≡ s → WellFormed w n t ⊎ (WellFormed w n t → ⊥)
     last lent Bad e = inr (λ a. let x = formed-found w n t a in let z : _≡_ {A = ℕ} 0 1 = cc in omega arith)
     last lent (Good j d) e = ends (eqb j n) (eqb d (length t)) refl refl
       where
@@ -63,7 +63,7 @@ decided w n t = go (ltb 2048 n) (ltb (length w) (4 * n)) (ltb 65536 (length t)) 
     go true q r x y z = inr (λ a. let f = a .few in let g = ltb-true 2048 n x in omega arith)
     go false true r x y z = inr (λ a. let f = a .lent in let g = ltb-true (length w) (4 * n) y in omega arith)
     go false false true x y z = inr (λ a. let f = a .short in let g = ltb-true 65536 (length t) z in omega arith)
-    go false false false x y z = last (record { room = ltb-false (length w) (4 * n) y; few = ltb-false 2048 n x; short = ltb-false 65536 (length t) z }) (answer (row (find w n t 64) 1 0 0)) refl
+    go false false false x y z = last (record { room = ltb-false (length w) (4 * n) y; few = ltb-false 2048 n x; short = ltb-false 65536 (length t) z }) (checkedOf (findMany (find w n t 64) 1 0 0)) refl
 
 -- the answer is determined
 pub compare-one : (w : List ℕ) (n : ℕ) (t : List ℕ) (v : List ℕ) (m : ℕ) (u : List ℕ) (r s : Compared) → Compares w n t v m u r → Compares w n t v m u s → r ≡ s

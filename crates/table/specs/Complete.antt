@@ -13,7 +13,7 @@ use Rattle.value.specs.Shape.{fitting, shaped, and-l, and-r}
 use Rattle.value.specs.Stands.{_⊕_, wordAt, Says, Stands}
 use Rattle.value.specs.Tabled.{table-stands}
 use Rattle.value.specs.WellFormed.{proper, settled}
-use Rattle.table.specs.Find.{Found, good, same, close, join, row, find}
+use Rattle.table.specs.Find.{Found, good, hasRecord, close, join, findMany, find}
 
 pub T-true : (b : Bool) → T b → b ≡ true
 T-true true h = refl
@@ -59,8 +59,8 @@ module _ (w t : List ℕ) where
         after-in = omega arith;
       }
 
-  pub same-at : (i p n z : ℕ) (l : Label) (y : List ℕ) → drop (4 * i) w ≡ recordOf l p n z ++ y → same w i (recordOf l p n z) ≡ true
-  unfolding same
+  pub same-at : (i p n z : ℕ) (l : Label) (y : List ℕ) → drop (4 * i) w ≡ recordOf l p n z ++ y → hasRecord w i (recordOf l p n z) ≡ true
+  unfolding hasRecord
   same-at i p n z l y e =
       let word : (k : ℕ) → wordAt w i k ≡ getD (recordOf l p n z ++ y) k 0 = λ k. sym (getD-drop (4 * i) w k 0) ∙ ap (λ (v : List ℕ). getD v k 0) e in
       let a1 : wordAt w i 1 ≡ getD (words l p n z) 0 0 = word 1 ∙ List·getD-append (words l p n z) y 0 0 (rw words-length (lit< tt)) in
@@ -73,18 +73,18 @@ module _ (w t : List ℕ) where
   says-first l c r i h = h .0
 
 -- a value, and then the rest
-pub row-more : (g : ℕ → ℕ → Found) (m i p : ℕ) {l : Label} {c r : Forest} {j e h u : ℕ} → g i p ≡ good (node l c nil) j e → row g m j e ≡ good r h u → row g (suc m) i p ≡ good (node l c r) h u
-unfolding row join _⊕_
-row-more g m i p first rest = rw (first, row) (rw rest)
+pub row-more : (g : ℕ → ℕ → Found) (m i p : ℕ) {l : Label} {c r : Forest} {j e h u : ℕ} → g i p ≡ good (node l c nil) j e → findMany g m j e ≡ good r h u → findMany g (suc m) i p ≡ good (node l c r) h u
+unfolding findMany join _⊕_
+row-more g m i p first rest = rw (first, findMany) (rw rest)
 
 module _ (w : List ℕ) (n : ℕ) (t : List ℕ) where
   -- a value whose contents are found
-  pub find-node : (k i p : ℕ) (l : Label) (c : Forest) (y : List ℕ) (j e : ℕ) → Says w t i l (count c) → i < n → row (find w n t k) (count c) (i + 1) (p + length (textOf l)) ≡ good c j e → drop (4 * i) w ≡ recordOf l p (count c) (suc (size c)) ++ y → T (proper l c) → find w n t (suc k) i p ≡ good (node l c nil) j e
+  pub find-node : (k i p : ℕ) (l : Label) (c : Forest) (y : List ℕ) (j e : ℕ) → Says w t i l (count c) → i < n → findMany (find w n t k) (count c) (i + 1) (p + length (textOf l)) ≡ good c j e → drop (4 * i) w ≡ recordOf l p (count c) (suc (size c)) ++ y → T (proper l c) → find w n t (suc k) i p ≡ good (node l c nil) j e
   unfolding find close
   find-node k i p l c y j e says lt found own suits = rw (lt-ltb i n lt, says .label, says .arity, found, same-at w t i p (count c) (suc (size c)) l y own, T-true (proper l c) suits)
 
-  pub row-complete : (f : Forest) (k i p : ℕ) (x s : List ℕ) → T (shaped f) → T (settled f) → depth f ≤ k → drop (4 * i) w ≡ table f p ++ x → drop p t ≡ text f ++ s → p ≤ length t → i + size f ≤ n → row (find w n t k) (count f) i p ≡ good f (i + size f) (p + length (text f))
-  unfolding row shaped settled depth size count text
+  pub row-complete : (f : Forest) (k i p : ℕ) (x s : List ℕ) → T (shaped f) → T (settled f) → depth f ≤ k → drop (4 * i) w ≡ table f p ++ x → drop p t ≡ text f ++ s → p ≤ length t → i + size f ≤ n → findMany (find w n t k) (count f) i p ≡ good f (i + size f) (p + length (text f))
+  unfolding findMany shaped settled depth size count text
   row-complete nil k i p x s h o m e d b f = let a : i + 0 ≡ i = omega arith in let a2 : p + 0 ≡ p = omega arith in rw (a, a2)
   row-complete (node l c r) zero i p x s h o m e d b f = absurd (omega arith)
   row-complete (node l c r) (suc k) i p x s h o m e d b f =

@@ -13,7 +13,7 @@ use Rattle.value.specs.Shape.{kindIn, newIn, labelOf}
 use Rattle.value.specs.Stands.{wordAt, labelAt, Stands, stands-one}
 use Rattle.value.specs.Order.{order}
 use Rattle.value.specs.WellFormed.{less, ascending, keys, firstIsTuple, isTuple}
-use Rattle.table.specs.Record.{Below, below, labelBy}
+use Rattle.table.specs.Record.{EachBelow, each-below, labelBy}
 use Rattle.table.specs.Sound.{sizeAt, Sized}
 use Rattle.table.specs.Names.{orderedIn}
 
@@ -33,9 +33,9 @@ unfoldable pub arrangedBy : ℕ → Forest → Bool
 arrangedBy k f = cond (ltb k 8) true (cond (ltb k 10) (ascending (picked 1 f)) (cond (ltb k 11) (ascending (picked 2 f)) (cond (ltb k 12) true (firstIsTuple f))))
 
 pub ordered-back : (a b c : ℕ) (x : List ℕ) (f : Forest) → kindIn a < 13 → orderedIn (labelOf a b c x) f ≡ arrangedBy (kindIn a) f
-unfolding orderedIn labelOf labelBy arrangedBy picked Below
+unfolding orderedIn labelOf labelBy arrangedBy picked EachBelow
 ordered-back a b c x f known =
-    below 13 (λ k. orderedIn (labelBy (newIn a) b c x k) f ≡ arrangedBy k f)
+    each-below 13 (λ k. orderedIn (labelBy (newIn a) b c x k) f ≡ arrangedBy k f)
     (refl, (refl, (refl, (refl, (refl, (refl, (refl, (refl, (refl, (refl, (refl, (refl, (refl, tt))))))))))))) (kindIn a) known
 
 -- the record behind an item, or behind a key and its value
@@ -43,7 +43,7 @@ unfoldable pub nextAt : List ℕ → ℕ → ℕ → ℕ
 nextAt w e i = let q = i + sizeAt w i in cond (eqb e 1) q (q + sizeAt w q)
 
 -- the records on the way there are inside
-pub record Steps (w : List ℕ) (e i : ℕ) : Type 0 where
+pub record ItemInside (w : List ℕ) (e i : ℕ) : Type 0 where
   pub here : 4 * i + 4 ≤ length w
   pub behind : i + sizeAt w i ≤ length w
   pub there : e ≢ 1 → 4 * (i + sizeAt w i) + 4 ≤ length w
@@ -55,8 +55,8 @@ abbrev value : Label → Forest → Value
 value l c = record { label = l; contents = c }
 
 -- an item or key, the next one, and what is left from that one on
-pub record Step (w t : List ℕ) (e p : ℕ) (f : Forest) : Type 0 where
-  pub steps : Steps w e p
+pub record ItemStep (w t : List ℕ) (e p : ℕ) (f : Forest) : Type 0 where
+  pub steps : ItemInside w e p
   pub first : Value
   pub second : Value
   pub rest : Forest
@@ -81,7 +81,7 @@ unfolding ascending keys
 keys-order l m k c d g r = rw (keys-node k g r)
 
 module _ (w t : List ℕ) where
-  items : (p : ℕ) (l m : Label) (c d r : Forest) → Stands w t p (node l c (node m d r)) → Sized w p (node l c (node m d r)) → Step w t 1 p (node l c (node m d r))
+  items : (p : ℕ) (l m : Label) (c d r : Forest) → Stands w t p (node l c (node m d r)) → Sized w p (node l c (node m d r)) → ItemStep w t 1 p (node l c (node m d r))
   unfolding Stands Sized nextAt picked ascending count
   items p l m c d r s z =
       let q : p + 1 + size c ≡ p + sizeAt w p = let h = z .0 in omega arith in
@@ -101,7 +101,7 @@ module _ (w t : List ℕ) where
         ordered = refl;
       }
 
-  entries : (p : ℕ) (l m k : Label) (c d g r : Forest) → Stands w t p (node l c (node m d (node k g r))) → Sized w p (node l c (node m d (node k g r))) → Step w t 2 p (node l c (node m d (node k g r)))
+  entries : (p : ℕ) (l m k : Label) (c d g r : Forest) → Stands w t p (node l c (node m d (node k g r))) → Sized w p (node l c (node m d (node k g r))) → ItemStep w t 2 p (node l c (node m d (node k g r)))
   unfolding Stands Sized nextAt picked count
   entries p l m k c d g r s z =
       let h = z .0 in
@@ -125,7 +125,7 @@ module _ (w t : List ℕ) where
       }
 
   -- more than one item, or more than one entry
-  pub step : (e p : ℕ) (f : Forest) → 1 ≤ e → e ≤ 2 → Stands w t p f → Sized w p f → e < count f → Step w t e p f
+  pub step : (e p : ℕ) (f : Forest) → 1 ≤ e → e ≤ 2 → Stands w t p f → Sized w p f → e < count f → ItemStep w t e p f
   unfolding count
   step zero p f x y s z h = absurd (omega arith)
   step (suc zero) p nil x y s z h = absurd (omega arith)
@@ -139,9 +139,9 @@ module _ (w t : List ℕ) where
 
   -- an Object's first value, by its record
   tuple-kind : (a b c : ℕ) (x : List ℕ) → kindIn a < 13 → isTuple (labelOf a b c x) ≡ eqb (kindIn a) 7
-  unfolding labelOf labelBy Below
+  unfolding labelOf labelBy EachBelow
   tuple-kind a b c x known =
-      below 13 (λ k. isTuple (labelBy (newIn a) b c x k) ≡ eqb k 7)
+      each-below 13 (λ k. isTuple (labelBy (newIn a) b c x k) ≡ eqb k 7)
       (refl, (refl, (refl, (refl, (refl, (refl, (refl, (refl, (refl, (refl, (refl, (refl, (refl, tt))))))))))))) (kindIn a) known
 
   pub first-kind : (i : ℕ) (f : Forest) → Stands w t i f → 1 ≤ count f → firstIsTuple f ≡ eqb (kindIn (wordAt w i 0)) 7
@@ -150,17 +150,17 @@ module _ (w t : List ℕ) where
   first-kind i (node l c r) s h = ap isTuple (sym (s .0 .label)) ∙ tuple-kind (wordAt w i 0) (wordAt w i 1) (wordAt w i 2) _ (s .0 .reads .known)
 
 -- one item, or one entry, or none
-pub few : (e : ℕ) (f : Forest) → 1 ≤ e → e ≤ 2 → count f ≤ e → ascending (picked e f) ≡ true
+pub few-ascend : (e : ℕ) (f : Forest) → 1 ≤ e → e ≤ 2 → count f ≤ e → ascending (picked e f) ≡ true
 unfolding picked ascending keys count
-few zero f x y h = absurd (omega arith)
-few (suc zero) nil x y h = refl
-few (suc zero) (node l c nil) x y h = refl
-few (suc zero) (node l c (node m d r)) x y h = absurd (omega arith)
-few (suc (suc zero)) nil x y h = refl
-few (suc (suc zero)) (node l c nil) x y h = refl
-few (suc (suc zero)) (node l c (node m d nil)) x y h = refl
-few (suc (suc zero)) (node l c (node m d (node k g r))) x y h = absurd (omega arith)
-few (suc (suc (suc e))) f x y h = absurd (omega arith)
+few-ascend zero f x y h = absurd (omega arith)
+few-ascend (suc zero) nil x y h = refl
+few-ascend (suc zero) (node l c nil) x y h = refl
+few-ascend (suc zero) (node l c (node m d r)) x y h = absurd (omega arith)
+few-ascend (suc (suc zero)) nil x y h = refl
+few-ascend (suc (suc zero)) (node l c nil) x y h = refl
+few-ascend (suc (suc zero)) (node l c (node m d nil)) x y h = refl
+few-ascend (suc (suc zero)) (node l c (node m d (node k g r))) x y h = absurd (omega arith)
+few-ascend (suc (suc (suc e))) f x y h = absurd (omega arith)
 
 -- ---- the way from item to item: what is left decides for all
 
@@ -185,10 +185,10 @@ module _ (w t : List ℕ) (i m e : ℕ) (low : 1 ≤ e) (high : e ≤ 2) where
 
   module _ (p left : ℕ) (r : Rest w t i m e p left) where
     pub rest-done : left ≤ e → (f : Forest) → Stands w t i f → count f ≡ m → true ≡ ascending (picked e f)
-    rest-done h f s c = let n = r .counted in sym (r .same f s c ∙ few e (r .values) low high (omega arith))
+    rest-done h f s c = let n = r .counted in sym (r .same f s c ∙ few-ascend e (r .values) low high (omega arith))
 
     module _ (more : e < left) where
-      pub rest-step : Step w t e p (r .values)
+      pub rest-step : ItemStep w t e p (r .values)
       rest-step = let n = r .counted in step w t e p (r .values) low high (r .stands) (r .sized) (omega arith)
 
       module _ (o : Ordering) (told : (v u : Value) → Stands w t p (one v) → Stands w t (nextAt w e p) (one u) → o ≡ order v u) where

@@ -12,7 +12,7 @@ use Rattle.value.specs.Shape.{kindIn, fitting, shaped, and-l, and-r}
 use Rattle.value.specs.Stands.{wordAt, labelAt, arityAt, Says}
 use Rattle.value.specs.Tabled.{table-stands}
 use Rattle.value.specs.WellFormed.{WellFormed}
-use Rattle.table.specs.Record.{Below, below, right1, spanOf, back1, back-text}
+use Rattle.table.specs.Record.{EachBelow, each-below, right1, spanOf, back1, back-text}
 use Rattle.table.specs.Complete.{parts, same-at, says-first}
 use Rattle.table.specs.Sound.{RecordWords, same-words, own}
 
@@ -36,9 +36,9 @@ textLength w n = lastEnd w (min n (length w / 4))
 -- ---- in the form of RULES A2 it is the end of the text so far
 
 end-by : (a b c p : ℕ) → kindIn a < 13 → b ≡ right1 (kindIn a) b p → p + spanOf (kindIn a) c ≤ 65536 → cond (hasText (kindIn a)) (endOf a b c) p ≡ p + spanOf (kindIn a) c
-unfolding hasText endOf right1 spanOf Below
+unfolding hasText endOf right1 spanOf EachBelow
 end-by a b c p known =
-    below 13 (λ k. b ≡ right1 k b p → (let s = spanOf k c in p + s ≤ 65536 → cond (hasText k) (min (2 ^ 64 - 1) (b + s)) p ≡ p + s))
+    each-below 13 (λ k. b ≡ right1 k b p → (let s = spanOf k c in p + s ≤ 65536 → cond (hasText k) (min (2 ^ 64 - 1) (b + s)) p ≡ p + s))
     (none, (none, (none, (none, (some c, (some c, (none, (none, (none, (none, (none, (some (c / 2 ^ 32 + c % 2 ^ 32), (some (c / 2 ^ 32 + c % 2 ^ 32), tt))))))))))))) (kindIn a) known
   where
     none : {x : ℕ} → b ≡ x → p + 0 ≤ 65536 → p ≡ p + 0

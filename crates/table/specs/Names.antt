@@ -12,7 +12,7 @@ use Rattle.utf8.specs.Utf8.{valid}
 use Rattle.value.specs.Value.{Label, Forest, NoneL, BoolL, I64L, F64L, BytesL, StringL, ListL, TupleL, SetL, FrozenSetL, DictL, GlobalL, ObjectL}
 use Rattle.value.specs.Shape.{kindIn, newIn, labelOf}
 use Rattle.value.specs.WellFormed.{proper, ascending, keys, firstIsTuple}
-use Rattle.table.specs.Record.{right1, Below, below, labelBy}
+use Rattle.table.specs.Record.{right1, EachBelow, each-below, labelBy}
 
 -- String and names valid UTF-8
 unfoldable pub validIn : Label → Bool
@@ -71,16 +71,16 @@ unfoldable pub namesRight : ℕ → ℕ → List ℕ → Bool
 namesRight k c x = cond (ltb k 5) true (cond (ltb k 6) (valid (take c x)) (cond (ltb k 11) true (valid (take (c / 2 ^ 32) x) && valid (take (c % 2 ^ 32) (drop (c / 2 ^ 32) x)))))
 
 pub names-back : (a b c p : ℕ) (t : List ℕ) → kindIn a < 13 → b ≡ right1 (kindIn a) b p → validIn (labelOf a b c (drop b t)) ≡ namesRight (kindIn a) c (drop p t)
-unfolding validIn labelOf labelBy right1 namesRight Below
+unfolding validIn labelOf labelBy right1 namesRight EachBelow
 names-back a b c p t known =
-    below 13 (λ k. b ≡ right1 k b p → validIn (labelBy (newIn a) b c (drop b t) k) ≡ (let x = drop p t in namesRight k c x))
+    each-below 13 (λ k. b ≡ right1 k b p → validIn (labelBy (newIn a) b c (drop b t) k) ≡ (let x = drop p t in namesRight k c x))
     ((λ e. refl), ((λ e. refl), ((λ e. refl), ((λ e. refl), ((λ e. refl), ((λ e. rw e), ((λ e. refl), ((λ e. refl), ((λ e. refl), ((λ e. refl), ((λ e. refl), ((λ e. rw e), ((λ e. rw e), tt))))))))))))) (kindIn a) known
 
 -- a part of the text, from p to p + q
-abbrev pub part : ℕ → ℕ → List ℕ → List ℕ
-part p q t = take (p + q - p) (drop p t)
+abbrev pub partOf : ℕ → ℕ → List ℕ → List ℕ
+partOf p q t = take (p + q - p) (drop p t)
 
-pub part-at : (p q : ℕ) (t : List ℕ) → part p q t ≡ take q (drop p t)
+pub part-at : (p q : ℕ) (t : List ℕ) → partOf p q t ≡ take q (drop p t)
 part-at p q t = let e : p + q - p ≡ q = omega arith in ap (λ (n : ℕ). take n (drop p t)) e
 
 -- the text, by the kind k
@@ -102,11 +102,11 @@ module _ (a c k : ℕ) (t : List ℕ) (e : k ≡ kindIn a) where
   names-both g = rw (← e, le-ltb k 5 (omega arith), le-ltb k 6 (omega arith), le-ltb k 11 g)
 
 module _ (a c k p : ℕ) (t : List ℕ) (e : k ≡ kindIn a) (late : 11 ≤ k) where
-  name-part : part (p + c / 2 ^ 32) (c % 2 ^ 32) t ≡ take (c % 2 ^ 32) (drop (c / 2 ^ 32) (drop p t))
+  name-part : partOf (p + c / 2 ^ 32) (c % 2 ^ 32) t ≡ take (c % 2 ^ 32) (drop (c / 2 ^ 32) (drop p t))
   name-part = part-at (p + c / 2 ^ 32) (c % 2 ^ 32) t ∙ ap (take (c % 2 ^ 32)) (sym (drop-drop (c / 2 ^ 32) p t))
 
-  pub names-module : valid (part p (c / 2 ^ 32) t) ≡ false → false ≡ namesRight (kindIn a) c (drop p t)
+  pub names-module : valid (partOf p (c / 2 ^ 32) t) ≡ false → false ≡ namesRight (kindIn a) c (drop p t)
   names-module h = sym (names-both a c k (drop p t) e late ∙ rw (sym (ap valid (part-at p (c / 2 ^ 32) t)) ∙ h))
 
-  pub names-name : valid (part p (c / 2 ^ 32) t) ≡ true → valid (part (p + c / 2 ^ 32) (c % 2 ^ 32) t) ≡ namesRight (kindIn a) c (drop p t)
+  pub names-name : valid (partOf p (c / 2 ^ 32) t) ≡ true → valid (partOf (p + c / 2 ^ 32) (c % 2 ^ 32) t) ≡ namesRight (kindIn a) c (drop p t)
   names-name h = ap valid name-part ∙ sym (names-both a c k (drop p t) e late ∙ rw (sym (ap valid (part-at p (c / 2 ^ 32) t)) ∙ h))

@@ -40,15 +40,15 @@ sizeOf k c d = cond (ltb k 6) 1 (cond (ltb k 11) c (cond (ltb k 12) 1 d))
 -- ---- one kind after the other
 
 -- a property of each number below n
-unfoldable pub Below : ℕ → (ℕ → Type 0) → Type 0
-Below zero P = Unit {0}
-Below (suc n) P = P 0 × Below n (λ k. P (suc k))
+unfoldable pub EachBelow : ℕ → (ℕ → Type 0) → Type 0
+EachBelow zero P = Unit {0}
+EachBelow (suc n) P = P 0 × EachBelow n (λ k. P (suc k))
 
-pub below : (n : ℕ) (P : ℕ → Type 0) → Below n P → (k : ℕ) → k < n → P k
-unfolding Below
-below zero P b k h = absurd (omega arith)
-below (suc n) P b zero h = b .0
-below (suc n) P b (suc k) h = below n (λ j. P (suc j)) (b .1) k (omega arith)
+pub each-below : (n : ℕ) (P : ℕ → Type 0) → EachBelow n P → (k : ℕ) → k < n → P k
+unfolding EachBelow
+each-below zero P b k h = absurd (omega arith)
+each-below (suc n) P b zero h = b .0
+each-below (suc n) P b (suc k) h = each-below n (λ j. P (suc j)) (b .1) k (omega arith)
 
 -- the label, by its kind k
 unfoldable pub labelBy : Bool → ℕ → ℕ → List ℕ → ℕ → Label
@@ -103,56 +103,56 @@ module _ (a b c p z : ℕ) (x : List ℕ) (known : kindIn a < 13) where
   flags = rw (half-of (stateIn a))
 
   known0 : word0 (labelOf a b c x) (arityOf a b) ≡ right0 a
-  unfolding labelOf arityOf right0 Below labelBy arityBy
+  unfolding labelOf arityOf right0 EachBelow labelBy arityBy
   known0 =
-      below 13 (λ k. word0 (labelBy (newIn a) b c x k) (arityBy (stateIn a) b k) ≡ cond (ltb k 12) k (cond (ltb k 13) (wordOf (record { kind = k; new = newIn a; state = stateIn a })) 0))
+      each-below 13 (λ k. word0 (labelBy (newIn a) b c x k) (arityBy (stateIn a) b k) ≡ cond (ltb k 12) k (cond (ltb k 13) (wordOf (record { kind = k; new = newIn a; state = stateIn a })) 0))
       (refl, (refl, (refl, (refl, (refl, (refl, (refl, (refl, (refl, (refl, (refl, (refl, (flags, tt))))))))))))) (kindIn a) known
 
   pub back1 : getD (words (labelOf a b c x) p (arityOf a b) z) 0 0 ≡ right1 (kindIn a) b p
-  unfolding labelOf arityOf right1 Below labelBy arityBy
+  unfolding labelOf arityOf right1 EachBelow labelBy arityBy
   back1 =
-      below 13 (λ k. getD (words (labelBy (newIn a) b c x k) p (arityBy (stateIn a) b k) z) 0 0 ≡ right1 k b p)
+      each-below 13 (λ k. getD (words (labelBy (newIn a) b c x k) p (arityBy (stateIn a) b k) z) 0 0 ≡ right1 k b p)
       (refl, (refl, (refl, (refl, (refl, (refl, (refl, (refl, (refl, (refl, (half-twice b, (refl, (refl, tt))))))))))))) (kindIn a) known
 
   pub back3 : getD (words (labelOf a b c x) p (arityOf a b) z) 2 0 ≡ right3 (kindIn a) z
-  unfolding labelOf arityOf right3 Below labelBy arityBy
+  unfolding labelOf arityOf right3 EachBelow labelBy arityBy
   back3 =
-      below 13 (λ k. getD (words (labelBy (newIn a) b c x k) p (arityBy (stateIn a) b k) z) 2 0 ≡ right3 k z)
+      each-below 13 (λ k. getD (words (labelBy (newIn a) b c x k) p (arityBy (stateIn a) b k) z) 2 0 ≡ right3 k z)
       (refl, (refl, (refl, (refl, (refl, (refl, (refl, (refl, (refl, (refl, (refl, (refl, (refl, tt))))))))))))) (kindIn a) known
 
   -- where the text is long enough
 
   pub back2 : spanOf (kindIn a) c ≤ length x → getD (words (labelOf a b c x) p (arityOf a b) z) 1 0 ≡ right2 (kindIn a) c z
-  unfolding labelOf arityOf right2 spanOf Below labelBy arityBy
+  unfolding labelOf arityOf right2 spanOf EachBelow labelBy arityBy
   back2 =
-      below 13 (λ k. spanOf k c ≤ length x → getD (words (labelBy (newIn a) b c x k) p (arityBy (stateIn a) b k) z) 1 0 ≡ right2 k c z)
+      each-below 13 (λ k. spanOf k c ≤ length x → getD (words (labelBy (newIn a) b c x k) p (arityBy (stateIn a) b k) z) 1 0 ≡ right2 k c z)
       ((λ h. refl), ((λ h. refl), ((λ h. refl), ((λ h. refl), (length-take-le c x, (length-take-le c x, ((λ h. refl), ((λ h. refl), ((λ h. refl), ((λ h. refl), ((λ h. refl), (names-word c x, (names-word c x, tt))))))))))))) (kindIn a) known
 
   pub back-text : spanOf (kindIn a) c ≤ length x → length (textOf (labelOf a b c x)) ≡ spanOf (kindIn a) c
-  unfolding labelOf spanOf Below labelBy
+  unfolding labelOf spanOf EachBelow labelBy
   back-text =
-      below 13 (λ k. let s = spanOf k c in s ≤ length x → length (textOf (labelBy (newIn a) b c x k)) ≡ s)
+      each-below 13 (λ k. let s = spanOf k c in s ≤ length x → length (textOf (labelBy (newIn a) b c x k)) ≡ s)
       ((λ h. refl), ((λ h. refl), ((λ h. refl), ((λ h. refl), (length-take-le c x, (length-take-le c x, ((λ h. refl), ((λ h. refl), ((λ h. refl), ((λ h. refl), ((λ h. refl), (names-cut c x, (names-cut c x, tt))))))))))))) (kindIn a) known
 
   -- and where it is not
   pub misfit : length x < spanOf (kindIn a) c → getD (words (labelOf a b c x) p (arityOf a b) z) 1 0 ≡ c → ⊥
-  unfolding labelOf arityOf spanOf Below labelBy arityBy
+  unfolding labelOf arityOf spanOf EachBelow labelBy arityBy
   misfit =
-      below 13 (λ k. length x < spanOf k c → getD (words (labelBy (newIn a) b c x k) p (arityBy (stateIn a) b k) z) 1 0 ≡ c → ⊥)
+      each-below 13 (λ k. length x < spanOf k c → getD (words (labelBy (newIn a) b c x k) p (arityBy (stateIn a) b k) z) 1 0 ≡ c → ⊥)
       (no, (no, (no, (no, (cut-misfit c x, (cut-misfit c x, (no, (no, (no, (no, (no, (names-misfit c x, (names-misfit c x, tt))))))))))))) (kindIn a) known
 
   -- the number of values suits the label
   pub back-fits : T (fitting (labelOf a b c x) (arityOf a b))
-  unfolding labelOf arityOf Below labelBy arityBy
+  unfolding labelOf arityOf EachBelow labelBy arityBy
   back-fits =
-      below 13 (λ k. T (fitting (labelBy (newIn a) b c x k) (arityBy (stateIn a) b k)))
+      each-below 13 (λ k. T (fitting (labelBy (newIn a) b c x k) (arityBy (stateIn a) b k)))
       (tt, (tt, (tt, (tt, (tt, (tt, (tt, (tt, (tt, (tt, (rw (half-twice b) (eqb-refl (b + b)), (rw (name-short c (drop (c / 2 ^ 32) x)) tt, (object-fits (stateIn a) c (drop (c / 2 ^ 32) x), tt))))))))))))) (kindIn a) known
 
   -- the size that a right record says
   pub back-size : c ≡ right2 (kindIn a) c z → (d : ℕ) → d ≡ right3 (kindIn a) z → (arityOf a b ≡ 0 → z ≡ 1) → sizeOf (kindIn a) c d ≡ z
-  unfolding arityOf right2 right3 sizeOf Below arityBy
+  unfolding arityOf right2 right3 sizeOf EachBelow arityBy
   back-size f d g one =
-      below 13 (λ k. c ≡ right2 k c z → d ≡ right3 k z → (arityBy (stateIn a) b k ≡ 0 → z ≡ 1) → sizeOf k c d ≡ z)
+      each-below 13 (λ k. c ≡ right2 k c z → d ≡ right3 k z → (arityBy (stateIn a) b k ≡ 0 → z ≡ 1) → sizeOf k c d ≡ z)
       ((λ f g o. sym (o refl)), ((λ f g o. sym (o refl)), ((λ f g o. sym (o refl)), ((λ f g o. sym (o refl)), ((λ f g o. sym (o refl)), ((λ f g o. sym (o refl)), ((λ f g o. f), ((λ f g o. f), ((λ f g o. f), ((λ f g o. f), ((λ f g o. f), ((λ f g o. sym (o refl)), ((λ f g o. g), tt))))))))))))) (kindIn a) known f g one
 
 -- an unknown kind

@@ -14,8 +14,8 @@ use Rattle.value.specs.Shape.{kindIn, newIn, labelOf, fitting, shaped, and-l, a
 use Rattle.value.specs.Stands.{_⊕_, wordAt, labelAt, arityAt, Stands}
 use Rattle.value.specs.Tabled.{table-stands}
 use Rattle.value.specs.WellFormed.{proper, settled}
-use Rattle.table.specs.Find.{Found, bad, good, same, close, join, row, find}
-use Rattle.table.specs.Record.{right1, spanOf, sizeOf, Below, below, labelBy, back0, back1, back2, back3, back-fits, back-size, misfit, right-known}
+use Rattle.table.specs.Find.{Found, bad, good, hasRecord, close, join, findMany, find}
+use Rattle.table.specs.Record.{right1, spanOf, sizeOf, EachBelow, each-below, labelBy, back0, back1, back2, back3, back-fits, back-size, misfit, right-known}
 
 -- the code reads word 0 at 4 * i
 pub first-word : (w : List ℕ) (i : ℕ) → getD w (4 * i) 0 ≡ wordAt w i 0
@@ -31,7 +31,7 @@ Sized w i nil = Unit {0}
 Sized w i (node l c r) = (sizeAt w i ≡ suc (size c)) × Sized w (i + 1 + size c) r
 
 -- m values from record i of n on, their text from p on, k levels deep at most: up to record j, and e in the text
-pub record Placed (w : List ℕ) (n : ℕ) (t : List ℕ) (m k i p : ℕ) (f : Forest) (j e : ℕ) : Type 0 where
+pub record ValuesPlaced (w : List ℕ) (n : ℕ) (t : List ℕ) (m k i p : ℕ) (f : Forest) (j e : ℕ) : Type 0 where
   pub counted : count f ≡ m
   pub shape : T (shaped f)
   pub settle : T (settled f)
@@ -58,7 +58,7 @@ T-and false b h k = absurd h
 regroup : (a b c d : List ℕ) → a ++ b ++ (c ++ d) ≡ a ++ (b ++ c) ++ d
 regroup a b c d = simp append-assoc
 
--- ---- taking `same`, `close` and `row` apart
+-- ---- taking `hasRecord`, `close` and `findMany` apart
 
 never : {A : Type 0} {f : Forest} {j e : ℕ} → bad ≡ good f j e → A
 never h = let z : _≡_ {A = ℕ} 0 1 = cc in absurd (omega arith)
@@ -70,8 +70,8 @@ pub record RecordWords (w : List ℕ) (i : ℕ) (r : List ℕ) : Type 0 where
   pub w2 : wordAt w i 2 ≡ getD r 2 0
   pub w3 : wordAt w i 3 ≡ getD r 3 0
 
-pub same-words : (w : List ℕ) (i : ℕ) (r : List ℕ) → same w i r ≡ true → RecordWords w i r
-unfolding same
+pub same-words : (w : List ℕ) (i : ℕ) (r : List ℕ) → hasRecord w i r ≡ true → RecordWords w i r
+unfolding hasRecord
 same-words w i r h =
     let a = both h in
     let b = both (a .0) in
@@ -94,9 +94,9 @@ record Closed (w : List ℕ) (i p : ℕ) (l : Label) (m : ℕ) (s : Found) (f : 
 closed : (w : List ℕ) (i p : ℕ) (l : Label) (m : ℕ) (s : Found) {f : Forest} {j e : ℕ} → close w i p l m s ≡ good f j e → Closed w i p l m s f j e
 unfolding close
 closed w i p l m bad h = never h
-closed w i p l m (good c j₁ e₁) {f} {j} {e} h = go (same w i (recordOf l p m (suc (size c)))) (proper l c) refl refl h
+closed w i p l m (good c j₁ e₁) {f} {j} {e} h = go (hasRecord w i (recordOf l p m (suc (size c)))) (proper l c) refl refl h
   where
-    go : (a b : Bool) → same w i (recordOf l p m (suc (size c))) ≡ a → proper l c ≡ b → cond (a && b) (good (node l c nil) j₁ e₁) bad ≡ good f j e → Closed w i p l m (good c j₁ e₁) f j e
+    go : (a b : Bool) → hasRecord w i (recordOf l p m (suc (size c))) ≡ a → proper l c ≡ b → cond (a && b) (good (node l c nil) j₁ e₁) bad ≡ good f j e → Closed w i p l m (good c j₁ e₁) f j e
     go true true x y q = record { contents = c; found = cc; right = same-words w i _ x; suits = rw y tt; is = cc }
     go true false x y q = never q
     go false b x y q = never q
@@ -108,20 +108,20 @@ record Joined (g : ℕ → ℕ → Found) (m i p : ℕ) (f : Forest) (j e : ℕ)
   behind : ℕ
   end : ℕ
   found : g i p ≡ good first behind end
-  others : row g m behind end ≡ good rest j e
+  others : findMany g m behind end ≡ good rest j e
   is : f ≡ first ⊕ rest
 
-joined : (g : ℕ → ℕ → Found) (m i p : ℕ) {f : Forest} {j e : ℕ} → row g (suc m) i p ≡ good f j e → Joined g m i p f j e
-unfolding row join
+joined : (g : ℕ → ℕ → Found) (m i p : ℕ) {f : Forest} {j e : ℕ} → findMany g (suc m) i p ≡ good f j e → Joined g m i p f j e
+unfolding findMany join
 joined g m i p {f} {j} {e} h = go (g i p) refl h
   where
-    last : (a : Forest) (b d : ℕ) (r : Found) → g i p ≡ good a b d → row g m b d ≡ r → join a r ≡ good f j e → Joined g m i p f j e
+    last : (a : Forest) (b d : ℕ) (r : Found) → g i p ≡ good a b d → findMany g m b d ≡ r → join a r ≡ good f j e → Joined g m i p f j e
     last a b d bad x y q = never q
     last a b d (good r b₁ d₁) x y q = record { first = a; rest = r; behind = b; end = d; found = x; others = y ∙ (cc); is = cc }
 
-    go : (r : Found) → g i p ≡ r → elim r [ bad ↦ bad | good a b d ↦ join a (row g m b d) ] ≡ good f j e → Joined g m i p f j e
+    go : (r : Found) → g i p ≡ r → elim r [ bad ↦ bad | good a b d ↦ join a (findMany g m b d) ] ≡ good f j e → Joined g m i p f j e
     go bad x q = never q
-    go (good a b d) x q = last a b d (row g m b d) x refl q
+    go (good a b d) x q = last a b d (findMany g m b d) x refl q
 
 -- ---- a record's text and words, from where they are
 
@@ -140,9 +140,9 @@ module _ (b c p : ℕ) (t : List ℕ) where
   names e h = rw (e, ← take-add (c / 2 ^ 32) (c % 2 ^ 32) (drop p t)) (front p (c / 2 ^ 32 + c % 2 ^ 32) t (rw e at h))
 
   pub text-at : (a : ℕ) → kindIn a < 13 → b ≡ right1 (kindIn a) b p → spanOf (kindIn a) c ≤ length (drop b t) → drop p t ≡ textOf (labelOf a b c (drop b t)) ++ drop (p + length (textOf (labelOf a b c (drop b t)))) t
-  unfolding right1 spanOf labelOf Below labelBy
+  unfolding right1 spanOf labelOf EachBelow labelBy
   text-at a known =
-      below 13 (λ k. b ≡ right1 k b p → spanOf k c ≤ length (drop b t) → drop p t ≡ textOf (labelBy (newIn a) b c (drop b t) k) ++ drop (p + length (textOf (labelBy (newIn a) b c (drop b t) k))) t)
+      each-below 13 (λ k. b ≡ right1 k b p → spanOf k c ≤ length (drop b t) → drop p t ≡ textOf (labelBy (newIn a) b c (drop b t) k) ++ drop (p + length (textOf (labelBy (newIn a) b c (drop b t) k))) t)
       ((λ e h. none), ((λ e h. none), ((λ e h. none), ((λ e h. none), (some, (some, ((λ e h. none), ((λ e h. none), ((λ e h. none), ((λ e h. none), ((λ e h. none), (names, (names, tt))))))))))))) (kindIn a) known
 
 words-three : (l : Label) (p n z : ℕ) → words l p n z ≡ getD (words l p n z) 0 0 ∷ getD (words l p n z) 1 0 ∷ getD (words l p n z) 2 0 ∷ []
@@ -217,7 +217,7 @@ leaf-size (node l c r) m e h = absurd (omega arith)
 module _ (w : List ℕ) (n : ℕ) (t : List ℕ) (room : 4 * n ≤ length w) where
   -- a label with its contents
   node-placed : (k i p : ℕ) (c : Forest) (j e : ℕ) → i < n → p ≤ length t → RecordWords w i (recordOf (labelAt w t i) p (arityAt w i) (suc (size c))) → T (proper (labelAt w t i) c)
-      → Placed w n t (arityAt w i) k (i + 1) (p + length (textOf (labelAt w t i))) c j e → Placed w n t 1 (suc k) i p (node (labelAt w t i) c nil) j e
+      → ValuesPlaced w n t (arityAt w i) k (i + 1) (p + length (textOf (labelAt w t i))) c j e → ValuesPlaced w n t 1 (suc k) i p (node (labelAt w t i) c nil) j e
   unfolding count shaped settled depth size table text Sized
   node-placed k i p c j e lt b r suits q =
       let l = labelAt w t i in
@@ -238,7 +238,7 @@ module _ (w : List ℕ) (n : ℕ) (t : List ℕ) (room : 4 * n ≤ length w) whe
       }
 
   -- a value, and then the rest
-  rest-placed : (m k i p : ℕ) (l : Label) (c r : Forest) (j e h u : ℕ) → Placed w n t 1 k i p (node l c nil) j e → Placed w n t m k j e r h u → Placed w n t (suc m) k i p (node l c r) h u
+  rest-placed : (m k i p : ℕ) (l : Label) (c r : Forest) (j e h u : ℕ) → ValuesPlaced w n t 1 k i p (node l c nil) j e → ValuesPlaced w n t m k j e r h u → ValuesPlaced w n t (suc m) k i p (node l c r) h u
   unfolding count shaped settled depth size table text Sized
   rest-placed m k i p l c r j e h u a b =
       let q = p + length (textOf l) in
@@ -264,21 +264,21 @@ module _ (w : List ℕ) (n : ℕ) (t : List ℕ) (room : 4 * n ≤ length w) whe
 
   -- what is found k levels deep is placed
   abbrev Finds : ℕ → Type 0
-  Finds k = (i p : ℕ) (f : Forest) (j e : ℕ) → p ≤ length t → find w n t k i p ≡ good f j e → Placed w n t 1 k i p f j e
+  Finds k = (i p : ℕ) (f : Forest) (j e : ℕ) → p ≤ length t → find w n t k i p ≡ good f j e → ValuesPlaced w n t 1 k i p f j e
 
-  nothing-placed : (k i p : ℕ) → p ≤ length t → Placed w n t 0 k i p nil i p
+  nothing-placed : (k i p : ℕ) → p ≤ length t → ValuesPlaced w n t 0 k i p nil i p
   unfolding count shaped settled depth size table text Sized
   nothing-placed k i p b = record { counted = refl; shape = tt; settle = tt; shallow = omega arith; next = omega arith; within = λ h. h; records = refl; ended = omega arith; inside = b; texts = refl; sized = tt }
 
   -- a single value at the front of others
-  more-placed : (m k i p : ℕ) (f r : Forest) {j e h u : ℕ} → Placed w n t 1 k i p f j e → Placed w n t m k j e r h u → Placed w n t (suc m) k i p (f ⊕ r) h u
+  more-placed : (m k i p : ℕ) (f r : Forest) {j e h u : ℕ} → ValuesPlaced w n t 1 k i p f j e → ValuesPlaced w n t m k j e r h u → ValuesPlaced w n t (suc m) k i p (f ⊕ r) h u
   unfolding _⊕_ count
   more-placed m k i p nil r a b = let h = a .counted in absurd (omega arith)
   more-placed m k i p (node l c nil) r a b = rest-placed m k i p l c r _ _ _ _ a b
   more-placed m k i p (node l c (node l₁ c₁ r₁)) r a b = let h = a .counted in absurd (omega arith)
 
-  row-placed : (k : ℕ) → Finds k → (m i p : ℕ) {f : Forest} {j e : ℕ} → p ≤ length t → row (find w n t k) m i p ≡ good f j e → Placed w n t m k i p f j e
-  unfolding row
+  row-placed : (k : ℕ) → Finds k → (m i p : ℕ) {f : Forest} {j e : ℕ} → p ≤ length t → findMany (find w n t k) m i p ≡ good f j e → ValuesPlaced w n t m k i p f j e
+  unfolding findMany
   row-placed k g zero i p {f} {j} {e} b h =
       let a = nothing-placed k i p b in
       let x : f ≡ nil = cc in
@@ -292,11 +292,11 @@ module _ (w : List ℕ) (n : ℕ) (t : List ℕ) (room : 4 * n ≤ length w) whe
       rw (q .is) (more-placed m k i p (q .first) (q .rest) a r)
 
   -- where the contents are placed, so is the value
-  find-level : (k i p : ℕ) (f : Forest) (j e : ℕ) → Finds k → p ≤ length t → find w n t (suc k) i p ≡ good f j e → Placed w n t 1 (suc k) i p f j e
+  find-level : (k i p : ℕ) (f : Forest) (j e : ℕ) → Finds k → p ≤ length t → find w n t (suc k) i p ≡ good f j e → ValuesPlaced w n t 1 (suc k) i p f j e
   unfolding find
   find-level k i p f j e g b h = go (ltb i n) refl h
     where
-      go : (q : Bool) → ltb i n ≡ q → cond q (close w i p (labelAt w t i) (arityAt w i) (row (find w n t k) (arityAt w i) (i + 1) (p + length (textOf (labelAt w t i))))) bad ≡ good f j e → Placed w n t 1 (suc k) i p f j e
+      go : (q : Bool) → ltb i n ≡ q → cond q (close w i p (labelAt w t i) (arityAt w i) (findMany (find w n t k) (arityAt w i) (i + 1) (p + length (textOf (labelAt w t i))))) bad ≡ good f j e → ValuesPlaced w n t 1 (suc k) i p f j e
       go false x y = never y
       go true x y =
           let q = closed w i p (labelAt w t i) (arityAt w i) _ y in
@@ -309,9 +309,9 @@ module _ (w : List ℕ) (n : ℕ) (t : List ℕ) (room : 4 * n ≤ length w) whe
   find-placed zero i p f j e b h = never h
   find-placed (suc k) i p f j e b h = find-level k i p f j e (find-placed k) b h
 
-  pub contents-placed : (k m i p : ℕ) {f : Forest} {j e : ℕ} → p ≤ length t → row (find w n t k) m i p ≡ good f j e → Placed w n t m k i p f j e
+  pub contents-placed : (k m i p : ℕ) {f : Forest} {j e : ℕ} → p ≤ length t → findMany (find w n t k) m i p ≡ good f j e → ValuesPlaced w n t m k i p f j e
   contents-placed k m i p b h = row-placed k (find-placed k) m i p b h
 
 -- a forest that is placed stands there
-pub placed-stands : (w : List ℕ) (n : ℕ) (t : List ℕ) (m k i p : ℕ) (f : Forest) (j e : ℕ) → p ≤ length t → Placed w n t m k i p f j e → Stands w t i f
+pub placed-stands : (w : List ℕ) (n : ℕ) (t : List ℕ) (m k i p : ℕ) (f : Forest) (j e : ℕ) → p ≤ length t → ValuesPlaced w n t m k i p f j e → Stands w t i f
 placed-stands w n t m k i p f j e b q = table-stands w t f p i _ _ (q .shape) (q .records) (q .texts) b

@@ -5,18 +5,18 @@ use refusal::Which;
 use refusal::detail;
 use refusal::number;
 use utf8::valid;
-use value::BOOL;
-use value::BYTES;
-use value::DICT;
-use value::GLOBAL;
 use value::Head;
-use value::I64;
-use value::LIST;
-use value::OBJECT;
+use value::KIND_BOOL;
+use value::KIND_BYTES;
+use value::KIND_DICT;
+use value::KIND_GLOBAL;
+use value::KIND_I64;
+use value::KIND_LIST;
+use value::KIND_OBJECT;
+use value::KIND_SET;
+use value::KIND_STRING;
+use value::KIND_TUPLE;
 use value::Order;
-use value::SET;
-use value::STRING;
-use value::TUPLE;
 use value::compare_at;
 use value::compare_bytes;
 use value::compare_ints;
@@ -35,14 +35,14 @@ ghost use Rattle.value.specs.Order.{order};
 ghost use Rattle.value.specs.Shape.{kindIn, stateIn, holding, arityOf};
 ghost use Rattle.value.specs.Stands.{wordAt, Reads, Begins, Stands};
 ghost use Rattle.value.specs.WellFormed.{WellFormed, less, ascending};
-ghost use Rattle.table.specs.Find.{find, row};
+ghost use Rattle.table.specs.Find.{find, findMany};
 ghost use Rattle.table.specs.Record.{right0, right1, right2, right3, spanOf, sizeOf};
 ghost use Rattle.table.specs.Sound.{sizeAt};
 ghost use Rattle.table.specs.Names.{namesRight};
-ghost use Rattle.table.specs.Items.{Held, Steps, nextAt, picked, arrangedBy};
-ghost use Rattle.table.specs.Check.{Lent, HeadSays, LeafSays, Closes, sizesRight, answer};
+ghost use Rattle.table.specs.Items.{Held, ItemInside, nextAt, picked, arrangedBy};
+ghost use Rattle.table.specs.Check.{Lent, HeadSays, LeafSays, Closes, sizesRight, checkedOf};
 ghost use Rattle.table.specs.Length.{hasText, endOf, textLength};
-ghost use Rattle.table.specs.Decides.{Decides};
+ghost use Rattle.table.specs.Decides.{YesIff};
 ghost use Rattle.value.specs.Told.{told};
 ghost use Rattle.table.specs.Compare.{badTable, ordered as orderedBy, Compares};
 
@@ -79,7 +79,7 @@ fn word0(a: u64) -> u64
 {
     let head = head_of(a);
     let k = head.kind;
-    if k < OBJECT {
+    if k < KIND_OBJECT {
         return word_of(Head {
             kind: k,
             new: false,
@@ -96,11 +96,11 @@ fn word1(a: u64, b: u64, at: u64) -> u64
     ensures { λ r. ⌜ r ≡ right1 (kindIn a) b at ⌝ }
 {
     let k = kind(a);
-    if k < BYTES {
-        if k < BOOL {
+    if k < KIND_BYTES {
+        if k < KIND_BOOL {
             return 0;
         }
-        if k < I64 {
+        if k < KIND_I64 {
             if b == 1 {
                 return 1;
             }
@@ -108,10 +108,10 @@ fn word1(a: u64, b: u64, at: u64) -> u64
         }
         return b;
     }
-    if k < LIST {
+    if k < KIND_LIST {
         return at;
     }
-    if k < GLOBAL {
+    if k < KIND_GLOBAL {
         return b;
     }
     at
@@ -121,13 +121,13 @@ fn word2(a: u64, c: u64, size: u64) -> u64
     ensures { λ r. ⌜ r ≡ right2 (kindIn a) c size ⌝ }
 {
     let k = kind(a);
-    if k < BYTES {
+    if k < KIND_BYTES {
         return 0;
     }
-    if k < LIST {
+    if k < KIND_LIST {
         return c;
     }
-    if k < GLOBAL {
+    if k < KIND_GLOBAL {
         return size;
     }
     c
@@ -136,7 +136,7 @@ fn word2(a: u64, c: u64, size: u64) -> u64
 fn word3(a: u64, size: u64) -> u64
     ensures { λ r. ⌜ r ≡ right3 (kindIn a) size ⌝ }
 {
-    if kind(a) < OBJECT {
+    if kind(a) < KIND_OBJECT {
         return 0;
     }
     size
@@ -147,13 +147,13 @@ fn span(a: u64, c: u64) -> u64
     ensures { λ r. ⌜ r ≡ spanOf (kindIn a) c ⌝ }
 {
     let k = kind(a);
-    if k < BYTES {
+    if k < KIND_BYTES {
         return 0;
     }
-    if k < LIST {
+    if k < KIND_LIST {
         return c;
     }
-    if k < GLOBAL {
+    if k < KIND_GLOBAL {
         return 0;
     }
     c / 4294967296 + c % 4294967296
@@ -164,13 +164,13 @@ fn size(a: u64, c: u64, d: u64) -> u64
     ensures { λ r. ⌜ r ≡ sizeOf (kindIn a) c d ⌝ }
 {
     let k = kind(a);
-    if k < LIST {
+    if k < KIND_LIST {
         return 1;
     }
-    if k < GLOBAL {
+    if k < KIND_GLOBAL {
         return c;
     }
-    if k < OBJECT {
+    if k < KIND_OBJECT {
         return 1;
     }
     d
@@ -182,22 +182,22 @@ fn arity(a: u64, b: u64) -> u64
     ensures { λ r. ⌜ r ≡ min 4096 (arityOf a b) ⌝ }
 {
     let k = kind(a);
-    if k < LIST {
+    if k < KIND_LIST {
         return 0;
     }
-    if k < DICT {
+    if k < KIND_DICT {
         if b > 4096 {
             return 4096;
         }
         return b;
     }
-    if k < GLOBAL {
+    if k < KIND_GLOBAL {
         if b > 2048 {
             return 4096;
         }
         return b + b;
     }
-    if k < OBJECT {
+    if k < KIND_OBJECT {
         return 0;
     }
     if state(a) {
@@ -212,14 +212,14 @@ fn named(a: u64, c: u64, text: &[u8], at: usize) -> bool
     ensures { λ r. ⌜ r ≡ namesRight (kindIn a) c (drop at (now (text .entry))) ⌝ }
 {
     let k = kind(a);
-    if k < STRING {
+    if k < KIND_STRING {
         return true;
     }
-    if k < LIST {
+    if k < KIND_LIST {
         let end = at + c as usize;
         return valid(&text[at..end]);
     }
-    if k < GLOBAL {
+    if k < KIND_GLOBAL {
         return true;
     }
     let mid = at + (c / 4294967296) as usize;
@@ -285,7 +285,7 @@ pub fn after(words: &[u64], i: usize) -> usize
 
 // The record behind an item, or behind an entry's key and value.
 fn next(words: &[u64], i: usize, entry: usize) -> usize
-    requires { ⌜ Steps (now words) entry i ⌝ }
+    requires { ⌜ ItemInside (now words) entry i ⌝ }
     ensures { λ r. ⌜ r ≡ nextAt (now (words .entry)) entry i ⌝ }
 {
     let behind = after(words, i);
@@ -321,10 +321,10 @@ fn compare_items(words: &[u64], text: &[u8], p: usize, q: usize) -> Order
     if k == kind(words[4 * q]) {
         let x = words[4 * p + 1];
         let y = words[4 * q + 1];
-        if k == I64 {
+        if k == KIND_I64 {
             return compare_ints(x, y);
         }
-        if k == BYTES {
+        if k == KIND_BYTES {
             let m = words[4 * p + 2] as usize;
             let n = words[4 * q + 2] as usize;
             return compare_bytes(part(text, x as usize, m), part(text, y as usize, n));
@@ -361,19 +361,19 @@ fn arranged(words: &[u64], text: &[u8], a: u64, i: usize, m: usize) -> bool
     ensures { λ r. ⌜ ((f : Forest) → Stands (now (words .entry)) (now (text .entry)) i f → countOf f ≡ m → r ≡ arrangedBy (kindIn a) f) ⌝ }
 {
     let k = kind(a);
-    if k < SET {
+    if k < KIND_SET {
         return true;
     }
-    if k < DICT {
+    if k < KIND_DICT {
         return ascends(words, text, i, m, 1);
     }
-    if k < GLOBAL {
+    if k < KIND_GLOBAL {
         return ascends(words, text, i, m, 2);
     }
-    if k < OBJECT {
+    if k < KIND_OBJECT {
         return true;
     }
-    kind(words[4 * i]) == TUPLE
+    kind(words[4 * i]) == KIND_TUPLE
 }
 
 // The record at i is right for the m values that stand behind it as far as record j.
@@ -426,7 +426,7 @@ fn check(words: &[u64], count: usize, text: &[u8], i: usize, at: usize, levels: 
     requires { ⌜ Lent (now words) count (now text) ⌝ }
     requires { ⌜ i ≤ count ⌝ }
     requires { ⌜ at ≤ length (now text) ⌝ }
-    ensures { λ r. ⌜ r ≡ answer (find (now (words .entry)) count (now (text .entry)) levels i at) ⌝ }
+    ensures { λ r. ⌜ r ≡ checkedOf (find (now (words .entry)) count (now (text .entry)) levels i at) ⌝ }
 {
     if levels == 0 {
         return Checked::Bad;
@@ -446,7 +446,7 @@ fn container(words: &[u64], count: usize, text: &[u8], i: usize, at: usize, leve
     requires { ⌜ i < count ⌝ }
     requires { ⌜ at ≤ length (now text) ⌝ }
     requires { ⌜ levels ≢ 0 ⌝ }
-    ensures { λ r. ⌜ r ≡ answer (find (now (words .entry)) count (now (text .entry)) levels i at) ⌝ }
+    ensures { λ r. ⌜ r ≡ checkedOf (find (now (words .entry)) count (now (text .entry)) levels i at) ⌝ }
 {
     match head(words, count, text, i, at) {
         Headed::Wrong => Checked::Bad,
@@ -483,7 +483,7 @@ fn contents(
     requires { ⌜ Lent (now words) count (now text) ⌝ }
     requires { ⌜ i ≤ count ⌝ }
     requires { ⌜ at ≤ length (now text) ⌝ }
-    ensures { λ r. ⌜ r ≡ answer (row (find (now (words .entry)) count (now (text .entry)) levels) m i at) ⌝ }
+    ensures { λ r. ⌜ r ≡ checkedOf (findMany (find (now (words .entry)) count (now (text .entry)) levels) m i at) ⌝ }
 {
     let mut j = i;
     let mut end = at;
@@ -506,13 +506,13 @@ fn has_text(a: u64) -> bool
     ensures { λ r. ⌜ r ≡ hasText (kindIn a) ⌝ }
 {
     let k = kind(a);
-    if k < BYTES {
+    if k < KIND_BYTES {
         return false;
     }
-    if k < LIST {
+    if k < KIND_LIST {
         return true;
     }
-    if k < GLOBAL {
+    if k < KIND_GLOBAL {
         return false;
     }
     k < value::KINDS
@@ -547,7 +547,7 @@ pub fn text_len(words: &[u64], count: usize) -> usize
 
 // Whether these words, this count and this text are a table and its text, well formed by RULES A2.4.
 pub fn well_formed(words: &[u64], count: usize, text: &[u8]) -> bool
-    ensures { λ r. ⌜ Decides r (WellFormed (now (words .entry)) count (now (text .entry))) ⌝ }
+    ensures { λ r. ⌜ YesIff r (WellFormed (now (words .entry)) count (now (text .entry))) ⌝ }
 {
     if count > 2048 {
         return false;

@@ -13,16 +13,16 @@ use lib.ListN.{length, getD, take, drop, length-drop, drop-of-length-le}
 use lib.Seq.{drop-cons, drop-drop, take-all}
 use lib.Dec.{leb}
 use borrow.Author.Tests.{leb-true, le-leb, lt-leb, lt-ltb, le-ltb, eq-eqb, ne-eqb}
-use Rattle.text.specs.Escapes.{within, hexDigit, hexFrom, hexDigits, hexNumber, hexPiece, hexEscape, octalDigit, octals, octalFrom, octalEscape}
-use Rattle.text.specs.declared.Piece.the-variants.{One, Bad}
+use Rattle.text.specs.Escapes.{fromTo, hexDigit, hexFrom, hexDigits, hexNumber, hexPiece, hexEscape, octalDigit, octals, octalFrom, octalEscape}
+use Rattle.text.specs.declared.TextPiece.the-variants.{One, Bad}
 
 module _ (a b c : ℕ) where
-  pub within-in : a ≤ c → c ≤ b → within a b c ≡ true
-  unfolding within
+  pub within-in : a ≤ c → c ≤ b → fromTo a b c ≡ true
+  unfolding fromTo
   within-in h k = rw (le-leb a c h, le-leb c b k)
 
-  pub within-out : (a ≤ c → b < c) → within a b c ≡ false
-  unfolding within
+  pub within-out : (a ≤ c → b < c) → fromTo a b c ≡ false
+  unfolding fromTo
   within-out f = go (leb a c) refl
     where
       go : (t : Bool) → leb a c ≡ t → (t && leb c b) ≡ false

@@ -9,7 +9,7 @@ use Rattle.utf8.specs.Utf8.{trail, encode}
 use Rattle.utf8.specs.Encode.{encode-one, encode-two, encode-three, encode-four}
 use lib.Seq.{drop-cons, sets}
 use borrow.Author.Tests.{eq-eqb, ne-eqb}
-use Rattle.text.specs.declared.Piece.the-variants.{One, Bad}
+use Rattle.text.specs.declared.TextPiece.the-variants.{One, Bad}
 use Rattle.text.specs.Escapes.{look, letters, hexEscape, octalEscape, stringEscape, stringHead, scalarPiece, unicodeEscape, unicodeHead}
 use Rattle.text.proofs.Digits.{within-in, within-out}
 

@@ -4,14 +4,14 @@ use mathlib.Core.List.{[], _∷_}
 use Rattle.refusal.specs.Read.{got, refused}
 use Rattle.refusal.specs.declared.Refusal.the-variants.{InvalidLiteral}
 use Rattle.utf8.specs.Utf8.{scalar, trail, encode}
-use Rattle.text.specs.Pieces.{before, after, texts}
-use Rattle.text.specs.Escapes.{within, hexDigit, hexFrom, hexDigits, hexNumber, hexPiece, hexEscape, octalDigit, octals, octalFrom, octalEscape}
+use Rattle.text.specs.Pieces.{bytesBefore, pieceThen, texts}
+use Rattle.text.specs.Escapes.{fromTo, hexDigit, hexFrom, hexDigits, hexNumber, hexPiece, hexEscape, octalDigit, octals, octalFrom, octalEscape}
 use Rattle.text.specs.Escapes.{look, stringEscape, stringHead, scalarOf, scalarPiece, unicodeEscape, unicodeHead}
-use Rattle.text.specs.Text.{hasQuotes, inner, byte, unescapeString, unescapeUnicode}
+use Rattle.text.specs.Text.{hasQuotes, inner, byteItself, unescapeString, unescapeUnicode}
 
 -- opens what an example computes with
 unfoldable pub evaluates : Unit {0}
-unfolding scalar trail encode before after texts within hexDigit hexFrom hexDigits hexNumber hexPiece hexEscape octalDigit octals octalFrom octalEscape look stringEscape stringHead scalarOf scalarPiece unicodeEscape unicodeHead hasQuotes inner byte unescapeString unescapeUnicode
+unfolding scalar trail encode bytesBefore pieceThen texts fromTo hexDigit hexFrom hexDigits hexNumber hexPiece hexEscape octalDigit octals octalFrom octalEscape look stringEscape stringHead scalarOf scalarPiece unicodeEscape unicodeHead hasQuotes inner byteItself unescapeString unescapeUnicode
 evaluates = tt
 
 -- 'a\n'

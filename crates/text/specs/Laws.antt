@@ -13,16 +13,16 @@ use lib.Seq.{drop-cons, drop-drop, length-take-le}
 use borrow.Author.Tests.{leb-true, ltb-true, lt-ltb}
 use Rattle.refusal.specs.Read.{Read, got, refused}
 use Rattle.refusal.specs.declared.Refusal.the-variants.{InvalidLiteral}
-use Rattle.text.specs.declared.Piece.{Piece}
-use Rattle.text.specs.declared.Piece.the-variants.{One, Bad}
+use Rattle.text.specs.declared.TextPiece.{TextPiece}
+use Rattle.text.specs.declared.TextPiece.the-variants.{One, Bad}
 use Rattle.input.specs.Bytes.{Bytes}
 use Rattle.utf8.specs.Utf8.{scalar, trail, encode, valid, evaluates}
 use Rattle.utf8.specs.Laws.{valid-append}
 use Rattle.utf8.specs.Encode.{by-lt, encode-one, encode-two, encode-three, encode-four, scalar-low, scalar-high, valid-encode}
-use Rattle.text.specs.Pieces.{before, after, texts, reads, bytesOf}
-use Rattle.text.specs.Escapes.{within, hexDigit, hexFrom, hexDigits, hexNumber, hexPiece, hexEscape, octalDigit, octals, octalEscape}
+use Rattle.text.specs.Pieces.{bytesBefore, pieceThen, texts, isRead, bytesOf}
+use Rattle.text.specs.Escapes.{fromTo, hexDigit, hexFrom, hexDigits, hexNumber, hexPiece, hexEscape, octalDigit, octals, octalEscape}
 use Rattle.text.specs.Escapes.{letters, look, stringEscape, stringHead, scalarOf, scalarPiece, unicodeEscape, unicodeHead}
-use Rattle.text.specs.Text.{inner, byte, hasQuotes, hasEscape, unescapeString, unescapeUnicode}
+use Rattle.text.specs.Text.{inner, byteItself, hasQuotes, hasEscape, unescapeString, unescapeUnicode}
 
 bytes-nil : Bytes []
 bytes-nil i = lit< tt
@@ -37,18 +37,18 @@ by-cond P true f g = f refl
 by-cond P false f g = g refl
 
 -- what holds of the value and the width of a piece that is not refused
-unfoldable pub Each : (ℕ → ℕ → Type 0) → Piece → Type 0
+unfoldable pub Each : (ℕ → ℕ → Type 0) → TextPiece → Type 0
 Each Q (One v w) = Q v w
 Each Q Bad = Unit {0}
 
-each : {Q R : ℕ → ℕ → Type 0} (p : Piece) → ((v w : ℕ) → Q v w → R v w) → Each Q p → Each R p
+each : {Q R : ℕ → ℕ → Type 0} (p : TextPiece) → ((v w : ℕ) → Q v w → R v w) → Each Q p → Each R p
 unfolding Each
 each (One v w) f h = f v w h
 each Bad f h = tt
 
 -- ---- reading on, piece by piece
 
-module _ (head : List ℕ → Piece) (form : ℕ → List ℕ) where
+module _ (head : List ℕ → TextPiece) (form : ℕ → List ℕ) where
   skip : (n at : ℕ) (s : List ℕ) → texts head form n at s ≡ texts head form 0 (n + at) (drop n s)
   unfolding texts
   skip zero at [] = refl
@@ -64,50 +64,50 @@ module _ (head : List ℕ → Piece) (form : ℕ → List ℕ) where
     texts-end h = simp (drop-of-length-le s h)
 
     pub texts-bad : i < length s → head (drop i s) ≡ Bad → texts head form 0 at (drop i s) ≡ refused InvalidLiteral at
-    unfolding texts after
+    unfolding texts pieceThen
     texts-bad h e =
         let d = drop-cons s i 0 h in
         let f : head (getD s i 0 ∷ drop (suc i) s) ≡ Bad = rw d at e in
         rw (d, f)
 
     pub texts-piece : (v w : ℕ) → i < length s → head (drop i s) ≡ One v w
-        → texts head form 0 at (drop i s) ≡ before (form v) (texts head form 0 (at + (w + 1)) (drop (i + (w + 1)) s))
-    unfolding texts after
+        → texts head form 0 at (drop i s) ≡ bytesBefore (form v) (texts head form 0 (at + (w + 1)) (drop (i + (w + 1)) s))
+    unfolding texts pieceThen
     texts-piece v w h e =
         let d = drop-cons s i 0 h in
         let f : head (getD s i 0 ∷ drop (suc i) s) ≡ One v w = rw d at e in
         let a : w + suc at ≡ at + (w + 1) = omega arith in
         let b : suc i + w ≡ i + (w + 1) = omega arith in
-        rw (d, f) (ap (before (form v)) (skip w (suc at) (drop (suc i) s) ∙ rw (a, drop-drop w (suc i) s, b)))
+        rw (d, f) (ap (bytesBefore (form v)) (skip w (suc at) (drop (suc i) s) ∙ rw (a, drop-drop w (suc i) s, b)))
 
 -- ---- sizes, for any kind of text
 
-before-length : (l : List ℕ) (r : Read (List ℕ)) → length (bytesOf (before l r)) ≤ length l + length (bytesOf r)
-unfolding before bytesOf
+before-length : (l : List ℕ) (r : Read (List ℕ)) → length (bytesOf (bytesBefore l r)) ≤ length l + length (bytesOf r)
+unfolding bytesBefore bytesOf
 before-length l (got v) = omega (arith, length-append l v)
 before-length l (refused why at) = omega arith
 
 before-all : (R : List ℕ → Type 0) → R [] → ((a b : List ℕ) → R a → R b → R (a ++ b)) → (l : List ℕ) (r : Read (List ℕ))
-    → R l → R (bytesOf r) → R (bytesOf (before l r))
-unfolding before bytesOf
+    → R l → R (bytesOf r) → R (bytesOf (bytesBefore l r))
+unfolding bytesBefore bytesOf
 before-all R z f l (got v) h k = f l v h k
 before-all R z f l (refused why at) h k = z
 
 -- `P` is what is known of the bytes that are left
-module _ (head : List ℕ → Piece) (form : ℕ → List ℕ) (P : List ℕ → Type 0) (tail : (b : ℕ) (s : List ℕ) → P (b ∷ s) → P s) where
+module _ (head : List ℕ → TextPiece) (form : ℕ → List ℕ) (P : List ℕ → Type 0) (tail : (b : ℕ) (s : List ℕ) → P (b ∷ s) → P s) where
   -- a piece of n bytes is written as k * n bytes at most: so is the whole
   texts-length : (k : ℕ) → ((s : List ℕ) → P s → Each (λ v w. (w < length s) × (length (form v) ≤ k * suc w)) (head s))
       → (n at : ℕ) (s : List ℕ) → P s → length (bytesOf (texts head form n at s)) ≤ k * (length s - n)
-  unfolding texts after bytesOf Each
+  unfolding texts pieceThen bytesOf Each
   texts-length k f n at [] p = omega arith
   texts-length k f (suc n) at (b ∷ s) p =
       let e : suc (length s) - suc n ≡ length s - n = omega arith in
       rw e (texts-length k f n (suc at) s (tail b s p))
   texts-length k f zero at (b ∷ s) p = go (head (b ∷ s)) (f (b ∷ s) p) (λ w. texts-length k f w (suc at) s (tail b s p))
     where
-      go : (q : Piece) → Each (λ v w. (w < suc (length s)) × (length (form v) ≤ k * suc w)) q
+      go : (q : TextPiece) → Each (λ v w. (w < suc (length s)) × (length (form v) ≤ k * suc w)) q
           → ((w : ℕ) → length (bytesOf (texts head form w (suc at) s)) ≤ k * (length s - w))
-          → length (bytesOf (after form q at (λ w. texts head form w (suc at) s))) ≤ k * (suc (length s) - 0)
+          → length (bytesOf (pieceThen form q at (λ w. texts head form w (suc at) s))) ≤ k * (suc (length s) - 0)
       go (One v w) h r =
           let e : suc w + (length s - w) ≡ suc (length s) - 0 = omega (arith, h .0) in
           let m : k * (suc (length s) - 0) ≡ k * suc w + k * (length s - w) = rw (← e) (mul-add k (suc w) (length s - w)) in
@@ -117,13 +117,13 @@ module _ (head : List ℕ → Piece) (form : ℕ → List ℕ) (P : List ℕ →
   -- what holds of each piece as it is written, and of lists one after the other, holds of the whole
   texts-all : (R : List ℕ → Type 0) → R [] → ((a b : List ℕ) → R a → R b → R (a ++ b))
       → ((s : List ℕ) → P s → Each (λ v w. R (form v)) (head s)) → (n at : ℕ) (s : List ℕ) → P s → R (bytesOf (texts head form n at s))
-  unfolding texts after bytesOf Each
+  unfolding texts pieceThen bytesOf Each
   texts-all R z j f n at [] p = z
   texts-all R z j f (suc n) at (b ∷ s) p = texts-all R z j f n (suc at) s (tail b s p)
   texts-all R z j f zero at (b ∷ s) p = go (head (b ∷ s)) (f (b ∷ s) p) (λ w. texts-all R z j f w (suc at) s (tail b s p))
     where
-      go : (q : Piece) → Each (λ v w. R (form v)) q → ((w : ℕ) → R (bytesOf (texts head form w (suc at) s)))
-          → R (bytesOf (after form q at (λ w. texts head form w (suc at) s)))
+      go : (q : TextPiece) → Each (λ v w. R (form v)) q → ((w : ℕ) → R (bytesOf (texts head form w (suc at) s)))
+          → R (bytesOf (pieceThen form q at (λ w. texts head form w (suc at) s)))
       go (One v w) h r = before-all R z j (form v) (texts head form w (suc at) s) h (r w)
       go Bad h r = z
 
@@ -167,7 +167,7 @@ hex-each : (n : ℕ) (s : List ℕ) → Each (λ v w. (w ≡ n + 1) × (n ≤ le
 unfolding Each hexEscape hexPiece
 hex-each n s = by-cond Q (leb n (length s)) (λ t. go (hexNumber (take n s)) refl (leb-true n (length s) t)) (λ t. tt)
   where
-    Q : Piece → Type 0
+    Q : TextPiece → Type 0
     Q = Each (λ v w. (w ≡ n + 1) × (n ≤ length s) × (v < 16 ^ n))
 
     go : (o : Option ℕ) → hexNumber (take n s) ≡ o → n ≤ length s → Q (hexPiece n o)
@@ -185,24 +185,24 @@ octals-length (suc n) (c ∷ s) = go (ltb (octalDigit (c ∷ s)) 8) (octals-leng
     go false h = omega arith
 
 -- every byte that a table gives is below n
-abbrev Below : ℕ → List (ℕ × ℕ) → Type 0
-Below n [] = Unit {0}
-Below n (e ∷ t) = (e .1 < n) × Below n t
+abbrev GivesBelow : ℕ → List (ℕ × ℕ) → Type 0
+GivesBelow n [] = Unit {0}
+GivesBelow n (e ∷ t) = (e .1 < n) × GivesBelow n t
 
-look-below : (t : List (ℕ × ℕ)) (c n : ℕ) → c < n → Below n t → look t c < n
+look-below : (t : List (ℕ × ℕ)) (c n : ℕ) → c < n → GivesBelow n t → look t c < n
 unfolding look
 look-below [] c n h b = h
 look-below (e ∷ t) c n h b = by-cond (λ x. x < n) (eqb c (e .0)) (λ _. b .0) (λ _. look-below t c n h (b .1))
 
-within-true : (a b c : ℕ) → within a b c ≡ true → (a ≤ c) × (c ≤ b)
-unfolding within
+within-true : (a b c : ℕ) → fromTo a b c ≡ true → (a ≤ c) × (c ≤ b)
+unfolding fromTo
 within-true a b c e = go (leb a c) refl e
   where
     go : (t : Bool) → leb a c ≡ t → (t && leb c b) ≡ true → (a ≤ c) × (c ≤ b)
     go true d e = (leb-true a c d, leb-true c b e)
     go false d e = let z : _≡_ {A = ℕ} 0 1 = cc in absurd (omega arith)
 
-octals-some : (c : ℕ) (s : List ℕ) → within 48 55 c ≡ true → 0 < length (octals 3 (c ∷ s))
+octals-some : (c : ℕ) (s : List ℕ) → fromTo 48 55 c ≡ true → 0 < length (octals 3 (c ∷ s))
 unfolding octals octalDigit
 octals-some c s e =
     let d : octalDigit (c ∷ s) < 8 = rw e (omega (arith, within-true 48 55 c e)) in
@@ -214,10 +214,10 @@ unfolding Each stringEscape octalEscape
 escape-each [] = tt
 escape-each (c ∷ s) =
     by-cond Q (eqb c 120) (λ _. each (hexEscape 2 s) (λ v w h. (omega (arith, h .0), omega (arith, h .0, h .1), λ _. h .2)) (hex-each 2 s))
-    (λ _. by-cond Q (within 48 55 c) (λ e. (octals-some c s e, octals-length 3 (c ∷ s), λ _. mod-lt _ (lit< tt)))
+    (λ _. by-cond Q (fromTo 48 55 c) (λ e. (octals-some c s e, octals-length 3 (c ∷ s), λ _. mod-lt _ (lit< tt)))
     (λ _. (omega arith, omega arith, λ k. look-below letters c 256 (k 0) (search (tt, lit<)))))
   where
-    Q : Piece → Type 0
+    Q : TextPiece → Type 0
     Q = Each (λ v w. (0 < w) × (w ≤ suc (length s)) × (Bytes (c ∷ s) → v < 256))
 
 -- STRING: a piece lies inside its text, and its value is a byte
@@ -286,7 +286,7 @@ unfolding scalarOf
 scalar-of v = by-cond (λ x. scalar x ≡ true) (scalar v) (λ e. e) (λ _. scalar-high 0xFFFD (lit≤ tt) (lit< tt))
 
 -- UNICODE: a piece lies inside its line, and its value is a scalar value whose UTF-8 is at most twice as long as the piece
-scalar-each : (Q R : ℕ → ℕ → Type 0) (p : Piece) → ((v w : ℕ) → Q v w → R (scalarOf v) w) → Each Q p → Each R (scalarPiece p)
+scalar-each : (Q R : ℕ → ℕ → Type 0) (p : TextPiece) → ((v w : ℕ) → Q v w → R (scalarOf v) w) → Each Q p → Each R (scalarPiece p)
 unfolding Each scalarPiece
 scalar-each Q R (One v w) f h = f v w h
 scalar-each Q R Bad f h = tt
@@ -296,7 +296,7 @@ unfolding Each unicodeHead unicodeEscape
 unicode-each [] = tt
 unicode-each (b ∷ s) = by-cond Q (eqb b 92) (λ _. escape s refl) (λ _. (omega arith, λ k. (scalar-low b (omega (arith, k 0)), latin-length b (k 0))))
   where
-    Q : Piece → Type 0
+    Q : TextPiece → Type 0
     Q = Each (λ v w. (w < suc (length s)) × (Bytes (b ∷ s) → (scalar v ≡ true) × (length (encode v) ≤ 2 * suc w)))
 
     lone : Q (One 92 0)
@@ -316,12 +316,12 @@ unicode-each (b ∷ s) = by-cond Q (eqb b 92) (λ _. escape s refl) (λ _. (omeg
 
 -- ---- the two kinds of line
 
-inner-length : (n at : ℕ) (s : List ℕ) → length (bytesOf (texts stringHead byte n at s)) ≤ length s - n
-unfolding byte
+inner-length : (n at : ℕ) (s : List ℕ) → length (bytesOf (texts stringHead byteItself n at s)) ≤ length s - n
+unfolding byteItself
 inner-length n at s =
     omega (
       arith,
-      texts-length stringHead byte (λ _. Unit {0}) (λ b t p. tt) 1
+      texts-length stringHead byteItself (λ _. Unit {0}) (λ b t p. tt) 1
           (λ t p. each (stringHead t) (λ v w h. (h .0, omega arith)) (string-each t)) n at s tt,
     )
 
@@ -360,38 +360,38 @@ unicode-valid line h =
 -- ---- STRING with an escape and with none
 
 -- a text with no backslash is its own value
-pub no-escape : (at : ℕ) (s : List ℕ) → hasEscape s ≡ false → texts stringHead byte 0 at s ≡ got s
-unfolding texts after before stringHead hasEscape byte
+pub no-escape : (at : ℕ) (s : List ℕ) → hasEscape s ≡ false → texts stringHead byteItself 0 at s ≡ got s
+unfolding texts pieceThen bytesBefore stringHead hasEscape byteItself
 no-escape at [] e = refl
 no-escape at (b ∷ s) e = go (eqb b 92) e (no-escape (suc at) s)
   where
-    go : (t : Bool) → (t || hasEscape s) ≡ false → (hasEscape s ≡ false → texts stringHead byte 0 (suc at) s ≡ got s)
-        → after byte (cond t (stringEscape s) (One b 0)) at (λ w. texts stringHead byte w (suc at) s) ≡ got (b ∷ s)
+    go : (t : Bool) → (t || hasEscape s) ≡ false → (hasEscape s ≡ false → texts stringHead byteItself 0 (suc at) s ≡ got s)
+        → pieceThen byteItself (cond t (stringEscape s) (One b 0)) at (λ w. texts stringHead byteItself w (suc at) s) ≡ got (b ∷ s)
     go true e f = let z : _≡_ {A = ℕ} 0 1 = cc in absurd (omega arith)
     go false e f = rw (f e)
 
-reads-before : (l : List ℕ) (r : Read (List ℕ)) → reads (before l r) ≡ reads r
-unfolding reads before
+reads-before : (l : List ℕ) (r : Read (List ℕ)) → isRead (bytesBefore l r) ≡ isRead r
+unfolding isRead bytesBefore
 reads-before l (got v) = refl
 reads-before l (refused why at) = refl
 
 -- one with a backslash is longer than its value
-pub escape-shortens : (at : ℕ) (s : List ℕ) → hasEscape s ≡ true → reads (texts stringHead byte 0 at s) ≡ true
-    → length (bytesOf (texts stringHead byte 0 at s)) < length s
-unfolding texts after stringHead hasEscape byte reads Each
+pub escape-shortens : (at : ℕ) (s : List ℕ) → hasEscape s ≡ true → isRead (texts stringHead byteItself 0 at s) ≡ true
+    → length (bytesOf (texts stringHead byteItself 0 at s)) < length s
+unfolding texts pieceThen stringHead hasEscape byteItself isRead Each
 escape-shortens at [] e r = let z : _≡_ {A = ℕ} 0 1 = cc in absurd (omega arith)
 escape-shortens at (b ∷ s) e r = go (eqb b 92) e r (escape-shortens (suc at) s)
   where
     Rest : ℕ → Read (List ℕ)
-    Rest w = texts stringHead byte w (suc at) s
+    Rest w = texts stringHead byteItself w (suc at) s
 
-    slash : (p : Piece) → Each (λ v w. (0 < w) × (w ≤ length s) × (Bytes s → v < 256)) p → reads (after byte p at Rest) ≡ true
-        → length (bytesOf (after byte p at Rest)) < suc (length s)
+    slash : (p : TextPiece) → Each (λ v w. (0 < w) × (w ≤ length s) × (Bytes s → v < 256)) p → isRead (pieceThen byteItself p at Rest) ≡ true
+        → length (bytesOf (pieceThen byteItself p at Rest)) < suc (length s)
     slash (One v w) h r = omega (arith, h .0, before-length (v ∷ []) (Rest w), inner-length w (suc at) s)
     slash Bad h r = let z : _≡_ {A = ℕ} 0 1 = cc in absurd (omega arith)
 
-    go : (t : Bool) → (t || hasEscape s) ≡ true → reads (after byte (cond t (stringEscape s) (One b 0)) at Rest) ≡ true
-        → (hasEscape s ≡ true → reads (Rest 0) ≡ true → length (bytesOf (Rest 0)) < length s)
-        → length (bytesOf (after byte (cond t (stringEscape s) (One b 0)) at Rest)) < suc (length s)
+    go : (t : Bool) → (t || hasEscape s) ≡ true → isRead (pieceThen byteItself (cond t (stringEscape s) (One b 0)) at Rest) ≡ true
+        → (hasEscape s ≡ true → isRead (Rest 0) ≡ true → length (bytesOf (Rest 0)) < length s)
+        → length (bytesOf (pieceThen byteItself (cond t (stringEscape s) (One b 0)) at Rest)) < suc (length s)
     go true e r f = slash (stringEscape s) (escape-each s) r
     go false e r f = omega (arith, before-length (b ∷ []) (Rest 0), f e (sym (reads-before (b ∷ []) (Rest 0)) ∙ r))

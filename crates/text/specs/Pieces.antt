@@ -6,29 +6,29 @@ use mathlib.Core.Path.{_≡_}
 use lib.ListN.{length, drop}
 use Rattle.refusal.specs.Read.{Read, got, refused}
 use Rattle.refusal.specs.declared.Refusal.the-variants.{InvalidLiteral}
-use Rattle.text.specs.declared.Piece.{Piece}
-use Rattle.text.specs.declared.Piece.the-variants.{One, Bad}
+use Rattle.text.specs.declared.TextPiece.{TextPiece}
+use Rattle.text.specs.declared.TextPiece.the-variants.{One, Bad}
 
 -- bytes that stand before what is read after them
-unfoldable pub before : List ℕ → Read (List ℕ) → Read (List ℕ)
-before l (got v) = got (l ++ v)
-before l (refused why at) = refused why at
+unfoldable pub bytesBefore : List ℕ → Read (List ℕ) → Read (List ℕ)
+bytesBefore l (got v) = got (l ++ v)
+bytesBefore l (refused why at) = refused why at
 
 -- a piece and what `rest` reads after it; a bad piece is refused at its own place
-unfoldable pub after : (ℕ → List ℕ) → Piece → ℕ → (ℕ → Read (List ℕ)) → Read (List ℕ)
-after form (One value more) at rest = before (form value) (rest more)
-after form Bad at rest = refused InvalidLiteral at
+unfoldable pub pieceThen : (ℕ → List ℕ) → TextPiece → ℕ → (ℕ → Read (List ℕ)) → Read (List ℕ)
+pieceThen form (One value more) at rest = bytesBefore (form value) (rest more)
+pieceThen form Bad at rest = refused InvalidLiteral at
 
 -- the whole text, whose first byte stands at `at` of the line; its first n bytes belong to a piece before it
-unfoldable pub texts : (List ℕ → Piece) → (ℕ → List ℕ) → ℕ → ℕ → List ℕ → Read (List ℕ)
+unfoldable pub texts : (List ℕ → TextPiece) → (ℕ → List ℕ) → ℕ → ℕ → List ℕ → Read (List ℕ)
 texts head form n at [] = got []
-texts head form zero at (b ∷ s) = after form (head (b ∷ s)) at (λ more. texts head form more (suc at) s)
+texts head form zero at (b ∷ s) = pieceThen form (head (b ∷ s)) at (λ more. texts head form more (suc at) s)
 texts head form (suc n) at (b ∷ s) = texts head form n (suc at) s
 
 -- whether a reading is no refusal
-unfoldable pub reads : Read (List ℕ) → Bool
-reads (got v) = true
-reads (refused why at) = false
+unfoldable pub isRead : Read (List ℕ) → Bool
+isRead (got v) = true
+isRead (refused why at) = false
 
 -- its bytes; none of a refusal
 unfoldable pub bytesOf : Read (List ℕ) → List ℕ
@@ -41,11 +41,11 @@ lengthOf (got v) = got (length v)
 lengthOf (refused why at) = refused why at
 
 -- what a call that writes asks: that its text is no refusal, and that it has room
-pub record Room (text : Read (List ℕ)) (out : List ℕ) : Type 0 where
-  pub is : reads text ≡ true
+pub record RoomForText (text : Read (List ℕ)) (out : List ℕ) : Type 0 where
+  pub is : isRead text ≡ true
   pub fits : length (bytesOf text) ≤ length out
 
 -- and what it does: the bytes stand at the start, n of them, and the rest is as it was
-pub record Wrote (text : Read (List ℕ)) (out out′ : List ℕ) (n : ℕ) : Type 0 where
+pub record WroteText (text : Read (List ℕ)) (out out′ : List ℕ) (n : ℕ) : Type 0 where
   pub count : n ≡ length (bytesOf text)
   pub bytes : out′ ≡ bytesOf text ++ drop (length (bytesOf text)) out

@@ -29,12 +29,12 @@ unfoldable pub inner : List ℕ → List ℕ
 inner line = take (length line - 2) (drop 1 line)
 
 -- a byte as itself
-unfoldable pub byte : ℕ → List ℕ
-byte b = b ∷ []
+unfoldable pub byteItself : ℕ → List ℕ
+byteItself b = b ∷ []
 
 -- STRING: the quotes are looked at before any escape, and a fault of theirs has place 0
 unfoldable pub unescapeString : List ℕ → Read (List ℕ)
-unescapeString line = cond (hasQuotes line) (texts stringHead byte 0 1 (inner line)) (refused InvalidLiteral 0)
+unescapeString line = cond (hasQuotes line) (texts stringHead byteItself 0 1 (inner line)) (refused InvalidLiteral 0)
 
 -- whether a backslash is among the bytes
 unfoldable pub hasEscape : List ℕ → Bool
@@ -46,13 +46,13 @@ unfoldable pub unescapeUnicode : List ℕ → Read (List ℕ)
 unescapeUnicode line = texts unicodeHead encode 0 0 line
 
 -- a number of bytes with the mark whether there was an escape
-unfoldable pub marked : Bool → Read ℕ → Read (Bool × ℕ)
-marked e (got n) = got (e, n)
-marked e (refused why at) = refused why at
+unfoldable pub withMark : Bool → Read ℕ → Read (Bool × ℕ)
+withMark e (got n) = got (e, n)
+withMark e (refused why at) = refused why at
 
 -- what is to be said of a line of STRING before its value is written: whether it has an escape, and how many bytes the value has
-unfoldable pub measured : List ℕ → Read (Bool × ℕ)
-measured line = marked (hasEscape (inner line)) (lengthOf (unescapeString line))
+unfoldable pub stringMeasured : List ℕ → Read (Bool × ℕ)
+stringMeasured line = withMark (hasEscape (inner line)) (lengthOf (unescapeString line))
 
 -- the answers of the code, as values and refusals of RULES A7: of hex characters,
 unfoldable pub hexSays : Hex → Option ℕ

@@ -5,13 +5,13 @@ ghost use Prim.Native.Nat.{_+_, _-_, _<_, _≤_};
 ghost use lib.ListN.{length, take, drop};
 ghost use lib.Seq.{sets};
 ghost use Rattle.utf8.specs.Utf8.{encode};
-ghost use Rattle.text.specs.Pieces.{texts, lengthOf, Room, Wrote};
+ghost use Rattle.text.specs.Pieces.{texts, lengthOf, RoomForText, WroteText};
 ghost use Rattle.text.specs.Escapes.{hexDigit, hexNumber, hexDigits, hexEscape, octalDigit, octalEscape};
 ghost use Rattle.text.specs.Escapes.{letters, look, stringEscape, stringHead, scalarOf, scalarPiece, unicodeEscape, unicodeHead};
-ghost use Rattle.text.specs.Text.{hasQuotes, byte, unescapeString, unescapeUnicode, measured, hexSays, quotedSays, decodedSays, pick};
+ghost use Rattle.text.specs.Text.{hasQuotes, byteItself, unescapeString, unescapeUnicode, stringMeasured, hexSays, quotedSays, decodedSays, pick};
 
 // What stands at a place of a text: one value, with how many bytes after the first belong to it, or an escape that is refused.
-pub enum Piece {
+pub enum TextPiece {
     One { value: u32, more: usize },
     Bad,
 }
@@ -82,17 +82,17 @@ fn hex_digits(digits: &[u8]) -> Hex
 }
 
 // Exactly `n` hex characters from `at` on, which is past the escape's letter.
-fn hex_escape(text: &[u8], at: usize, n: usize) -> Piece
+fn hex_escape(text: &[u8], at: usize, n: usize) -> TextPiece
     requires { ⌜ (at ≤ length (now text)) × (n ≤ 8) ⌝ }
     ensures { λ r. ⌜ r ≡ hexEscape n (drop at (now (text .entry))) ⌝ }
 {
     if text.len() - at < n {
-        return Piece::Bad;
+        return TextPiece::Bad;
     }
     let end = at + n;
     match hex_number(&text[at..end]) {
-        Hex::Number(value) => Piece::One { value, more: n + 1 },
-        Hex::Bad => Piece::Bad,
+        Hex::Number(value) => TextPiece::One { value, more: n + 1 },
+        Hex::Bad => TextPiece::Bad,
     }
 }
 
@@ -111,7 +111,7 @@ fn octal_digit(text: &[u8], at: usize) -> u32
 }
 
 // One to three octal digits modulo 256.
-fn octal_escape(text: &[u8], at: usize) -> Piece
+fn octal_escape(text: &[u8], at: usize) -> TextPiece
     requires { ⌜ at ≤ length (now text) ⌝ }
     ensures { λ r. ⌜ r ≡ octalEscape (drop at (now (text .entry))) ⌝ }
 {
@@ -127,7 +127,7 @@ fn octal_escape(text: &[u8], at: usize) -> Piece
         left -= 1;
         i += 1;
     }
-    Piece::One {
+    TextPiece::One {
         value: value % 256,
         more: i - at,
     }
@@ -150,18 +150,18 @@ fn letter(c: u8) -> u8
 }
 
 // STRING: what the backslash before `at` starts.
-fn string_escape(text: &[u8], at: usize) -> Piece
+fn string_escape(text: &[u8], at: usize) -> TextPiece
     requires { ⌜ at ≤ length (now text) ⌝ }
     ensures { λ r. ⌜ r ≡ stringEscape (drop at (now (text .entry))) ⌝ }
 {
     if text.len() <= at {
-        return Piece::Bad; // the escape breaks off
+        return TextPiece::Bad; // the escape breaks off
     }
     let c = text[at];
     match c {
         b'x' => hex_escape(text, at + 1, 2),
         b'0'..=b'7' => octal_escape(text, at),
-        _ => Piece::One {
+        _ => TextPiece::One {
             value: letter(c) as u32,
             more: 1,
         },
@@ -169,7 +169,7 @@ fn string_escape(text: &[u8], at: usize) -> Piece
 }
 
 // STRING: what stands at `at` between the quotes.
-fn string_piece(text: &[u8], at: usize) -> Piece
+fn string_piece(text: &[u8], at: usize) -> TextPiece
     requires { ⌜ at < length (now text) ⌝ }
     ensures { λ r. ⌜ r ≡ stringHead (drop at (now (text .entry))) ⌝ }
 {
@@ -177,7 +177,7 @@ fn string_piece(text: &[u8], at: usize) -> Piece
     if b == b'\\' {
         string_escape(text, at + 1)
     } else {
-        Piece::One {
+        TextPiece::One {
             value: b as u32,
             more: 0,
         }
@@ -201,37 +201,37 @@ fn scalar(v: u32) -> u32
 }
 
 // UNICODE: `n` hex characters from `at` on, as a code point that UTF-8 can write.
-fn unicode_hex(text: &[u8], at: usize, n: usize) -> Piece
+fn unicode_hex(text: &[u8], at: usize, n: usize) -> TextPiece
     requires { ⌜ (at ≤ length (now text)) × (n ≤ 8) ⌝ }
     ensures { λ r. ⌜ r ≡ scalarPiece (hexEscape n (drop at (now (text .entry)))) ⌝ }
 {
     match hex_escape(text, at, n) {
-        Piece::One { value, more } => Piece::One {
+        TextPiece::One { value, more } => TextPiece::One {
             value: scalar(value),
             more,
         },
-        Piece::Bad => Piece::Bad,
+        TextPiece::Bad => TextPiece::Bad,
     }
 }
 
 // UNICODE: what the backslash before `at` starts.
-fn unicode_escape(text: &[u8], at: usize) -> Piece
+fn unicode_escape(text: &[u8], at: usize) -> TextPiece
     requires { ⌜ at ≤ length (now text) ⌝ }
     ensures { λ r. ⌜ r ≡ unicodeEscape (drop at (now (text .entry))) ⌝ }
 {
     if text.len() <= at {
-        return Piece::One { value: 92, more: 0 };
+        return TextPiece::One { value: 92, more: 0 };
     }
     let c = text[at];
     match c {
         b'u' => unicode_hex(text, at + 1, 4),
         b'U' => unicode_hex(text, at + 1, 8),
-        _ => Piece::One { value: 92, more: 0 },
+        _ => TextPiece::One { value: 92, more: 0 },
     }
 }
 
 // UNICODE: what stands at `at` of the line.
-fn unicode_piece(text: &[u8], at: usize) -> Piece
+fn unicode_piece(text: &[u8], at: usize) -> TextPiece
     requires { ⌜ at < length (now text) ⌝ }
     ensures { λ r. ⌜ r ≡ unicodeHead (drop at (now (text .entry))) ⌝ }
 {
@@ -239,7 +239,7 @@ fn unicode_piece(text: &[u8], at: usize) -> Piece
     if b == b'\\' {
         unicode_escape(text, at + 1)
     } else {
-        Piece::One {
+        TextPiece::One {
             value: b as u32,
             more: 0,
         }
@@ -268,7 +268,7 @@ fn has_quotes(line: &[u8]) -> bool
 // How many bytes the text between the quotes has once unescaped. A place counts the quote before it.
 // Most bytes are plain, and are passed without a call; so in each loop below.
 fn inner_len(text: &[u8]) -> Decoded
-    ensures { λ r. ⌜ decodedSays r ≡ lengthOf (texts stringHead byte 0 1 (now (text .entry))) ⌝ }
+    ensures { λ r. ⌜ decodedSays r ≡ lengthOf (texts stringHead byteItself 0 1 (now (text .entry))) ⌝ }
 {
     let mut n = 0;
     let mut i = 0;
@@ -278,11 +278,11 @@ fn inner_len(text: &[u8]) -> Decoded
             i += 1;
         } else {
             match string_piece(text, i) {
-                Piece::One { value: _, more } => {
+                TextPiece::One { value: _, more } => {
                     n += 1;
                     i += more + 1;
                 }
-                Piece::Bad => return Decoded::Refused(i + 1),
+                TextPiece::Bad => return Decoded::Refused(i + 1),
             }
         }
     }
@@ -291,7 +291,7 @@ fn inner_len(text: &[u8]) -> Decoded
 
 // STRING, decided: an escape is shorter unescaped, so a value as long as its text has none.
 pub fn string_len(line: &[u8]) -> Quoted
-    ensures { λ r. ⌜ quotedSays (now (line .entry)) r ≡ measured (now (line .entry)) ⌝ }
+    ensures { λ r. ⌜ quotedSays (now (line .entry)) r ≡ stringMeasured (now (line .entry)) ⌝ }
 {
     if has_quotes(line) {
         let last = line.len() - 1;
@@ -313,8 +313,8 @@ pub fn string_len(line: &[u8]) -> Quoted
 
 // The text between the quotes, unescaped, at the start of `out`; how many bytes that are.
 fn write_inner(text: &[u8], out: &mut [u8]) -> usize
-    requires { ⌜ Room (texts stringHead byte 0 1 (now text)) (now out) ⌝ }
-    ensures { λ r. ⌜ Wrote (texts stringHead byte 0 1 (now (text .entry))) (now (out .entry)) (now (out .exit)) r ⌝ }
+    requires { ⌜ RoomForText (texts stringHead byteItself 0 1 (now text)) (now out) ⌝ }
+    ensures { λ r. ⌜ WroteText (texts stringHead byteItself 0 1 (now (text .entry))) (now (out .entry)) (now (out .exit)) r ⌝ }
 {
     let mut n = 0;
     let mut i = 0;
@@ -326,12 +326,12 @@ fn write_inner(text: &[u8], out: &mut [u8]) -> usize
             i += 1;
         } else {
             match string_piece(text, i) {
-                Piece::One { value, more } => {
+                TextPiece::One { value, more } => {
                     out[n] = value as u8;
                     n += 1;
                     i += more + 1;
                 }
-                Piece::Bad => return n,
+                TextPiece::Bad => return n,
             }
         }
     }
@@ -340,8 +340,8 @@ fn write_inner(text: &[u8], out: &mut [u8]) -> usize
 
 // STRING, written: for a line that `string_len` does not refuse.
 pub fn unescape_string(line: &[u8], out: &mut [u8]) -> usize
-    requires { ⌜ Room (unescapeString (now line)) (now out) ⌝ }
-    ensures { λ r. ⌜ Wrote (unescapeString (now (line .entry))) (now (out .entry)) (now (out .exit)) r ⌝ }
+    requires { ⌜ RoomForText (unescapeString (now line)) (now out) ⌝ }
+    ensures { λ r. ⌜ WroteText (unescapeString (now (line .entry))) (now (out .entry)) (now (out .exit)) r ⌝ }
 {
     let last = line.len() - 1;
     write_inner(&line[1..last], out)
@@ -376,11 +376,11 @@ pub fn unicode_len(line: &[u8]) -> Decoded
             i += 1;
         } else {
             match unicode_piece(line, i) {
-                Piece::One { value, more } => {
+                TextPiece::One { value, more } => {
                     n += encoded_len(value);
                     i += more + 1;
                 }
-                Piece::Bad => return Decoded::Refused(i),
+                TextPiece::Bad => return Decoded::Refused(i),
             }
         }
     }
@@ -416,8 +416,8 @@ fn put(out: &mut [u8], at: usize, code: u32) -> usize
 
 // UNICODE, written: for a line that `unicode_len` does not refuse.
 pub fn unescape_unicode(line: &[u8], out: &mut [u8]) -> usize
-    requires { ⌜ Room (unescapeUnicode (now line)) (now out) ⌝ }
-    ensures { λ r. ⌜ Wrote (unescapeUnicode (now (line .entry))) (now (out .entry)) (now (out .exit)) r ⌝ }
+    requires { ⌜ RoomForText (unescapeUnicode (now line)) (now out) ⌝ }
+    ensures { λ r. ⌜ WroteText (unescapeUnicode (now (line .entry))) (now (out .entry)) (now (out .exit)) r ⌝ }
 {
     let mut n = 0;
     let mut i = 0;
@@ -429,11 +429,11 @@ pub fn unescape_unicode(line: &[u8], out: &mut [u8]) -> usize
             i += 1;
         } else {
             match unicode_piece(line, i) {
-                Piece::One { value, more } => {
+                TextPiece::One { value, more } => {
                     n = put(out, n, value);
                     i += more + 1;
                 }
-                Piece::Bad => return n,
+                TextPiece::Bad => return n,
             }
         }
     }

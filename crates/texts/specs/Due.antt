@@ -16,7 +16,7 @@ use Rattle.value.specs.Shape.{kindIn}
 use Rattle.steps.specs.NodeWords.{first, second, classIn}
 use Rattle.resolved.specs.Noted.{isContainer}
 use Rattle.resolved.specs.Written.{drop-take}
-use Rattle.resolved.specs.Shown.{labels, labelOf, leading, trailing, hasText, isDecoded, placeIn, leadIn, trailIn, rawLead, rawTrail, leadText, trailText, Spelled}
+use Rattle.resolved.specs.Shown.{nodeLabels, nodeLabel, leading, trailing, labelHasText, isDecoded, placeIn, leadIn, trailIn, rawLead, rawTrail, leadText, trailText, Spelled}
 use Rattle.texts.specs.declared.Spelling.{Spelling}
 use Rattle.texts.specs.Measure.{measureOf, measure-least, measure-most, measure-decoded, measure-place, measure-lead, measure-trail}
 use Rattle.texts.specs.Spell.{TextRoom, StandsDecoded, stays, stands, SpellsNode}
@@ -24,17 +24,17 @@ use Rattle.texts.specs.Spell.{TextRoom, StandsDecoded, stays, stands, Sp
 -- ---- whose text is wanted
 
 -- The text of node i with the measure m: the measure is a word, of a leaf not one that was looked up ahead for an Object's class.
-unfoldable pub isDue : List ℕ → List ℕ → ℕ → ℕ → Bool
-isDue p ws i m = hasText (labelOf p ws i) && (leb 128 m && ltb m (cond (isContainer (labelOf p ws i)) (2 ^ 42) (2 ^ 41)))
+unfoldable pub textDue : List ℕ → List ℕ → ℕ → ℕ → Bool
+textDue p ws i m = labelHasText (nodeLabel p ws i) && (leb 128 m && ltb m (cond (isContainer (nodeLabel p ws i)) (2 ^ 42) (2 ^ 41)))
 
 -- how long it is
-abbrev pub textLength : List ℕ → List ℕ → ℕ → ℕ
-textLength p ws i = length (leading (labelOf p ws i)) + length (trailing (labelOf p ws i))
+abbrev pub nodeTextLength : List ℕ → List ℕ → ℕ → ℕ
+nodeTextLength p ws i = length (leading (nodeLabel p ws i)) + length (trailing (nodeLabel p ws i))
 
 -- the texts of the first n nodes together
 unfoldable pub dueText : List ℕ → List ℕ → List ℕ → ℕ → ℕ
 dueText p ws measures zero = 0
-dueText p ws measures (suc n) = dueText p ws measures n + cond (isDue p ws n (getD measures n 0)) (textLength p ws n) 0
+dueText p ws measures (suc n) = dueText p ws measures n + cond (textDue p ws n (getD measures n 0)) (nodeTextLength p ws n) 0
 
 -- by the first word and the measure
 unfoldable pub textKind : ℕ → Bool
@@ -45,9 +45,9 @@ dueWord a m = textKind (kindIn a) && (leb 128 m && ltb m (cond (eqb (kindIn a) 1
 
 module _ (p ws : List ℕ) (a b : ℕ) where
   abbrev nth : ℕ → Label
-  nth k = getD (labels p ws a b) k NoneL
+  nth k = getD (nodeLabels p ws a b) k NoneL
 
-  due-at : (k m : ℕ) → k < 16 → (textKind k && (leb 128 m && ltb m (cond (eqb k 12) (2 ^ 42) (2 ^ 41)))) ≡ (hasText (nth k) && (leb 128 m && ltb m (cond (isContainer (nth k)) (2 ^ 42) (2 ^ 41))))
+  due-at : (k m : ℕ) → k < 16 → (textKind k && (leb 128 m && ltb m (cond (eqb k 12) (2 ^ 42) (2 ^ 41)))) ≡ (labelHasText (nth k) && (leb 128 m && ltb m (cond (isContainer (nth k)) (2 ^ 42) (2 ^ 41))))
   unfolding textKind
   due-at zero m h = refl
   due-at (suc zero) m h = refl
@@ -66,18 +66,18 @@ module _ (p ws : List ℕ) (a b : ℕ) where
   due-at (suc (suc (suc (suc (suc (suc (suc (suc (suc (suc (suc (suc (suc (suc zero)))))))))))))) m h = refl
   due-at (suc (suc (suc (suc (suc (suc (suc (suc (suc (suc (suc (suc (suc (suc (suc k))))))))))))))) m h = let e : k ≡ 0 = omega arith in rw e
 
-pub due-word : (p ws : List ℕ) (i m : ℕ) → dueWord (first ws i) m ≡ isDue p ws i m
-unfolding dueWord isDue labelOf kindIn
+pub due-word : (p ws : List ℕ) (i m : ℕ) → dueWord (first ws i) m ≡ textDue p ws i m
+unfolding dueWord textDue nodeLabel kindIn
 due-word p ws i m = due-at p ws (first ws i) (second ws i) (kindIn (first ws i)) m (omega arith)
 
 -- what is wanted has a text, and is not decoded yet
-pub due-text : (p ws : List ℕ) (i m : ℕ) → isDue p ws i m ≡ true → hasText (labelOf p ws i) ≡ true
-unfolding isDue
-due-text p ws i m e = and-left (hasText (labelOf p ws i)) _ e
+pub due-text : (p ws : List ℕ) (i m : ℕ) → textDue p ws i m ≡ true → labelHasText (nodeLabel p ws i) ≡ true
+unfolding textDue
+due-text p ws i m e = and-left (labelHasText (nodeLabel p ws i)) _ e
 
-due-raw : (p ws : List ℕ) (i m : ℕ) → isDue p ws i m ≡ true → m < 2 ^ 62
-unfolding isDue
-due-raw p ws i m e = go (hasText (labelOf p ws i)) (leb 128 m) (isContainer (labelOf p ws i)) e
+due-raw : (p ws : List ℕ) (i m : ℕ) → textDue p ws i m ≡ true → m < 2 ^ 62
+unfolding textDue
+due-raw p ws i m e = go (labelHasText (nodeLabel p ws i)) (leb 128 m) (isContainer (nodeLabel p ws i)) e
   where
     go : (x y z : Bool) → (x && (y && ltb m (cond z (2 ^ 42) (2 ^ 41)))) ≡ true → m < 2 ^ 62
     go true true true e = let l = ltb-true m (2 ^ 42) e in omega arith
@@ -135,15 +135,15 @@ module _ (k : ℕ) where
 
 -- ---- one node
 
-pub record Turn (p ws : List ℕ) (i : ℕ) (d measures : List ℕ) (used : ℕ) : Type 0 where
+pub record DecodableOne (p ws : List ℕ) (i : ℕ) (d measures : List ℕ) (used : ℕ) : Type 0 where
   pub words : 2 * i + 1 < length ws
   pub class : kindIn (first ws i) ≡ 12 → 2 * classIn (first ws i) + 1 < length ws
   pub measured : i < length measures
-  pub fits : isDue p ws i (getD measures i 0) ≡ true → TextRoom (leading (labelOf p ws i)) (trailing (labelOf p ws i)) used d
+  pub fits : textDue p ws i (getD measures i 0) ≡ true → TextRoom (leading (nodeLabel p ws i)) (trailing (nodeLabel p ws i)) used d
 
-pub data Turns (p ws : List ℕ) (i : ℕ) (d measures : List ℕ) (used : ℕ) (d′ measures′ : List ℕ) (used′ : ℕ) : Type 0 where
-  passed : isDue p ws i (getD measures i 0) ≡ false → d′ ≡ d → measures′ ≡ measures → used′ ≡ used → Turns p ws i d measures used d′ measures′ used′
-  spelled : isDue p ws i (getD measures i 0) ≡ true → (r : Spelling) → SpellsNode p ws i (getD measures i 0) used d r d′ → measures′ ≡ set measures i (r .measure) → used′ ≡ r .used → Turns p ws i d measures used d′ measures′ used′
+pub data DecodesOne (p ws : List ℕ) (i : ℕ) (d measures : List ℕ) (used : ℕ) (d′ measures′ : List ℕ) (used′ : ℕ) : Type 0 where
+  passed : textDue p ws i (getD measures i 0) ≡ false → d′ ≡ d → measures′ ≡ measures → used′ ≡ used → DecodesOne p ws i d measures used d′ measures′ used′
+  spelled : textDue p ws i (getD measures i 0) ≡ true → (r : Spelling) → SpellsNode p ws i (getD measures i 0) used d r d′ → measures′ ≡ set measures i (r .measure) → used′ ≡ r .used → DecodesOne p ws i d measures used d′ measures′ used′
 
 -- ---- all nodes
 
@@ -155,14 +155,14 @@ pub record Decodable (p ws : List ℕ) (n : ℕ) (d measures : List ℕ) : Type 
   pub room : 65536 ≤ length d
 
 -- node i's text stands where its measure says, within what is used of the decoded text
-pub record Placed (p d ws measures : List ℕ) (i used : ℕ) : Type 0 where
-  pub spelled : Spelled p d ws measures i (labelOf p ws i)
+pub record TextPlaced (p d ws measures : List ℕ) (i used : ℕ) : Type 0 where
+  pub spelled : Spelled p d ws measures i (nodeLabel p ws i)
   pub within : isDecoded (getD measures i 0) ≡ true → placeIn (getD measures i 0) + leadIn (getD measures i 0) + trailIn (getD measures i 0) ≤ used
 
 -- of the first n nodes, d₀ and measures₀ being the rooms as they were
 pub record Decodes (p ws d₀ measures₀ : List ℕ) (n : ℕ) (d measures : List ℕ) (used : ℕ) : Type 0 where
-  pub texts : (i : ℕ) → i < n → isDue p ws i (getD measures₀ i 0) ≡ true → Placed p d ws measures i used
-  pub others : (i : ℕ) → i < n → isDue p ws i (getD measures₀ i 0) ≡ false → getD measures i 0 ≡ getD measures₀ i 0
+  pub texts : (i : ℕ) → i < n → textDue p ws i (getD measures₀ i 0) ≡ true → TextPlaced p d ws measures i used
+  pub others : (i : ℕ) → i < n → textDue p ws i (getD measures₀ i 0) ≡ false → getD measures i 0 ≡ getD measures₀ i 0
   pub later : (i : ℕ) → n ≤ i → getD measures i 0 ≡ getD measures₀ i 0
   pub changed : (i : ℕ) → (getD measures i 0 ≡ getD measures₀ i 0) ⊎ ((2 ^ 62 ≤ getD measures i 0) × (getD measures i 0 < 2 ^ 63))
   pub spent : used ≤ dueText p ws measures₀ n
@@ -215,22 +215,22 @@ module _ (lead trail d : List ℕ) (used : ℕ) (f : used + length lead + length
       sym (drop-drop (length trail) (used + length lead) put) ∙ ap (drop (length trail)) behind-lead ∙ drop-append-seam trail rest ∙ ap (λ (n : ℕ). drop n d) k
 
 -- a text that is placed stays so, if its measure and what is used of the decoded text do
-placed-stays : (p ws d measures d′ measures′ : List ℕ) (j used used′ : ℕ) → Placed p d ws measures j used → getD measures′ j 0 ≡ getD measures j 0 → take used d′ ≡ take used d → used ≤ used′ → used ≤ length d → length d′ ≡ length d → Placed p d′ ws measures′ j used′
+placed-stays : (p ws d measures d′ measures′ : List ℕ) (j used used′ : ℕ) → TextPlaced p d ws measures j used → getD measures′ j 0 ≡ getD measures j 0 → take used d′ ≡ take used d → used ≤ used′ → used ≤ length d → length d′ ≡ length d → TextPlaced p d′ ws measures′ j used′
 unfolding leadText trailText
 placed-stays p ws d measures d′ measures′ j used used′ x e f u v w = go (isDecoded (getD measures j 0)) refl
   where
-    go : (b : Bool) → isDecoded (getD measures j 0) ≡ b → Placed p d′ ws measures′ j used′
+    go : (b : Bool) → isDecoded (getD measures j 0) ≡ b → TextPlaced p d′ ws measures′ j used′
     go false q =
-        let l : rawLead p ws j ≡ leading (labelOf p ws j) = rw q at (x .spelled .lead) in
-        let t : rawTrail p ws j ≡ trailing (labelOf p ws j) = rw q at (x .spelled .trail) in
+        let l : rawLead p ws j ≡ leading (nodeLabel p ws j) = rw q at (x .spelled .lead) in
+        let t : rawTrail p ws j ≡ trailing (nodeLabel p ws j) = rw q at (x .spelled .trail) in
         record {
           spelled = record { lead = rw (e, q) l; trail = rw (e, q) t; inside = rw (e, q) (λ z. absurd (let y : _≡_ {A = ℕ} 0 1 = cc in omega arith)) };
           within = rw (e, q) (λ z. absurd (let y : _≡_ {A = ℕ} 0 1 = cc in omega arith));
         }
     go true q =
         let m = getD measures j 0 in
-        let l : take (leadIn m) (drop (placeIn m) d) ≡ leading (labelOf p ws j) = rw q at (x .spelled .lead) in
-        let t : take (trailIn m) (drop (placeIn m + leadIn m) d) ≡ trailing (labelOf p ws j) = rw q at (x .spelled .trail) in
+        let l : take (leadIn m) (drop (placeIn m) d) ≡ leading (nodeLabel p ws j) = rw q at (x .spelled .lead) in
+        let t : take (trailIn m) (drop (placeIn m + leadIn m) d) ≡ trailing (nodeLabel p ws j) = rw q at (x .spelled .trail) in
         let k = x .within q in
         let l′ = part-same (placeIn m) (leadIn m) used d′ d (omega arith) (omega arith) (omega arith) f ∙ l in
         let t′ = part-same (placeIn m + leadIn m) (trailIn m) used d′ d (omega arith) (omega arith) (omega arith) f ∙ t in
@@ -242,14 +242,14 @@ placed-stays p ws d measures d′ measures′ j used used′ x e f u v w = go (i
 -- a text that was put is placed
 own-stands : (p ws d measures : List ℕ) (i used : ℕ) (r : Spelling) (d′ : List ℕ)
     → i < length measures
-    → used + length (leading (labelOf p ws i)) + length (trailing (labelOf p ws i)) ≤ 65536
-    → used + length (leading (labelOf p ws i)) + length (trailing (labelOf p ws i)) ≤ length d
-    → StandsDecoded (leading (labelOf p ws i)) (trailing (labelOf p ws i)) used d r d′
-    → Placed p d′ ws (set measures i (r .measure)) i (r .used)
+    → used + length (leading (nodeLabel p ws i)) + length (trailing (nodeLabel p ws i)) ≤ 65536
+    → used + length (leading (nodeLabel p ws i)) + length (trailing (nodeLabel p ws i)) ≤ length d
+    → StandsDecoded (leading (nodeLabel p ws i)) (trailing (nodeLabel p ws i)) used d r d′
+    → TextPlaced p d′ ws (set measures i (r .measure)) i (r .used)
 unfolding leadText trailText
 own-stands p ws d measures i used r d′ here small f s =
-    let lead = leading (labelOf p ws i) in
-    let trail = trailing (labelOf p ws i) in
+    let lead = leading (nodeLabel p ws i) in
+    let trail = trailing (nodeLabel p ws i) in
     let m : getD (set measures i (r .measure)) i 0 ≡ measureOf used (length lead) (length trail) = getD-set-same measures i (r .measure) 0 here ∙ s .measure in
     let q = measure-decoded used (length lead) (length trail) in
     let place = measure-place used (length lead) (length trail) (omega arith) (omega arith) (omega arith) in
@@ -269,10 +269,10 @@ own-stands p ws d measures i used r d′ here small f s =
 -- and so is one that is left in the pickle
 own-stays : (p ws measures : List ℕ) (i : ℕ) (r : Spelling) (d′ : List ℕ)
     → i < length measures
-    → rawLead p ws i ≡ leading (labelOf p ws i)
-    → rawTrail p ws i ≡ trailing (labelOf p ws i)
+    → rawLead p ws i ≡ leading (nodeLabel p ws i)
+    → rawTrail p ws i ≡ trailing (nodeLabel p ws i)
     → r .measure < 2 ^ 62
-    → Placed p d′ ws (set measures i (r .measure)) i (r .used)
+    → TextPlaced p d′ ws (set measures i (r .measure)) i (r .used)
 unfolding leadText trailText isDecoded
 own-stays p ws measures i r d′ here a b small =
     let m = getD-set-same measures i (r .measure) 0 here in
@@ -293,7 +293,7 @@ unfolding dueText
 due-rises p ws measures i zero h = let e : i ≡ 0 = omega arith in rw e (omega arith)
 due-rises p ws measures i (suc n) h = go (decLt i (suc n)) (λ l. due-rises p ws measures i n l)
   where
-    go : Dec (i < suc n) → (i ≤ n → dueText p ws measures i ≤ dueText p ws measures n) → dueText p ws measures i ≤ dueText p ws measures n + cond (isDue p ws n (getD measures n 0)) (textLength p ws n) 0
+    go : Dec (i < suc n) → (i ≤ n → dueText p ws measures i ≤ dueText p ws measures n) → dueText p ws measures i ≤ dueText p ws measures n + cond (textDue p ws n (getD measures n 0)) (nodeTextLength p ws n) 0
     go (yes l) r = let s = r (omega arith) in omega arith
     go (no l) r = let e : i ≡ suc n = omega arith in rw e (omega arith)
 
@@ -312,10 +312,10 @@ decodes-none p ws d measures =
     }
 
 module _ (p ws d₀ measures₀ : List ℕ) (n : ℕ) (h : Decodable p ws n d₀ measures₀) (i : ℕ) (l : i < n) (d measures : List ℕ) (used : ℕ) (x : Decodes p ws d₀ measures₀ i d measures used) where
-  as-it-was : isDue p ws i (getD measures i 0) ≡ isDue p ws i (getD measures₀ i 0)
-  as-it-was = ap (isDue p ws i) (x .later i (omega arith))
+  as-it-was : textDue p ws i (getD measures i 0) ≡ textDue p ws i (getD measures₀ i 0)
+  as-it-was = ap (textDue p ws i) (x .later i (omega arith))
 
-  next-fits : isDue p ws i (getD measures₀ i 0) ≡ true → used + length (leading (labelOf p ws i)) + length (trailing (labelOf p ws i)) ≤ dueText p ws measures₀ (suc i)
+  next-fits : textDue p ws i (getD measures₀ i 0) ≡ true → used + length (leading (nodeLabel p ws i)) + length (trailing (nodeLabel p ws i)) ≤ dueText p ws measures₀ (suc i)
   unfolding dueText
   next-fits e = rw e (omega (arith, x .spent))
 
@@ -325,7 +325,7 @@ module _ (p ws d₀ measures₀ : List ℕ) (n : ℕ) (h : Decodable p ws n d₀
   next-spent : dueText p ws measures₀ i ≤ dueText p ws measures₀ (suc i)
   next-spent = due-rises p ws measures₀ i (suc i) (omega arith)
 
-  pub turn-ready : Turn p ws i d measures used
+  pub turn-ready : DecodableOne p ws i d measures used
   turn-ready =
       record {
         words = omega (arith, h .words);
@@ -334,7 +334,7 @@ module _ (p ws d₀ measures₀ : List ℕ) (n : ℕ) (h : Decodable p ws n d₀
         fits = λ e. record { fits = (let f = next-fits (sym as-it-was ∙ e) in omega (arith, all-fits)); room = omega (arith, h .room, x .same-room) };
       }
 
-  turn-passed : isDue p ws i (getD measures i 0) ≡ false → Decodes p ws d₀ measures₀ (suc i) d measures used
+  turn-passed : textDue p ws i (getD measures i 0) ≡ false → Decodes p ws d₀ measures₀ (suc i) d measures used
   turn-passed e =
       record {
         texts = λ j k q. texts′ j q (ℕ-discrete j i) k;
@@ -347,18 +347,18 @@ module _ (p ws d₀ measures₀ : List ℕ) (n : ℕ) (h : Decodable p ws n d₀
         same-measures = x .same-measures;
       }
     where
-      texts′ : (j : ℕ) → isDue p ws j (getD measures₀ j 0) ≡ true → Dec (j ≡ i) → j < suc i → Placed p d ws measures j used
-      texts′ j q (yes y) k = let z : isDue p ws i (getD measures₀ i 0) ≡ true = rw y at q in let w : isDue p ws i (getD measures₀ i 0) ≡ false = sym as-it-was ∙ e in absurd (let v : _≡_ {A = ℕ} 0 1 = cc in omega arith)
+      texts′ : (j : ℕ) → textDue p ws j (getD measures₀ j 0) ≡ true → Dec (j ≡ i) → j < suc i → TextPlaced p d ws measures j used
+      texts′ j q (yes y) k = let z : textDue p ws i (getD measures₀ i 0) ≡ true = rw y at q in let w : textDue p ws i (getD measures₀ i 0) ≡ false = sym as-it-was ∙ e in absurd (let v : _≡_ {A = ℕ} 0 1 = cc in omega arith)
       texts′ j q (no y) k = x .texts j (omega arith) q
 
-      others′ : (j : ℕ) → isDue p ws j (getD measures₀ j 0) ≡ false → Dec (j ≡ i) → j < suc i → getD measures j 0 ≡ getD measures₀ j 0
+      others′ : (j : ℕ) → textDue p ws j (getD measures₀ j 0) ≡ false → Dec (j ≡ i) → j < suc i → getD measures j 0 ≡ getD measures₀ j 0
       others′ j q (yes y) k = x .later j (omega arith)
       others′ j q (no y) k = x .others j (omega arith) q
 
   -- its measure is m, and what is used of the decoded text stays as it is
-  module _ (e : isDue p ws i (getD measures i 0) ≡ true) (m : ℕ) (d′ : List ℕ) (used′ : ℕ) where
+  module _ (e : textDue p ws i (getD measures i 0) ≡ true) (m : ℕ) (d′ : List ℕ) (used′ : ℕ) where
     turn-placed :
-        Placed p d′ ws (set measures i m) i used′
+        TextPlaced p d′ ws (set measures i m) i used′
         → (m ≡ getD measures₀ i 0) ⊎ ((2 ^ 62 ≤ m) × (m < 2 ^ 63))
         → take used d′ ≡ take used d
         → used ≤ used′
@@ -384,12 +384,12 @@ module _ (p ws d₀ measures₀ : List ℕ) (n : ℕ) (h : Decodable p ws n d₀
         used-inside : used ≤ length d
         used-inside = omega (arith, x .spent, next-spent, all-fits, h .room, x .same-room)
 
-        texts′ : (j : ℕ) → isDue p ws j (getD measures₀ j 0) ≡ true → Dec (j ≡ i) → j < suc i → Placed p d′ ws (set measures i m) j used′
+        texts′ : (j : ℕ) → textDue p ws j (getD measures₀ j 0) ≡ true → Dec (j ≡ i) → j < suc i → TextPlaced p d′ ws (set measures i m) j used′
         texts′ j q (yes y) k = rw y own
         texts′ j q (no y) k = placed-stays p ws d measures d′ (set measures i m) j used used′ (x .texts j (omega arith) q) (getD-set-other measures i j m 0 y) front more used-inside long
 
-        others′ : (j : ℕ) → isDue p ws j (getD measures₀ j 0) ≡ false → Dec (j ≡ i) → j < suc i → getD (set measures i m) j 0 ≡ getD measures₀ j 0
-        others′ j q (yes y) k = let z : isDue p ws i (getD measures₀ i 0) ≡ false = rw y at q in let w : isDue p ws i (getD measures₀ i 0) ≡ true = sym as-it-was ∙ e in absurd (let v : _≡_ {A = ℕ} 0 1 = cc in omega arith)
+        others′ : (j : ℕ) → textDue p ws j (getD measures₀ j 0) ≡ false → Dec (j ≡ i) → j < suc i → getD (set measures i m) j 0 ≡ getD measures₀ j 0
+        others′ j q (yes y) k = let z : textDue p ws i (getD measures₀ i 0) ≡ false = rw y at q in let w : textDue p ws i (getD measures₀ i 0) ≡ true = sym as-it-was ∙ e in absurd (let v : _≡_ {A = ℕ} 0 1 = cc in omega arith)
         others′ j q (no y) k = rw (getD-set-other measures i j m 0 y) (x .others j (omega arith) q)
 
         changed′ : (j : ℕ) → Dec (j ≡ i) → (getD (set measures i m) j 0 ≡ getD measures₀ j 0) ⊎ ((2 ^ 62 ≤ getD (set measures i m) j 0) × (getD (set measures i m) j 0 < 2 ^ 63))
@@ -397,17 +397,17 @@ module _ (p ws d₀ measures₀ : List ℕ) (n : ℕ) (h : Decodable p ws n d₀
         changed′ j (no y) = rw (getD-set-other measures i j m 0 y) (x .changed j)
 
   -- it is put behind the others, or left in the pickle
-  module _ (e : isDue p ws i (getD measures i 0) ≡ true) (r : Spelling) (d′ : List ℕ) where
-    to-here : used + length (leading (labelOf p ws i)) + length (trailing (labelOf p ws i)) ≤ dueText p ws measures₀ (suc i)
+  module _ (e : textDue p ws i (getD measures i 0) ≡ true) (r : Spelling) (d′ : List ℕ) where
+    to-here : used + length (leading (nodeLabel p ws i)) + length (trailing (nodeLabel p ws i)) ≤ dueText p ws measures₀ (suc i)
     to-here = next-fits (sym as-it-was ∙ e)
 
     here : i < length measures
     here = omega (arith, h .measured, x .same-measures)
 
-    turn-stands : StandsDecoded (leading (labelOf p ws i)) (trailing (labelOf p ws i)) used d r d′ → Decodes p ws d₀ measures₀ (suc i) d′ (set measures i (r .measure)) (r .used)
+    turn-stands : StandsDecoded (leading (nodeLabel p ws i)) (trailing (nodeLabel p ws i)) used d r d′ → Decodes p ws d₀ measures₀ (suc i) d′ (set measures i (r .measure)) (r .used)
     turn-stands s =
-        let lead = leading (labelOf p ws i) in
-        let trail = trailing (labelOf p ws i) in
+        let lead = leading (nodeLabel p ws i) in
+        let trail = trailing (nodeLabel p ws i) in
         let a : used + length lead + length trail ≤ 65536 = omega (arith, to-here, all-fits) in
         let f : used + length lead + length trail ≤ length d = omega (arith, h .room, x .same-room) in
         let b = s .bytes in
@@ -421,7 +421,7 @@ module _ (p ws d₀ measures₀ : List ℕ) (n : ℕ) (h : Decodable p ws n d₀
         (rw (u, b) (behind-both lead trail d used f ∙ further used (length lead + length trail) (used + length lead + length trail) d d₀ (omega arith) (x .behind)))
         (rw b (length-sets d used (lead ++ trail)))
 
-    turn-stays : rawLead p ws i ≡ leading (labelOf p ws i) → rawTrail p ws i ≡ trailing (labelOf p ws i) → r .measure ≡ getD measures i 0 → r .used ≡ used → d′ ≡ d → Decodes p ws d₀ measures₀ (suc i) d′ (set measures i (r .measure)) (r .used)
+    turn-stays : rawLead p ws i ≡ leading (nodeLabel p ws i) → rawTrail p ws i ≡ trailing (nodeLabel p ws i) → r .measure ≡ getD measures i 0 → r .used ≡ used → d′ ≡ d → Decodes p ws d₀ measures₀ (suc i) d′ (set measures i (r .measure)) (r .used)
     turn-stays a b m u q =
         turn-placed e (r .measure) d′ (r .used)
         (own-stays p ws measures i r d′ here a b (let z = due-raw p ws i (getD measures i 0) e in omega arith))
@@ -432,7 +432,7 @@ module _ (p ws d₀ measures₀ : List ℕ) (n : ℕ) (h : Decodable p ws n d₀
         (rw (u, q) (x .behind))
         (rw q)
 
-  pub turn-more : (d′ measures′ : List ℕ) (used′ : ℕ) → Turns p ws i d measures used d′ measures′ used′ → Decodes p ws d₀ measures₀ (suc i) d′ measures′ used′
+  pub turn-more : (d′ measures′ : List ℕ) (used′ : ℕ) → DecodesOne p ws i d measures used d′ measures′ used′ → Decodes p ws d₀ measures₀ (suc i) d′ measures′ used′
   turn-more d′ measures′ used′ (passed e a b c) = rw (a, b, c) (turn-passed e)
   turn-more d′ measures′ used′ (spelled e r s b c) = rw (b, c) (go s)
     where

@@ -12,10 +12,10 @@ use Rattle.value.specs.Shape.{kindIn}
 use Rattle.value.specs.Parts.{part-cut}
 use Rattle.steps.specs.NodeWords.{first, second, within, classIn}
 use Rattle.resolved.specs.Shown.{isDecoded, placeIn, leadIn, trailIn, rawLead, rawTrail, leadText, trailText}
-use Rattle.texts.specs.declared.Place.{Place}
+use Rattle.texts.specs.declared.TextPlace.{TextPlace}
 
 -- of the decoded text d or the pickle p
-unfoldable pub placed : Place → List ℕ → List ℕ → List ℕ
+unfoldable pub placed : TextPlace → List ℕ → List ℕ → List ℕ
 placed c p d = take (c .len) (drop (c .at) (pick (c .decoded) d p))
 
 -- as far as there is any: a part by its end, `held` bytes being there

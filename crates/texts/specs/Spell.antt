@@ -16,12 +16,12 @@ use Rattle.text.specs.Text.{unescapeString, unescapeUnicode}
 use Rattle.value.specs.Value.{NoneL}
 use Rattle.value.specs.Shape.{kindIn}
 use Rattle.steps.specs.NodeWords.{first, second, within, classIn, moduleOf, nameOf}
-use Rattle.resolved.specs.Shown.{labels, labelOf, leading, trailing, hasText, rawLead, rawTrail}
+use Rattle.resolved.specs.Shown.{nodeLabels, nodeLabel, leading, trailing, labelHasText, rawLead, rawTrail}
 use Rattle.texts.specs.declared.Spelling.{Spelling}
 use Rattle.texts.specs.Measure.{measureOf}
 
 -- v is put at `at` of the room d
-pub record Puts (v d : List ℕ) (at : ℕ) (d′ : List ℕ) (n : ℕ) : Type 0 where
+pub record PutsText (v d : List ℕ) (at : ℕ) (d′ : List ℕ) (n : ℕ) : Type 0 where
   pub count : n ≡ length v
   pub bytes : d′ ≡ sets d at v
 
@@ -43,13 +43,13 @@ pub data Spells (raw-lead raw-trail lead trail : List ℕ) (m used : ℕ) (d : L
 
 -- of node i
 abbrev pub SpellsNode : List ℕ → List ℕ → ℕ → ℕ → ℕ → List ℕ → Spelling → List ℕ → Type 0
-SpellsNode p ws i m used d r d′ = Spells (rawLead p ws i) (rawTrail p ws i) (leading (labelOf p ws i)) (trailing (labelOf p ws i)) m used d r d′
+SpellsNode p ws i m used d r d′ = Spells (rawLead p ws i) (rawTrail p ws i) (leading (nodeLabel p ws i)) (trailing (nodeLabel p ws i)) m used d r d′
 
 pub record Unspelled (p ws : List ℕ) (i used : ℕ) (d : List ℕ) : Type 0 where
   pub words : 2 * i + 1 < length ws
   pub class : kindIn (first ws i) ≡ 12 → 2 * classIn (first ws i) + 1 < length ws
-  pub text : hasText (labelOf p ws i) ≡ true
-  pub fits : TextRoom (leading (labelOf p ws i)) (trailing (labelOf p ws i)) used d
+  pub text : labelHasText (nodeLabel p ws i) ≡ true
+  pub fits : TextRoom (leading (nodeLabel p ws i)) (trailing (nodeLabel p ws i)) used d
 
 -- ---- what was put at the start of the rest of a room, in the room
 
@@ -68,13 +68,13 @@ module _ (v l ys : List ℕ) (at : ℕ) (h : at + length v ≤ length l) where
 
 -- ---- one text, or two
 
-module _ (lead : List ℕ) (used : ℕ) (d d′ : List ℕ) (n : ℕ) (x : Puts lead d used d′ n) where
+module _ (lead : List ℕ) (used : ℕ) (d d′ : List ℕ) (n : ℕ) (x : PutsText lead d used d′ n) where
   pub one-stands : (m : ℕ) → m ≡ measureOf used n 0 → StandsDecoded lead [] used d (record { measure = m; used = used + n }) d′
   one-stands m e =
       let c = x .count in
       record { measure = e ∙ rw c; used-then = omega arith; bytes = rw (append-nil lead) (x .bytes) }
 
-  module _ (trail d″ : List ℕ) (k : ℕ) (y : Puts trail d′ (used + n) d″ k) where
+  module _ (trail d″ : List ℕ) (k : ℕ) (y : PutsText trail d′ (used + n) d″ k) where
     pub two-stand : (m : ℕ) → m ≡ measureOf used n k → StandsDecoded lead trail used d (record { measure = m; used = used + n + k }) d″
     two-stand m e =
         let c = x .count in
@@ -96,11 +96,11 @@ module _ (s : List ℕ) (m used : ℕ) (d : List ℕ) (v : valid s ≡ true) whe
 pub record Texts (p ws : List ℕ) (i : ℕ) (raw-lead raw-trail lead trail : List ℕ) : Type 0 where
   pub raw-leads : rawLead p ws i ≡ raw-lead
   pub raw-trails : rawTrail p ws i ≡ raw-trail
-  pub leads : leading (labelOf p ws i) ≡ lead
-  pub trails : trailing (labelOf p ws i) ≡ trail
+  pub leads : leading (nodeLabel p ws i) ≡ lead
+  pub trails : trailing (nodeLabel p ws i) ≡ trail
 
 module _ {p ws : List ℕ} {i : ℕ} {rl rt l t : List ℕ} (x : Texts p ws i rl rt l t) where
-  pub fits-as : {used : ℕ} {d : List ℕ} → TextRoom (leading (labelOf p ws i)) (trailing (labelOf p ws i)) used d → TextRoom l t used d
+  pub fits-as : {used : ℕ} {d : List ℕ} → TextRoom (leading (nodeLabel p ws i)) (trailing (nodeLabel p ws i)) used d → TextRoom l t used d
   fits-as f = rw (x .leads, x .trails) at f
 
   pub spells-as : {m used : ℕ} {d : List ℕ} {r : Spelling} {d′ : List ℕ} → Spells rl rt l t m used d r d′ → SpellsNode p ws i m used d r d′
@@ -117,36 +117,36 @@ module _ (p ws : List ℕ) (i : ℕ) (s : List ℕ) (b : ℕ) (eb : b ≡ second
   stood = rw eb at (sym es)
 
   pub texts-bytes : kindIn (first ws i) ≡ 4 → Texts p ws i s [] s []
-  unfolding rawLead rawTrail labelOf
+  unfolding rawLead rawTrail nodeLabel
   texts-bytes e = let q = stood in record { raw-leads = rw (e, q); raw-trails = rw e; leads = rw (e, q); trails = rw e }
 
   pub texts-string : kindIn (first ws i) ≡ 5 → Texts p ws i s [] (repair s) []
-  unfolding rawLead rawTrail labelOf
+  unfolding rawLead rawTrail nodeLabel
   texts-string e = let q = stood in record { raw-leads = rw (e, q); raw-trails = rw e; leads = rw (e, q); trails = rw e }
 
   pub texts-line : kindIn (first ws i) ≡ 13 → Texts p ws i s [] (bytesOf (unescapeString s)) []
-  unfolding rawLead rawTrail labelOf
+  unfolding rawLead rawTrail nodeLabel
   texts-line e = let q = stood in record { raw-leads = rw (e, q); raw-trails = rw e; leads = rw (e, q); trails = rw e }
 
   pub texts-unicode : kindIn (first ws i) ≡ 14 → Texts p ws i s [] (bytesOf (unescapeUnicode s)) []
-  unfolding rawLead rawTrail labelOf
+  unfolding rawLead rawTrail nodeLabel
   texts-unicode e = let q = stood in record { raw-leads = rw (e, q); raw-trails = rw e; leads = rw (e, q); trails = rw e }
 
   -- and m a module
   pub texts-global : kindIn (first ws i) ≡ 11 → (m : List ℕ) → m ≡ within 24 (first ws i / 16) p → Texts p ws i m s (repair m) (repair s)
-  unfolding rawLead rawTrail labelOf moduleOf nameOf
+  unfolding rawLead rawTrail nodeLabel moduleOf nameOf
   texts-global e m q = let r = stood in record { raw-leads = rw (e, ← q); raw-trails = rw (e, r); leads = rw (e, ← q); trails = rw (e, r) }
 
 -- an Object's are its class's
 pub texts-object : (p ws : List ℕ) (i : ℕ) → kindIn (first ws i) ≡ 12 → (s : List ℕ) (b : ℕ) → b ≡ second ws (classIn (first ws i)) → s ≡ within 32 b p → (m : List ℕ) → m ≡ within 24 (first ws (classIn (first ws i)) / 16) p → Texts p ws i m s (repair m) (repair s)
-unfolding rawLead rawTrail labelOf moduleOf nameOf
+unfolding rawLead rawTrail nodeLabel moduleOf nameOf
 texts-object p ws i e s b eb es m q =
     let r : within 32 (second ws (classIn (first ws i))) p ≡ s = rw eb at (sym es) in
     record { raw-leads = rw (e, ← q); raw-trails = rw (e, r); leads = rw (e, ← q); trails = rw (e, r) }
 
 -- a text of no other kind is Bytes
 module _ (p ws : List ℕ) (a b : ℕ) where
-  only-bytes : (k : ℕ) → hasText (getD (labels p ws a b) k NoneL) ≡ true → k ≢ 5 → (10 < k → k < 15 → ⊥) → k ≡ 4
+  only-bytes : (k : ℕ) → labelHasText (getD (nodeLabels p ws a b) k NoneL) ≡ true → k ≢ 5 → (10 < k → k < 15 → ⊥) → k ≡ 4
   only-bytes zero t n m = absurd (let z : _≡_ {A = ℕ} 0 1 = cc in omega arith)
   only-bytes (suc zero) t n m = absurd (let z : _≡_ {A = ℕ} 0 1 = cc in omega arith)
   only-bytes (suc (suc zero)) t n m = absurd (let z : _≡_ {A = ℕ} 0 1 = cc in omega arith)
@@ -164,6 +164,6 @@ module _ (p ws : List ℕ) (a b : ℕ) where
   only-bytes (suc (suc (suc (suc (suc (suc (suc (suc (suc (suc (suc (suc (suc (suc zero)))))))))))))) t n m = absurd (m (omega arith) (omega arith))
   only-bytes (suc (suc (suc (suc (suc (suc (suc (suc (suc (suc (suc (suc (suc (suc (suc k))))))))))))))) t n m = absurd (let z : _≡_ {A = ℕ} 0 1 = cc in omega arith)
 
-pub bytes-stay : (p ws : List ℕ) (i m used : ℕ) (d : List ℕ) → hasText (labelOf p ws i) ≡ true → kindIn (first ws i) ≢ 5 → (10 < kindIn (first ws i) → kindIn (first ws i) < 15 → ⊥) → SpellsNode p ws i m used d (record { measure = m; used = used }) d
-unfolding labelOf
+pub bytes-stay : (p ws : List ℕ) (i m used : ℕ) (d : List ℕ) → labelHasText (nodeLabel p ws i) ≡ true → kindIn (first ws i) ≢ 5 → (10 < kindIn (first ws i) → kindIn (first ws i) < 15 → ⊥) → SpellsNode p ws i m used d (record { measure = m; used = used }) d
+unfolding nodeLabel
 bytes-stay p ws i m used d t n k = spells-as (texts-bytes p ws i (within 32 (second ws i) p) (second ws i) refl refl (only-bytes p ws (first ws i) (second ws i) (kindIn (first ws i)) t n k)) (stays refl refl refl refl refl)

@@ -12,8 +12,8 @@ ghost use Rattle.resolved.specs.Shown.{leadText, trailText};
 ghost use Rattle.texts.specs.Readable.{Readable};
 ghost use Rattle.texts.specs.Place.{placed};
 ghost use Rattle.texts.specs.Measure.{measureOf};
-ghost use Rattle.texts.specs.Spell.{Puts, TextRoom, Spells, StandsDecoded, SpellsNode, Unspelled};
-ghost use Rattle.texts.specs.Due.{textKind, dueWord, Turn, Turns, Decodable, Decodes};
+ghost use Rattle.texts.specs.Spell.{PutsText, TextRoom, Spells, StandsDecoded, SpellsNode, Unspelled};
+ghost use Rattle.texts.specs.Due.{textKind, dueWord, DecodableOne, DecodesOne, Decodable, Decodes};
 use store::NodeId;
 use text::Decoded;
 use text::Quoted;
@@ -22,7 +22,7 @@ use text::Quoted;
 const DECODED: u64 = 0x4000_0000_0000_0000;
 
 // A text by its place and its length, as far as there is any, in the decoded text or in the pickle.
-struct Place {
+struct TextPlace {
     decoded: bool,
     at: u64,
     len: u64,
@@ -40,7 +40,7 @@ fn held_len(pickle: &[u8], decoded: &[u8], is_decoded: bool) -> usize
 }
 
 // The text at a place.
-fn text_at<'a>(pickle: &'a [u8], decoded: &'a [u8], place: Place) -> &'a [u8]
+fn text_of_place<'a>(pickle: &'a [u8], decoded: &'a [u8], place: TextPlace) -> &'a [u8]
     ensures { λ r. ⌜ now r ≡ placed place (now (pickle .entry)) (now (decoded .entry)) ⌝ }
 {
     let held = held_len(pickle, decoded, place.decoded);
@@ -55,11 +55,11 @@ fn text_at<'a>(pickle: &'a [u8], decoded: &'a [u8], place: Place) -> &'a [u8]
 }
 
 // The module of a Global with this first word.
-fn module_place(first: u64) -> Place
+fn module_place(first: u64) -> TextPlace
     ensures { λ r. ⌜ ((p d : List ℕ) → placed r p d ≡ within 24 (first / 16) p) ⌝ }
 {
     let word = first / store::KIND_RADIX;
-    Place {
+    TextPlace {
         decoded: false,
         at: word % store::MODULE_LEN_AT,
         len: word / store::MODULE_LEN_AT,
@@ -67,24 +67,24 @@ fn module_place(first: u64) -> Place
 }
 
 // The name of a Global with this second word, and any other text.
-fn text_place(second: u64) -> Place
+fn text_place(second: u64) -> TextPlace
     ensures { λ r. ⌜ ((p d : List ℕ) → placed r p d ≡ within 32 second p) ⌝ }
 {
-    Place {
+    TextPlace {
         decoded: false,
         at: second % store::HALF,
         len: second / store::HALF,
     }
 }
 
-fn lead_place(node: NodeId, nodes: &[u64], measures: &[u64]) -> Place
+fn lead_place(node: NodeId, nodes: &[u64], measures: &[u64]) -> TextPlace
     requires { ⌜ Readable (now nodes) (now measures) (node .0) ⌝ }
     ensures { λ r. ⌜ ((p d : List ℕ) → placed r p d ≡ leadText p d (now (nodes .entry)) (now (measures .entry)) (node .0)) ⌝ }
 {
     let i = node.0;
     let measure = measures[i];
     if DECODED <= measure {
-        return Place {
+        return TextPlace {
             decoded: true,
             at: measure % 0x2_0000,
             len: measure / 0x2_0000 % 0x2_0000,
@@ -92,24 +92,24 @@ fn lead_place(node: NodeId, nodes: &[u64], measures: &[u64]) -> Place
     }
     let first = nodes[2 * i];
     let kind = first % store::KIND_RADIX;
-    if kind == value::GLOBAL {
+    if kind == value::KIND_GLOBAL {
         return module_place(first);
     }
-    if kind == value::OBJECT {
+    if kind == value::KIND_OBJECT {
         let class = NodeId((first / store::CLASS) as usize);
         return module_place(nodes[2 * class.0]);
     }
     text_place(nodes[2 * i + 1])
 }
 
-fn trail_place(node: NodeId, nodes: &[u64], measures: &[u64]) -> Place
+fn trail_place(node: NodeId, nodes: &[u64], measures: &[u64]) -> TextPlace
     requires { ⌜ Readable (now nodes) (now measures) (node .0) ⌝ }
     ensures { λ r. ⌜ ((p d : List ℕ) → placed r p d ≡ trailText p d (now (nodes .entry)) (now (measures .entry)) (node .0)) ⌝ }
 {
     let i = node.0;
     let measure = measures[i];
     if DECODED <= measure {
-        return Place {
+        return TextPlace {
             decoded: true,
             at: measure % 0x2_0000 + measure / 0x2_0000 % 0x2_0000,
             len: measure / 0x4_0000_0000 % 0x2_0000,
@@ -117,14 +117,14 @@ fn trail_place(node: NodeId, nodes: &[u64], measures: &[u64]) -> Place
     }
     let first = nodes[2 * i];
     let kind = first % store::KIND_RADIX;
-    if kind == value::GLOBAL {
+    if kind == value::KIND_GLOBAL {
         return text_place(nodes[2 * i + 1]);
     }
-    if kind == value::OBJECT {
+    if kind == value::KIND_OBJECT {
         let class = NodeId((first / store::CLASS) as usize);
         return text_place(nodes[2 * class.0 + 1]);
     }
-    Place {
+    TextPlace {
         decoded: false,
         at: 0,
         len: 0,
@@ -142,7 +142,7 @@ pub fn lead_part<'a>(
     requires { ⌜ Readable (now nodes) (now measures) (node .0) ⌝ }
     ensures { λ r. ⌜ now r ≡ leadText (now (pickle .entry)) (now (decoded .entry)) (now (nodes .entry)) (now (measures .entry)) (node .0) ⌝ }
 {
-    text_at(pickle, decoded, lead_place(node, nodes, measures))
+    text_of_place(pickle, decoded, lead_place(node, nodes, measures))
 }
 
 // The name of a Global or of an Object's class.
@@ -156,7 +156,7 @@ pub fn trail_part<'a>(
     requires { ⌜ Readable (now nodes) (now measures) (node .0) ⌝ }
     ensures { λ r. ⌜ now r ≡ trailText (now (pickle .entry)) (now (decoded .entry)) (now (nodes .entry)) (now (measures .entry)) (node .0) ⌝ }
 {
-    text_at(pickle, decoded, trail_place(node, nodes, measures))
+    text_of_place(pickle, decoded, trail_place(node, nodes, measures))
 }
 
 // ---- the pass
@@ -197,7 +197,7 @@ fn raw_text(pickle: &[u8], second: u64) -> &[u8]
 // A text, repaired, at `at` of the decoded text; its length.
 fn put_repaired(bytes: &[u8], decoded: &mut [u8], at: usize) -> usize
     requires { ⌜ at + length (repair (now bytes)) ≤ length (now decoded) ⌝ }
-    ensures { λ r. ⌜ Puts (repair (now (bytes .entry))) (now (decoded .entry)) at (now (decoded .exit)) r ⌝ }
+    ensures { λ r. ⌜ PutsText (repair (now (bytes .entry))) (now (decoded .entry)) at (now (decoded .exit)) r ⌝ }
 {
     utf8::from_utf8_lossy(bytes, &mut decoded[at..])
 }
@@ -205,7 +205,7 @@ fn put_repaired(bytes: &[u8], decoded: &mut [u8], at: usize) -> usize
 // A line of STRING, unescaped. One that cannot be has no text.
 fn put_string(line: &[u8], decoded: &mut [u8], at: usize) -> usize
     requires { ⌜ at + length (bytesOf (unescapeString (now line))) ≤ length (now decoded) ⌝ }
-    ensures { λ r. ⌜ Puts (bytesOf (unescapeString (now (line .entry)))) (now (decoded .entry)) at (now (decoded .exit)) r ⌝ }
+    ensures { λ r. ⌜ PutsText (bytesOf (unescapeString (now (line .entry)))) (now (decoded .entry)) at (now (decoded .exit)) r ⌝ }
 {
     match text::string_len(line) {
         Quoted::Refused(_) => 0,
@@ -217,7 +217,7 @@ fn put_string(line: &[u8], decoded: &mut [u8], at: usize) -> usize
 // A line of UNICODE, decoded. One that cannot be has no text.
 fn put_unicode(line: &[u8], decoded: &mut [u8], at: usize) -> usize
     requires { ⌜ at + length (bytesOf (unescapeUnicode (now line))) ≤ length (now decoded) ⌝ }
-    ensures { λ r. ⌜ Puts (bytesOf (unescapeUnicode (now (line .entry)))) (now (decoded .entry)) at (now (decoded .exit)) r ⌝ }
+    ensures { λ r. ⌜ PutsText (bytesOf (unescapeUnicode (now (line .entry)))) (now (decoded .entry)) at (now (decoded .exit)) r ⌝ }
 {
     match text::unicode_len(line) {
         Decoded::Refused(_) => 0,
@@ -306,10 +306,10 @@ fn spell_node(
     let first = nodes[2 * i];
     let second = nodes[2 * i + 1];
     let kind = first % store::KIND_RADIX;
-    if kind == value::STRING {
+    if kind == value::KIND_STRING {
         return spell_text(raw_text(pickle, second), measure, decoded, used);
     }
-    if kind == value::GLOBAL {
+    if kind == value::KIND_GLOBAL {
         return spell_names(
             module_text(pickle, first),
             raw_text(pickle, second),
@@ -318,7 +318,7 @@ fn spell_node(
             used,
         );
     }
-    if kind == value::OBJECT {
+    if kind == value::KIND_OBJECT {
         let class = NodeId((first / store::CLASS) as usize);
         return spell_names(
             module_text(pickle, nodes[2 * class.0]),
@@ -338,16 +338,16 @@ fn spell_node(
 }
 
 // Whether nodes of a kind have text.
-fn has_text(kind: u64) -> bool
+fn kind_has_text(kind: u64) -> bool
     ensures { λ r. ⌜ r ≡ textKind kind ⌝ }
 {
-    if kind < value::BYTES {
+    if kind < value::KIND_BYTES {
         return false;
     }
-    if kind < value::LIST {
+    if kind < value::KIND_LIST {
         return true;
     }
-    if kind < value::GLOBAL {
+    if kind < value::KIND_GLOBAL {
         return false;
     }
     kind < store::NODE_KINDS
@@ -361,13 +361,13 @@ fn is_due(first: u64, measure: u64) -> bool
     if measure < store::DEPTHS {
         return false;
     }
-    if kind == value::OBJECT {
+    if kind == value::KIND_OBJECT {
         return measure < store::MEASURED;
     }
     if store::AHEAD <= measure {
         return false;
     }
-    has_text(kind)
+    kind_has_text(kind)
 }
 
 // One node; how much of the decoded text is used then.
@@ -379,9 +379,9 @@ fn decode_one(
     measures: &mut [u64],
     used: usize,
 ) -> usize
-    requires { ⌜ Turn (now pickle) (now nodes) (node .0) (now decoded) (now measures) used ⌝ }
+    requires { ⌜ DecodableOne (now pickle) (now nodes) (node .0) (now decoded) (now measures) used ⌝ }
     ensures { λ r. ⌜
-        Turns (now (pickle .entry)) (now (nodes .entry)) (node .0) (now (decoded .entry)) (now (measures .entry)) used
+        DecodesOne (now (pickle .entry)) (now (nodes .entry)) (node .0) (now (decoded .entry)) (now (measures .entry)) used
         (now (decoded .exit)) (now (measures .exit)) r
         ⌝ }
 {

@@ -12,35 +12,35 @@ use lib.Dec.{ltb}
 use borrow.Author.Tests.{lt-ltb, le-ltb, ltb-true, ltb-false}
 use Rattle.utf8.specs.declared.Piece.{Piece}
 use Rattle.utf8.specs.declared.Piece.the-variants.{Whole, Part}
-use Rattle.utf8.specs.Utf8.{Row, within, whole, some, wellFormed, piece, valid, fffd, mend, repair, evaluates}
+use Rattle.utf8.specs.Utf8.{ByteRow, inColumn, wholeRow, some, wellFormed, piece, valid, fffd, mend, repair, evaluates}
 use Rattle.utf8.specs.Rows.{Few, none, one, few, along, goes, piece-goes, well-formed-after, or-false}
 use Rattle.utf8.specs.Laws.{piece-pos, piece-within, piece-take, valid-step, repair-step}
-use Rattle.utf8.specs.Place.{Ascii, pieceIs, pieceOf, secondOf, next}
+use Rattle.utf8.specs.Place.{Ascii, pieceIs, pieceOf, secondOf, nextIn}
 use Rattle.utf8.specs.Stores.{sets-append}
 use Rattle.utf8.proofs.Table.{more, lead, table-lead}
 
 -- ---- the piece, column by column
 
 -- from n bytes on: along the row as far as the text does
-unfoldable run : Row → ℕ → List ℕ → Piece
+unfoldable run : ByteRow → ℕ → List ℕ → Piece
 run [] n t = Whole n
-run (e ∷ r) n t = cond (next e t) (run r (n + 1) (drop 1 t)) (Part n)
+run (e ∷ r) n t = cond (nextIn e t) (run r (n + 1) (drop 1 t)) (Part n)
 
-run-along : (r : Row) (n : ℕ) (t : List ℕ) → pieceIs (whole r (along r t)) (n + length (along r t)) ≡ run r n t
-unfolding run next along whole
+run-along : (r : ByteRow) (n : ℕ) (t : List ℕ) → pieceIs (wholeRow r (along r t)) (n + length (along r t)) ≡ run r n t
+unfolding run nextIn along wholeRow
 run-along [] n [] = rw (add-zero n)
 run-along [] n (c ∷ t) = rw (add-zero n)
 run-along (e ∷ r) n [] = rw (add-zero n)
-run-along (e ∷ r) n (c ∷ t) = go (within e c) refl (run-along r (n + 1) t)
+run-along (e ∷ r) n (c ∷ t) = go (inColumn e c) refl (run-along r (n + 1) t)
   where
-    go : (x : Bool) → within e c ≡ x → pieceIs (whole r (along r t)) ((n + 1) + length (along r t)) ≡ run r (n + 1) t
-        → pieceIs (whole (e ∷ r) (cond x (c ∷ along r t) [])) (n + length (cond x (c ∷ along r t) []))
+    go : (x : Bool) → inColumn e c ≡ x → pieceIs (wholeRow r (along r t)) ((n + 1) + length (along r t)) ≡ run r (n + 1) t
+        → pieceIs (wholeRow (e ∷ r) (cond x (c ∷ along r t) [])) (n + length (cond x (c ∷ along r t) []))
         ≡ cond x (run r (n + 1) t) (Part n)
     go true w h = let q : n + suc (length (along r t)) ≡ (n + 1) + length (along r t) = omega arith in rw (w, q) h
     go false w h = rw (add-zero n)
 
 -- from a first byte on, by the rows that have it
-unfoldable runs : List Row → List ℕ → Piece
+unfoldable runs : List ByteRow → List ℕ → Piece
 runs [] t = Part 1
 runs (r ∷ x) t = run r 1 t
 
@@ -59,10 +59,10 @@ module _ (s : List ℕ) (at : ℕ) (h : at < length s) where
   unfolding pieceOf runs goes some
   piece-runs f =
       rw (here, piece-goes first (drop (at + 1) s), well-formed-after) (go (few first))
-      ∙ ap (λ (x : List Row). runs x (drop (at + 1) s)) (table-lead first f)
+      ∙ ap (λ (x : List ByteRow). runs x (drop (at + 1) s)) (table-lead first f)
     where
-      go : {x : List Row} → Few x
-          → pieceIs (some (λ r. whole r (goes x (drop (at + 1) s))) x) (suc (length (goes x (drop (at + 1) s)))) ≡ runs x (drop (at + 1) s)
+      go : {x : List ByteRow} → Few x
+          → pieceIs (some (λ r. wholeRow r (goes x (drop (at + 1) s))) x) (suc (length (goes x (drop (at + 1) s)))) ≡ runs x (drop (at + 1) s)
       go none = refl
       go (one r l) = rw (or-false, ← one-add (length (along r (drop (at + 1) s)))) (run-along r 1 (drop (at + 1) s))
 
@@ -84,11 +84,11 @@ module _ (s : List ℕ) (at : ℕ) (h : at < length s) where
     unfolding lead runs
     row = rw (piece-runs (omega arith), le-ltb first 0x80 (omega arith), le-ltb first 0xC2 l, le-ltb 0xF4 first u)
 
-    pub one-part : next (secondOf first) (drop (at + 1) s) ≡ false → Part 1 ≡ pieceOf (drop at s)
+    pub one-part : nextIn (secondOf first) (drop (at + 1) s) ≡ false → Part 1 ≡ pieceOf (drop at s)
     unfolding run
     one-part n = sym (rw (row, n))
 
-    module _ (n₁ : next (secondOf first) (drop (at + 1) s) ≡ true) where
+    module _ (n₁ : nextIn (secondOf first) (drop (at + 1) s) ≡ true) where
       pub two-whole : first < 0xE0 → Whole 2 ≡ pieceOf (drop at s)
       unfolding run
       two-whole m = sym (rw (row, n₁, lt-ltb first 0xE0 m))
@@ -98,11 +98,11 @@ module _ (s : List ℕ) (at : ℕ) (h : at < length s) where
         unfolding run
         row₂ = rw (row, n₁, le-ltb first 0xE0 m, hop (at + 1) (at + 2) (omega arith))
 
-        pub two-part : next more (drop (at + 2) s) ≡ false → Part 2 ≡ pieceOf (drop at s)
+        pub two-part : nextIn more (drop (at + 2) s) ≡ false → Part 2 ≡ pieceOf (drop at s)
         unfolding run
         two-part n = sym (rw (row₂, n))
 
-        module _ (n₂ : next more (drop (at + 2) s) ≡ true) where
+        module _ (n₂ : nextIn more (drop (at + 2) s) ≡ true) where
           pub three-whole : first < 0xF0 → Whole 3 ≡ pieceOf (drop at s)
           unfolding run
           three-whole o = sym (rw (row₂, n₂, lt-ltb first 0xF0 o))
@@ -112,11 +112,11 @@ module _ (s : List ℕ) (at : ℕ) (h : at < length s) where
             unfolding run
             row₃ = rw (row₂, n₂, le-ltb first 0xF0 o, hop (at + 2) (at + 3) (omega arith))
 
-            pub three-part : next more (drop (at + 3) s) ≡ false → Part 3 ≡ pieceOf (drop at s)
+            pub three-part : nextIn more (drop (at + 3) s) ≡ false → Part 3 ≡ pieceOf (drop at s)
             unfolding run
             three-part n = sym (rw (row₃, n))
 
-            pub four-whole : next more (drop (at + 3) s) ≡ true → Whole 4 ≡ pieceOf (drop at s)
+            pub four-whole : nextIn more (drop (at + 3) s) ≡ true → Whole 4 ≡ pieceOf (drop at s)
             unfolding run
             four-whole n = sym (rw (row₃, n))
 

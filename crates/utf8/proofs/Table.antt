@@ -7,8 +7,8 @@ use mathlib.Core.List.{List, [], _∷_}
 use mathlib.Core.Path.{_≡_, refl}
 use lib.Dec.{ltb, eqb}
 use borrow.Author.Tests.{eqb-true}
-use Rattle.utf8.specs.Utf8.{Row, table37, within}
-use Rattle.utf8.specs.Rows.{after, and-left, and-right}
+use Rattle.utf8.specs.Utf8.{ByteRow, table37, inColumn}
+use Rattle.utf8.specs.Rows.{rowsAfter, and-left, and-right}
 use Rattle.utf8.specs.Place.{secondOf}
 
 -- the columns after the second
@@ -16,7 +16,7 @@ abbrev pub more : ℕ × ℕ
 more = (0x80, 0xBF)
 
 -- what the tests of a first byte ask of the bytes after it, as rows
-unfoldable pub lead : ℕ → List Row
+unfoldable pub lead : ℕ → List ByteRow
 lead b =
     cond (ltb b 0x80) ([] ∷ [])
     (cond (ltb b 0xC2) []
@@ -60,15 +60,15 @@ all-at p (suc n) h b l = elim (ℕ-discrete b n) [
   | no d ↦ all-at p n (and-right (p n) (all p n) h) b (omega arith)
 ]
 
-same-rows : List Row → List Row → Bool
+same-rows : List ByteRow → List ByteRow → Bool
 same-rows = same (same same-column column-sound) (same-sound same-column column-sound)
 
-computed : all (λ b. same-rows (after b table37) (lead b)) 256 ≡ true
-unfolding all same same-column same-rows after within lead secondOf
+computed : all (λ b. same-rows (rowsAfter b table37) (lead b)) 256 ≡ true
+unfolding all same same-column same-rows rowsAfter inColumn lead secondOf
 computed = refl
 
-pub table-lead : (b : ℕ) → b < 256 → after b table37 ≡ lead b
+pub table-lead : (b : ℕ) → b < 256 → rowsAfter b table37 ≡ lead b
 unfolding same-rows
 table-lead b l =
-    same-sound (same same-column column-sound) (same-sound same-column column-sound) (after b table37) (lead b)
-    (all-at (λ (x : ℕ). same-rows (after x table37) (lead x)) 256 computed b l)
+    same-sound (same same-column column-sound) (same-sound same-column column-sound) (rowsAfter b table37) (lead b)
+    (all-at (λ (x : ℕ). same-rows (rowsAfter x table37) (lead x)) 256 computed b l)

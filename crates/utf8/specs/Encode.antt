@@ -9,7 +9,7 @@ use mathlib.Core.Path.{_≡_, refl}
 use lib.ListN.{length, getD}
 use lib.Dec.{leb, ltb}
 use borrow.Author.Tests.{le-leb, lt-leb, lt-ltb, le-ltb, ltb-true, leb-true}
-use Rattle.utf8.specs.Utf8.{Row, table37, within, whole, some, wellFormed, scalar, trail, encode, valid}
+use Rattle.utf8.specs.Utf8.{ByteRow, table37, inColumn, wholeRow, some, wellFormed, scalar, trail, encode, valid}
 use Rattle.utf8.specs.Laws.{valid-one}
 use Rattle.utf8.specs.Rows.{and-left, and-right}
 
@@ -31,7 +31,7 @@ module _ (c : ℕ) where
   encode-four l = rw (le-ltb c 0x80 (omega arith), le-ltb c 0x800 (omega arith), le-ltb c 0x10000 l)
 
 -- row k of the table has the bytes
-some-at : (p : Row → Bool) (t : List Row) (k : ℕ) → k < length t → p (getD t k []) ≡ true → some p t ≡ true
+some-at : (p : ByteRow → Bool) (t : List ByteRow) (k : ℕ) → k < length t → p (getD t k []) ≡ true → some p t ≡ true
 unfolding some
 some-at p [] k l h = let z : _≡_ {A = ℕ} 0 1 = omega arith in cc
 some-at p (r ∷ t) zero l h = rw h
@@ -41,39 +41,39 @@ some-at p (r ∷ t) (suc k) l h = go (p r) (some-at p t k (omega arith) h)
     go true e = refl
     go false e = e
 
-within-at : (e : ℕ × ℕ) (b : ℕ) → e .0 ≤ b → b ≤ e .1 → within e b ≡ true
-unfolding within
+within-at : (e : ℕ × ℕ) (b : ℕ) → e .0 ≤ b → b ≤ e .1 → inColumn e b ≡ true
+unfolding inColumn
 within-at e b l h = rw (le-leb (e .0) b l, le-leb b (e .1) h)
 
-trail-within : (x : ℕ) → within (0x80, 0xBF) (trail x) ≡ true
+trail-within : (x : ℕ) → inColumn (0x80, 0xBF) (trail x) ≡ true
 unfolding trail
 trail-within x = within-at (0x80, 0xBF) (0x80 + x % 0x40) (omega arith) (omega arith)
 
 -- bytes of row k: the first two in its first two columns, and the others as its others ask
-module _ (k : ℕ) {e f : ℕ × ℕ} {r : Row} (q : getD table37 k [] ≡ e ∷ f ∷ r) where
+module _ (k : ℕ) {e f : ℕ × ℕ} {r : ByteRow} (q : getD table37 k [] ≡ e ∷ f ∷ r) where
   fits-row : (x y : ℕ) (u : List ℕ) → (k < 9) × (e .0 ≤ x) × (x ≤ e .1) × (f .0 ≤ y) × (y ≤ f .1)
-      → whole r u ≡ true → wellFormed (x ∷ y ∷ u) ≡ true
-  unfolding wellFormed whole
+      → wholeRow r u ≡ true → wellFormed (x ∷ y ∷ u) ≡ true
+  unfolding wellFormed wholeRow
   fits-row x y u b h = some-at _ table37 k (b .0) (rw (q, within-at e x (b .1) (b .2), within-at f y (b .3) (b .4), h))
 
 pub by-lt : {A : Type 0} (c n : ℕ) → (c < n → A) → (n ≤ c → A) → A
 by-lt c n f g = elim (decLt c n) [ yes h ↦ f h | no h ↦ g (omega arith) ]
 
 module _ (c : ℕ) where
-  rest-two : whole [] [] ≡ true
-  unfolding whole
+  rest-two : wholeRow [] [] ≡ true
+  unfolding wholeRow
   rest-two = refl
 
-  rest-three : whole ((0x80, 0xBF) ∷ []) (trail c ∷ []) ≡ true
-  unfolding whole
+  rest-three : wholeRow ((0x80, 0xBF) ∷ []) (trail c ∷ []) ≡ true
+  unfolding wholeRow
   rest-three = rw (trail-within c)
 
-  rest-four : whole ((0x80, 0xBF) ∷ (0x80, 0xBF) ∷ []) (trail (c / 0x40) ∷ trail c ∷ []) ≡ true
-  unfolding whole
+  rest-four : wholeRow ((0x80, 0xBF) ∷ (0x80, 0xBF) ∷ []) (trail (c / 0x40) ∷ trail c ∷ []) ≡ true
+  unfolding wholeRow
   rest-four = rw (trail-within (c / 0x40), trail-within c)
 
   well-one : c < 0x80 → wellFormed (encode c) ≡ true
-  unfolding wellFormed whole
+  unfolding wellFormed wholeRow
   well-one h = rw (encode-one c h) (some-at _ table37 0 (omega arith) (rw (within-at (0x00, 0x7F) c (omega arith) (omega arith))))
 
   well-two : 0x80 ≤ c → c < 0x800 → wellFormed (encode c) ≡ true

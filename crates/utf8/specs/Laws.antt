@@ -7,12 +7,12 @@ use mathlib.Core.List.{List, [], _∷_, _++_, map, flatten, append-assoc, append
 use mathlib.Core.Path.{_≡_, refl, sym, ap, _∙_}
 use lib.ListN.{length, take, drop, length-append}
 use lib.Seq.{take-append-seam, drop-append-seam}
-use Rattle.utf8.specs.Utf8.{Row, table37, whole, begins, some, initial, wellFormed, piece, piecesAfter, pieces, every, valid, fffd, mend, repair, evaluates}
-use Rattle.utf8.specs.Rows.{after, Few, none, one, few, along-split, along-longest, along-whole, goes, or-false, and-left, and-right, initial-after, well-formed-after, piece-goes}
+use Rattle.utf8.specs.Utf8.{ByteRow, table37, wholeRow, begins, some, initial, wellFormed, piece, piecesAfter, pieces, every, valid, fffd, mend, repair, evaluates}
+use Rattle.utf8.specs.Rows.{rowsAfter, Few, none, one, few, along-split, along-longest, along-whole, goes, or-false, and-left, and-right, initial-after, well-formed-after, piece-goes}
 
 -- ---- a piece
 
-goes-split : (x : List Row) (t : List ℕ) → goes x t ++ drop (length (goes x t)) t ≡ t
+goes-split : (x : List ByteRow) (t : List ℕ) → goes x t ++ drop (length (goes x t)) t ≡ t
 unfolding goes
 goes-split [] t = refl
 goes-split (r ∷ x) t = along-split r t
@@ -21,7 +21,7 @@ goes-split (r ∷ x) t = along-split r t
 pub piece-split : (s : List ℕ) → piece s ++ drop (length (piece s)) s ≡ s
 unfolding evaluates
 piece-split [] = refl
-piece-split (b ∷ t) = rw (piece-goes b t) (ap (b ∷_) (goes-split (after b table37) t))
+piece-split (b ∷ t) = rw (piece-goes b t) (ap (b ∷_) (goes-split (rowsAfter b table37) t))
 
 -- it has a byte, if the text has one, and is the text's beginning
 pub piece-pos : (s : List ℕ) → 0 < length s → 0 < length (piece s)
@@ -43,19 +43,19 @@ piece-longest [] (suc k) h = omega arith
 piece-longest (b ∷ t) zero h = omega arith
 piece-longest (b ∷ t) (suc k) h = rw (piece-goes b t) (go (few b) (sym (initial-after b (take k t)) ∙ h))
   where
-    go : {y : List Row} → Few y → some (λ r. begins r (take k t)) y ≡ true → suc (length (take k t)) ≤ suc (length (goes y t))
+    go : {y : List ByteRow} → Few y → some (λ r. begins r (take k t)) y ≡ true → suc (length (take k t)) ≤ suc (length (goes y t))
     go none h = let z : _≡_ {A = ℕ} 0 1 = cc in omega arith
     go (one r l) h = omega (arith, along-longest r t k (sym (or-false (begins r (take k t))) ∙ h))
 
 -- a well-formed sequence is the piece at its start
 pub piece-whole : (p x : List ℕ) → wellFormed p ≡ true → piece (p ++ x) ≡ p
-unfolding wellFormed whole some goes
+unfolding wellFormed wholeRow some goes
 piece-whole [] x h = cc
 piece-whole (b ∷ u) x h = piece-goes b (u ++ x) ∙ ap (b ∷_) (go (few b) (sym (well-formed-after b u) ∙ h))
   where
-    go : {y : List Row} → Few y → some (λ r. whole r u) y ≡ true → goes y (u ++ x) ≡ u
+    go : {y : List ByteRow} → Few y → some (λ r. wholeRow r u) y ≡ true → goes y (u ++ x) ≡ u
     go none h = cc
-    go (one r l) h = along-whole r u x (sym (or-false (whole r u)) ∙ h)
+    go (one r l) h = along-whole r u x (sym (or-false (wholeRow r u)) ∙ h)
 
 -- ---- the pieces
 
@@ -67,7 +67,7 @@ pieces-drop (suc n) (b ∷ s) = pieces-drop n s
 
 rest-drop : (b : ℕ) (t : List ℕ) → drop (length (piece (b ∷ t)) - 1) t ≡ drop (length (piece (b ∷ t))) (b ∷ t)
 rest-drop b t =
-    let u = goes (after b table37) t in
+    let u = goes (rowsAfter b table37) t in
     let e : suc (length u) - 1 ≡ length u = omega arith in
     rw (piece-goes b t, e)
 
@@ -91,7 +91,7 @@ flatten-pieces s = flatten-after 0 s
 
 -- a run of well-formed sequences is cut into those sequences
 pub pieces-flatten : (ps : List (List ℕ)) → every ps ≡ true → pieces (flatten ps) ≡ ps
-unfolding flatten every pieces piecesAfter wellFormed whole some
+unfolding flatten every pieces piecesAfter wellFormed wholeRow some
 pieces-flatten [] h = refl
 pieces-flatten ([] ∷ q) h = cc
 pieces-flatten ((b ∷ u) ∷ q) h =

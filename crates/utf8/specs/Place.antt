@@ -6,7 +6,7 @@ use lib.ListN.{length, getD}
 use lib.Dec.{eqb}
 use Rattle.utf8.specs.declared.Piece.{Piece}
 use Rattle.utf8.specs.declared.Piece.the-variants.{Whole, Part}
-use Rattle.utf8.specs.Utf8.{within, wellFormed, piece}
+use Rattle.utf8.specs.Utf8.{inColumn, wellFormed, piece}
 
 -- a piece of n bytes, well formed or not
 abbrev pub pieceIs : Bool → ℕ → Piece
@@ -27,9 +27,9 @@ secondOf b =
     (0x80, 0xBF))))
 
 -- the text goes on with a byte in the range
-unfoldable pub next : ℕ × ℕ → List ℕ → Bool
-next e [] = false
-next e (c ∷ t) = within e c
+unfoldable pub nextIn : ℕ × ℕ → List ℕ → Bool
+nextIn e [] = false
+nextIn e (c ∷ t) = inColumn e c
 
 -- the n bytes from i on are ASCII
 abbrev pub Ascii : List ℕ → ℕ → ℕ → Type 0

@@ -8,11 +8,11 @@ use lib.ListN.{length, take, replicate}
 use lib.Dec.{leb, ltb}
 
 -- a row of Table 3-7: the least and the greatest byte of each column
-abbrev pub Row : Type 0
-Row = List (ℕ × ℕ)
+abbrev pub ByteRow : Type 0
+ByteRow = List (ℕ × ℕ)
 
 -- Table 3-7, Well-Formed UTF-8 Byte Sequences
-abbrev pub table37 : List Row
+abbrev pub table37 : List ByteRow
 table37 =
     ((0x00, 0x7F) ∷ [])  -- U+0000..U+007F
     ∷ ((0xC2, 0xDF) ∷ (0x80, 0xBF) ∷ [])  -- U+0080..U+07FF
@@ -26,30 +26,30 @@ table37 =
     ∷ []
 
 -- a byte lies in a column's range
-unfoldable pub within : ℕ × ℕ → ℕ → Bool
-within e b = leb (e .0) b && leb b (e .1)
+unfoldable pub inColumn : ℕ × ℕ → ℕ → Bool
+inColumn e b = leb (e .0) b && leb b (e .1)
 
 -- the bytes are a whole sequence of the row: a byte for each column, in its range
-unfoldable pub whole : Row → List ℕ → Bool
-whole [] [] = true
-whole [] (b ∷ s) = false
-whole (e ∷ r) [] = false
-whole (e ∷ r) (b ∷ s) = within e b && whole r s
+unfoldable pub wholeRow : ByteRow → List ℕ → Bool
+wholeRow [] [] = true
+wholeRow [] (b ∷ s) = false
+wholeRow (e ∷ r) [] = false
+wholeRow (e ∷ r) (b ∷ s) = inColumn e b && wholeRow r s
 
 -- the bytes are the beginning of a sequence of the row
-unfoldable pub begins : Row → List ℕ → Bool
+unfoldable pub begins : ByteRow → List ℕ → Bool
 begins r [] = true
 begins [] (b ∷ s) = false
-begins (e ∷ r) (b ∷ s) = within e b && begins r s
+begins (e ∷ r) (b ∷ s) = inColumn e b && begins r s
 
 -- some row has the property
-unfoldable pub some : (Row → Bool) → List Row → Bool
+unfoldable pub some : (ByteRow → Bool) → List ByteRow → Bool
 some p [] = false
 some p (r ∷ t) = p r || some p t
 
 -- D85a, D92: a minimal well-formed sequence, the bytes of one scalar value
 unfoldable pub wellFormed : List ℕ → Bool
-wellFormed s = some (λ r. whole r s) table37
+wellFormed s = some (λ r. wholeRow r s) table37
 
 -- D93b a: the initial subsequence of a well-formed sequence
 unfoldable pub initial : List ℕ → Bool
@@ -113,7 +113,7 @@ encode c =
 
 -- what computes on given bytes
 unfoldable pub evaluates : Unit {0}
-unfolding within whole begins some wellFormed initial longest piece piecesAfter pieces every valid flatten mend repair scalar trail encode
+unfolding inColumn wholeRow begins some wellFormed initial longest piece piecesAfter pieces every valid flatten mend repair scalar trail encode
 evaluates = tt
 
 -- n replacement characters

@@ -6,7 +6,7 @@ ghost use Prim.Native.Nat.{_+_, _≤_, _<_};
 ghost use lib.ListN.{length, take, drop};
 ghost use lib.Seq.{sets};
 ghost use Rattle.utf8.specs.Utf8.{fffd, valid as validText, repair};
-ghost use Rattle.utf8.specs.Place.{Ascii, pieceOf, secondOf, next};
+ghost use Rattle.utf8.specs.Place.{Ascii, pieceOf, secondOf, nextIn};
 
 // A well-formed sequence, or a maximal subpart of an ill-formed one, by its length.
 enum Piece {
@@ -15,24 +15,24 @@ enum Piece {
 }
 
 // The least and the greatest of a range of bytes.
-struct Range(u8, u8);
+struct ByteRange(u8, u8);
 
 // Where the second byte lies after a first byte that asks for one.
-fn second(b: u8) -> Range
+fn second(b: u8) -> ByteRange
     ensures { λ r. ⌜ (r .0, r .1) ≡ secondOf b ⌝ }
 {
     match b {
-        0xE0 => Range(0xA0, 0xBF),
-        0xED => Range(0x80, 0x9F),
-        0xF0 => Range(0x90, 0xBF),
-        0xF4 => Range(0x80, 0x8F),
-        _ => Range(0x80, 0xBF),
+        0xE0 => ByteRange(0xA0, 0xBF),
+        0xED => ByteRange(0x80, 0x9F),
+        0xF0 => ByteRange(0x90, 0xBF),
+        0xF4 => ByteRange(0x80, 0x8F),
+        _ => ByteRange(0x80, 0xBF),
     }
 }
 
 // Whether there is a byte at `at`, in the range.
-fn has(s: &[u8], at: usize, range: Range) -> bool
-    ensures { λ r. ⌜ r ≡ next (range .0, range .1) (drop at (now (s .entry))) ⌝ }
+fn has(s: &[u8], at: usize, range: ByteRange) -> bool
+    ensures { λ r. ⌜ r ≡ nextIn (range .0, range .1) (drop at (now (s .entry))) ⌝ }
 {
     if s.len() <= at {
         return false;
@@ -62,13 +62,13 @@ fn piece_at(s: &[u8], at: usize) -> Piece
     if b < 0xE0 {
         return Piece::Whole(2);
     }
-    if !has(s, at + 2, Range(0x80, 0xBF)) {
+    if !has(s, at + 2, ByteRange(0x80, 0xBF)) {
         return Piece::Part(2);
     }
     if b < 0xF0 {
         return Piece::Whole(3);
     }
-    if !has(s, at + 3, Range(0x80, 0xBF)) {
+    if !has(s, at + 3, ByteRange(0x80, 0xBF)) {
         return Piece::Part(3);
     }
     Piece::Whole(4)

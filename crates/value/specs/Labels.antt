@@ -11,7 +11,7 @@ use native.Mathlib.Omega.{arith}
 use Rattle.value.specs.Value.{kind, bit, NoneL}
 use Rattle.value.specs.Order.{_then_, lex, byValue, totalOrder, labels}
 use Rattle.value.specs.OrderLaws.{compare-eq}
-use Rattle.value.specs.Shape.{kindIn, labelsOf, labelOf, moduleOf, nameOf, namesEnd}
+use Rattle.value.specs.Shape.{kindIn, labelsOf, labelOf, modulePart, namePart, namesEnd}
 use Rattle.value.specs.Stands.{wordAt, labelAt, textEnd, Reads}
 use Rattle.value.specs.Walk.{compare-same, eq-then, lt-then, gt-then, then-end}
 
@@ -109,11 +109,11 @@ module _ (a x p b y q : ℕ) (s t : List ℕ) where
       ten (inl d) = at 10 d (simp (compare-same, eq-then, lex-none))
       ten (inr l) = nine (last-or 9 (kindIn a) l)
 
-  pub kind-name : kindIn a ≡ kindIn b → 10 < kindIn a → kindIn a < 13 → both ≡ (lex (moduleOf p s) (moduleOf q t) then lex (nameOf p s) (nameOf q t))
+  pub kind-name : kindIn a ≡ kindIn b → 10 < kindIn a → kindIn a < 13 → both ≡ (lex (modulePart p s) (modulePart q t) then lex (namePart p s) (namePart q t))
   unfolding labels
   kind-name e g h = go (last-or 12 (kindIn a) h)
     where
-      go : (kindIn a ≡ 12) ⊎ (kindIn a < 12) → both ≡ (lex (moduleOf p s) (moduleOf q t) then lex (nameOf p s) (nameOf q t))
+      go : (kindIn a ≡ 12) ⊎ (kindIn a < 12) → both ≡ (lex (modulePart p s) (modulePart q t) then lex (namePart p s) (namePart q t))
       go (inl d) = of-kind 12 d (sym e ∙ d) ∙ simp (compare-same, eq-then)
       go (inr l) = let d : kindIn a ≡ 11 = omega arith in of-kind 11 d (sym e ∙ d) ∙ simp (compare-same, eq-then)
 
@@ -163,7 +163,7 @@ module _ (w s : List ℕ) (i : ℕ) (v t : List ℕ) (j k h : ℕ) (r : Reads w 
     unfolding labelAt
     records-container g l = sym (kind-container _ _ _ _ _ _ _ _ same (rw e₀ g) (rw e₀ l))
 
-    pub records-name : 10 < k → (lex (moduleOf (wordAt w i 2) (drop (wordAt w i 1) s)) (moduleOf (wordAt v j 2) (drop (wordAt v j 1) t)) then lex (nameOf (wordAt w i 2) (drop (wordAt w i 1) s)) (nameOf (wordAt v j 2) (drop (wordAt v j 1) t))) ≡ here
+    pub records-name : 10 < k → (lex (modulePart (wordAt w i 2) (drop (wordAt w i 1) s)) (modulePart (wordAt v j 2) (drop (wordAt v j 1) t)) then lex (namePart (wordAt w i 2) (drop (wordAt w i 1) s)) (namePart (wordAt v j 2) (drop (wordAt v j 1) t))) ≡ here
     unfolding labelAt
     records-name g = sym (kind-name _ _ _ _ _ _ _ _ same (rw e₀ g) (r .known))
 

@@ -14,7 +14,7 @@ use Rattle.value.specs.Order.{_then_, labels, forests, new}
 use Rattle.value.specs.OrderLaws.{then-eq, compare-eq}
 use Rattle.value.specs.Shape.{kindIn, newIn, holding, labelsOf, labelOf, arityOf, arity-dict, nothing-held}
 use Rattle.value.specs.Stands.{_⊕_, count-append, wordAt, labelAt, arityAt, Reads, Stands, stands-append}
-use Rattle.value.specs.Walk.{first, count-first, stands-first, eq-then, compare-same, step-less, step-greater, step-same, step-shorter, step-longer, step-newer}
+use Rattle.value.specs.Walk.{firstValues, count-first, stands-first, eq-then, compare-same, step-less, step-greater, step-same, step-shorter, step-longer, step-newer}
 use Rattle.value.specs.Labels.{kind-in}
 
 -- an Object's `new`, of the record at i
@@ -23,7 +23,7 @@ newAt w i = eqb (kindIn (wordAt w i 0)) 12 && newIn (wordAt w i 0)
 
 -- ---- where the walk stands
 
-pub record Left (a s b t : List ℕ) (k l left : ℕ) (v o : Ordering) : Type 0 where
+pub record StillToCompare (a s b t : List ℕ) (k l left : ℕ) (v o : Ordering) : Type 0 where
   pub first : Forest
   pub second : Forest
   pub stands₁ : Stands a s k first
@@ -34,11 +34,11 @@ pub record Left (a s b t : List ℕ) (k l left : ℕ) (v o : Ordering) : Type 0 
 
 -- the values still to compare, and what decides if they are equal, after two records with equal labels: n and m values are in
 -- them, x and y say `new`
-pub data Next (left : ℕ) (v : Ordering) (n m : ℕ) (x y : Bool) (left′ : ℕ) (v′ : Ordering) : Type 0 where
-  newer : x ≢ y → left′ ≡ 1 → v′ ≡ compare (bit x) (bit y) → Next left v n m x y left′ v′
-  same : x ≡ y → n ≡ m → left′ ≡ left - 1 + n → v′ ≡ v → Next left v n m x y left′ v′
-  shorter : x ≡ y → n < m → left′ ≡ n → v′ ≡ Ordering·lt → Next left v n m x y left′ v′
-  longer : x ≡ y → m < n → left′ ≡ m → v′ ≡ Ordering·gt → Next left v n m x y left′ v′
+pub data NextToCompare (left : ℕ) (v : Ordering) (n m : ℕ) (x y : Bool) (left′ : ℕ) (v′ : Ordering) : Type 0 where
+  newer : x ≢ y → left′ ≡ 1 → v′ ≡ compare (bit x) (bit y) → NextToCompare left v n m x y left′ v′
+  same : x ≡ y → n ≡ m → left′ ≡ left - 1 + n → v′ ≡ v → NextToCompare left v n m x y left′ v′
+  shorter : x ≡ y → n < m → left′ ≡ n → v′ ≡ Ordering·lt → NextToCompare left v n m x y left′ v′
+  longer : x ≡ y → m < n → left′ ≡ m → v′ ≡ Ordering·gt → NextToCompare left v n m x y left′ v′
 
 -- two records of one kind, with so many values still to compare: what is in them fits
 pub record Matched (a b : List ℕ) (k l left : ℕ) : Type 0 where
@@ -125,7 +125,7 @@ decides false false n d = absurd (n refl)
 -- ---- the walk ends, reads, decides, and goes on
 
 module _ (a s b t : List ℕ) (k l : ℕ) (v o : Ordering) where
-  pub left-done : Left a s b t k l 0 v o → v ≡ o
+  pub left-done : StillToCompare a s b t k l 0 v o → v ≡ o
   unfolding forests count
   left-done h = go (h .first) (h .second) (h .count₁) (h .count₂) (h .same)
     where
@@ -142,7 +142,7 @@ module _ (a s b t : List ℕ) (k l : ℕ) (v o : Ordering) where
     pub arity₂ : arityAt b l ≤ length b
     pub more : 4 * (k + left + arityAt a k) ≤ length a
 
-  pub left-reads : (left : ℕ) → left ≢ 0 → Left a s b t k l left v o → Readable left
+  pub left-reads : (left : ℕ) → left ≢ 0 → StillToCompare a s b t k l left v o → Readable left
   unfolding Stands count size
   left-reads left n h = go (h .first) (h .second) (h .stands₁) (h .stands₂) (h .count₁) (h .count₂)
     where
@@ -159,7 +159,7 @@ module _ (a s b t : List ℕ) (k l : ℕ) (v o : Ordering) where
           let e₂ = y .0 .arity in
           record { reads₁ = x .0 .reads; reads₂ = y .0 .reads; arity₁ = omega arith; arity₂ = omega arith; more = omega arith }
 
-  pub left-less : (left : ℕ) → left ≢ 0 → Left a s b t k l left v o → labels (labelAt a s k) (labelAt b t l) ≡ Ordering·lt → Ordering·lt ≡ o
+  pub left-less : (left : ℕ) → left ≢ 0 → StillToCompare a s b t k l left v o → labels (labelAt a s k) (labelAt b t l) ≡ Ordering·lt → Ordering·lt ≡ o
   unfolding Stands count
   left-less left n h e = go (h .first) (h .second) (h .stands₁) (h .stands₂) (h .count₁) (h .count₂) (h .same)
     where
@@ -168,7 +168,7 @@ module _ (a s b t : List ℕ) (k l : ℕ) (v o : Ordering) where
       go (node m d r) nil x y p q w = absurd (n (sym q))
       go (node m d r) (node m′ d′ r′) x y p q w = sym (step-less m m′ d d′ r r′ v (sym (ap₂ labels (x .0 .label) (y .0 .label)) ∙ e)) ∙ w
 
-  pub left-greater : (left : ℕ) → left ≢ 0 → Left a s b t k l left v o → labels (labelAt a s k) (labelAt b t l) ≡ Ordering·gt → Ordering·gt ≡ o
+  pub left-greater : (left : ℕ) → left ≢ 0 → StillToCompare a s b t k l left v o → labels (labelAt a s k) (labelAt b t l) ≡ Ordering·gt → Ordering·gt ≡ o
   unfolding Stands count
   left-greater left n h e = go (h .first) (h .second) (h .stands₁) (h .stands₂) (h .count₁) (h .count₂) (h .same)
     where
@@ -177,13 +177,13 @@ module _ (a s b t : List ℕ) (k l : ℕ) (v o : Ordering) where
       go (node m d r) nil x y p q w = absurd (n (sym q))
       go (node m d r) (node m′ d′ r′) x y p q w = sym (step-greater m m′ d d′ r r′ v (sym (ap₂ labels (x .0 .label) (y .0 .label)) ∙ e)) ∙ w
 
-  pub left-next : (left left′ : ℕ) (v′ : Ordering) → left ≢ 0 → Left a s b t k l left v o → labels (labelAt a s k) (labelAt b t l) ≡ Ordering·eq
-      → Next left v (arityAt a k) (arityAt b l) (newAt a k) (newAt b l) left′ v′ → Left a s b t (k + 1) (l + 1) left′ v′ o
+  pub left-next : (left left′ : ℕ) (v′ : Ordering) → left ≢ 0 → StillToCompare a s b t k l left v o → labels (labelAt a s k) (labelAt b t l) ≡ Ordering·eq
+      → NextToCompare left v (arityAt a k) (arityAt b l) (newAt a k) (newAt b l) left′ v′ → StillToCompare a s b t (k + 1) (l + 1) left′ v′ o
   unfolding Stands count
   left-next left left′ v′ n h e z = go (h .first) (h .second) (h .stands₁) (h .stands₂) (h .count₁) (h .count₂) (h .same) z
     where
       go : (f g : Forest) → Stands a s k f → Stands b t l g → count f ≡ left → count g ≡ left → (forests 0 0 f g then v) ≡ o
-          → Next left v (arityAt a k) (arityAt b l) (newAt a k) (newAt b l) left′ v′ → Left a s b t (k + 1) (l + 1) left′ v′ o
+          → NextToCompare left v (arityAt a k) (arityAt b l) (newAt a k) (newAt b l) left′ v′ → StillToCompare a s b t (k + 1) (l + 1) left′ v′ o
       go nil g x y p q w z = absurd (n (sym p))
       go (node m d r) nil x y p q w z = absurd (n (sym q))
       go (node m d r) (node m′ d′ r′) x y p q w (newer u f g) =
@@ -194,8 +194,8 @@ module _ (a s b t : List ℕ) (k l : ℕ) (v o : Ordering) where
           let c₁ : 0 < count d = rw (x .0 .arity) at (both .0) in
           let c₂ : 0 < count d′ = rw (y .0 .arity) at (both .1) in
           record {
-            first = first 1 d;
-            second = first 1 d′;
+            first = firstValues 1 d;
+            second = firstValues 1 d′;
             stands₁ = stands-first a s 1 d (k + 1) (x .1);
             stands₂ = stands-first b t 1 d′ (l + 1) (y .1);
             count₁ = count-first 1 d c₁ ∙ sym f;
@@ -225,7 +225,7 @@ module _ (a s b t : List ℕ) (k l : ℕ) (v o : Ordering) where
           let a₂ = y .0 .arity in
           record {
             first = d;
-            second = first (count d) d′;
+            second = firstValues (count d) d′;
             stands₁ = x .1;
             stands₂ = stands-first b t (count d) d′ (l + 1) (y .1);
             count₁ = sym a₁ ∙ sym g;
@@ -238,7 +238,7 @@ module _ (a s b t : List ℕ) (k l : ℕ) (v o : Ordering) where
           let a₁ = x .0 .arity in
           let a₂ = y .0 .arity in
           record {
-            first = first (count d′) d;
+            first = firstValues (count d′) d;
             second = d′;
             stands₁ = stands-first a s (count d′) d (k + 1) (x .1);
             stands₂ = y .1;
@@ -272,7 +272,7 @@ no-object k h = go (eqb k 12) refl
     go true e = rw (eqb-true k 12 e) at h
 
 -- two records with nothing in them
-pub step-past : (a b : List ℕ) (k l left : ℕ) (v : Ordering) → Matched a b k l left → holding (kindIn (wordAt a k 0)) ≡ false → Next left v (arityAt a k) (arityAt b l) (newAt a k) (newAt b l) (left - 1) v
+pub step-past : (a b : List ℕ) (k l left : ℕ) (v : Ordering) → Matched a b k l left → holding (kindIn (wordAt a k 0)) ≡ false → NextToCompare left v (arityAt a k) (arityAt b l) (newAt a k) (newAt b l) (left - 1) v
 unfolding arityAt newAt
 step-past a b k l left v m h =
     let x = nothing-held (wordAt a k 0) (wordAt a k 1) h in
@@ -307,17 +307,17 @@ agree false false e = refl
 
 -- the tests of the code, x and y being different or not
 module _ (left : ℕ) (v : Ordering) (n m : ℕ) (x y : Bool) where
-  pub next-new : not (Bool·beq x y) ≡ true → x ≡ true → Next left v n m x y 1 Ordering·gt
+  pub next-new : not (Bool·beq x y) ≡ true → x ≡ true → NextToCompare left v n m x y 1 Ordering·gt
   next-new u e = newer (differ x y u) refl (compare-bits x y (differ x y u) e)
 
-  pub next-old : not (Bool·beq x y) ≡ true → x ≡ false → Next left v n m x y 1 Ordering·lt
+  pub next-old : not (Bool·beq x y) ≡ true → x ≡ false → NextToCompare left v n m x y 1 Ordering·lt
   next-old u e = newer (differ x y u) refl (compare-bits-back x y (differ x y u) e)
 
-  pub next-shorter : not (Bool·beq x y) ≡ false → n < m → Next left v n m x y n Ordering·lt
+  pub next-shorter : not (Bool·beq x y) ≡ false → n < m → NextToCompare left v n m x y n Ordering·lt
   next-shorter u h = shorter (agree x y u) h refl refl
 
-  pub next-longer : not (Bool·beq x y) ≡ false → m < n → Next left v n m x y m Ordering·gt
+  pub next-longer : not (Bool·beq x y) ≡ false → m < n → NextToCompare left v n m x y m Ordering·gt
   next-longer u h = longer (agree x y u) h refl refl
 
-  pub next-same : not (Bool·beq x y) ≡ false → m ≤ n → n ≤ m → Next left v n m x y (left - 1 + n) v
+  pub next-same : not (Bool·beq x y) ≡ false → m ≤ n → n ≤ m → NextToCompare left v n m x y (left - 1 + n) v
   next-same u g h = same (agree x y u) (omega arith) refl refl

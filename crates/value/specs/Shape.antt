@@ -64,15 +64,15 @@ head-back h k = go (h .kind) (h .new) (h .state) k
 -- ---- a record's label and the number of values directly in it, from its first three words and the text from its place on
 
 -- a module's and a name's text, from the word that holds both lengths
-abbrev pub moduleOf : ℕ → List ℕ → List ℕ
-moduleOf c t = take (c / 2 ^ 32) t
+abbrev pub modulePart : ℕ → List ℕ → List ℕ
+modulePart c t = take (c / 2 ^ 32) t
 
-abbrev pub nameOf : ℕ → List ℕ → List ℕ
-nameOf c t = take (c % 2 ^ 32) (drop (c / 2 ^ 32) t)
+abbrev pub namePart : ℕ → List ℕ → List ℕ
+namePart c t = take (c % 2 ^ 32) (drop (c / 2 ^ 32) t)
 
 abbrev pub labelsOf : ℕ → ℕ → ℕ → List ℕ → List Label
 labelsOf a b c t =
-    NoneL ∷ BoolL (eqb b 1) ∷ I64L b ∷ F64L b ∷ BytesL (take c t) ∷ StringL (take c t) ∷ ListL ∷ TupleL ∷ SetL ∷ FrozenSetL ∷ DictL ∷ GlobalL (moduleOf c t) (nameOf c t) ∷ ObjectL (moduleOf c t) (nameOf c t) (newIn a) ∷ []
+    NoneL ∷ BoolL (eqb b 1) ∷ I64L b ∷ F64L b ∷ BytesL (take c t) ∷ StringL (take c t) ∷ ListL ∷ TupleL ∷ SetL ∷ FrozenSetL ∷ DictL ∷ GlobalL (modulePart c t) (namePart c t) ∷ ObjectL (modulePart c t) (namePart c t) (newIn a) ∷ []
 
 unfoldable pub labelOf : ℕ → ℕ → ℕ → List ℕ → Label
 labelOf a b c t = getD (labelsOf a b c t) (kindIn a) NoneL

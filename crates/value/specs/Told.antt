@@ -136,8 +136,8 @@ floats-high = by-numbers-back totalOrder Negative (λ a b p q l.
     rw (high-key 0 0 a (p .0), high-key 0 0 b (q .0)) (fields-less 0 _ _ _ _ _ _ (back (exponent a) (significand a) (exponent b) (significand b) (omega arith) (omega arith) (omega arith) (omega arith) (fields a b (omega arith) l))))
 
 -- what stands the other way round
-pub turned : (f : ℕ → List ℕ) (x y : ℕ) → lex (f y) (f x) ≡ Ordering·gt → lex (f x) (f y) ≡ Ordering·lt
-turned f x y e = lex-swap (f y) (f x) ∙ ap swap e
+pub lex-turned : (f : ℕ → List ℕ) (x y : ℕ) → lex (f y) (f x) ≡ Ordering·gt → lex (f x) (f y) ≡ Ordering·lt
+lex-turned f x y e = lex-swap (f y) (f x) ∙ ap swap e
 
 -- ---- texts: what is left to compare from a place on, where all before it was equal
 

@@ -46,19 +46,19 @@ compare-same x = go (compare x x) (eqb-refl x)
 
 -- ---- the first k values of a forest
 
-unfoldable pub first : ℕ → Forest → Forest
-first zero f = nil
-first (suc k) nil = nil
-first (suc k) (node l c r) = node l c (first k r)
+unfoldable pub firstValues : ℕ → Forest → Forest
+firstValues zero f = nil
+firstValues (suc k) nil = nil
+firstValues (suc k) (node l c r) = node l c (firstValues k r)
 
-pub count-first : (k : ℕ) (f : Forest) → k ≤ count f → count (first k f) ≡ k
-unfolding first count
+pub count-first : (k : ℕ) (f : Forest) → k ≤ count f → count (firstValues k f) ≡ k
+unfolding firstValues count
 count-first zero f h = refl
 count-first (suc k) nil h = absurd (omega arith)
 count-first (suc k) (node l c r) h = ap suc (count-first k r (omega arith))
 
-pub stands-first : (w t : List ℕ) (k : ℕ) (f : Forest) (i : ℕ) → Stands w t i f → Stands w t i (first k f)
-unfolding first Stands
+pub stands-first : (w t : List ℕ) (k : ℕ) (f : Forest) (i : ℕ) → Stands w t i f → Stands w t i (firstValues k f)
+unfolding firstValues Stands
 stands-first w t zero f i h = tt
 stands-first w t (suc k) nil i h = tt
 stands-first w t (suc k) (node l c r) i h = (h .0, h .1, stands-first w t k r (i + 1 + size c) (h .2))
@@ -76,8 +76,8 @@ join x (node l c r₁) (node m d s₁) r s e =
     (simp (then-assoc, eq-then) (rw (← (join 0 r₁ s₁ r s (omega arith)))))
 
 -- ---- fewer values in the first: as many of the second, and then the first is before it
-shorter : (x : ℕ) (c d : Forest) → count c < count d → forests x x c d ≡ (forests 0 0 c (first (count c) d) then Ordering·lt)
-unfolding forests first count
+shorter : (x : ℕ) (c d : Forest) → count c < count d → forests x x c d ≡ (forests 0 0 c (firstValues (count c) d) then Ordering·lt)
+unfolding forests firstValues count
 shorter x nil nil h = absurd (omega arith)
 shorter x nil (node m d s) h = rw (compare-same 0) (sym (eq-then _))
 shorter x (node l c r) nil h = absurd (omega arith)
@@ -85,12 +85,12 @@ shorter x (node l c r) (node m d s) h =
     rw (compare-same x, compare-same 0)
     (simp (then-assoc, eq-then) (rw (← (shorter 0 r s (omega arith)))))
 
-longer : (x : ℕ) (c d : Forest) → count d < count c → forests x x c d ≡ (forests 0 0 (first (count d) c) d then Ordering·gt)
-longer x c d h = forests-swap x x d c ∙ ap swap (shorter x d c h) ∙ then-swap _ Ordering·lt ∙ ap (λ (o : Ordering). o then Ordering·gt) (sym (forests-swap 0 0 d (first (count d) c)))
+longer : (x : ℕ) (c d : Forest) → count d < count c → forests x x c d ≡ (forests 0 0 (firstValues (count d) c) d then Ordering·gt)
+longer x c d h = forests-swap x x d c ∙ ap swap (shorter x d c h) ∙ then-swap _ Ordering·lt ∙ ap (λ (o : Ordering). o then Ordering·gt) (sym (forests-swap 0 0 d (firstValues (count d) c)))
 
 -- an Object's `new` decides after its arguments
-newer : (x y : ℕ) (c d : Forest) (o : Ordering) → 0 < count c → 0 < count d → compare x y ≡ o → ((b : Ordering) → (o then b) ≡ o) → forests x y c d ≡ (forests 0 0 (first 1 c) (first 1 d) then o)
-unfolding forests first count
+newer : (x y : ℕ) (c d : Forest) (o : Ordering) → 0 < count c → 0 < count d → compare x y ≡ o → ((b : Ordering) → (o then b) ≡ o) → forests x y c d ≡ (forests 0 0 (firstValues 1 c) (firstValues 1 d) then o)
+unfolding forests firstValues count
 newer x y nil d o p q e k = absurd (omega arith)
 newer x y (node l c r) nil o p q e k = absurd (omega arith)
 newer x y (node l c r) (node m d s) o p q e k = rw (e, compare-same 0) (simp (then-assoc, eq-then) (rw (k _)))
@@ -117,13 +117,13 @@ module _ (l m : Label) (c d r s : Forest) (v : Ordering) where
     pub step-same : new l ≡ new m → count c ≡ count d → before ≡ (forests 0 0 (c ⊕ r) (d ⊕ s) then v)
     step-same n h = opened ∙ rw n (rw (join (new m) c d r s h))
 
-    pub step-shorter : new l ≡ new m → count c < count d → before ≡ (forests 0 0 c (first (count c) d) then Ordering·lt)
+    pub step-shorter : new l ≡ new m → count c < count d → before ≡ (forests 0 0 c (firstValues (count c) d) then Ordering·lt)
     step-shorter n h = opened ∙ rw n (rw (shorter (new m) c d h) (simp (then-assoc, lt-then)))
 
-    pub step-longer : new l ≡ new m → count d < count c → before ≡ (forests 0 0 (first (count d) c) d then Ordering·gt)
+    pub step-longer : new l ≡ new m → count d < count c → before ≡ (forests 0 0 (firstValues (count d) c) d then Ordering·gt)
     step-longer n h = opened ∙ rw n (rw (longer (new m) c d h) (simp (then-assoc, gt-then)))
 
-    pub step-newer : (o : Ordering) → 0 < count c → 0 < count d → compare (new l) (new m) ≡ o → ((b : Ordering) → (o then b) ≡ o) → before ≡ (forests 0 0 (first 1 c) (first 1 d) then o)
+    pub step-newer : (o : Ordering) → 0 < count c → 0 < count d → compare (new l) (new m) ≡ o → ((b : Ordering) → (o then b) ≡ o) → before ≡ (forests 0 0 (firstValues 1 c) (firstValues 1 d) then o)
     step-newer o p q h k = opened ∙ rw (newer (new l) (new m) c d o p q h k) (simp (then-assoc) (rw (k _)))
 
 -- two values side by side

@@ -6,10 +6,10 @@ ghost use Prim.Native.Nat.{_+_, _*_, _^_, _≤_, _<_, min, max, compare};
 ghost use lib.ListN.{length, take, drop};
 ghost use Rattle.value.specs.Value.{Value, one};
 ghost use Rattle.value.specs.Order.{_then_, lex, byValue, totalOrder, labels, order};
-ghost use Rattle.value.specs.Shape.{headOf, wordOf, holding, namesEnd, moduleOf, nameOf};
+ghost use Rattle.value.specs.Shape.{headOf, wordOf, holding, namesEnd, modulePart, namePart};
 ghost use Rattle.value.specs.Stands.{labelAt, arityAt, Reads, Begins, Stands};
 ghost use Rattle.value.specs.Told.{told, Alike, lexFrom};
-ghost use Rattle.value.specs.Left.{newAt, Matched, Next};
+ghost use Rattle.value.specs.Left.{newAt, Matched, NextToCompare};
 
 pub enum Order {
     Less,
@@ -18,31 +18,31 @@ pub enum Order {
 }
 
 // The kinds of values, as word 0 has them (RULES A2.2); in the order of kinds (A2.5), which their tests by `<` rest on.
-pub const NONE: u64 = 0;
+pub const KIND_NONE: u64 = 0;
 
-pub const BOOL: u64 = 1;
+pub const KIND_BOOL: u64 = 1;
 
-pub const I64: u64 = 2;
+pub const KIND_I64: u64 = 2;
 
-pub const F64: u64 = 3;
+pub const KIND_F64: u64 = 3;
 
-pub const BYTES: u64 = 4;
+pub const KIND_BYTES: u64 = 4;
 
-pub const STRING: u64 = 5;
+pub const KIND_STRING: u64 = 5;
 
-pub const LIST: u64 = 6;
+pub const KIND_LIST: u64 = 6;
 
-pub const TUPLE: u64 = 7;
+pub const KIND_TUPLE: u64 = 7;
 
-pub const SET: u64 = 8;
+pub const KIND_SET: u64 = 8;
 
-pub const FROZEN_SET: u64 = 9;
+pub const KIND_FROZEN_SET: u64 = 9;
 
-pub const DICT: u64 = 10;
+pub const KIND_DICT: u64 = 10;
 
-pub const GLOBAL: u64 = 11;
+pub const KIND_GLOBAL: u64 = 11;
 
-pub const OBJECT: u64 = 12;
+pub const KIND_OBJECT: u64 = 12;
 
 // The kinds have the numbers below this one.
 pub const KINDS: u64 = 13;
@@ -84,7 +84,7 @@ pub fn word_of(head: Head) -> u64
 pub fn holds(kind: u64) -> bool
     ensures { λ r. ⌜ r ≡ holding kind ⌝ }
 {
-    (STRING < kind) & (kind != GLOBAL)
+    (KIND_STRING < kind) & (kind != KIND_GLOBAL)
 }
 
 pub fn compare_numbers(x: u64, y: u64) -> Order
@@ -226,8 +226,8 @@ fn compare_names(s: &[u8], x: usize, p: u64, t: &[u8], y: usize, q: u64) -> Orde
     requires { ⌜ namesEnd x p ≤ length (now s) ⌝ }
     requires { ⌜ namesEnd y q ≤ length (now t) ⌝ }
     ensures { λ r. ⌜ told r
-        ≡ (lex (moduleOf p (drop x (now (s .entry)))) (moduleOf q (drop y (now (t .entry))))
-        then lex (nameOf p (drop x (now (s .entry)))) (nameOf q (drop y (now (t .entry))))) ⌝ }
+        ≡ (lex (modulePart p (drop x (now (s .entry)))) (modulePart q (drop y (now (t .entry))))
+        then lex (namePart p (drop x (now (s .entry)))) (namePart q (drop y (now (t .entry))))) ⌝ }
 {
     let m = (p / 0x1_0000_0000) as usize;
     let k = (q / 0x1_0000_0000) as usize;
@@ -253,27 +253,27 @@ fn compare_labels(a: &[u64], i: usize, s: &[u8], b: &[u64], j: usize, t: &[u8]) 
     }
     let x = a[4 * i + 1];
     let y = b[4 * j + 1];
-    if kind == NONE {
+    if kind == KIND_NONE {
         return Order::Equal;
     }
-    if kind == BOOL {
+    if kind == KIND_BOOL {
         return compare_numbers((x == 1) as u64, (y == 1) as u64);
     }
-    if kind == I64 {
+    if kind == KIND_I64 {
         return compare_ints(x, y);
     }
-    if kind == F64 {
+    if kind == KIND_F64 {
         return compare_floats(x, y);
     }
     let p = a[4 * i + 2];
     let q = b[4 * j + 2];
-    if kind < LIST {
+    if kind < KIND_LIST {
         return compare_bytes(
             part(s, x as usize, p as usize),
             part(t, y as usize, q as usize),
         );
     }
-    if kind < GLOBAL {
+    if kind < KIND_GLOBAL {
         return Order::Equal;
     }
     compare_names(s, x as usize, p, t, y as usize, q)
@@ -288,16 +288,16 @@ pub fn arity(words: &[u64], i: usize) -> usize
     let head = head_of(words[4 * i]);
     let kind = head.kind;
     let n = words[4 * i + 1] as usize;
-    if kind < LIST {
+    if kind < KIND_LIST {
         return 0;
     }
-    if kind < DICT {
+    if kind < KIND_DICT {
         return n;
     }
-    if kind == DICT {
+    if kind == KIND_DICT {
         return n + n;
     }
-    if kind == OBJECT {
+    if kind == KIND_OBJECT {
         if head.state {
             return 2;
         }
@@ -312,7 +312,7 @@ fn is_new(words: &[u64], i: usize) -> bool
     ensures { λ r. ⌜ r ≡ newAt (now (words .entry)) i ⌝ }
 {
     let head = head_of(words[4 * i]);
-    head.kind == OBJECT && head.new
+    head.kind == KIND_OBJECT && head.new
 }
 
 // What is left to compare: so many values, and what decides if they are equal.
@@ -324,7 +324,7 @@ struct Walk {
 // After two records with equal labels, n and m values directly in them.
 fn next(walk: Walk, n: usize, m: usize, new: bool, other: bool) -> Walk
     requires { ⌜ (0 < walk .left) × (walk .left + n < 2 ^ 64) ⌝ }
-    ensures { λ r. ⌜ Next (walk .left) (told (walk .verdict)) n m new other (r .left) (told (r .verdict)) ⌝ }
+    ensures { λ r. ⌜ NextToCompare (walk .left) (told (walk .verdict)) n m new other (r .left) (told (r .verdict)) ⌝ }
 {
     let verdict = walk.verdict;
     if new != other {
@@ -360,7 +360,7 @@ fn next(walk: Walk, n: usize, m: usize, new: bool, other: bool) -> Walk
 // After two records of one kind with equal labels: most have nothing in them.
 fn step(walk: Walk, a: &[u64], k: usize, b: &[u64], l: usize) -> Walk
     requires { ⌜ Matched (now a) (now b) k l (walk .left) ⌝ }
-    ensures { λ r. ⌜ Next (walk .left) (told (walk .verdict))
+    ensures { λ r. ⌜ NextToCompare (walk .left) (told (walk .verdict))
         (arityAt (now (a .entry)) k) (arityAt (now (b .entry)) l) (newAt (now (a .entry)) k) (newAt (now (b .entry)) l)
         (r .left) (told (r .verdict)) ⌝ }
 {

@@ -5,13 +5,13 @@ use lib.ListN.{length, getD}
 use native.Mathlib.Omega.{arith}
 use borrow.Author.Needs.{needs}
 use Rattle.rooms.specs.Stated.{Slices}
-use Rattle.batch.specs.Sheets.{Going, going-start, going-inside, going-more, going-end, sheet-read, AsLong, as-long, as-long-still}
+use Rattle.batch.specs.Sheets.{ReadSoFar, going-start, going-inside, going-more, going-end, sheet-read, SlicesAsLong, slices-as-long, as-long-still}
 use Rattle.batch.proofs.read_all.Statement.{statement}
 use Rattle.batch.proofs.read_all.Tie as tie
 
 abbrev Inv-loop : tie.InvT-loop
 Inv-loop sheets lengths answers₀ nodes₀ owners₀ children₀ stack₀ marks₀ keys₀ held₀ unescaped₀ starts₀ sorted₀ measures₀ table₀ text₀ at₀ i₀ answers nodes owners children stack marks keys held unescaped starts sorted measures table text at i =
-    Going sheets lengths answers₀ (nodes₀ ∷ owners₀ ∷ children₀ ∷ stack₀ ∷ marks₀ ∷ keys₀ ∷ held₀ ∷ unescaped₀ ∷ starts₀ ∷ sorted₀ ∷ measures₀ ∷ table₀ ∷ text₀ ∷ []) at i answers (nodes ∷ owners ∷ children ∷ stack ∷ marks ∷ keys ∷ held ∷ unescaped ∷ starts ∷ sorted ∷ measures ∷ table ∷ text ∷ []) × AsLong (nodes ∷ owners ∷ children ∷ stack ∷ marks ∷ keys ∷ held ∷ unescaped ∷ starts ∷ sorted ∷ measures ∷ table ∷ text ∷ []) (nodes₀ ∷ owners₀ ∷ children₀ ∷ stack₀ ∷ marks₀ ∷ keys₀ ∷ held₀ ∷ unescaped₀ ∷ starts₀ ∷ sorted₀ ∷ measures₀ ∷ table₀ ∷ text₀ ∷ [])
+    ReadSoFar sheets lengths answers₀ (nodes₀ ∷ owners₀ ∷ children₀ ∷ stack₀ ∷ marks₀ ∷ keys₀ ∷ held₀ ∷ unescaped₀ ∷ starts₀ ∷ sorted₀ ∷ measures₀ ∷ table₀ ∷ text₀ ∷ []) at i answers (nodes ∷ owners ∷ children ∷ stack ∷ marks ∷ keys ∷ held ∷ unescaped ∷ starts ∷ sorted ∷ measures ∷ table ∷ text ∷ []) × SlicesAsLong (nodes ∷ owners ∷ children ∷ stack ∷ marks ∷ keys ∷ held ∷ unescaped ∷ starts ∷ sorted ∷ measures ∷ table ∷ text ∷ []) (nodes₀ ∷ owners₀ ∷ children₀ ∷ stack₀ ∷ marks₀ ∷ keys₀ ∷ held₀ ∷ unescaped₀ ∷ starts₀ ∷ sorted₀ ∷ measures₀ ∷ table₀ ∷ text₀ ∷ [])
 
 abbrev μ-loop : tie.MeasureT-loop
 μ-loop sheets lengths answers₀ nodes₀ owners₀ children₀ stack₀ marks₀ keys₀ held₀ unescaped₀ starts₀ sorted₀ measures₀ table₀ text₀ at₀ i₀ answers nodes owners children stack marks keys held unescaped starts sorted measures table text at i = length lengths - i
@@ -51,7 +51,7 @@ placed c =
     omega (arith, h, k, e)
 
 loop-holds : tie.Need-loop-holds Inv-loop μ-loop
-loop-holds c = let s = c .before .before .before .before .before .before .before .before .before .before .before .before .before .before .before .before in (going-start (s .args .sheets .now) (s .args .lengths .now) (s .args .answers .now) (lent s) (s .pre .0) (s .pre .1 .1), as-long (lent s))
+loop-holds c = let s = c .before .before .before .before .before .before .before .before .before .before .before .before .before .before .before .before in (going-start (s .args .sheets .now) (s .args .lengths .now) (s .args .answers .now) (lent s) (s .pre .0) (s .pre .1 .1), slices-as-long (lent s))
 
 add-end : tie.Need-add-end Inv-loop μ-loop
 add-end c = omega (arith, inside (c .before), start (c .before .before) .good .0)

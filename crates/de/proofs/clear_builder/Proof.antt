@@ -1,6 +1,6 @@
 -- `de::clear_builder` meets its contract, room by room. Assumes nothing.
 use mathlib.Core.Path.{refl}
-use Rattle.rooms.specs.Stated.{same, blank}
+use Rattle.rooms.specs.Stated.{same-slices, blank}
 use Rattle.de.proofs.clear_builder.Statement.{statement}
 use Rattle.de.proofs.clear_builder.Tie as tie
 
@@ -30,7 +30,7 @@ same-length-4 c = c .before .before .zero-words .kept .0
 
 returns : tie.Need-returns
 unfolding blank
-returns c = same (c .before .before .before .before .before .before .before .before .before .before .before .before .before .before .zero-bytes .ensures) (same (c .before .before .before .before .before .before .before .before .before .before .zero-shorts .ensures) (same (c .before .before .before .before .before .before .zero-shorts2 .ensures) (same (c .before .before .zero-words .ensures) refl)))
+returns c = same-slices (c .before .before .before .before .before .before .before .before .before .before .before .before .before .before .zero-bytes .ensures) (same-slices (c .before .before .before .before .before .before .before .before .before .before .zero-shorts .ensures) (same-slices (c .before .before .before .before .before .before .zero-shorts2 .ensures) (same-slices (c .before .before .zero-words .ensures) refl)))
 
 pub clear-builder-spec : {M : Type 1} → statement M
 clear-builder-spec = tie.close (tie.spec zero-bytes-requires zero-shorts-requires zero-shorts-requires-2 zero-words-requires same-length same-length-2 same-length-3 same-length-4 returns)

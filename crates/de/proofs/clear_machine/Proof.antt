@@ -1,6 +1,6 @@
 -- `de::clear_machine` meets its contract, room by room. Assumes nothing.
 use mathlib.Core.Path.{refl}
-use Rattle.rooms.specs.Stated.{same, blank}
+use Rattle.rooms.specs.Stated.{same-slices, blank}
 use Rattle.de.proofs.clear_machine.Statement.{statement}
 use Rattle.de.proofs.clear_machine.Tie as tie
 
@@ -90,7 +90,7 @@ same-length-7 c = held c .zero-shorts5 .kept .0
 
 returns : tie.Need-returns
 unfolding blank
-returns c = same (nodes c .zero-words .ensures) (same (owners c .zero-shorts .ensures) (same (children c .zero-shorts2 .ensures) (same (stack c .zero-shorts3 .ensures) (same (marks c .zero-shorts4 .ensures) (same (keys c .zero-ints .ensures) (same (held c .zero-shorts5 .ensures) refl))))))
+returns c = same-slices (nodes c .zero-words .ensures) (same-slices (owners c .zero-shorts .ensures) (same-slices (children c .zero-shorts2 .ensures) (same-slices (stack c .zero-shorts3 .ensures) (same-slices (marks c .zero-shorts4 .ensures) (same-slices (keys c .zero-ints .ensures) (same-slices (held c .zero-shorts5 .ensures) refl))))))
 
 pub clear-machine-spec : {M : Type 1} → statement M
 clear-machine-spec = tie.close (tie.spec zero-words-requires zero-shorts-requires zero-shorts-requires-2 zero-shorts-requires-3 zero-shorts-requires-4 zero-ints-requires zero-shorts-requires-5 same-length same-length-2 same-length-3 same-length-4 same-length-5 same-length-6 same-length-7 returns)

@@ -4,7 +4,7 @@ use mathlib.Core.List.{[], _∷_}
 use mathlib.Core.Path.{_≡_, refl, _∙_, ap}
 use native.Mathlib.Omega.{arith}
 use lib.Seq.{length-front}
-use Rattle.rooms.specs.Stated.{Slices, roomLengths, AllZero, filled, same, rooms-zero}
+use Rattle.rooms.specs.Stated.{Slices, roomLengths, AllZero, filled, same-slices, rooms-zero}
 use Rattle.store.specs.declared.Counts.{Counts}
 use Rattle.machine.specs.Ran.{countsOf}
 use Rattle.de.specs.Inner.{reads-long, back-fits, back-again, part-fits, part-cleared, machine-zero, working}
@@ -89,19 +89,19 @@ unfolding filled
 returns-2 c =
     record {
       answer = told c .answer .ensures .0 .answer;
-      slices = same (back-again (ran c .run-in .ensures .0 .nodes-back) _ (ap (λ (x : Counts). 2 * x .nodes) (counted (ended c))) _ (c .before .before .before .before .before .before .before .before .before .before .clear-words .ensures))
-          (same (part-cleared 8192 (start (ran c) .args .owners .now) (zero (start (ran c)) .1 .0) (ran c .run-in .last .1 .1 .1 .0) (told c .answer .last .1 .1 .1 .1 .1 .1 .0) (ran c .run-in .kept .1 .1 .1 .0) (ran c .run-in .ensures .0 .owners-behind) (told c .answer .ensures .1 .0 .0))
-          (same (part-cleared 8192 (start (ran c) .args .children .now) (zero (start (ran c)) .1 .1 .0) (ran c .run-in .last .1 .1 .1 .1 .0) (told c .answer .last .1 .1 .1 .1 .1 .1 .1 .0) (ran c .run-in .kept .1 .1 .1 .1 .0) (ran c .run-in .ensures .0 .children-behind) (told c .answer .ensures .1 .0 .1))
-          (same (back-again (ran c .run-in .ensures .0 .stack-back) _ (ap (λ (x : Counts). x .deepest) (counted (ended c))) _ (c .before .before .before .before .before .before .clear-shorts .ensures))
-          (same (back-again (ran c .run-in .ensures .0 .marks-back) _ (ap (λ (x : Counts). x .most) (counted (ended c))) _ (c .before .before .clear-shorts2 .ensures))
-          (same (told c .answer .ensures .1 .1 .0 ∙ ran c .run-in .ensures .1 .0)
-          (same (ran c .run-in .ensures .1 .1)
-          (same (told c .answer .ensures .1 .1 .1)
-          (same (told c .answer .ensures .1 .1 .2)
-          (same (told c .answer .ensures .1 .1 .3)
-          (same (told c .answer .ensures .1 .1 .4)
-          (same (told c .answer .ensures .0 .table-is)
-          (same (told c .answer .ensures .0 .text-is) refl))))))))))));
+      slices = same-slices (back-again (ran c .run-in .ensures .0 .nodes-back) _ (ap (λ (x : Counts). 2 * x .nodes) (counted (ended c))) _ (c .before .before .before .before .before .before .before .before .before .before .clear-words .ensures))
+          (same-slices (part-cleared 8192 (start (ran c) .args .owners .now) (zero (start (ran c)) .1 .0) (ran c .run-in .last .1 .1 .1 .0) (told c .answer .last .1 .1 .1 .1 .1 .1 .0) (ran c .run-in .kept .1 .1 .1 .0) (ran c .run-in .ensures .0 .owners-behind) (told c .answer .ensures .1 .0 .0))
+          (same-slices (part-cleared 8192 (start (ran c) .args .children .now) (zero (start (ran c)) .1 .1 .0) (ran c .run-in .last .1 .1 .1 .1 .0) (told c .answer .last .1 .1 .1 .1 .1 .1 .1 .0) (ran c .run-in .kept .1 .1 .1 .1 .0) (ran c .run-in .ensures .0 .children-behind) (told c .answer .ensures .1 .0 .1))
+          (same-slices (back-again (ran c .run-in .ensures .0 .stack-back) _ (ap (λ (x : Counts). x .deepest) (counted (ended c))) _ (c .before .before .before .before .before .before .clear-shorts .ensures))
+          (same-slices (back-again (ran c .run-in .ensures .0 .marks-back) _ (ap (λ (x : Counts). x .most) (counted (ended c))) _ (c .before .before .clear-shorts2 .ensures))
+          (same-slices (told c .answer .ensures .1 .1 .0 ∙ ran c .run-in .ensures .1 .0)
+          (same-slices (ran c .run-in .ensures .1 .1)
+          (same-slices (told c .answer .ensures .1 .1 .1)
+          (same-slices (told c .answer .ensures .1 .1 .2)
+          (same-slices (told c .answer .ensures .1 .1 .3)
+          (same-slices (told c .answer .ensures .1 .1 .4)
+          (same-slices (told c .answer .ensures .0 .table-is)
+          (same-slices (told c .answer .ensures .0 .text-is) refl))))))))))));
     }
 
 pub read-spec : {M : Type 1} → statement M

@@ -6,7 +6,7 @@ use lib.ListN.{drop}
 use lib.Seq.{length-front}
 use Rattle.store.specs.declared.Counts.{Counts}
 use Rattle.machine.specs.Ran.{countsOf}
-use Rattle.de.specs.Inner.{Back, Runs, back-fits, back-again, part-fits, begins, runs, keys-back, held-back}
+use Rattle.de.specs.Inner.{ClearsTo, Runs, back-fits, back-again, part-fits, begins, runs, keys-back, held-back}
 use Rattle.de.proofs.run_in.Statement.{statement}
 use Rattle.de.proofs.run_in.Tie as tie
 
@@ -23,10 +23,10 @@ ran : (c : tie.After-run)
     (c .run .last .1 .1 .0 ++ drop 8192 (start c .args .nodes .now)) (c .run .last .1 .1 .1 .0 ++ drop 8192 (start c .args .owners .now)) (c .run .last .1 .1 .1 .1 .0 ++ drop 8192 (start c .args .children .now)) (c .run .last .1 .1 .1 .1 .1 .0 ++ drop 2048 (start c .args .stack .now)) (c .run .last .1 .1 .1 .1 .1 .1 .0 ++ drop 256 (start c .args .marks .now))
 ran c = let a = start c .args in let r = c .run in runs (a .pickle .now) (a .nodes .now) (a .owners .now) (a .children .now) (a .stack .now) (a .marks .now) (a .keys .now) (a .held .now) (start c .pre .1) _ _ _ _ _ _ _ _ _ (r .ensures) (r .kept .1 .1 .0) (r .kept .1 .1 .1 .0) (r .kept .1 .1 .1 .1 .0) (r .kept .1 .1 .1 .1 .1 .0) (r .kept .1 .1 .1 .1 .1 .1 .0)
 
-keys : (c : tie.After-run) → Back (countsOf (c .run .result) .memo) (start c .args .keys .now) (c .run .last .1 .1 .1 .1 .1 .1 .1 .0 ++ drop 2048 (start c .args .keys .now))
+keys : (c : tie.After-run) → ClearsTo (countsOf (c .run .result) .memo) (start c .args .keys .now) (c .run .last .1 .1 .1 .1 .1 .1 .1 .0 ++ drop 2048 (start c .args .keys .now))
 keys c = let a = start c .args in let r = c .run in keys-back (a .pickle .now) (a .nodes .now) (a .owners .now) (a .children .now) (a .stack .now) (a .marks .now) (a .keys .now) (a .held .now) (start c .pre .1) _ _ _ _ _ _ _ _ _ (r .ensures) (r .kept .1 .1 .1 .1 .1 .1 .1 .0)
 
-held : (c : tie.After-run) → Back (countsOf (c .run .result) .memo) (start c .args .held .now) (c .run .last .1 .1 .1 .1 .1 .1 .1 .1 .0 ++ drop 1024 (start c .args .held .now))
+held : (c : tie.After-run) → ClearsTo (countsOf (c .run .result) .memo) (start c .args .held .now) (c .run .last .1 .1 .1 .1 .1 .1 .1 .1 .0 ++ drop 1024 (start c .args .held .now))
 held c = let a = start c .args in let r = c .run in held-back (a .pickle .now) (a .nodes .now) (a .owners .now) (a .children .now) (a .stack .now) (a .marks .now) (a .keys .now) (a .held .now) (start c .pre .1) _ _ _ _ _ _ _ _ _ (r .ensures) (r .kept .1 .1 .1 .1 .1 .1 .1 .1 .0)
 
 part-run-end : tie.Need-part-run-end

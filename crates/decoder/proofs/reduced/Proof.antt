@@ -10,7 +10,7 @@ use Rattle.steps.specs.Opcodes.{reduce}
 use Rattle.store.specs.Rooms.{Rooms, kidsOf}
 use Rattle.steps.specs.NodeWords.{objectWord}
 use Rattle.store.specs.Effects.{Sound, Decides}
-use Rattle.decoder.specs.ReadsCalls.{Calls}
+use Rattle.decoder.specs.ReadsCalls.{CallOnTop}
 use Rattle.decoder.proofs.LawsCalls.{Found, call-rooms, found, item-room, item-there, first-none, reduce-object, reduce-set}
 
 -- the words of both nodes
@@ -25,7 +25,7 @@ words c =
 abbrev start : tie.After-made-kind → tie.Start
 start c = c .before .before .before .before .before .before .before
 
-read : (c : tie.After-made-kind) (r : Rooms) → let a = start c .args in Sound r (a .c) → r .pickle ≡ a .pickle .now → r .nodes ≡ a .nodes .now → Calls (a .c) r (a .class .0) (a .arguments .0) → Found r (a .c) (a .class .0) (a .arguments .0) (c .before .before .before .second-word .result) (c .made-kind .result)
+read : (c : tie.After-made-kind) (r : Rooms) → let a = start c .args in Sound r (a .c) → r .pickle ≡ a .pickle .now → r .nodes ≡ a .nodes .now → CallOnTop (a .c) r (a .class .0) (a .arguments .0) → Found r (a .c) (a .class .0) (a .arguments .0) (c .before .before .before .second-word .result) (c .made-kind .result)
 read c r s p n q = found r _ _ _ _ _ _ _ _ _ s p n q (c .before .before .first-word .ensures) (c .before .second-word2 .ensures) (c .before .before .before .second-word .ensures) (c .made-kind .ensures)
 
 -- it is a set

@@ -6,10 +6,10 @@ use Prim.Native.Nat.{_+_, _-_, _≤_}
 use mathlib.Core.Path.{_≡_}
 use lib.ListN.{getD}
 use native.Mathlib.Omega.{arith}
-use Rattle.effects.specs.Links.{filled, filled-none, filled-more, filled-same, filled-end}
+use Rattle.effects.specs.Links.{filledBy, filled-none, filled-more, filled-same, filled-end}
 
 abbrev Inv-loop : tie.InvT-loop
-Inv-loop children₀ links n stack from i₀ children i = (children ≡ filled children₀ links (λ k. getD stack (from + k) 0) i) × (i ≤ n)
+Inv-loop children₀ links n stack from i₀ children i = (children ≡ filledBy children₀ links (λ k. getD stack (from + k) 0) i) × (i ≤ n)
 
 abbrev μ-loop : tie.MeasureT-loop
 μ-loop children₀ links n stack from i₀ children i = n - i

@@ -5,10 +5,10 @@ use Rattle.effects.proofs.fill_owners.Tie as tie
 use Prim.Native.Nat.{_-_, _≤_}
 use mathlib.Core.Path.{_≡_}
 use native.Mathlib.Omega.{arith}
-use Rattle.effects.specs.Links.{filled, filled-none, filled-more, filled-same, filled-end}
+use Rattle.effects.specs.Links.{filledBy, filled-none, filled-more, filled-same, filled-end}
 
 abbrev Inv-loop : tie.InvT-loop
-Inv-loop owners₀ links n id i₀ owners i = (owners ≡ filled owners₀ links (λ k. id) i) × (i ≤ n)
+Inv-loop owners₀ links n id i₀ owners i = (owners ≡ filledBy owners₀ links (λ k. id) i) × (i ≤ n)
 
 abbrev μ-loop : tie.MeasureT-loop
 μ-loop owners₀ links n id i₀ owners i = n - i

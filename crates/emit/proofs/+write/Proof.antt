@@ -24,10 +24,10 @@ use mathlib.Core.Path.{_≡_, refl, sym, _∙_}
 use mathlib.Core.Logic.{⊎-elim}
 use native.Mathlib.Omega.{arith}
 use lib.ListN.{length, length-set, getD}
-use Rattle.resolved.specs.Shown.{labelOf}
+use Rattle.resolved.specs.Shown.{nodeLabel}
 use Rattle.emit.specs.Leaves.{kindBelow, AtomPut, LeafPut, opened, atom-ready, atom-leaf}
 use Rattle.emit.specs.Calls.{Open, ReadyNode, FlatWrites, ready-most, ready-inside, below-kind, below-ready, not-below}
-use Rattle.emit.specs.Turns.{open-small, open-kind, open-text, open-behind, open-levels, open-listed, list-end, list-room, Entered, enter, Turn, turn-start, turn-left, turn-over, turn-item, turn-finish, turn-ready, child-open, child-flat, next-walked, next-flat, next-leaf, turn-same, open-done, Writes}
+use Rattle.emit.specs.Turns.{open-small, open-kind, open-text, open-behind, open-levels, open-listed, list-end, list-room, OpenWithText, text-entered, WrittenChildren, turn-start, turn-left, turn-over, turn-item, turn-finish, turn-ready, child-open, child-flat, next-walked, next-flat, next-leaf, turn-same, open-done, Writes}
 
 abbrev μ : Measures 8 kinds.ps ℕ
 μ κs a = a .1 .0
@@ -39,7 +39,7 @@ abbrev below : ℕ → In 8 kinds.ps
 below t = and 8 kinds.ps (falls 8 kinds.ps _<_ μ t) reads.Pre
 
 abbrev Inv-loop : lts.InvT-loop
-Inv-loop node levels to starts sorted log pickle decoded nodes measures₀ table₀ text₀ range from end at lengths next₀ j₀ measures table text next j = (E : Entered pickle decoded nodes starts sorted log levels (node .0) to measures₀ table₀ text₀) → Turn (E .walk .ready .t) (E .walk .ready .h) (E .walk .ready .v) (node .0) to from measures₀ table₀ text₀ next j measures table text
+Inv-loop node levels to starts sorted log pickle decoded nodes measures₀ table₀ text₀ range from end at lengths next₀ j₀ measures table text next j = (E : OpenWithText pickle decoded nodes starts sorted log levels (node .0) to measures₀ table₀ text₀) → WrittenChildren (E .walk .ready .t) (E .walk .ready .h) (E .walk .ready .v) (node .0) to from measures₀ table₀ text₀ next j measures table text
 
 abbrev μ-loop : lts.MeasureT-loop
 μ-loop node levels to starts sorted log pickle decoded nodes measures₀ table₀ text₀ range from end at lengths next₀ j₀ measures table text next j = end - j
@@ -50,14 +50,14 @@ calls t = (range-of-reads.Asked, range-of-reads.Learnt, put-class-reads.Asked, p
 
 -- ---- a child is written, over plain lists: from there to where the arms meet
 
-module _ {p d ws starts sorted log : List ℕ} {levels i to from : ℕ} {measures₀ table₀ bytes₀ : List ℕ} (E : Entered p d ws starts sorted log levels i to measures₀ table₀ bytes₀)
-    {next j : ℕ} {measures table bytes : List ℕ} (T : Turn (E .walk .ready .t) (E .walk .ready .h) (E .walk .ready .v) i to from measures₀ table₀ bytes₀ next j measures table bytes)
+module _ {p d ws starts sorted log : List ℕ} {levels i to from : ℕ} {measures₀ table₀ bytes₀ : List ℕ} (E : OpenWithText p d ws starts sorted log levels i to measures₀ table₀ bytes₀)
+    {next j : ℕ} {measures table bytes : List ℕ} (T : WrittenChildren (E .walk .ready .t) (E .walk .ready .h) (E .walk .ready .v) i to from measures₀ table₀ bytes₀ next j measures table bytes)
     (l : T .k < length (E .walk .ready .h i)) (c : ℕ) (e : c ≡ getD (E .walk .ready .h i) (T .k) 0) (measures′ table′ bytes′ : List ℕ) (next′ : ℕ) where
   abbrev Next : Type 0
-  Next = Turn (E .walk .ready .t) (E .walk .ready .h) (E .walk .ready .v) i to from measures₀ table₀ bytes₀ next′ (j + 1) measures′ table′ bytes′
+  Next = WrittenChildren (E .walk .ready .t) (E .walk .ready .h) (E .walk .ready .v) i to from measures₀ table₀ bytes₀ next′ (j + 1) measures′ table′ bytes′
 
   met : (measures₁ table₁ bytes₁ : List ℕ) (next₁ : ℕ) → measures′ ≡ measures₁ → table′ ≡ table₁ → bytes′ ≡ bytes₁ → next′ ≡ next₁
-      → Turn (E .walk .ready .t) (E .walk .ready .h) (E .walk .ready .v) i to from measures₀ table₀ bytes₀ next₁ (j + 1) measures₁ table₁ bytes₁ → Next
+      → WrittenChildren (E .walk .ready .t) (E .walk .ready .h) (E .walk .ready .v) i to from measures₀ table₀ bytes₀ next₁ (j + 1) measures₁ table₁ bytes₁ → Next
   met measures₁ table₁ bytes₁ next₁ x y z w = turn-same (E .walk .ready .t) (E .walk .ready .h) (E .walk .ready .v) i to from measures₀ table₀ bytes₀ next₁ next′ (j + 1) measures₁ measures′ table₁ table′ bytes₁ bytes′ x y z w
 
   module _ (table₁ : List ℕ) (next₁ : ℕ) (b : Bool) (kept : length table₁ ≡ length table) where
@@ -69,7 +69,7 @@ module _ {p d ws starts sorted log : List ℕ} {levels i to from : ℕ} {measure
         (next-leaf E T l c e 4 (omega arith) o next₁ table₁ bytes kept refl (atom-leaf (below-ready r 4 (omega arith) o) (below-kind r 4 (omega arith) o) table₁ next₁ a))
 
     module _ (bytes₁ : List ℕ) (kept-bytes : length bytes₁ ≡ length bytes) where
-      leaf : b ≡ kindBelow 6 ws c → b ≡ true → LeafPut (labelOf p ws c) next table bytes table₁ bytes₁ next₁ → measures′ ≡ measures → table′ ≡ table₁ → bytes′ ≡ bytes₁ → next′ ≡ next₁ → Next
+      leaf : b ≡ kindBelow 6 ws c → b ≡ true → LeafPut (nodeLabel p ws c) next table bytes table₁ bytes₁ next₁ → measures′ ≡ measures → table′ ≡ table₁ → bytes′ ≡ bytes₁ → next′ ≡ next₁ → Next
       leaf g h a x y z w = met measures table₁ bytes₁ next₁ x y z w (next-leaf E T l c e 6 (omega arith) (sym g ∙ h) next₁ table₁ bytes₁ kept kept-bytes a)
 
       flat : b ≡ opened ws measures c → b ≡ false → FlatWrites p d ws c next measures table bytes table₁ bytes₁ next₁ → measures′ ≡ measures → table′ ≡ table₁ → bytes′ ≡ bytes₁ → next′ ≡ next₁ → Next
@@ -128,10 +128,10 @@ module _ (t : ℕ) where
   opens s = s .pre .1
 
   abbrev Enters : Classed → Type 0
-  Enters c = let a = start (ranged c) .args in Entered (a .pickle .now) (a .decoded .now) (a .nodes .now) (a .starts .now) (a .sorted .now) (a .log .now) (a .levels) (a .node .0) (a .to) (a .measures .now) (a .table .now) (c .put-class .last .1 .1 .1 .1 .1 .0)
+  Enters c = let a = start (ranged c) .args in OpenWithText (a .pickle .now) (a .decoded .now) (a .nodes .now) (a .starts .now) (a .sorted .now) (a .log .now) (a .levels) (a .node .0) (a .to) (a .measures .now) (a .table .now) (c .put-class .last .1 .1 .1 .1 .1 .0)
 
   abbrev enters : (c : Classed) → Enters c
-  enters c = enter (opens (start (ranged c))) _ _ (c .put-class .ensures)
+  enters c = text-entered (opens (start (ranged c))) _ _ (c .put-class .ensures)
 
   -- a child is left
   left : (c : lts.In-loop (calls t) (own t) reads.Post Inv-loop μ-loop) (E : Enters (classed (c .before))) → c .before .loop .inv E .k < length (E .walk .ready .h (start (list (c .before)) .args .node .0))
@@ -263,7 +263,7 @@ module _ (t : ℕ) where
       let h = c .before .before .before .before .before in
       let g = list h .range-of .ensures in
       let p = classed h .put-class .ensures in
-      let E = enter O _ _ p in
+      let E = text-entered O _ _ p in
       open-done O _ _ p (h .loop .inv E) (turn-over E (h .loop .inv E) _ g refl (c .before .before .before .before .loop-test .left)) _ _ _ (omega (arith, list-end O _ g)) (c .before .before .finish .ensures)
 
 pub +write-spec : {M : Type 1} → statement M

@@ -8,13 +8,13 @@ use borrow.Author.Needs.{needs}
 use borrow.Author.Tests.{not-true, not-false}
 use Rattle.refusal.specs.Read.{got, refused}
 use Rattle.refusal.specs.declared.Refusal.the-variants.{IntegerTooLarge}
-use Rattle.input.specs.Long.{integer, longOf}
+use Rattle.input.specs.Long.{integerRead, longOf}
 use Rattle.input.proofs.Laws.{long-is}
 use Rattle.input.proofs.long.Statement.{statement}
 use Rattle.input.proofs.long.Tie as tie
 
 returns : tie.Need-returns
-unfolding integer
+unfolding integerRead
 returns c =
     let f = c .before .before in
     let s = f .before in
@@ -38,11 +38,11 @@ ruled k t h =
     h
 
 returns-2 : tie.Need-returns-2
-unfolding integer
+unfolding integerRead
 returns-2 c = ruled (c .before) true (c .if2 .taken)
 
 returns-3 : tie.Need-returns-3
-unfolding integer
+unfolding integerRead
 returns-3 c = ruled (c .before) false (c .if2 .left)
 
 pub long-spec : {M : Type 1} → statement M

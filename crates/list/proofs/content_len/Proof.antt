@@ -30,7 +30,7 @@ listed-len-requires c κs =
     (text-fits (opened h) (omega arith) (c .if4 .taken), omega (arith, ap length (content-text (opened h) (omega arith) (c .if4 .taken)), start h .pre .1))
 
 returns-7 : tie.Need-returns-7
-returns-7 c = omega (arith, content-flags (opened (names (c .before .before))) (omega arith), c .before .names-len .ensures)
+returns-7 c = omega (arith, content-flags (opened (names (c .before .before))) (omega arith), c .before .listed-names-len .ensures)
 
 pub content-len-spec : {M : Type 1} → statement M
 content-len-spec =
@@ -46,5 +46,5 @@ content-len-spec =
     (λ c κs. search needs)
     (λ c. c .digits .ensures ∙ sym (ap length (content-count (opened (not-float (c .before .before .before))) (omega arith) (c .before .if5 .taken))))
     (λ c κs. let h = names c in (names-fit (opened h) (omega arith), omega (arith, names-few (opened h) (omega arith), start h .pre .1)))
-    (λ c. c .before .names-len .ensures ∙ sym (ap length (content-global (opened (names (c .before .before))) (c .if6 .taken))))
+    (λ c. c .before .listed-names-len .ensures ∙ sym (ap length (content-global (opened (names (c .before .before))) (c .if6 .taken))))
     (λ c. omega (arith, returns-7 c, start (names (c .before .before)) .pre .1)) returns-7)

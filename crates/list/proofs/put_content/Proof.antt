@@ -26,7 +26,7 @@ not-float c = not-bool (c .before .before)
 above-float : (c : tie.Else4) → 3 < not-float c .head-of .result .kind
 above-float c = omega arith
 
-abbrev names : tie.After-put-names → tie.After-head-of
+abbrev names : tie.After-put-listed-names → tie.After-head-of
 names c = not-float (c .before .before .before .before)
 
 object : (c : tie.Else7) → 11 < names (c .before .before .before) .head-of .result .kind
@@ -49,14 +49,14 @@ put-flags-requires : tie.Need-put-flags-requires
 put-flags-requires c κs =
     let put = c .before .before .before .before in
     let h = names put in
-    room-then _ (put .put-names .ensures) (rw (content-object (opened h) (object (c .before))) at (start h .pre .1))
+    room-then _ (put .put-listed-names .ensures) (rw (content-object (opened h) (object (c .before))) at (start h .pre .1))
 
 returns-8 : tie.Need-returns-8
 returns-8 c =
     let flags = c .before .before in
     let put = flags .before .before .before .before .before in
     let h = names put in
-    rw (content-object (opened h) (object (flags .before .before))) (put-then (put .put-names .ensures) (flags .put-flags .ensures))
+    rw (content-object (opened h) (object (flags .before .before))) (put-then (put .put-listed-names .ensures) (flags .put-flags .ensures))
 
 pub put-content-spec : {M : Type 1} → statement M
 put-content-spec =
@@ -78,5 +78,5 @@ put-content-spec =
     (λ c κs. let h = not-float (c .before .before .before) in rw (content-count (opened h) (omega arith) (omega arith)) at (start h .pre .1)) (λ c. search needs)
     (λ c. let put = c .before .before in rw (content-count (opened (not-float (put .before .before .before .before))) (omega arith) (omega arith)) (put .put-decimal .ensures))
     (λ c κs. let h = not-float (c .before .before .before) in (names-fit (opened h) (omega arith), names-room (opened h) (omega arith) (start h .pre .1))) (λ c. search needs)
-    (λ c. let put = c .before .before .before in rw (content-global (opened (names put)) (omega arith)) (put .put-names .ensures))
+    (λ c. let put = c .before .before .before in rw (content-global (opened (names put)) (omega arith)) (put .put-listed-names .ensures))
     put-flags-requires (λ c. search needs) returns-8)

@@ -4,14 +4,14 @@ use mathlib.Core.Path.{sym}
 use lib.ListN.{take, drop}
 use borrow.Author.Needs.{needs}
 use native.Mathlib.Omega.{arith}
-use Rattle.output.specs.Put.{Left, left-all, left-none, put-same, room-same}
+use Rattle.output.specs.Put.{StillToPut, left-all, left-none, put-same, room-same}
 use Rattle.list.specs.Listing.{listedText}
 use Rattle.list.proofs.Laws.{rest, rest-all, rest-none, listed-one, part-room, part-left}
 use Rattle.list.proofs.put_each.Statement.{statement}
 use Rattle.list.proofs.put_each.Tie as tie
 
 abbrev Inv-loop : tie.InvT-loop
-Inv-loop text from count output₀ at end i₀ next₀ output i next = (i ≤ from + count) × Left output₀ at (listedText (take count (drop from text))) output next (rest text (from + count) i)
+Inv-loop text from count output₀ at end i₀ next₀ output i next = (i ≤ from + count) × StillToPut output₀ at (listedText (take count (drop from text))) output next (rest text (from + count) i)
 
 abbrev μ-loop : tie.MeasureT-loop
 μ-loop text from count output₀ at end i₀ next₀ output i next = from + count - i

@@ -3,14 +3,14 @@ use Prim.Native.Nat.{_≤_, _+_, _-_}
 use lib.ListN.{take, drop}
 use borrow.Author.Needs.{needs}
 use native.Mathlib.Omega.{arith}
-use Rattle.output.specs.Put.{Left, left-all, left-room}
+use Rattle.output.specs.Put.{StillToPut, left-all, left-room}
 use Rattle.list.specs.Listing.{listedText}
 use Rattle.list.proofs.Laws.{rest, rest-all, part-room, part-left, left-last}
 use Rattle.list.proofs.put_text.Statement.{statement}
 use Rattle.list.proofs.put_text.Tie as tie
 
 abbrev Inv-loop : tie.InvT-loop
-Inv-loop text from count output₀ at end i₀ next₀ output i next = (i ≤ from + count) × Left output₀ at (listedText (take count (drop from text))) output next (rest text (from + count) i)
+Inv-loop text from count output₀ at end i₀ next₀ output i next = (i ≤ from + count) × StillToPut output₀ at (listedText (take count (drop from text))) output next (rest text (from + count) i)
 
 abbrev μ-loop : tie.MeasureT-loop
 μ-loop text from count output₀ at end i₀ next₀ output i next = from + count - i

@@ -10,7 +10,7 @@ use Rattle.effects.specs.Containers.{MakesNode, Extends}
 use Rattle.effects.specs.Memo.{Remembers}
 use Rattle.effects.specs.Words.{SetsState}
 use Rattle.machine.specs.RoomsOf.{roomsOf}
-use Rattle.machine.specs.Applied.{Applies, push-lengths, share-lengths, mark-lengths, makeable, extendable, rememberable, buildable, goes-on, stops, refuses}
+use Rattle.machine.specs.Applied.{Applies, push-lengths, share-lengths, mark-lengths, makeable, extendable, rememberable, buildable, goes-on, stops, refusal-applied}
 
 -- from the match back to the beginning
 abbrev start : tie.After-slice-known7 → tie.Start
@@ -148,7 +148,7 @@ returns-9 c = λ p f. let e = c .before .e9 .given .1 in rw e (stops _ _ _ (rw e
 
 returns-10 : tie.Need-returns-10
 unfolding Applies
-returns-10 c = λ p f. rw (c .before .e10 .given .1) (refuses _ _ _ _ _ _)
+returns-10 c = λ p f. rw (c .before .e10 .given .1) (refusal-applied _ _ _ _ _ _)
 
 pub apply-spec : {M : Type 1} → statement M
 apply-spec =

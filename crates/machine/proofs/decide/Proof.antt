@@ -10,7 +10,7 @@ use native.Mathlib.Numerals.{add-one-le}
 use lib.ListN.{getD}
 use native.Mathlib.Omega.{arith}
 use Rattle.op.specs.Edition.{against, highest}
-use Rattle.op.specs.Table.{numberOf, numberIn, isNamed, place}
+use Rattle.op.specs.Table.{codeOf, numberIn, isNamed, place}
 use Rattle.op.specs.declared.Objection.the-variants.{Nothing}
 use Rattle.op.specs.declared.Opcode.{Opcode}
 use Rattle.op.specs.declared.Opcode.the-variants.{MARK, STOP, POP, «POP_MARK», DUP, FLOAT, INT, BININT, BININT1, LONG, BININT2, NONE, REDUCE, STRING, BINSTRING, «SHORT_BINSTRING», UNICODE, BINUNICODE, APPEND, BUILD, GLOBAL, DICT, «EMPTY_DICT», APPENDS, GET, BINGET, «LONG_BINGET», LIST, «EMPTY_LIST», PUT, BINPUT, «LONG_BINPUT», SETITEM, TUPLE, «EMPTY_TUPLE», SETITEMS, BINFLOAT, PROTO, NEWOBJ, NEWTRUE, NEWFALSE, LONG1, LONG4}
@@ -53,7 +53,7 @@ free : (c : tie.After-enum-told3) → Nothing ≡ against (start (asked c) .args
 free c = sym (c .enum-told3 .given .1) ∙ asked c .against .ensures
 
 -- the arm of the opcode o; those that read nothing more are the same for every highest protocol, so 0 is as good
-says : (c : tie.After-enum-told3) (o : Opcode) (Q : Rooms → Type 0) (e : Effect) → let a = start (asked c) .args in getD (a .pickle .now) (a .c .at) 0 ≡ numberOf o → ((r : Rooms) → Here c r → Q r) → Decides (behind c) Q (does (highest (a .edition)) o) e → Decides (a .c) (Here c) (step (a .edition)) e
+says : (c : tie.After-enum-told3) (o : Opcode) (Q : Rooms → Type 0) (e : Effect) → let a = start (asked c) .args in getD (a .pickle .now) (a .c .at) 0 ≡ codeOf o → ((r : Rooms) → Here c r → Q r) → Decides (behind c) Q (does (highest (a .edition)) o) e → Decides (a .c) (Here c) (step (a .edition)) e
 says c = arm _ _ _ _ _ _ _ _ _ (asked c .before .before .if1 .left) (free c)
 
 returns-2 : tie.Need-returns-2
@@ -66,15 +66,15 @@ returns-47 : tie.Need-returns-47
 returns-47 c = tuples _ _ _ _ _ _ _ _ _ (asked (c .before .before .before .before) .before .before .if1 .left) (free (c .before .before .before .before)) _ (c .before .before .if2 .left) (c .before .if3 .taken) (c .small-tuple .ensures)
 
 returns-48 : tie.Need-returns-48
-unfolding numberOf numberIn isNamed place
+unfolding codeOf numberIn isNamed place
 returns-48 c = unsupported _ _ _ _ _ _ _ _ _ (asked (c .before .before) .before .before .if1 .left) (free (c .before .before)) (no-name _ (c .before .match2 .rest) (λ x y. apart x (c .if2 .taken)))
 
 returns-49 : tie.Need-returns-49
-unfolding numberOf numberIn isNamed place
+unfolding codeOf numberIn isNamed place
 returns-49 c = unsupported _ _ _ _ _ _ _ _ _ (asked (c .before .before .before) .before .before .if1 .left) (free (c .before .before .before)) (no-name _ (c .before .before .match2 .rest) (λ x y. apart (c .if3 .left) y))
 
 pub decide-spec : {M : Type 1} → statement M
-unfolding does numberOf numberIn isNamed place binint1 binint2
+unfolding does codeOf numberIn isNamed place binint1 binint2
 decide-spec =
     tie.close
     (tie.spec

@@ -1,11 +1,11 @@
 -- `op::number` meets its contract: each arm knows its name, and the table's row of that name computes. Assumes nothing.
 use borrow.Author.Needs.{needs}
-use Rattle.op.specs.Table.{numberOf, numberIn, isNamed, place}
+use Rattle.op.specs.Table.{codeOf, numberIn, isNamed, place}
 use Rattle.op.proofs.number.Statement.{statement}
 use Rattle.op.proofs.number.Tie as tie
 
 pub number-spec : {M : Type 1} → statement M
-unfolding numberOf numberIn isNamed place
+unfolding codeOf numberIn isNamed place
 number-spec =
     tie.close
     (tie.spec

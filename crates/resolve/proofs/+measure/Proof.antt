@@ -30,9 +30,9 @@ use Rattle.resolve.specs.declared.WalkAnswer.{WalkAnswer}
 use Rattle.resolve.specs.declared.WalkAnswer.the-variants as answer
 use Rattle.resolve.specs.Class.{Owns}
 use Rattle.resolve.specs.Word.{deepW, valuesW, textsW}
-use Rattle.resolve.specs.Loop.{Entered, Midway, mid-start, mid-room}
+use Rattle.resolve.specs.Loop.{LoopBegins, Midway, mid-start, mid-room}
 use Rattle.resolved.specs.Walk.{walk}
-use Rattle.resolve.specs.Ends.{Opens, Ends, Walks, open-free, moved, own-len, open-words, open-starts, open-measured, open-owned, enter, ends-blocked, ends-too, ends-done, known-deep, known-word, known-empty, known-open, walk-deep, walk-word, walk-empty, child-at, open-end, open-first, join}
+use Rattle.resolve.specs.Ends.{Opens, WalkEnds, Walks, open-free, moved, own-len, open-words, open-starts, open-measured, open-owned, enter, ends-blocked, ends-too, ends-done, known-deep, known-word, known-empty, known-open, walk-deep, walk-word, walk-empty, child-at, open-end, open-first, arms-meet}
 
 abbrev μ : Measures 6 kinds.ps ℕ
 μ κs a = a .1 .0
@@ -50,7 +50,7 @@ calls t = (blocked-reads.Asked, blocked-reads.Learnt, own-text-len-reads.Asked, 
 abbrev Inv-loop : lts.InvT-loop
 Inv-loop node levels starts sorted₀ pickle nodes measures₀ dues₀ n kind at end texts₀ deepest₀ values₀ i₀ sorted measures dues texts deepest values i =
     (length sorted ≡ length sorted₀) × (length dues ≡ length dues₀) × (length measures ≡ length measures₀) × (values ≤ 1 + 4096 * i) × (texts ≤ 131072 * (i + 1)) × (deepest ≤ 127)
-    × ((I : Entered pickle nodes starts measures₀ sorted₀ dues₀ n) → Midway I (levels - 1) texts₀ measures sorted dues deepest values texts i)
+    × ((I : LoopBegins pickle nodes starts measures₀ sorted₀ dues₀ n) → Midway I (levels - 1) texts₀ measures sorted dues deepest values texts i)
 
 abbrev μ-loop : lts.MeasureT-loop
 μ-loop node levels starts sorted₀ pickle nodes measures₀ dues₀ n kind at end texts₀ deepest₀ values₀ i₀ sorted measures dues texts deepest values i = end - i
@@ -60,7 +60,7 @@ abbrev μ-loop : lts.MeasureT-loop
 -- node n is entered, whatever it was, and its own text measured; the loop has come to child i, which is there
 record Turn (p ws starts measures sorted room : List ℕ) (n levels : ℕ) (after : List ℕ) (len : ℕ) (ms ss rs : List ℕ) (deepest values texts i : ℕ) : Type 0 where
   owns : Owns p ws measures after n len
-  midway : (I : Entered p ws starts (set after n 1) sorted room n) → Midway I (levels - 1) len ms ss rs deepest values texts i
+  midway : (I : LoopBegins p ws starts (set after n 1) sorted room n) → Midway I (levels - 1) len ms ss rs deepest values texts i
   child : i < getD starts (n + 1) 0
   level : 1 ≤ levels
 
@@ -69,7 +69,7 @@ module _ {p ws starts measures sorted room : List ℕ} {n levels : ℕ} {after :
     abbrev moves : Opens p ws starts after sorted room n
     moves = moved o after len (T .owns)
 
-    abbrev into : Entered p ws starts (set after n 1) sorted room n
+    abbrev into : LoopBegins p ws starts (set after n 1) sorted room n
     into = enter moves
 
     -- the child is a node, and its measure is in the room
@@ -81,7 +81,7 @@ module _ {p ws starts measures sorted room : List ℕ} {n levels : ℕ} {after :
     sorted-long : length ss′ ≡ length ss
     dues-long : length rs′ ≡ length rs
     measures-long : length ms′ ≡ length ms
-    next : (I : Entered p ws starts (set after n 1) sorted room n) → Midway I (levels - 1) len ms′ ss′ rs′ d (values + valuesW w) (texts + textsW w) (i + 1)
+    next : (I : LoopBegins p ws starts (set after n 1) sorted room n) → Midway I (levels - 1) len ms′ ss′ rs′ d (values + valuesW w) (texts + textsW w) (i + 1)
 
   -- what is learnt of the child, for which a level is left
   module _ (left : (1 ≤ levels - 1) × (levels - 1 ≤ 64)) (ms₁ : List ℕ) (a : Seen) (learns : Learns p ws ms ms₁ (getD ss i 0) a) where
@@ -98,7 +98,7 @@ module _ {p ws starts measures sorted room : List ℕ} {n levels : ℕ} {after :
             sorted-long = ap length f;
             dues-long = ap length k;
             measures-long = ap length g ∙ kept;
-            next = λ I. join I _ _ _ _ _ _ _ _ _ _ _ _ _ _ _ g f k x most (known-word I (levels - 1) left (T .midway I) (T .child) ms₁ v (learns-as (seen.Word v) e) (omega arith));
+            next = λ I. arms-meet I _ _ _ _ _ _ _ _ _ _ _ _ _ _ _ g f k x most (known-word I (levels - 1) left (T .midway I) (T .child) ms₁ v (learns-as (seen.Word v) e) (omega arith));
           }
 
       empty-known : a ≡ seen.Empty → ss′ ≡ set ss i 4096 → ms′ ≡ ms₁ → rs′ ≡ rs → w ≡ 129 → Done ms′ ss′ rs′ w d
@@ -107,7 +107,7 @@ module _ {p ws starts measures sorted room : List ℕ} {n levels : ℕ} {after :
             sorted-long = ap length f ∙ simp length-set;
             dues-long = ap length k;
             measures-long = ap length g ∙ kept;
-            next = λ I. join I _ _ _ _ _ _ _ _ _ _ _ _ _ _ _ g f k x most (known-empty I (levels - 1) left (T .midway I) (T .child) ms₁ (learns-as seen.Empty e));
+            next = λ I. arms-meet I _ _ _ _ _ _ _ _ _ _ _ _ _ _ _ g f k x most (known-empty I (levels - 1) left (T .midway I) (T .child) ms₁ (learns-as seen.Empty e));
           }
 
       -- the child is walked
@@ -122,7 +122,7 @@ module _ {p ws starts measures sorted room : List ℕ} {n levels : ℕ} {after :
               sorted-long = ap length f ∙ kept-ss;
               dues-long = ap length k ∙ kept-rs;
               measures-long = ap length g ∙ kept-ms ∙ kept;
-              next = λ I. join I _ _ _ _ _ _ _ _ _ _ _ _ _ _ _ g f k x most (walk-word I (levels - 1) left (T .midway I) (T .child) ms₁ (learns-as seen.Open fresh) ms₂ ss₂ rs₂ v (walked (answer.Word v) q));
+              next = λ I. arms-meet I _ _ _ _ _ _ _ _ _ _ _ _ _ _ _ g f k x most (walk-word I (levels - 1) left (T .midway I) (T .child) ms₁ (learns-as seen.Open fresh) ms₂ ss₂ rs₂ v (walked (answer.Word v) q));
             }
 
         empty-walked : r ≡ answer.Empty → ss′ ≡ set ss₂ i 4096 → ms′ ≡ ms₂ → rs′ ≡ rs₂ → w ≡ 129 → Done ms′ ss′ rs′ w d
@@ -131,13 +131,13 @@ module _ {p ws starts measures sorted room : List ℕ} {n levels : ℕ} {after :
               sorted-long = ap length f ∙ simp length-set kept-ss;
               dues-long = ap length k ∙ kept-rs;
               measures-long = ap length g ∙ kept-ms ∙ kept;
-              next = λ I. join I _ _ _ _ _ _ _ _ _ _ _ _ _ _ _ g f k x most (walk-empty I (levels - 1) left (T .midway I) (T .child) ms₁ (learns-as seen.Open fresh) ms₂ ss₂ rs₂ (walked answer.Empty q));
+              next = λ I. arms-meet I _ _ _ _ _ _ _ _ _ _ _ _ _ _ _ g f k x most (walk-empty I (levels - 1) left (T .midway I) (T .child) ms₁ (learns-as seen.Open fresh) ms₂ ss₂ rs₂ (walked answer.Empty q));
             }
 
   -- the child is too deep
   module _ (o : Opens p ws starts measures sorted room n) (free : blocked (o .nodes) (o .state .stages) n ≡ false) (ms′ ss′ rs′ : List ℕ) where
     abbrev Deep : Type 0
-    Deep = Ends (o .nodes) (o .facts .beyond) starts (o .lent) levels n (walk (o .nodes) 4096 levels n (o .state)) ms′ ss′ rs′ answer.TooDeep
+    Deep = WalkEnds (o .nodes) (o .facts .beyond) starts (o .lent) levels n (walk (o .nodes) 4096 levels n (o .state)) ms′ ss′ rs′ answer.TooDeep
 
     level-out : levels ≡ 1 → Deep
     level-out e = ends-too (moves o) levels (T .level) free (T .midway (into o)) ms′ ss′ rs′ (T .child) (omega arith)

@@ -4,7 +4,7 @@ use Rattle.resolve.proofs.blocked.Statement.{statement}
 use Rattle.resolve.proofs.blocked.Tie as tie
 use mathlib.Core.Path.{sym}
 use native.Mathlib.Omega.{arith}
-use Rattle.resolve.specs.Blocked.{held-other, held-none, held-first}
+use Rattle.resolve.specs.Blocked.{held-other, held-none, arguments-taken-first}
 
 cast-first : tie.Need-cast-first
 cast-first c = omega (arith, c .shared-slice-known .given (c .before .before .before .args .at))
@@ -24,7 +24,7 @@ returns-2 : tie.Need-returns-2
 returns-2 c =
     let s = c .before .before .before .before in
     let a = s .args in
-    sym (held-first (a .kind) (a .at) (a .end) (a .sorted .now) (a .measures .now) (c .before .before .before .if1 .left) (omega arith) (s .pre .0))
+    sym (arguments-taken-first (a .kind) (a .at) (a .end) (a .sorted .now) (a .measures .now) (c .before .before .before .if1 .left) (omega arith) (s .pre .0))
 
 returns-3 : tie.Need-returns-3
 returns-3 c = sym (held-none _ _ _ _ _ (c .if2 .left))

@@ -9,7 +9,7 @@ use lib.ListN.{length}
 use borrow.Author.Tests.{not-true, not-false}
 use Rattle.value.specs.Value.{Value, kind}
 use Rattle.value.specs.WellFormed.{WellFormed}
-use Rattle.scorer.specs.Sheet.{answers, reverse, flipped, highest}
+use Rattle.scorer.specs.Sheet.{answers, reverse, flipped, highestAnswer}
 use Rattle.scorer.specs.Steps.{Sought, between-says, answer-most, narrower}
 use Rattle.scorer.specs.Root.{off-answers, off-reverse, off-flipped, off-highest, off-range, sought-inside, sought-says, root-inside, root-off, root-dict, entries-lie, entries-count, entries-lain, both-lie, few-answers, assessed}
 
@@ -56,7 +56,7 @@ the-reverse c f = let d = dict (root (c .before .before)) f in c .seek2 .ensures
 the-flipped : (c : tie.After-seek3) {n : ℕ} (f : Formed (root (first (c .before .before))) n) → Found (root (first (c .before .before))) (flipped (f .value)) 1 (c .seek3 .result)
 the-flipped c f = let d = dict (root (first (c .before .before))) f in c .seek3 .ensures _ (entries-lie f d) (entries-count f d)
 
-the-highest : (c : tie.After-seek4) {n : ℕ} (f : Formed (root (first (second (c .before .before)))) n) → Found (root (first (second (c .before .before)))) (highest (f .value)) 2 (c .seek4 .result)
+the-highest : (c : tie.After-seek4) {n : ℕ} (f : Formed (root (first (second (c .before .before)))) n) → Found (root (first (second (c .before .before)))) (highestAnswer (f .value)) 2 (c .seek4 .result)
 the-highest c f = let d = dict (root (first (second (c .before .before)))) f in c .seek4 .ensures _ (entries-lie f d) (entries-count f d)
 
 in-answers : (c : tie.Else2) → Inside (root c) (c .before .seek .result)
@@ -138,38 +138,38 @@ mul-mark-2 c = let h = c .before .before .before in let g = back h .good .0 in o
 shared-slice-read-mark : tie.Need-shared-slice-read-mark
 shared-slice-read-mark c = let h = c .before .before .before .before in let g = back h .good .0 in omega (arith, in-flipped (third h), g .0, g .1)
 
-add-add-up : tie.Need-add-add-up
-add-add-up c = let h = c .before .before .before .before in let g = back h .good .0 in omega (arith, in-answers (first (second (third h))), g .0, g .1)
+add-tally-answers : tie.Need-add-tally-answers
+add-tally-answers c = let h = c .before .before .before .before in let g = back h .good .0 in omega (arith, in-answers (first (second (third h))), g .0, g .1)
 
-mul-add-up : tie.Need-mul-add-up
-mul-add-up c = let h = c .before .before .before .before in let g = back h .good .0 in omega (arith, in-answers (first (second (third h))), g .0, g .1)
+mul-tally-answers : tie.Need-mul-tally-answers
+mul-tally-answers c = let h = c .before .before .before .before in let g = back h .good .0 in omega (arith, in-answers (first (second (third h))), g .0, g .1)
 
-add-add-up-2 : tie.Need-add-add-up-2
-add-add-up-2 c = let h = c .before .before .before .before in let g = back h .good .0 in omega (arith, in-answers (first (second (third h))), g .0, g .1)
+add-tally-answers-2 : tie.Need-add-tally-answers-2
+add-tally-answers-2 c = let h = c .before .before .before .before in let g = back h .good .0 in omega (arith, in-answers (first (second (third h))), g .0, g .1)
 
-mul-add-up-2 : tie.Need-mul-add-up-2
-mul-add-up-2 c = let h = c .before .before .before .before in let g = back h .good .0 in omega (arith, in-answers (first (second (third h))), g .0, g .1)
+mul-tally-answers-2 : tie.Need-mul-tally-answers-2
+mul-tally-answers-2 c = let h = c .before .before .before .before in let g = back h .good .0 in omega (arith, in-answers (first (second (third h))), g .0, g .1)
 
-shared-slice-read-add-up : tie.Need-shared-slice-read-add-up
-shared-slice-read-add-up c = let h = c .before .before .before .before .before in let g = back h .good .0 in omega (arith, in-answers (first (second (third h))), g .0, g .1)
+shared-slice-read-tally-answers : tie.Need-shared-slice-read-tally-answers
+shared-slice-read-tally-answers c = let h = c .before .before .before .before .before in let g = back h .good .0 in omega (arith, in-answers (first (second (third h))), g .0, g .1)
 
-add-add-up-3 : tie.Need-add-add-up-3
-add-add-up-3 c = let h = c .before .before .before .before .before in let g = back h .good .0 in omega (arith, in-reverse (second (third h)), g .0, g .1)
+add-tally-answers-3 : tie.Need-add-tally-answers-3
+add-tally-answers-3 c = let h = c .before .before .before .before .before in let g = back h .good .0 in omega (arith, in-reverse (second (third h)), g .0, g .1)
 
-mul-add-up-3 : tie.Need-mul-add-up-3
-mul-add-up-3 c = let h = c .before .before .before .before .before in let g = back h .good .0 in omega (arith, in-reverse (second (third h)), g .0, g .1)
+mul-tally-answers-3 : tie.Need-mul-tally-answers-3
+mul-tally-answers-3 c = let h = c .before .before .before .before .before in let g = back h .good .0 in omega (arith, in-reverse (second (third h)), g .0, g .1)
 
-add-add-up-4 : tie.Need-add-add-up-4
-add-add-up-4 c = let h = c .before .before .before .before .before in let g = back h .good .0 in omega (arith, in-reverse (second (third h)), g .0, g .1)
+add-tally-answers-4 : tie.Need-add-tally-answers-4
+add-tally-answers-4 c = let h = c .before .before .before .before .before in let g = back h .good .0 in omega (arith, in-reverse (second (third h)), g .0, g .1)
 
-mul-add-up-4 : tie.Need-mul-add-up-4
-mul-add-up-4 c = let h = c .before .before .before .before .before in let g = back h .good .0 in omega (arith, in-reverse (second (third h)), g .0, g .1)
+mul-tally-answers-4 : tie.Need-mul-tally-answers-4
+mul-tally-answers-4 c = let h = c .before .before .before .before .before in let g = back h .good .0 in omega (arith, in-reverse (second (third h)), g .0, g .1)
 
-shared-slice-read-add-up-2 : tie.Need-shared-slice-read-add-up-2
-shared-slice-read-add-up-2 c = let h = c .before .before .before .before .before .before in let g = back h .good .0 in omega (arith, in-reverse (second (third h)), g .0, g .1)
+shared-slice-read-tally-answers-2 : tie.Need-shared-slice-read-tally-answers-2
+shared-slice-read-tally-answers-2 c = let h = c .before .before .before .before .before .before in let g = back h .good .0 in omega (arith, in-reverse (second (third h)), g .0, g .1)
 
-add-up-requires : tie.Need-add-up-requires
-add-up-requires c κs =
+tally-answers-requires : tie.Need-tally-answers-requires
+tally-answers-requires c κs =
     let i = c .before .before .before .before in
     let h = i .before .before in
     let r = second (third h) in
@@ -188,7 +188,7 @@ returns-7 c n f =
     let r = second l in
     let a = first r in
     assessed f (dict (root a) f) (the-answers (a .before) f) (omega arith) (the-reverse (r .before) f) (omega arith) (the-flipped (l .before) f) (omega arith) (the-highest (h .before) f) (omega arith)
-    (sym (i .before .is-between .ensures) ∙ not-false _ (i .if6 .left)) _ (c .add-up .ensures)
+    (sym (i .before .is-between .ensures) ∙ not-false _ (i .if6 .left)) _ (c .tally-answers .ensures)
 
 pub assess-spec : {M : Type 1} → statement M
 assess-spec =
@@ -196,5 +196,5 @@ assess-spec =
     (tie.spec
     shared-slice-read-head-of (λ c κs. search needs) returns shared-slice-read-entries (λ c. search needs) seek-requires returns-2 (λ c. search needs)
     seek-requires-2 returns-3 (λ c. search needs) seek-requires-3 returns-4 (λ c. search needs) seek-requires-4 returns-5 is-between-requires returns-6
-    mul-max add-max mul-max-2 shared-slice-read-max mul-mark add-mark mul-mark-2 shared-slice-read-mark add-add-up mul-add-up add-add-up-2 mul-add-up-2
-    shared-slice-read-add-up add-add-up-3 mul-add-up-3 add-add-up-4 mul-add-up-4 shared-slice-read-add-up-2 add-up-requires returns-7)
+    mul-max add-max mul-max-2 shared-slice-read-max mul-mark add-mark mul-mark-2 shared-slice-read-mark add-tally-answers mul-tally-answers add-tally-answers-2 mul-tally-answers-2
+    shared-slice-read-tally-answers add-tally-answers-3 mul-tally-answers-3 add-tally-answers-4 mul-tally-answers-4 shared-slice-read-tally-answers-2 tally-answers-requires returns-7)

@@ -5,7 +5,7 @@ use Rattle.scorer.proofs.score.Tie as tie
 use mathlib.Core.Path.{_∙_}
 use borrow.Author.Tests.{not-true, not-false}
 use Rattle.table.specs.Decides.{refuted}
-use Rattle.scorer.specs.Call.{told, scores-bad, scores-good}
+use Rattle.scorer.specs.Call.{scoredOf, scores-bad, scores-good}
 
 returns : tie.Need-returns
 returns c =
@@ -16,13 +16,13 @@ assess-requires : tie.Need-assess-requires
 assess-requires c κs = record { count = c .before .before .before .before .args .count; formed = c .before .well-formed .ensures .yes (not-false _ (c .if1 .left)) }
 
 returns-2 : tie.Need-returns-2
-unfolding told
+unfolding scoredOf
 returns-2 c =
     let args = c .before .before .before .before .before .before .before .before .args in
     scores-good (args .words .now) (args .count) (args .text .now) _ (c .before .before .before .before .before .well-formed .ensures .yes (not-false _ (c .before .before .before .before .if1 .left))) (λ f. rw (← c .before .before .before .assess .ensures (args .count) f, c .before .enum-told .given .1) (c .refused2 .ensures))
 
 returns-3 : tie.Need-returns-3
-unfolding told
+unfolding scoredOf
 returns-3 c =
     let args = c .before .before .before .before .before .before .before .before .args in
     scores-good (args .words .now) (args .count) (args .text .now) _ (c .before .before .before .before .before .well-formed .ensures .yes (not-false _ (c .before .before .before .before .if1 .left))) (λ f. rw (← c .before .before .before .assess .ensures (args .count) f, c .before .score .given .1))

@@ -8,7 +8,7 @@ use native.Mathlib.Omega.{arith}
 use Rattle.value.specs.Value.{Forest, count}
 use Rattle.scorer.specs.Sheet.{isKey, under}
 use Rattle.scorer.specs.Place.{Lies}
-use Rattle.scorer.specs.Steps.{Seeking, Entry, entry, seek-found, seek-other, seek-end}
+use Rattle.scorer.specs.Steps.{Seeking, KeyStep, entry, seek-found, seek-other, seek-end}
 
 abbrev Inv-loop : tie.InvT-loop
 Inv-loop words text entries name kind i₀ left₀ i left = (f : Forest) → Lies words text 1 f → count f ≡ entries + entries → Seeking words text name i left (under name f)
@@ -31,7 +31,7 @@ abbrev keyed : tie.After-head-of Inv-loop μ-loop → tie.Then1 Inv-loop μ-loop
 keyed c = c .before .before
 
 -- the entry there
-next : (c : tie.In-loop Inv-loop μ-loop) → let h = c .before in let s = start h in Entry (s .args .words .now) (s .args .text .now) (s .args .name .now) (h .loop .i) (h .loop .left) (under (s .args .name .now) (s .pre .0 .values))
+next : (c : tie.In-loop Inv-loop μ-loop) → let h = c .before in let s = start h in KeyStep (s .args .words .now) (s .args .text .now) (s .args .name .now) (h .loop .i) (h .loop .left) (under (s .args .name .now) (s .pre .0 .values))
 next c = let l = start (c .before) .pre .0 in entry (c .before .loop .inv _ (l .lies) (l .counted)) (c .loop-test .taken)
 
 -- ---- the needs

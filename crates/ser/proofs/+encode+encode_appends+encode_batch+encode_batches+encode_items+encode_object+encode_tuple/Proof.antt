@@ -50,9 +50,9 @@ use lib.ListN.{length}
 use Rattle.output.specs.Put.{put-then, room-first, room-then}
 use Rattle.value.specs.Value.{bit}
 use Rattle.value.specs.Stands.{Reads, arityAt, labelAt}
-use Rattle.ser.specs.Image.{joined, batches, appends, built, contents}
-use Rattle.ser.specs.Walk.{Ready}
-use Rattle.ser.specs.Parts.{Same, Cuts, ahead, Going, ready-cut, ready-rest, wrote-cut, ready-as, wrote-as, ready-front, ready-after, wrote-after, ready-before, ready-end, wrote-before, wrote-later, wrote-none, going-all, going-again, going-none, value-reads, value-room, value-inside, value-wrote, value-arity, joined-none, joined-cuts, batches-cuts, batches-none, size-some}
+use Rattle.ser.specs.Image.{joined, batches, itemsImage, stateImage, contents}
+use Rattle.ser.specs.Walk.{ReadyToWrite}
+use Rattle.ser.specs.Parts.{Same, Cuts, followedBy, WrittenSoFar, ready-cut, ready-rest, wrote-cut, ready-as, wrote-as, ready-front, ready-after, wrote-after, ready-before, ready-end, wrote-before, wrote-later, wrote-none, going-all, going-again, going-none, value-reads, value-room, value-inside, value-wrote, value-arity, joined-none, joined-cuts, batches-cuts, batches-none, size-some}
 use Rattle.ser.proofs.Laws.{batch-entry, batch-entries, batch-items, appends-one, appends-many, tuple-parts, object-cuts, built-one, built-none, bit-one, bit-none}
 use Rattle.ser.proofs.Record.{leaf-wrote, object-arity, makes-object, makes-list, makes-tuple, makes-dict, makes-set}
 
@@ -78,13 +78,13 @@ abbrev μ-encode-tuple : Measures 3 encode-tuple-kinds.ps ℕ
 μ-encode-tuple κs a = 5 * (length (a .0 .now) - a .1 .1 .0) + 2
 
 abbrev encode-batches-Inv-loop : encode-batches-lts.InvT-loop
-encode-batches-Inv-loop words text from count entries output₀ at i₀ left₀ next₀ output i left next = Going (batches entries) words text from count output₀ at output i left next
+encode-batches-Inv-loop words text from count entries output₀ at i₀ left₀ next₀ output i left next = WrittenSoFar (batches entries) words text from count output₀ at output i left next
 
 abbrev encode-batches-μ-loop : encode-batches-lts.MeasureT-loop
 encode-batches-μ-loop words text from count entries output₀ at i₀ left₀ next₀ output i left next = left
 
 abbrev encode-items-Inv-loop : encode-items-lts.InvT-loop
-encode-items-Inv-loop words text from count output₀ at i₀ left₀ next₀ output i left next = Going joined words text from count output₀ at output i left next
+encode-items-Inv-loop words text from count output₀ at i₀ left₀ next₀ output i left next = WrittenSoFar joined words text from count output₀ at output i left next
 
 abbrev encode-items-μ-loop : encode-items-lts.MeasureT-loop
 encode-items-μ-loop words text from count output₀ at i₀ left₀ next₀ output i left next = left
@@ -155,7 +155,7 @@ module _ (t : ℕ) where
   reads v = value-reads (start v .pre .1)
 
   -- what is in it is to be written
-  inside : (v : Known) → let a = start v .args in Ready (contents (labelAt (a .words .now) (a .text .now) (a .i))) (a .words .now) (a .text .now) (a .i + 1) (arityAt (a .words .now) (a .i)) (opened v .encode-opening .last .1 .1 .1 .0) (opened v .encode-opening .result)
+  inside : (v : Known) → let a = start v .args in ReadyToWrite (contents (labelAt (a .words .now) (a .text .now) (a .i))) (a .words .now) (a .text .now) (a .i + 1) (arityAt (a .words .now) (a .i)) (opened v .encode-opening .last .1 .1 .1 .0) (opened v .encode-opening .result)
   inside v = value-inside (start v .pre .1) (opened v .encode-opening .ensures)
 
   -- and how many values
@@ -163,7 +163,7 @@ module _ (t : ℕ) where
   known a = a .before .before .before
 
   -- and that the value is a set
-  set-made : (e : encode-lts.Else5 encode-claims encode-at encode.Post) {n : ℕ} → let a = start (known (e .before .before .before)) .args in Same n (contents (labelAt (a .words .now) (a .text .now) (a .i))) (ahead appends ((0x85 ∷ []) ++ (0x52 ∷ [])))
+  set-made : (e : encode-lts.Else5 encode-claims encode-at encode.Post) {n : ℕ} → let a = start (known (e .before .before .before)) .args in Same n (contents (labelAt (a .words .now) (a .text .now) (a .i))) (followedBy itemsImage ((0x85 ∷ []) ++ (0x52 ∷ [])))
   set-made e =
       let x = e .before .before .before .before in
       let v = x .before .before in
@@ -278,7 +278,7 @@ module _ (t : ℕ) where
     cuts : Cuts 1 (turn .loop .left) (turn .loop .left - 1) joined joined joined
     cuts = joined-cuts (turn .loop .left) (l .loop-test .taken)
 
-    due : Ready joined (lent .args .words .now) (lent .args .text .now) (turn .loop .i) 1 (turn .loop .output) (turn .loop .next)
+    due : ReadyToWrite joined (lent .args .words .now) (lent .args .text .now) (turn .loop .i) 1 (turn .loop .output) (turn .loop .next)
     due = ready-cut cuts (turn .loop .inv .ready)
 
   encode-items-encode-requires : encode-items-lts.Need-encode-requires encode-items-claims encode-items-at encode-items.Post encode-items-Inv-loop encode-items-μ-loop
@@ -301,7 +301,7 @@ module _ (t : ℕ) where
     abbrev arguments : encode-object-lts.After-encode encode-object-claims encode-object-at encode-object.Post
     arguments = p .before .before .before .before .before
 
-    built-due : Ready built (object .args .words .now) (object .args .text .now) (arguments .encode .result .record) (bit (object .args .state)) (p .put-byte .last .1 .0) (p .put-byte .result)
+    built-due : ReadyToWrite stateImage (object .args .words .now) (object .args .text .now) (arguments .encode .result .record) (bit (object .args .state)) (p .put-byte .last .1 .0) (p .put-byte .result)
     built-due = ready-after _ _ (ready-rest (object-cuts (object .args .new) _ _ (p .before .before .object-opcode .ensures)) (arguments .encode .ensures) (object .pre .1)) (p .put-byte .ensures)
 
   encode-object-encode-requires : encode-object-lts.Need-encode-requires encode-object-claims encode-object-at encode-object.Post

@@ -5,8 +5,8 @@ use Rattle.ser.proofs.encode_i64.Tie as tie
 use mathlib.Core.List.{[], _∷_, _++_}
 use mathlib.Core.Path.{_≡_, sym, _∙_}
 use Rattle.output.specs.Decimal.{signedText}
-use Rattle.output.specs.Put.{newline, put-then, room-first, room-then}
-use Rattle.ser.specs.Image.{low, int}
+use Rattle.output.specs.Put.{newlineByte, put-then, room-first, room-then}
+use Rattle.ser.specs.Image.{low, intImage}
 use Rattle.ser.proofs.Laws.{int-1, int-2, int-4, int-text}
 
 -- ---- the places: the number's range, and what is written for it there
@@ -20,16 +20,16 @@ first c = c .before .before
 abbrev wide : tie.After-in-i32 → tie.Start
 wide c = start (c .before .before)
 
-one : (c : tie.Then1) → int (first c .args .bits) ≡ (0x4B ∷ []) ++ low 1 (first c .args .bits)
+one : (c : tie.Then1) → intImage (first c .args .bits) ≡ (0x4B ∷ []) ++ low 1 (first c .args .bits)
 one c = int-1 _ (c .if1 .taken)
 
-two : (c : tie.Then2) → int (start (c .before) .args .bits) ≡ (0x4D ∷ []) ++ low 2 (start (c .before) .args .bits)
+two : (c : tie.Then2) → intImage (start (c .before) .args .bits) ≡ (0x4D ∷ []) ++ low 2 (start (c .before) .args .bits)
 two c = int-2 _ (c .before .if1 .left) (c .if2 .taken)
 
-four : (c : tie.Then3) → int (wide (c .before) .args .bits) ≡ (0x4A ∷ []) ++ low 4 (wide (c .before) .args .bits)
+four : (c : tie.Then3) → intImage (wide (c .before) .args .bits) ≡ (0x4A ∷ []) ++ low 4 (wide (c .before) .args .bits)
 four c = int-4 _ (c .before .before .if2 .left) (sym (c .before .in-i32 .ensures) ∙ c .if3 .taken)
 
-text : (c : tie.Else3) → int (wide (c .before) .args .bits) ≡ (0x49 ∷ []) ++ (signedText (wide (c .before) .args .bits) ++ (newline ∷ []))
+text : (c : tie.Else3) → intImage (wide (c .before) .args .bits) ≡ (0x49 ∷ []) ++ (signedText (wide (c .before) .args .bits) ++ (newlineByte ∷ []))
 text c = int-text _ (c .before .before .if2 .left) (sym (c .before .in-i32 .ensures) ∙ c .if3 .left)
 
 -- ---- the needs

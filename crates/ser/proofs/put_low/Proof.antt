@@ -2,12 +2,12 @@
 use Rattle.ser.proofs.put_low.Statement.{statement}
 use Rattle.ser.proofs.put_low.Tie as tie
 use native.Mathlib.Omega.{arith}
-use Rattle.output.specs.Put.{Left, left-all}
+use Rattle.output.specs.Put.{StillToPut, left-all}
 use Rattle.ser.specs.Image.{low}
 use Rattle.ser.proofs.Laws.{low-room, low-turn, low-done}
 
 abbrev Inv-loop : tie.InvT-loop
-Inv-loop n count output₀ at rest₀ left₀ next₀ output rest left next = Left output₀ at (low count n) output next (low left rest)
+Inv-loop n count output₀ at rest₀ left₀ next₀ output rest left next = StillToPut output₀ at (low count n) output next (low left rest)
 
 abbrev μ-loop : tie.MeasureT-loop
 μ-loop n count output₀ at rest₀ left₀ next₀ output rest left next = left

@@ -26,9 +26,9 @@ use Prim.Native.Nat.{_+_, _*_, _≤_}
 use native.Mathlib.Omega.{arith}
 use borrow.Author.Tests.{not-true, not-false}
 use lib.ListN.{length}
-use Rattle.table.specs.Find.{row, find}
+use Rattle.table.specs.Find.{findMany, find}
 use Rattle.table.specs.Sound.{first-word}
-use Rattle.table.specs.Check.{Header, answer, is-bad, find-out, find-past, find-within, row-done, row-bad, row-next, answer-wrong, answer-bad, answer-closed, right, held, object-some}
+use Rattle.table.specs.Check.{Header, checkedOf, is-bad, find-out, find-past, find-within, row-done, row-bad, row-next, answer-wrong, answer-bad, answer-closed, right, held, object-some}
 
 abbrev μ-check : Measures 2 check-kinds.ps ℕ
 μ-check κs a = 3 * a .1 .1 .1 .1 .1 .0 + 1
@@ -148,7 +148,7 @@ module _ (t : ℕ) where
       answer-closed _ _ _ _ _ _ (p .0) (p .1 .1 .1) (headed k .head .ensures) (k .before .long .given .1) (sym (m .contents .ensures) ∙ c .before .before .before .j .given .1) true (λ f p q. sym (not-false _ (c .if1 .left)) ∙ c .before .closes .ensures f p q)
 
 abbrev contents-Inv-loop : contents-lts.InvT-loop
-contents-Inv-loop words count text i at m levels j₀ end₀ left₀ j end left = (j ≤ count) × (end ≤ length text) × (answer (row (find words count text levels) left j end) ≡ answer (row (find words count text levels) m i at))
+contents-Inv-loop words count text i at m levels j₀ end₀ left₀ j end left = (j ≤ count) × (end ≤ length text) × (checkedOf (findMany (find words count text levels) left j end) ≡ checkedOf (findMany (find words count text levels) m i at))
 
 abbrev contents-μ-loop : contents-lts.MeasureT-loop
 contents-μ-loop words count text i at m levels j₀ end₀ left₀ j end left = left

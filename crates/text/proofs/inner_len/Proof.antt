@@ -4,10 +4,10 @@ use borrow.Author.Needs.{needs}
 use mathlib.Core.Path.{_≡_, refl, sym, _∙_}
 use Prim.Native.Nat.{ℕ, _+_, _-_, _≤_}
 use lib.ListN.{length, getD, drop}
-use Rattle.text.specs.declared.Piece.the-variants.{One}
+use Rattle.text.specs.declared.TextPiece.the-variants.{One}
 use Rattle.text.specs.Escapes.{stringHead}
 use Rattle.text.specs.Pieces.{texts, lengthOf}
-use Rattle.text.specs.Text.{byte, decodedSays}
+use Rattle.text.specs.Text.{byteItself, decodedSays}
 use Rattle.text.specs.Laws.{texts-end, texts-bad}
 use Rattle.text.proofs.Places.{string-plain}
 use Rattle.text.proofs.Loops.{In-string, in-string, more, more-none, more-end, more-bad, counted}
@@ -16,7 +16,7 @@ use Rattle.text.proofs.inner_len.Tie as tie
 
 abbrev Inv-loop : tie.InvT-loop
 Inv-loop text n₀ i₀ n i =
-    (more n (texts stringHead byte 0 (i + 1) (drop i text)) ≡ lengthOf (texts stringHead byte 0 1 text))
+    (more n (texts stringHead byteItself 0 (i + 1) (drop i text)) ≡ lengthOf (texts stringHead byteItself 0 1 text))
     × (i ≤ length text) × (n ≤ i)
 
 abbrev μ-loop : tie.MeasureT-loop
@@ -43,27 +43,27 @@ module _ (c : tie.After-known-told Inv-loop μ-loop) where
   escape = piece turn (sym (c .before .before .before .string-piece .ensures) ∙ c .before .more .given .1)
 
 loop-again : tie.Need-loop-again Inv-loop μ-loop
-unfolding byte
+unfolding byteItself
 loop-again c =
     let l = c .before .before .before .loop in
-    (counted byte (plain c) (l .i + 1) _ refl (l .n) ∙ l .inv .0, omega arith, omega arith)
+    (counted byteItself (plain c) (l .i + 1) _ refl (l .n) ∙ l .inv .0, omega arith, omega arith)
 
 loop-again-2 : tie.Need-loop-again-2 Inv-loop μ-loop
-unfolding byte
+unfolding byteItself
 loop-again-2 c =
     let l = turn c .before .loop in
-    (counted byte (escape c) (l .i + 1) _ (omega arith) (l .n) ∙ l .inv .0, escape c .inside, omega arith)
+    (counted byteItself (escape c) (l .i + 1) _ (omega arith) (l .n) ∙ l .inv .0, escape c .inside, omega arith)
 
 returns : tie.Need-returns Inv-loop μ-loop
 unfolding decodedSays
 returns c =
     let e = sym (c .before .before .string-piece .ensures) ∙ c .enum-told .given .1 in
     let l = c .before .before .before .before .before in
-    more-bad _ _ (texts-bad stringHead byte _ _ _ (l .loop-test .taken) e) ∙ l .before .loop .inv .0
+    more-bad _ _ (texts-bad stringHead byteItself _ _ _ (l .loop-test .taken) e) ∙ l .before .loop .inv .0
 
 returns-2 : tie.Need-returns-2 Inv-loop μ-loop
 unfolding decodedSays
-returns-2 c = more-end _ _ (texts-end stringHead byte _ _ _ (c .loop-test .left)) ∙ c .before .loop .inv .0
+returns-2 c = more-end _ _ (texts-end stringHead byteItself _ _ _ (c .loop-test .left)) ∙ c .before .loop .inv .0
 
 pub inner-len-spec : {M : Type 1} → statement M
 inner-len-spec =

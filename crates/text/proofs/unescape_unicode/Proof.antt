@@ -7,7 +7,7 @@ use lib.ListN.{length, getD, drop}
 use borrow.Author.Tests.{eqb-false, not-true}
 use Rattle.utf8.specs.Utf8.{encode}
 use Rattle.utf8.specs.Encode.{encode-one}
-use Rattle.text.specs.declared.Piece.the-variants.{One}
+use Rattle.text.specs.declared.TextPiece.the-variants.{One}
 use Rattle.text.specs.Escapes.{unicodeHead}
 use Rattle.text.specs.Pieces.{texts}
 use Rattle.text.specs.Text.{unescapeUnicode}

@@ -5,14 +5,14 @@ use Rattle.texts.proofs.decode_one.Tie as tie
 use mathlib.Core.Path.{_≡_, refl, sym, _∙_}
 use lib.ListN.{getD}
 use Rattle.steps.specs.NodeWords.{first}
-use Rattle.texts.specs.Due.{isDue, due-word, due-text, passed, spelled}
+use Rattle.texts.specs.Due.{textDue, due-word, due-text, passed, spelled}
 
 -- ---- the places: the test of the node's first word, and what it tells
 
 abbrev start : tie.After-is-due → tie.Start
 start c = c .before .before .before .before .before .before .before
 
-due : (c : tie.After-is-due) → let a = start c .args in c .is-due .result ≡ isDue (a .pickle .now) (a .nodes .now) (a .node .0) (getD (a .measures .now) (a .node .0) 0)
+due : (c : tie.After-is-due) → let a = start c .args in c .is-due .result ≡ textDue (a .pickle .now) (a .nodes .now) (a .node .0) (getD (a .measures .now) (a .node .0) 0)
 unfolding first
 due c = c .is-due .ensures ∙ due-word _ _ _ _
 

@@ -18,7 +18,7 @@ returns-3 c = due-late (c .before .before .before .args .first) (c .before .befo
 
 returns-4 : tie.Need-returns-4
 unfolding kindIn
-returns-4 c = c .has-text .ensures ∙ due-leaf (c .before .before .before .before .args .first) (c .before .before .before .before .args .measure) (c .before .before .before .if1 .left) (c .before .before .if2 .left) (c .before .if3 .left)
+returns-4 c = c .kind-has-text .ensures ∙ due-leaf (c .before .before .before .before .args .first) (c .before .before .before .before .args .measure) (c .before .before .before .if1 .left) (c .before .before .if2 .left) (c .before .if3 .left)
 
 pub is-due-spec : {M : Type 1} → statement M
 is-due-spec = tie.close (tie.spec returns returns-2 returns-3 (λ c κs. tt) returns-4)

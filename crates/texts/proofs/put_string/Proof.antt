@@ -5,13 +5,13 @@ use Rattle.texts.proofs.put_string.Tie as tie
 use mathlib.Core.Path.{refl}
 use native.Mathlib.Omega.{arith}
 use lib.ListN.{length-take, length-drop}
-use Rattle.text.specs.Pieces.{reads, bytesOf}
+use Rattle.text.specs.Pieces.{isRead, bytesOf}
 use Rattle.text.specs.Text.{unescapeString}
 use Rattle.text.specs.Answers.{quoted-plain, quoted-escaped, quoted-bad}
 use Rattle.texts.specs.Spell.{put-back}
 
 unescape-string-requires : tie.Need-unescape-string-requires
-unfolding reads
+unfolding isRead
 unescape-string-requires c κs =
     let e = quoted-plain (c .before .before .before .before .before .before .args .line .now) (rw (c .before .enum-told2 .given .1) at (c .before .before .before .string-len .ensures)) in
     record { is = rw e; fits = simp (length-take, length-drop) (omega (arith, c .before .before .before .before .before .before .pre)) }

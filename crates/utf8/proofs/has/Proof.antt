@@ -3,21 +3,21 @@ use lib.ListN.{drop-of-length-le}
 use lib.Seq.{drop-cons}
 use borrow.Author.Needs.{needs}
 use borrow.Author.Tests.{le-leb, lt-leb}
-use Rattle.utf8.specs.Place.{next}
-use Rattle.utf8.specs.Utf8.{within}
+use Rattle.utf8.specs.Place.{nextIn}
+use Rattle.utf8.specs.Utf8.{inColumn}
 use Rattle.utf8.proofs.has.Statement.{statement}
 use Rattle.utf8.proofs.has.Tie as tie
 
 returns : tie.Need-returns
-unfolding next
+unfolding nextIn
 returns c = simp (drop-of-length-le (c .before .args .s .now) (c .if1 .taken))
 
 returns-2 : tie.Need-returns-2
-unfolding next within
+unfolding nextIn inColumn
 returns-2 c = simp (drop-cons (c .before .before .before .before .before .args .s .now) (c .before .before .before .before .before .args .at) 0 (c .before .before .before .before .if1 .left), le-leb _ _ (c .before .if2 .taken))
 
 returns-3 : tie.Need-returns-3
-unfolding next within
+unfolding nextIn inColumn
 returns-3 c = simp (drop-cons (c .before .before .before .before .args .s .now) (c .before .before .before .before .args .at) 0 (c .before .before .before .if1 .left), lt-leb _ _ (c .if2 .left))
 
 pub has-spec : {M : Type 1} → statement M

@@ -6,7 +6,7 @@ use lib.ListN.{getD, drop}
 use native.Mathlib.Omega.{arith}
 use borrow.Author.Needs.{needs}
 use borrow.Author.Tests.{not-true, not-false}
-use Rattle.utf8.specs.Place.{secondOf, next}
+use Rattle.utf8.specs.Place.{secondOf, nextIn}
 use Rattle.utf8.proofs.Table.{more}
 use Rattle.utf8.proofs.Pieces.{one-whole, never-first, above-first, one-part, two-whole, two-part, three-whole, three-part, four-whole}
 use Rattle.utf8.proofs.piece_at.Statement.{statement}
@@ -21,7 +21,7 @@ module _ (c : tie.Else4) where
   abbrev lead : tie.Else3
   lead = c .before .before .before
 
-  second : let a = start lead .args in next (secondOf (getD (a .s .now) (a .at) 0)) (drop (a .at + 1) (a .s .now)) ≡ true
+  second : let a = start lead .args in nextIn (secondOf (getD (a .s .now) (a .at) 0)) (drop (a .at + 1) (a .s .now)) ≡ true
   second = sym (rw (c .before .before .second .ensures) at (c .before .has .ensures)) ∙ not-false _ (c .if4 .left)
 
 -- and a third
@@ -29,7 +29,7 @@ module _ (c : tie.Else6) where
   abbrev two : tie.Else4
   two = c .before .before .before
 
-  third : let a = start (lead two) .args in next more (drop (a .at + 2) (a .s .now)) ≡ true
+  third : let a = start (lead two) .args in nextIn more (drop (a .at + 2) (a .s .now)) ≡ true
   third = sym (c .before .has2 .ensures) ∙ not-false _ (c .if6 .left)
 
 returns : tie.Need-returns

@@ -1,4 +1,4 @@
--- `value::compare_at` meets its contract: what is left of the walk (`Left`) holds at each turn, for any two values that stand there.
+-- `value::compare_at` meets its contract: what is left of the walk (`StillToCompare`) holds at each turn, for any two values that stand there.
 -- The measure is what is left of the first table. Assumes nothing.
 use Rattle.value.proofs.compare_at.Statement.{statement}
 use Rattle.value.proofs.compare_at.Tie as tie
@@ -12,10 +12,10 @@ use Rattle.value.specs.Order.{order}
 use Rattle.value.specs.Stands.{Stands}
 use Rattle.value.specs.Told.{told}
 use Rattle.value.specs.Walk.{step-first}
-use Rattle.value.specs.Left.{Left, Readable, left-done, left-reads, left-less, left-greater, left-next, same-kind}
+use Rattle.value.specs.Left.{StillToCompare, Readable, left-done, left-reads, left-less, left-greater, left-next, same-kind}
 
 abbrev Inv-loop : tie.InvT-loop
-Inv-loop a i s b j t walk₀ k₀ l₀ walk k l = (v w : Value) → Stands a s i (one v) → Stands b t j (one w) → Left a s b t k l (walk .left) (told (walk .verdict)) (order v w)
+Inv-loop a i s b j t walk₀ k₀ l₀ walk k l = (v w : Value) → Stands a s i (one v) → Stands b t j (one w) → StillToCompare a s b t k l (walk .left) (told (walk .verdict)) (order v w)
 
 abbrev μ-loop : tie.MeasureT-loop
 μ-loop a i s b j t walk₀ k₀ l₀ walk k l = length a - 4 * k

@@ -3,7 +3,7 @@ use borrow.Author.Needs.{needs}
 use mathlib.Core.Path.{sym, _∙_}
 use native.Mathlib.Omega.{arith}
 use Rattle.value.specs.Order.{totalOrder}
-use Rattle.value.specs.Told.{told, Negative, floats-low, floats-high, floats-mixed, turned}
+use Rattle.value.specs.Told.{told, Negative, floats-low, floats-high, floats-mixed, lex-turned}
 use Rattle.value.proofs.compare_floats.Statement.{statement}
 use Rattle.value.proofs.compare_floats.Tie as tie
 
@@ -15,6 +15,6 @@ compare-floats-spec =
     (λ c κs. search needs)
     (λ c. c .compare-numbers .ensures ∙ sym (floats-low _ _ (c .before .before .if1 .taken) (c .before .if2 .taken)))
     (λ c. sym (floats-mixed _ _ (c .before .if1 .taken) (c .if2 .left)))
-    (λ c. sym (turned totalOrder (c .before .before .args .x) (c .before .before .args .y) (floats-mixed _ _ (c .if3 .taken) (c .before .if1 .left))))
+    (λ c. sym (lex-turned totalOrder (c .before .before .args .x) (c .before .before .args .y) (floats-mixed _ _ (c .if3 .taken) (c .before .if1 .left))))
     (λ c κs. search needs)
     (λ c. c .compare-numbers2 .ensures ∙ sym (floats-high _ _ (omega arith) (omega arith))))

@@ -2,7 +2,7 @@
 use borrow.Author.Needs.{needs}
 use mathlib.Core.Path.{sym, _∙_}
 use Rattle.value.specs.Order.{byValue}
-use Rattle.value.specs.Told.{told, lex-same, ints-low, ints-high, ints-mixed, turned}
+use Rattle.value.specs.Told.{told, lex-same, ints-low, ints-high, ints-mixed, lex-turned}
 use Rattle.value.proofs.compare_ints.Statement.{statement}
 use Rattle.value.proofs.compare_ints.Tie as tie
 
@@ -15,6 +15,6 @@ compare-ints-spec =
     (λ c κs. search needs)
     (λ c. c .compare-numbers .ensures ∙ sym (ints-low _ _ (c .before .before .if2 .taken) (c .before .if3 .taken)))
     (λ c. sym (ints-mixed _ _ (c .before .if2 .taken) (c .if3 .left)))
-    (λ c. sym (turned byValue (c .before .before .before .args .x) (c .before .before .before .args .y) (ints-mixed _ _ (c .if4 .taken) (c .before .if2 .left))))
+    (λ c. sym (lex-turned byValue (c .before .before .before .args .x) (c .before .before .before .args .y) (ints-mixed _ _ (c .if4 .taken) (c .before .if2 .left))))
     (λ c κs. search needs)
     (λ c. c .compare-numbers2 .ensures ∙ sym (ints-high _ _ (c .before .before .if2 .left) (c .before .if4 .left))))

@@ -1,4 +1,4 @@
--- `value::next` meets its contract: a case of `Next` at each return. Assumes nothing.
+-- `value::next` meets its contract: a case of `NextToCompare` at each return. Assumes nothing.
 use borrow.Author.Needs.{needs}
 use Rattle.value.proofs.next.Statement.{statement}
 use Rattle.value.proofs.next.Tie as tie

@@ -1,9 +1,9 @@
--- `list::put_names` meets its contract: the module, a tab and the name, one behind the other. Assumes nothing.
+-- `list::put_listed_names` meets its contract: the module, a tab and the name, one behind the other. Assumes nothing.
 use borrow.Author.Needs.{needs}
 use Rattle.output.specs.Put.{put-then, room-first, room-then}
 use Rattle.list.proofs.Record.{names-parts}
-use Rattle.list.proofs.put_names.Statement.{statement}
-use Rattle.list.proofs.put_names.Tie as tie
+use Rattle.list.proofs.put_listed_names.Statement.{statement}
+use Rattle.list.proofs.put_listed_names.Tie as tie
 
 put-text-requires : tie.Need-put-text-requires
 put-text-requires c κs =
@@ -34,5 +34,5 @@ returns c =
     let a = first .before .before .before .before .args in
     rw (names-parts (a .text .now) (a .from) (a .lengths)) (put-then (first .put-text .ensures) (put-then (tab .put-byte .ensures) (second .put-text2 .ensures)))
 
-pub put-names-spec : {M : Type 1} → statement M
-put-names-spec = tie.close (tie.spec put-text-requires put-byte-requires (λ c. search needs) put-text-requires-2 (λ c. search needs) returns)
+pub put-listed-names-spec : {M : Type 1} → statement M
+put-listed-names-spec = tie.close (tie.spec put-text-requires put-byte-requires (λ c. search needs) put-text-requires-2 (λ c. search needs) returns)

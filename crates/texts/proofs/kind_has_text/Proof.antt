@@ -1,6 +1,6 @@
--- `texts::has_text` meets its contract. Assumes nothing.
-use Rattle.texts.proofs.has_text.Statement.{statement}
-use Rattle.texts.proofs.has_text.Tie as tie
+-- `texts::kind_has_text` meets its contract. Assumes nothing.
+use Rattle.texts.proofs.kind_has_text.Statement.{statement}
+use Rattle.texts.proofs.kind_has_text.Tie as tie
 use Rattle.texts.specs.Due.{kind-below-4, kind-below-6, kind-below-11, kind-behind}
 
 returns : tie.Need-returns
@@ -15,5 +15,5 @@ returns-3 c = kind-below-11 (c .before .before .before .args .kind) (c .before .
 returns-4 : tie.Need-returns-4
 returns-4 c = kind-behind (c .before .before .before .args .kind) (c .before .before .if1 .left) (c .before .if2 .left) (c .if3 .left)
 
-pub has-text-spec : {M : Type 1} → statement M
-has-text-spec = tie.close (tie.spec returns returns-2 returns-3 returns-4)
+pub kind-has-text-spec : {M : Type 1} → statement M
+kind-has-text-spec = tie.close (tie.spec returns returns-2 returns-3 returns-4)

@@ -1,6 +1,6 @@
--- `scorer::add_up` meets its contract: what is left of the walk decides for all of it. Assumes nothing.
-use Rattle.scorer.proofs.add_up.Statement.{statement}
-use Rattle.scorer.proofs.add_up.Tie as tie
+-- `scorer::tally_answers` meets its contract: what is left of the walk decides for all of it. Assumes nothing.
+use Rattle.scorer.proofs.tally_answers.Statement.{statement}
+use Rattle.scorer.proofs.tally_answers.Tie as tie
 use Prim.Native.Nat.{ℕ, _+_, _*_, _≤_, _<_}
 use mathlib.Core.Bool.{true}
 use mathlib.Core.List.{List}
@@ -10,13 +10,13 @@ use native.Mathlib.Omega.{arith}
 use borrow.Author.Tests.{not-true, not-false}
 use Rattle.value.specs.Value.{Forest, count}
 use Rattle.value.specs.Stands.{wordAt}
-use Rattle.scorer.specs.Walk.{walk}
+use Rattle.scorer.specs.Walk.{tallyWalk}
 use Rattle.scorer.specs.Place.{Lies}
-use Rattle.scorer.specs.Steps.{Going, betweenAt, answer, all-answered, one-left, hit-some, hit-room, bit-back, answer-most}
+use Rattle.scorer.specs.Steps.{TallySoFar, betweenAt, answer, all-answered, one-left, hit-some, hit-room, bit-back, answer-most}
 
 abbrev Inv-loop : tie.InvT-loop
 Inv-loop words from entries first items max flipped i₀ left₀ j₀ rest₀ score₀ i left j rest score =
-    ((t : List ℕ) (f g : Forest) → Lies words t from f → count f ≡ entries + entries → Lies words t first g → count g ≡ items → Going words t max flipped entries i left j rest score (walk max flipped entries 0 f g)) × (score + 100 * left ≤ 100 * entries) × (j ≤ length words)
+    ((t : List ℕ) (f g : Forest) → Lies words t from f → count f ≡ entries + entries → Lies words t first g → count g ≡ items → TallySoFar words t max flipped entries i left j rest score (tallyWalk max flipped entries 0 f g)) × (score + 100 * left ≤ 100 * entries) × (j ≤ length words)
 
 abbrev μ-loop : tie.MeasureT-loop
 μ-loop words from entries first items max flipped i₀ left₀ j₀ rest₀ score₀ i left j rest score = left
@@ -139,8 +139,8 @@ returns-3 c t f g a b d e = sym (one-left (c .before .before .loop .inv .0 t f g
 returns-4 : tie.Need-returns-4 Inv-loop μ-loop
 returns-4 c t f g a b d e = sym (all-answered (c .before .before .loop .inv .0 t f g a b d e) (omega arith) (omega arith))
 
-pub add-up-spec : {M : Type 1} → statement M
-add-up-spec =
+pub tally-answers-spec : {M : Type 1} → statement M
+tally-answers-spec =
     tie.close
     (tie.spec
     Inv-loop μ-loop loop-holds add-k is-between-requires returns is-between-requires-2 returns-2 mul-hit add-hit mul-hit-2 shared-slice-read-hit
