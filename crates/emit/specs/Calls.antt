@@ -20,7 +20,7 @@ use Rattle.resolved.specs.Noted.{isContainer, leafOf}
 use Rattle.resolved.specs.Moved.{moves, moved}
 use Rattle.resolved.specs.Written.{HasAt, Written, written-none, written-node, written-again}
 use Rattle.resolved.specs.Shown.{Shown, nodeLabel}
-use Rattle.texts.specs.Readable.{Readable, shown-readable, spelled-measure}
+use Rattle.texts.specs.Readable.{TextReadable, shown-readable, spelled-measure}
 use Rattle.lists.specs.Kinds.{kindOf, kind-same, containerKind, container-is}
 use Rattle.emit.specs.Stores.{sets-before, sets-behind, sets-there}
 use Rattle.emit.specs.Words.{packedPlace, recordIn, textIn, writtenW, written-record, written-size, written-text, written-long, recordFrom}
@@ -125,7 +125,7 @@ module _ {p d ws starts sorted log : List ℕ} {i to : ℕ} {measures table byte
   pub ready-inside : i < 4096 → (2 * i < length ws) × (i < length measures)
   ready-inside h = let b = ready-below h in (omega (arith, R .begun .shown .words-long), omega (arith, R .begun .shown .measures-long, R .measures-long))
 
-  pub ready-readable : i < 4096 → Readable ws measures i
+  pub ready-readable : i < 4096 → TextReadable ws measures i
   ready-readable h =
       let r = shown-readable (R .t) (R .h) (Final 4096 (R .done)) p d ws starts sorted log (R .m) i (R .begun .shown) (ready-below h) in
       record { words = r .words; measured = rw (R .measures-long) (r .measured); class = r .class }

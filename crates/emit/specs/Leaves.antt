@@ -16,7 +16,7 @@ use Rattle.value.specs.Shape.{kindIn, newIn}
 use Rattle.steps.specs.NodeWords.{first, second}
 use Rattle.resolved.specs.Moved.{moves}
 use Rattle.resolved.specs.Shown.{nodeLabel, labelHasText, leading, trailing, leadText, trailText, Spelled}
-use Rattle.texts.specs.Readable.{Readable}
+use Rattle.texts.specs.Readable.{TextReadable}
 use Rattle.utf8.specs.Stores.{sets-append}
 use Rattle.lists.specs.Kinds.{kindOf, kind-small, containerKind, kind-is}
 use Rattle.emit.specs.Copies.{Copyable}
@@ -26,7 +26,7 @@ use Rattle.emit.specs.Words.{packedPlace, recordIn, textIn, writtenW, le
 
 -- it can be put at a place of the text
 pub record TextReady (p d ws measures : List ℕ) (i : ℕ) (bytes : List ℕ) (at : ℕ) : Type 0 where
-  pub readable : Readable ws measures i
+  pub readable : TextReadable ws measures i
   pub spelled : labelHasText (nodeLabel p ws i) ≡ true → Spelled p d ws measures i (nodeLabel p ws i)
   pub room : at + length (textOf (nodeLabel p ws i)) ≤ length bytes
   pub short : length (textOf (nodeLabel p ws i)) ≤ 65536

@@ -26,7 +26,7 @@ pub fn value_kind(first: u64) -> u64
     value::KIND_NONE
 }
 
-// Has a value, or a node, of this kind contents?
+// Has a value, or a node, of this kind contents? (Of a value's kind as `value::holds` says; the two kinds that only a node has have none.)
 pub fn is_container(kind: u64) -> bool
     ensures { λ r. ⌜ r ≡ containerKind kind ⌝ }
 {

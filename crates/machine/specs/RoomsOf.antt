@@ -55,23 +55,23 @@ unknown b h = go (opcodeOf b) refl
     go (some o) e = absurd (h o (sym (decided-own b o e)))
 
 module _ (p n d s m k h : List ℕ) (c : Counts) where
-  abbrev pub Lists : Rooms → Type 0
-  Lists = Agrees p n d s m k h
+  abbrev pub SameRooms : Rooms → Type 0
+  SameRooms = Agrees p n d s m k h
 
   abbrev pub c₁ : Counts
   c₁ = cutTo c (c .at + 1) (c .stack) (c .marks)
 
   -- behind the opcode's byte
   module _ (l : c .at < length p) where
-    next : (r : Rooms) → Sound r c → Lists r → Sound r c₁
+    next : (r : Rooms) → Sound r c → SameRooms r → Sound r c₁
     next r z a = let e : length (r .pickle) ≡ length p = ap length (a .pickle) in sound-read r c (c .at + 1) z (omega arith) (omega arith)
 
-    pub lent : (Q : Rooms → Type 0) → SomeRooms c Lists → ((r : Rooms) → Lists r → Q r) → SomeRooms c₁ Q
+    pub lent : (Q : Rooms → Type 0) → SomeRooms c SameRooms → ((r : Rooms) → SameRooms r → Q r) → SomeRooms c₁ Q
     lent Q t f = record { rooms = t .rooms; sound = next (t .rooms) (t .sound) (t .agrees); agrees = f (t .rooms) (t .agrees) }
 
   module _ (ed : Edition) where
     -- at the end of the pickle
-    pub ended : length p ≤ c .at → Decides c Lists (step ed) (refusing c EndOfInput)
+    pub ended : length p ≤ c .at → Decides c SameRooms (step ed) (refusing c EndOfInput)
     unfolding Decides step byte _>>=_ enacted Fits
     ended l r z a =
         let e : length (r .pickle) ≡ length p = ap length (a .pickle) in
@@ -83,7 +83,7 @@ module _ (p n d s m k h : List ℕ) (c : Counts) where
       abbrev code : ℕ
       code = getD p (c .at) 0
 
-      read : (r : Rooms) → Sound r c → Lists r → step ed (stateOf r c) ≡ admit (against ed code) code (decide (highest ed) (opcodeOf code) code (stateOf r c₁))
+      read : (r : Rooms) → Sound r c → SameRooms r → step ed (stateOf r c) ≡ admit (against ed code) code (decide (highest ed) (opcodeOf code) code (stateOf r c₁))
       unfolding step byte _>>=_
       read r z a =
           let e : length (r .pickle) ≡ length p = ap length (a .pickle) in
@@ -92,25 +92,25 @@ module _ (p n d s m k h : List ℕ) (c : Counts) where
           rw (bytes-got r c 1 t (omega arith)) (ap (λ (b : ℕ). admit (against ed b) b (decide (highest ed) (opcodeOf b) b (stateOf r c₁))) (getD-take 1 (drop (c .at) (r .pickle)) 0 0 (omega arith) ∙ getD-drop (c .at) (r .pickle) 0 0 ∙ rw (q, a .pickle)))
 
       -- outside the edition, or unknown to it
-      pub outside-it : Outside ≡ against ed code → Decides c Lists (step ed) (refusing c (OutsideProfile code))
+      pub outside-it : Outside ≡ against ed code → Decides c SameRooms (step ed) (refusing c (OutsideProfile code))
       unfolding Decides admit enacted Fits
       outside-it b r z a = record { enacts = sym (read r z a ∙ rw (← b)); fits = tt }
 
-      pub unknown-to-it : Unknown ≡ against ed code → Decides c Lists (step ed) (refusing c (UnsupportedOpcode code))
+      pub unknown-to-it : Unknown ≡ against ed code → Decides c SameRooms (step ed) (refusing c (UnsupportedOpcode code))
       unfolding Decides admit enacted Fits
       unknown-to-it b r z a = record { enacts = sym (read r z a ∙ rw (← b)); fits = tt }
 
       -- nothing against it
       module _ (free : Nothing ≡ against ed code) where
         -- the opcode o
-        pub arm : (o : Opcode) (Q : Rooms → Type 0) (e : Effect) → code ≡ codeOf o → ((r : Rooms) → Lists r → Q r) → Decides c₁ Q (does (highest ed) o) e → Decides c Lists (step ed) e
+        pub arm : (o : Opcode) (Q : Rooms → Type 0) (e : Effect) → code ≡ codeOf o → ((r : Rooms) → SameRooms r → Q r) → Decides c₁ Q (does (highest ed) o) e → Decides c SameRooms (step ed) e
         unfolding Decides decide admit
         arm o Q e q f t r z a =
             let x = t r (next l r z a) (f r a) in
             record { enacts = x .enacts ∙ sym (read r z a ∙ rw (← free, q, named o)); fits = x .fits }
 
         -- no opcode
-        pub unsupported : ((o : Opcode) → code ≢ codeOf o) → Decides c Lists (step ed) (refusing c (UnsupportedOpcode code))
+        pub unsupported : ((o : Opcode) → code ≢ codeOf o) → Decides c SameRooms (step ed) (refusing c (UnsupportedOpcode code))
         unfolding Decides decide admit enacted Fits
         unsupported h r z a = record { enacts = sym (read r z a ∙ rw (← free, unknown code h)); fits = tt }
 

@@ -79,36 +79,36 @@ firsts-is (a ∷ s) byte (suc k) h e =
     cc
 
 -- The n bytes of s, which `byte` numbers, are looked at one after the other: so far k, and none of these beginnings is a form.
-pub record Formless (read : List ℕ → List ℕ) (s : List ℕ) (n : ℕ) (byte : ℕ → ℕ) (k : ℕ) : Type 0 where
+pub record NoSpaceSoFar (read : List ℕ → List ℕ) (s : List ℕ) (n : ℕ) (byte : ℕ → ℕ) (k : ℕ) : Type 0 where
   pub long : length s ≡ n
   pub is : (j : ℕ) → j < n → getD s j 0 ≡ byte j
   pub none : (j : ℕ) → j < suc k → space (read (take j s)) ≡ false
 
 -- the next was read, and r says whether they are a form with it
 pub record Tested (read : List ℕ → List ℕ) (s : List ℕ) (n : ℕ) (byte : ℕ → ℕ) (k : ℕ) (r : Bool) : Type 0 where
-  pub looked : Formless read s n byte k
+  pub looked : NoSpaceSoFar read s n byte k
   pub is : r ≡ space (read (take (suc k) s))
 
 module _ {read : List ℕ → List ℕ} {s : List ℕ} {n : ℕ} {byte : ℕ → ℕ} where
-  module _ {k : ℕ} (l : Formless read s n byte k) where
+  module _ {k : ℕ} (l : NoSpaceSoFar read s n byte k) where
     pub tested : {r : Bool} → suc k ≤ n → r ≡ space (read (firsts byte (suc k))) → Tested read s n byte k r
     tested h e = record { looked = l; is = rw (firsts-is s byte (suc k) (omega (arith, l .long)) (λ j g. l .is j (omega arith))) e }
 
     -- no byte is left
-    pub formless-out : n < suc k → 0 ≡ width read s
+    pub no-space-out : n < suc k → 0 ≡ width read s
     unfolding width
-    formless-out h = simp (no 1, no 2, no 3)
+    no-space-out h = simp (no 1, no 2, no 3)
       where
         no : (j : ℕ) → space (read (take j s)) ≡ false
         no j = ⊎-elim (l .none j) (λ g. rw (take-all j s (omega (arith, l .long)), ← take-all k s (omega (arith, l .long))) (l .none k (omega arith))) (lt-or-le j (suc k))
 
   -- three bytes were looked at, and no form has more
-  pub formless-all : Formless read s n byte 3 → 0 ≡ width read s
+  pub no-space-all : NoSpaceSoFar read s n byte 3 → 0 ≡ width read s
   unfolding width
-  formless-all l = simp (l .none 1 (omega arith), l .none 2 (omega arith), l .none 3 (omega arith))
+  no-space-all l = simp (l .none 1 (omega arith), l .none 2 (omega arith), l .none 3 (omega arith))
 
   module _ {k : ℕ} {r : Bool} (a : Tested read s n byte k r) where
-    pub tested-no : r ≡ false → Formless read s n byte (suc k)
+    pub tested-no : r ≡ false → NoSpaceSoFar read s n byte (suc k)
     tested-no f = record {
       long = a .looked .long;
       is = a .looked .is;
@@ -142,7 +142,7 @@ module _ (s : List ℕ) (i : ℕ) where
   abbrev pub Ahead : ℕ → Bool → Type 0
   Ahead = Tested (λ p. p) (drop i s) (length s - i) (λ j. getD s (place-on i j) 0)
 
-  pub ahead : Formless (λ p. p) (drop i s) (length s - i) (λ j. getD s (place-on i j) 0) 0
+  pub ahead : NoSpaceSoFar (λ p. p) (drop i s) (length s - i) (λ j. getD s (place-on i j) 0) 0
   ahead = record {
     long = length-drop i s;
     is = λ j h. getD-drop i s j 0 ∙ rw (place-on-is i j);
@@ -161,7 +161,7 @@ module _ (s : List ℕ) (e : ℕ) where
   abbrev pub Behind : ℕ → Bool → Type 0
   Behind = Tested reverse (reverse (take e s)) e (λ j. getD s (e - suc j) 0)
 
-  pub behind : e ≤ length s → Formless reverse (reverse (take e s)) e (λ j. getD s (e - suc j) 0) 0
+  pub behind : e ≤ length s → NoSpaceSoFar reverse (reverse (take e s)) e (λ j. getD s (e - suc j) 0) 0
   behind h = record { long = length-reverse (take e s) ∙ length-take-le e s h; is = at; none = no-byte reverse (reverse (take e s)) refl }
     where
       at : (j : ℕ) → j < e → getD (reverse (take e s)) j 0 ≡ getD s (e - suc j) 0

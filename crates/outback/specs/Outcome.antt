@@ -95,8 +95,8 @@ many-one {s} {t} {rest} x = many-more x (many-none t rest (x .input))
 
 -- ---- a new node over values that were read
 
-abbrev pub withNode : State → List ℕ → Node → State → ℕ → List ℕ → State
-withNode s i n t k m = record { input = i; nodes = t .nodes ++ (n ∷ []); stack = s .stack ++ (length (t .nodes) ∷ []); marks = m; memo = t .memo; links = k }
+abbrev pub stateWithNode : State → List ℕ → Node → State → ℕ → List ℕ → State
+stateWithNode s i n t k m = record { input = i; nodes = t .nodes ++ (n ∷ []); stack = s .stack ++ (length (t .nodes) ∷ []); marks = m; memo = t .memo; links = k }
 
 pub node-more : (s t : State) (rest : List ℕ) (l : Label) (f : Forest) (k : ℕ) (m ks : List ℕ) → m ≡ s .marks → length (s .nodes) ≤ length (t .nodes) → ((i : ℕ) → i < length (s .nodes) → at (t .nodes) i ≡ at (s .nodes) i)
     → WritesIn (t .nodes) (Between (length (s .nodes)) (length (t .nodes))) ks f → OneMore s rest l f (withNode s rest (record { label = l; kids = ks }) t k m)
@@ -116,7 +116,7 @@ node-more s t rest l f k ms ks w m o v =
       inside = writes-moved (λ j a. record { low = a .low; high = omega (arith, a .high); other = λ e. omega (arith, a .high) }) (λ j a. List·getD-append (t .nodes) (n ∷ []) (kidless NoneL) j (a .high)) v;
     }
 
-pub leaf-more : (s : State) (rest : List ℕ) (l : Label) → OneMore s rest l nil (withNode s rest (kidless l) s (s .links) (s .marks))
+pub leaf-more : (s : State) (rest : List ℕ) (l : Label) → OneMore s rest l nil (stateWithNode s rest (kidless l) s (s .links) (s .marks))
 leaf-more s rest l = node-more s s rest l nil (s .links) (s .marks) [] refl (omega arith) (λ i h. refl) none
 
 -- ---- values added to the node on top

@@ -21,14 +21,14 @@ use Rattle.resolved.specs.Dues.{isDue, dues}
 use Rattle.resolved.specs.Shown.{Shown}
 use Rattle.resolved.specs.Whole.{value-stands-64}
 use Rattle.arrange.specs.Walked.{graph, dues-in, not-settled}
-use Rattle.arrange.specs.Settling.{ReadyToSettle, Settles}
+use Rattle.arrange.specs.Settling.{ReadyToSettle, SettledRooms}
 use Rattle.emit.specs.Roots.{Rooted, Emits}
 use Rattle.produce.specs.Measured.{Produced}
 use Rattle.produce.specs.Ready.{Spelt, inside}
 
 -- ---- the Sets and Dicts in order, with nothing said of the list, which is zero again
 
-pub record Arranged (t : List Node) (s : WalkState) (p d ws starts log measures sorted′ log′ measures′ : List ℕ) (used : ℕ) : Type 0 where
+pub record ArrangedRooms (t : List Node) (s : WalkState) (p d ws starts log measures sorted′ log′ measures′ : List ℕ) (used : ℕ) : Type 0 where
   pub shown : Shown t (graph t s (dues t (s .done))) (Final 4096 (s .done)) p d ws starts sorted′ log′ measures′
   pub in-order : (i : ℕ) → In i (dues t (s .done)) → getD measures′ i 0 < 2 ^ 62
   pub others : (i : ℕ) → ¬ In i (dues t (s .done)) → getD measures′ i 0 ≡ getD measures i 0
@@ -37,10 +37,10 @@ pub record Arranged (t : List Node) (s : WalkState) (p d ws starts log measures 
 
 abbrev pub SettlesDues : (noted p d ws starts sorted log measures list sorted′ log′ measures′ : List ℕ) (used : ℕ) → Type 0
 SettlesDues noted p d ws starts sorted log measures list sorted′ log′ measures′ used =
-    (t : List Node) (s : WalkState) (lent : List ℕ) → ReadyToSettle t s lent noted p d ws starts sorted log measures list → Arranged t s p d ws starts log measures sorted′ log′ measures′ used
+    (t : List Node) (s : WalkState) (lent : List ℕ) → ReadyToSettle t s lent noted p d ws starts sorted log measures list → ArrangedRooms t s p d ws starts log measures sorted′ log′ measures′ used
 
-pub settles-arranged : {t : List Node} {s : WalkState} {p d ws starts log measures list sorted′ log′ measures′ list′ : List ℕ} {used most : ℕ} → Settles t s p d ws starts log measures list sorted′ log′ measures′ list′ used most
-    → Arranged t s p d ws starts log measures sorted′ log′ measures′ used
+pub settles-arranged : {t : List Node} {s : WalkState} {p d ws starts log measures list sorted′ log′ measures′ list′ : List ℕ} {used most : ℕ} → SettledRooms t s p d ws starts log measures list sorted′ log′ measures′ list′ used most
+    → ArrangedRooms t s p d ws starts log measures sorted′ log′ measures′ used
 settles-arranged x = record { shown = x .shown; in-order = λ i m. x .in-order i m .1; others = x .others; behind = x .kept .behind; within = x .used-within }
 
 -- ---- the value that the root stands for
@@ -64,7 +64,7 @@ object-kept DictL e = absurd (omega arith)
 object-kept (GlobalL m n) e = refl
 object-kept (ObjectL m n b) e = refl
 
-module _ {p d ws starts sorted noted measures log list : List ℕ} {t : List Node} {root : ℕ} (x : Spelt p d ws starts sorted noted measures log list t root) {sorted′ log′ measures′ : List ℕ} {used : ℕ} (a : Arranged t (walked t 4096 64 root .after) p d ws starts log measures sorted′ log′ measures′ used) where
+module _ {p d ws starts sorted noted measures log list : List ℕ} {t : List Node} {root : ℕ} (x : Spelt p d ws starts sorted noted measures log list t root) {sorted′ log′ measures′ : List ℕ} {used : ℕ} (a : ArrangedRooms t (walked t 4096 64 root .after) p d ws starts log measures sorted′ log′ measures′ used) where
   abbrev after : WalkState
   after = walked t 4096 64 root .after
 

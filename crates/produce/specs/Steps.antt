@@ -6,7 +6,7 @@ use lib.ListN.{length, length-replicate, take, drop, replicate}
 use native.Mathlib.Omega.{arith}
 use Rattle.rooms.specs.Cleared.{cleared}
 use Rattle.texts.specs.Due.{dueText, Decodes}
-use Rattle.arrange.specs.Settling.{Unsettled, Settles, SettlesAll}
+use Rattle.arrange.specs.Settling.{Unsettled, SettledRooms, SettlesAll}
 use Rattle.emit.specs.Roots.{Rooted, Emits}
 use Rattle.produce.specs.Rooms.{zeros-long, zeros-whole, front-cleared, end-begins, end-fits, end-cleared}
 use Rattle.produce.specs.Measured.{Measured, WorkRooms, Produces}
@@ -17,7 +17,7 @@ use Rattle.produce.specs.Made.{SettlesDues, settles-arranged, rooted, pr
 -- ---- after the settling
 
 module _ {noted p d ws starts sorted log measures list sorted′ log′ measures′ list′ : List ℕ} {used most : ℕ} (u : Unsettled noted p d ws starts sorted log measures list) (x : SettlesAll noted p d ws starts sorted log measures list sorted′ log′ measures′ list′ used most) where
-  settles : Settles (u .t) (u .s) p d ws starts log measures list sorted′ log′ measures′ list′ used most
+  settles : SettledRooms (u .t) (u .s) p d ws starts log measures list sorted′ log′ measures′ list′ used most
   settles = x (u .t) (u .s) (u .lent) (u .ready)
 
   pub arranges : SettlesDues noted p d ws starts sorted log measures list sorted′ log′ measures′ used

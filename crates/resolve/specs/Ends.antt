@@ -22,7 +22,7 @@ use Rattle.resolve.specs.Blocked.{argumentsTaken, headTaken}
 use Rattle.resolved.specs.Walk.{WalkState, WalkMade, stageR, eachR, finishR, walk}
 use Rattle.resolved.specs.Resolves.{stage-own}
 use Rattle.resolved.specs.Inside.{walk-within}
-use Rattle.resolved.specs.Noted.{isContainer, leafOf, LeafNoted, unseen, early, reached, Noted, Reads, is-fresh, is-taken, is-gone, is-kept, reads}
+use Rattle.resolved.specs.Noted.{isContainer, leafOf, LeafNoted, unseen, early, reached, Noted, WordSays, is-fresh, is-taken, is-gone, is-kept, reads}
 use Rattle.resolved.specs.Ranges.{ListsLie}
 use Rattle.resolved.specs.Resolving.{walk-resolves}
 use Rattle.resolved.specs.Fits.{fits-take, fits-block}
@@ -65,7 +65,7 @@ head-taken t measures s (x ∷ l) n b = go (isContainer (at t x .label)) refl
     go : (c : Bool) → isContainer (at t x .label) ≡ c → eqb (getD measures x 0) 1 ≡ isTaken (s .stages x)
     go true c = box (reads t valueWord measures s x n (b x here) c)
       where
-        box : Reads t valueWord s x (getD measures x 0) → eqb (getD measures x 0) 1 ≡ isTaken (s .stages x)
+        box : WordSays t valueWord s x (getD measures x 0) → eqb (getD measures x 0) 1 ≡ isTaken (s .stages x)
         box (is-fresh e y) = rw (e, y)
         box (is-taken e y) = rw (e, y)
         box (is-gone v e g y) = rw (e, y)

@@ -18,7 +18,7 @@ use Rattle.resolve.specs.Word.{packW, word-large}
 use Rattle.resolved.specs.Walk.{WalkState, WalkMade, WalkCase, copied, inside, stuck, entered, walk-case, gone, stageR, eachR, finishR, walk}
 use Rattle.resolved.specs.Resolves.{Resolves}
 use Rattle.resolved.specs.Dues.{isDue, dues}
-use Rattle.resolved.specs.Noted.{isContainer, ahead, leafOf, LeafNoted, unseen, early, reached, Noted, Stamped, stamp-store, stamp-there, stamp-textless, leaf-walk, Reads, is-fresh, is-taken, is-gone, is-kept, reads}
+use Rattle.resolved.specs.Noted.{isContainer, ahead, leafOf, LeafNoted, unseen, early, reached, Noted, Stamped, stamp-store, stamp-there, stamp-textless, leaf-walk, WordSays, is-fresh, is-taken, is-gone, is-kept, reads}
 use Rattle.lists.specs.Kinds.{containerKind}
 use Rattle.resolve.specs.Facts.{valueWord, kindAt, Facts, Shallow}
 use Rattle.resolve.specs.declared.Seen.{Seen}
@@ -166,7 +166,7 @@ module _ (p ws starts : List ℕ) (t : List Node) (s : WalkState) (f : Facts p w
     pub know-open : getD before i 0 ≡ 0 → containerKind (kindAt ws i) ≡ true → Knows t before before s i Open
     know-open e h = let c : isContainer (at t i .label) ≡ true = f .containers i l ∙ h in go c (reads t valueWord before s i n l c)
       where
-        go : isContainer (at t i .label) ≡ true → Reads t valueWord s i (getD before i 0) → Knows t before before s i Open
+        go : isContainer (at t i .label) ≡ true → WordSays t valueWord s i (getD before i 0) → Knows t before before s i Open
         go c (is-fresh x y) = k-open c x refl
         go c (is-taken x y) = absurd (omega arith)
         go c (is-gone v x g y) = absurd (omega arith)
@@ -179,7 +179,7 @@ module _ (p ws starts : List ℕ) (t : List Node) (s : WalkState) (f : Facts p w
         go : (b : Bool) → isContainer (at t i .label) ≡ b → Knows t before before s i Empty
         go true c = box (reads t valueWord before s i n l c)
           where
-            box : Reads t valueWord s i (getD before i 0) → Knows t before before s i Empty
+            box : WordSays t valueWord s i (getD before i 0) → Knows t before before s i Empty
             box (is-fresh x y) = absurd (e y)
             box (is-taken x y) = k-empty (λ k. taken-yields k x)
             box (is-gone v x g y) =
@@ -201,7 +201,7 @@ module _ (p ws starts : List ℕ) (t : List Node) (s : WalkState) (f : Facts p w
         go : (b : Bool) → isContainer (at t i .label) ≡ b → Knows t before before s i (Word (getD before i 0))
         go true c = box (reads t valueWord before s i n l c)
           where
-            box : Reads t valueWord s i (getD before i 0) → Knows t before before s i (Word (getD before i 0))
+            box : WordSays t valueWord s i (getD before i 0) → Knows t before before s i (Word (getD before i 0))
             box (is-fresh x y) = absurd (omega arith)
             box (is-taken x y) = absurd (omega arith)
             box (is-gone v x g y) = absurd (omega arith)
@@ -221,7 +221,7 @@ module _ (p ws starts : List ℕ) (t : List Node) (s : WalkState) (f : Facts p w
         go : (b : Bool) → isContainer (at t i .label) ≡ b → Knows t before (set before i w) s i (Word w)
         go true c = box (reads t valueWord before s i n l c)
           where
-            box : Reads t valueWord s i (getD before i 0) → Knows t before (set before i w) s i (Word w)
+            box : WordSays t valueWord s i (getD before i 0) → Knows t before (set before i w) s i (Word w)
             box (is-fresh x y) = absurd (omega arith)
             box (is-taken x y) = absurd (omega arith)
             box (is-gone v x g y) = absurd (omega arith)

@@ -28,7 +28,7 @@ use Rattle.resolved.specs.Ranges.{ListsLie}
 use Rattle.resolved.specs.Resolving.{walk-resolves}
 use Rattle.resolved.specs.Listed.{lists-none}
 use Rattle.resolved.specs.Sums.{upTo}
-use Rattle.resolved.specs.Noted.{isContainer, isTextLeaf, ahead, leafOf, LeafNoted, unseen, early, reached, Reads, is-fresh, is-taken, is-gone, is-kept, reads}
+use Rattle.resolved.specs.Noted.{isContainer, isTextLeaf, ahead, leafOf, LeafNoted, unseen, early, reached, WordSays, is-fresh, is-taken, is-gone, is-kept, reads}
 use Rattle.resolved.specs.Reached.{textIf, container-done, leaf-done, done-leaf, done-container, texts-held}
 use Rattle.resolved.specs.Fits.{fits-start}
 use Rattle.resolve.specs.Length.{LengthReadable}
@@ -136,7 +136,7 @@ pub measures-low : {t : List Node} {beyond : length t ≤ 4096} {starts lent mea
     → (j : ℕ) → j < length t → getD measures j 0 < 2 * ahead
 measures-low {t} {measures = measures} {s = s} h j l = go (isContainer (at t j .label)) refl
   where
-    box : Reads t valueWord s j (getD measures j 0) → getD measures j 0 < 2 * ahead
+    box : WordSays t valueWord s j (getD measures j 0) → getD measures j 0 < 2 * ahead
     box (is-fresh e y) = omega arith
     box (is-taken e y) = omega arith
     box (is-gone v e g y) = omega arith

@@ -199,8 +199,9 @@ fn blocked(kind: u64, at: usize, end: usize, sorted: &[u16], measures: &[u64]) -
     if kind != value::KIND_OBJECT {
         false
     } else if at < end {
-        let first = sorted[at] as usize;
-        measures[first] == 1
+        let arguments = NodeId(sorted[at] as usize);
+        let i = arguments.0;
+        measures[i] == 1
     } else {
         false
     }

@@ -191,21 +191,21 @@ module _ (t : List Node) (word : Value → ℕ) where
 
   -- ---- what a container's word says
 
-  pub data Reads (s : WalkState) (i w : ℕ) : Type 0 where
-    is-fresh : s .stages i ≡ fresh → w ≡ 0 → Reads s i w
-    is-taken : s .stages i ≡ taken → w ≡ 1 → Reads s i w
-    is-gone : (v : Value) → s .stages i ≡ kept v → gone t i v ≡ true → w ≡ 3 → Reads s i w
-    is-kept : (v : Value) → s .stages i ≡ kept v → gone t i v ≡ false → w ≡ word v → Reads s i w
+  pub data WordSays (s : WalkState) (i w : ℕ) : Type 0 where
+    is-fresh : s .stages i ≡ fresh → w ≡ 0 → WordSays s i w
+    is-taken : s .stages i ≡ taken → w ≡ 1 → WordSays s i w
+    is-gone : (v : Value) → s .stages i ≡ kept v → gone t i v ≡ true → w ≡ 3 → WordSays s i w
+    is-kept : (v : Value) → s .stages i ≡ kept v → gone t i v ≡ false → w ≡ word v → WordSays s i w
 
-  pub reads : (words : List ℕ) (s : WalkState) (i : ℕ) → Noted words s → i < length t → isContainer (at t i .label) ≡ true → Reads s i (getD words i 0)
+  pub reads : (words : List ℕ) (s : WalkState) (i : ℕ) → Noted words s → i < length t → isContainer (at t i .label) ≡ true → WordSays s i (getD words i 0)
   reads words s i n l c = go (s .stages i) refl (n .container i l c)
     where
-      go : (m : Stage) → s .stages i ≡ m → getD words i 0 ≡ noted i (s .stages i) → Reads s i (getD words i 0)
+      go : (m : Stage) → s .stages i ≡ m → getD words i 0 ≡ noted i (s .stages i) → WordSays s i (getD words i 0)
       go fresh e h = is-fresh e (h ∙ ap (noted i) e)
       go taken e h = is-taken e (h ∙ ap (noted i) e)
       go (kept v) e h = go2 (gone t i v) refl (h ∙ ap (noted i) e)
         where
-          go2 : (b : Bool) → gone t i v ≡ b → getD words i 0 ≡ cond (gone t i v) 3 (word v) → Reads s i (getD words i 0)
+          go2 : (b : Bool) → gone t i v ≡ b → getD words i 0 ≡ cond (gone t i v) 3 (word v) → WordSays s i (getD words i 0)
           go2 true f k = is-gone v e f (let f′ = f in rw f′ at k)
           go2 false f k = is-kept v e f (let f′ = f in rw f′ at k)
 

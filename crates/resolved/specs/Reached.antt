@@ -17,7 +17,7 @@ use Rattle.resolved.specs.Resolves.{Resolves, Stood}
 use Rattle.resolved.specs.Resolving.{walk-resolves}
 use Rattle.resolved.specs.Tree.{walked, start-resolves}
 use Rattle.resolved.specs.Capacity.{ownText, spent, text-spent}
-use Rattle.resolved.specs.Noted.{isContainer, isTextLeaf, ahead, leafOf, Noted, unseen, early, reached, LeafNoted, Reads, is-fresh, is-taken, is-gone, is-kept, reads}
+use Rattle.resolved.specs.Noted.{isContainer, isTextLeaf, ahead, leafOf, Noted, unseen, early, reached, LeafNoted, WordSays, is-fresh, is-taken, is-gone, is-kept, reads}
 use Rattle.resolved.specs.Sums.{upTo, sumOver, upTo-over}
 
 -- the text of node j where it is due
@@ -29,7 +29,7 @@ module _ (t : List Node) (word : Value → ℕ) (nowhere : ℕ) (words : List �
   pub container-done : (j : ℕ) → j < length t → isContainer (at t j .label) ≡ true → 3 < getD words j 0 → In j (s .done)
   container-done j l c h = go (reads t word words s j n l c)
     where
-      go : Reads t word s j (getD words j 0) → In j (s .done)
+      go : WordSays t word s j (getD words j 0) → In j (s .done)
       go (is-fresh e y) = absurd (omega arith)
       go (is-taken e y) = absurd (omega arith)
       go (is-gone v e g y) = absurd (omega arith)

@@ -18,7 +18,7 @@ use Rattle.ser.specs.Image.{framed, pickled}
 use Rattle.ser.specs.Walk.{ReadyToWrite, Puts}
 use Rattle.ser.specs.Short.{written-short}
 use Rattle.ser.specs.Length.{recordsTake, pickled-length}
-use Rattle.ser.specs.Writable.{writableIn, writableFrom, from-values, Readable, values-read}
+use Rattle.ser.specs.Writable.{writableIn, writableFrom, from-values, RecordsReadable, values-read}
 
 -- of a well-formed table's value, and the output that is lent
 unfoldable pub written : Value → List ℕ → Told
@@ -35,7 +35,7 @@ write-one w n t o p q r s x y = call-one x y
 
 module _ (w : List ℕ) (n : ℕ) (t : List ℕ) where
   -- every record can be looked at
-  pub read-all : WellFormed w n t → Readable w t 0 n
+  pub read-all : WellFormed w n t → RecordsReadable w t 0 n
   read-all f = rw (f .counted) at (values-read w t (one (f .value)) 0 (formed-stands w n t f) (omega (arith, f .counted, f .few, f .lent)))
 
   pub length-few : WellFormed w n t → recordsTake w 0 n + 3 < 2 ^ 64

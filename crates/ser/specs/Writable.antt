@@ -95,10 +95,10 @@ module _ (w t : List ℕ) where
       ap₂ _&&_ (ap writableLabel (s .0 .label)) (from-both (size c) (size r) (i + 1) ∙ ap₂ _&&_ (from-values c (i + 1) (s .1)) (from-values r (i + 1 + size c) (s .2)))
 
   -- each of n records from record i on can be read, with no more values in it than a table has records
-  abbrev pub Readable : ℕ → ℕ → Type 0
-  Readable i n = (k : ℕ) → i ≤ k → k < i + n → Reads w t k × (arityAt w k ≤ min 2048 (length w))
+  abbrev pub RecordsReadable : ℕ → ℕ → Type 0
+  RecordsReadable i n = (k : ℕ) → i ≤ k → k < i + n → Reads w t k × (arityAt w k ≤ min 2048 (length w))
 
-  pub values-read : (f : Forest) (i : ℕ) → Stands w t i f → i + size f ≤ min 2048 (length w) → Readable i (size f)
+  pub values-read : (f : Forest) (i : ℕ) → Stands w t i f → i + size f ≤ min 2048 (length w) → RecordsReadable i (size f)
   unfolding Stands size
   values-read nil i s m k a b = absurd (omega arith)
   values-read (node l c r) i s m k a b =

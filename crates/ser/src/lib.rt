@@ -30,7 +30,7 @@ ghost use Rattle.value.specs.Shape.{kindIn, namesEnd, modulePart, namePart};
 ghost use Rattle.ser.specs.Image.{low, high, inI32, intImage, floatImage, bytesImage, stringImage, globalImage, setOpening, boolImage, opening, joined, oneBatch, batchSize, batches, itemsImage, tupleMark, tupleOpcode, tupleImage, objectOpcode, objectImage, framed};
 ghost use Rattle.ser.specs.Walk.{ReadyToWrite, Puts, Wrote};
 ghost use Rattle.ser.specs.Length.{batchesTake, appendsTake, around, openingTakes, recordTakes, recordsTake};
-ghost use Rattle.ser.specs.Writable.{endsCr, writable, writableLabel, writableFrom, Readable};
+ghost use Rattle.ser.specs.Writable.{endsCr, writable, writableLabel, writableFrom, RecordsReadable};
 ghost use Rattle.ser.specs.Call.{WriteCall};
 
 // The low `count` bytes of a number, low byte first.
@@ -612,7 +612,7 @@ fn record_len(words: &[u64], i: usize) -> usize
 
 // What all records take, and PROTO 2 and STOP.
 fn pickle_len(words: &[u64], count: usize, text: &[u8]) -> usize
-    requires { ⌜ Readable (now words) (now text) 0 count ⌝ }
+    requires { ⌜ RecordsReadable (now words) (now text) 0 count ⌝ }
     requires { ⌜ recordsTake (now words) 0 count + 3 < 2 ^ 64 ⌝ }
     ensures { λ r. ⌜ r ≡ recordsTake (now (words .entry)) 0 count + 3 ⌝ }
 {
@@ -684,7 +684,7 @@ fn record_is_writable(words: &[u64], text: &[u8], i: usize) -> bool
 
 // The same of all records.
 fn is_writable(words: &[u64], count: usize, text: &[u8]) -> bool
-    requires { ⌜ Readable (now words) (now text) 0 count ⌝ }
+    requires { ⌜ RecordsReadable (now words) (now text) 0 count ⌝ }
     ensures { λ r. ⌜ r ≡ writableFrom (now (words .entry)) (now (text .entry)) 0 count ⌝ }
 {
     let mut i = 0;

@@ -15,7 +15,7 @@ use Rattle.steps.specs.State.{Node, State, kidless}
 use Rattle.steps.specs.Opcodes.{isObject}
 use Rattle.steps.specs.Run.{Next, step}
 use Rattle.steps.specs.Out.{Out, weaken}
-use Rattle.steps.specs.Effect.{TakesItems, grows-inside, object-inside, StateEffect, same, marked, cut, again, new, grown, built, noted}
+use Rattle.steps.specs.Effect.{TakesItems, grows-inside, object-inside, StateEffect, same, marked, cut, again, new, grown, stateSet, noted}
 use Rattle.steps.specs.Keeps.{stateAfter, step-effected}
 
 -- from the node n to the node m
@@ -45,7 +45,7 @@ effect-changes s t (cut st ms a b) = no-change (s .nodes)
 effect-changes s t (again i k h) = no-change (s .nodes)
 effect-changes s t (new n st ms lk a b c d e f g h) = record { more = rw length-append (omega arith); each = λ i u. rw (List·getD-append (s .nodes) (n ∷ []) (kidless NoneL) i u) stays }
 effect-changes s t (grown o is st ms a b c d e f) = set-change (s .nodes) o _ (grows-inside (s .nodes) o (length is) d) (longer is d)
-effect-changes s t (built o i st a b c d) = set-change (s .nodes) o _ (object-inside (s .nodes) o d) (stated i d)
+effect-changes s t (stateSet o i st a b c d) = set-change (s .nodes) o _ (object-inside (s .nodes) o d) (stated i d)
 effect-changes s t (noted k i a b) = no-change (s .nodes)
 
 pub step-changes : (ed : Edition) (s : State) → Out (λ (n : Next). Changes (s .nodes) (stateAfter n .nodes)) (step ed s)

@@ -105,7 +105,7 @@ pub data StateEffect (s : State) : State → Type 0 where
       → Every (Known s) is → s .links + length is ≤ linksLimit
       → StateEffect s (record { input = s .input; nodes = set (s .nodes) o (record { label = nodeAt s o .label; kids = nodeAt s o .kids ++ is }); stack = st; marks = ms; memo = s .memo; links = s .links + length is })
   -- BUILD: an Object has a state
-  built :
+  stateSet :
       (o i : ℕ) (st : List ℕ) → BeginningOf st (s .stack) → Known s o → Known s i → T (isObject (nodeAt s o .label))
       → StateEffect s (record { input = s .input; nodes = set (s .nodes) o (record { label = nodeAt s o .label; kids = getD (nodeAt s o .kids) 0 0 ∷ i ∷ [] }); stack = st; marks = s .marks; memo = s .memo; links = s .links })
   -- the PUTs
@@ -119,7 +119,7 @@ effect-input s t (cut st ms a b) = refl
 effect-input s t (again i k h) = refl
 effect-input s t (new n st ms lk a b c d e f g h) = refl
 effect-input s t (grown o is st ms a b c d e f) = refl
-effect-input s t (built o i st a b c d) = refl
+effect-input s t (stateSet o i st a b c d) = refl
 effect-input s t (noted k i a b) = refl
 
 -- ---- the stack, as pickletools has it

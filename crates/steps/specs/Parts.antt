@@ -16,7 +16,7 @@ use Rattle.value.specs.Value.{Label, SetL, FrozenSetL, ListL, TupleL, DictL}
 use Rattle.steps.specs.State.{Node, State, Res, _>>=_, kidless, linksLimit, withStack, withMarks, withLinks, last, butLast, pop, top, popMark, popMany, pushId, pushNode, push, link, nodeAt, extend, get, put}
 use Rattle.steps.specs.Opcodes.{isList, isDict, isTuple, mark, popOne, popToMark, dup, made, list, tuple, tupleN, pairs, dict, addItems, append, appends, setitem, setitems, builtin, setName, frozensetName, object, setOf, reduced, called, reduce, newobj, buildState}
 use Rattle.steps.specs.Out.{Out, out, bind-any, bind-need, join-need, Every, every-of}
-use Rattle.steps.specs.Effect.{linked, linked-none, held, Right, Known, stacked, kept, inside, known-drop, BeginningOf, TakesItems, same, marked, cut, again, new, grown, built, noted, moved, Stacks, Did}
+use Rattle.steps.specs.Effect.{linked, linked-none, held, Right, Known, stacked, kept, inside, known-drop, BeginningOf, TakesItems, same, marked, cut, again, new, grown, stateSet, noted, moved, Stacks, Did}
 
 -- ---- parts of a list
 
@@ -257,7 +257,7 @@ build-did s = bind-pop _ s _ λ h. bind-top _ (withStack s (butLast (s .stack)))
     let z = rw length-take at u in
     let e : last (take n (s .stack)) ≡ getD (s .stack) (n - 1) 0 = last-take n (s .stack) (omega arith) (omega arith) in
     out _ _ (record {
-      effect = built (last (take n (s .stack))) (last (s .stack)) (take n (s .stack)) (upto n (s .stack)) (rw e (stacked (n - 1) (omega arith))) (topmost s h) v;
+      effect = stateSet (last (take n (s .stack))) (last (s .stack)) (take n (s .stack)) (upto n (s .stack)) (rw e (stacked (n - 1) (omega arith))) (topmost s h) v;
       stacks = by-values 2 1 n [] s _ (omega arith) (omega arith) (omega arith) (sym (append-nil _)) (omega arith) refl;
     })
 

@@ -11,7 +11,7 @@ use Rattle.value.specs.Value.{NoneL}
 use Rattle.steps.specs.State.{Node, State, ok, kidless, withInput, nodeAt, memoFind, memoInsert}
 use Rattle.steps.specs.Run.{Next, step, start, run}
 use Rattle.steps.specs.Out.{Out, Every, every-append, every-take, every-at, every-more}
-use Rattle.steps.specs.Effect.{Known, stacked, kept, inside, BeginningOf, object-inside, StateEffect, same, marked, cut, again, new, grown, built, noted}
+use Rattle.steps.specs.Effect.{Known, stacked, kept, inside, BeginningOf, object-inside, StateEffect, same, marked, cut, again, new, grown, stateSet, noted}
 use Rattle.steps.specs.Keeps.{stateAfter, step-keeps, run-keeps}
 
 -- numbers below n: in a list, in the memo's entries, in the nodes' contents
@@ -111,7 +111,7 @@ range-effect s t r (new x st ms lk a b c d e f g h) =
     }
 range-effect s t r (grown o is st ms a b c d e f) =
     range-set s o (record { label = nodeAt s o .label; kids = nodeAt s o .kids ++ is }) st ms _ r (part-below _ st (s .stack) a (r .on-stack)) (every-append _ (nodeAt s o .kids) is (contents-at _ (s .nodes) o (r .in-nodes)) (knowns-below s is r e))
-range-effect s t r (built o i st a b c d) =
+range-effect s t r (stateSet o i st a b c d) =
     let h = object-inside (s .nodes) o d in
     range-set s o (record { label = nodeAt s o .label; kids = getD (nodeAt s o .kids) 0 0 ∷ i ∷ [] }) st (s .marks) (s .links) r (part-below _ st (s .stack) a (r .on-stack)) (first-below _ (nodeAt s o .kids) (omega arith) (contents-at _ (s .nodes) o (r .in-nodes)), (known-below s i r c, tt))
 range-effect s t r (noted k i a b) = record { on-stack = r .on-stack; in-memo = entries-insert _ (s .memo) k i (r .in-memo) (known-below s i r a); in-nodes = r .in-nodes }

@@ -16,7 +16,7 @@ use Rattle.steps.specs.State.{Node, State, kidless}
 use Rattle.steps.specs.Opcodes.{isTuple, isObject}
 use Rattle.steps.specs.Run.{start, run}
 use Rattle.steps.specs.Out.{Out}
-use Rattle.steps.specs.Effect.{Right, labelled, TakesItems, StateEffect, same, marked, cut, again, new, grown, built, noted}
+use Rattle.steps.specs.Effect.{Right, labelled, TakesItems, StateEffect, same, marked, cut, again, new, grown, stateSet, noted}
 use Rattle.steps.specs.Keeps.{run-keeps}
 use Rattle.steps.specs.Changes.{Changed, stays, longer, stated, changed-label, Changes, effect-changes}
 
@@ -115,7 +115,7 @@ shaped-effect s t h (cut st ms a b) = h
 shaped-effect s t h (again i k a) = h
 shaped-effect s t h (new n st ms lk a b k r d e f g) = shaped-more (s .nodes) n (effect-changes s t (new n st ms lk a b k r d e f g)) r h
 shaped-effect s t h (grown o is st ms a b k g d e) = shaped-all (s .nodes) _ (effect-changes s t (grown o is st ms a b k g d e)) (simp length-set) h
-shaped-effect s t h (built o i st a b c d) = shaped-all (s .nodes) _ (effect-changes s t (built o i st a b c d)) (simp length-set) h
+shaped-effect s t h (stateSet o i st a b c d) = shaped-all (s .nodes) _ (effect-changes s t (stateSet o i st a b c d)) (simp length-set) h
 shaped-effect s t h (noted k i a b) = h
 
 pub run-shaped : (ed : Edition) (p : List ℕ) → Out (λ (t : State). Shaped (t .nodes)) (run ed p)

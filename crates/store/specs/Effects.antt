@@ -31,13 +31,13 @@ pub put-is : (k : ℕ) (s : State) → put k s ≡ (top s >>= λ i. remember k i
 unfolding put remember
 put-is k s = refl
 
--- `added` behind the container: LinksFull, else the items
+-- `addItems` behind the container: LinksFull, else the items
 unfoldable pub grow : ℕ → List ℕ → State → Res State
 grow o is s = do
   s₁ ← link (length is) s
   ok (extend o is s₁)
 
--- `build` behind the Object: its state is i
+-- `buildState` behind the Object: its state is i
 unfoldable pub withState : ℕ → ℕ → State → State
 withState o i s = withNodes s (set (s .nodes) o (record { label = nodeAt s o .label; kids = getD (nodeAt s o .kids) 0 0 ∷ i ∷ [] }))
 

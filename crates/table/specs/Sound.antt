@@ -179,7 +179,7 @@ record-at w i l p n z h r = four w i h ∙ rw (words-three l p n z, r .w0, r .w1
 
 module _ (w t : List ℕ) (i p z : ℕ) where
   -- what a right record gives: a known kind, a text that fits, and where it is
-  pub record Own : Type 0 where
+  pub record RightRecord : Type 0 where
     pub known : kindIn (wordAt w i 0) < 13
     pub fit : spanOf (kindIn (wordAt w i 0)) (wordAt w i 2) ≤ length (drop (wordAt w i 1) t)
     pub fits : T (fitting (labelAt w t i) (arityAt w i))
@@ -187,7 +187,7 @@ module _ (w t : List ℕ) (i p z : ℕ) where
     pub inside : p ≤ length t → p + length (textOf (labelAt w t i)) ≤ length t
     pub size : (arityAt w i ≡ 0 → z ≡ 1) → sizeAt w i ≡ z
 
-  pub own : RecordWords w i (recordOf (labelAt w t i) p (arityAt w i) z) → Own
+  pub own : RecordWords w i (recordOf (labelAt w t i) p (arityAt w i) z) → RightRecord
   unfolding labelAt arityAt
   own r =
       let a = wordAt w i 0 in

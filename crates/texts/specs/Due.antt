@@ -40,8 +40,8 @@ dueText p ws measures (suc n) = dueText p ws measures n + cond (textDue p ws n (
 unfoldable pub textKind : ℕ → Bool
 textKind k = cond (ltb k 4) false (cond (ltb k 6) true (cond (ltb k 11) false (ltb k 15)))
 
-unfoldable pub dueWord : ℕ → ℕ → Bool
-dueWord a m = textKind (kindIn a) && (leb 128 m && ltb m (cond (eqb (kindIn a) 12) (2 ^ 42) (2 ^ 41)))
+unfoldable pub textDueWord : ℕ → ℕ → Bool
+textDueWord a m = textKind (kindIn a) && (leb 128 m && ltb m (cond (eqb (kindIn a) 12) (2 ^ 42) (2 ^ 41)))
 
 module _ (p ws : List ℕ) (a b : ℕ) where
   abbrev nth : ℕ → Label
@@ -66,8 +66,8 @@ module _ (p ws : List ℕ) (a b : ℕ) where
   due-at (suc (suc (suc (suc (suc (suc (suc (suc (suc (suc (suc (suc (suc (suc zero)))))))))))))) m h = refl
   due-at (suc (suc (suc (suc (suc (suc (suc (suc (suc (suc (suc (suc (suc (suc (suc k))))))))))))))) m h = let e : k ≡ 0 = omega arith in rw e
 
-pub due-word : (p ws : List ℕ) (i m : ℕ) → dueWord (first ws i) m ≡ textDue p ws i m
-unfolding dueWord textDue nodeLabel kindIn
+pub due-word : (p ws : List ℕ) (i m : ℕ) → textDueWord (first ws i) m ≡ textDue p ws i m
+unfolding textDueWord textDue nodeLabel kindIn
 due-word p ws i m = due-at p ws (first ws i) (second ws i) (kindIn (first ws i)) m (omega arith)
 
 -- what is wanted has a text, and is not decoded yet
@@ -96,22 +96,22 @@ and-true true = refl
 and-true false = refl
 
 module _ (a m : ℕ) where
-  pub due-early : m < 128 → false ≡ dueWord a m
-  unfolding dueWord
+  pub due-early : m < 128 → false ≡ textDueWord a m
+  unfolding textDueWord
   due-early h = rw (lt-leb 128 m h) (and-false (textKind (kindIn a)))
 
   module _ (h : 128 ≤ m) where
-    pub due-object : kindIn a ≡ 12 → ltb m (2 ^ 42) ≡ dueWord a m
-    unfolding dueWord textKind
+    pub due-object : kindIn a ≡ 12 → ltb m (2 ^ 42) ≡ textDueWord a m
+    unfolding textDueWord textKind
     due-object e = rw (e, le-leb 128 m h)
 
     module _ (n : kindIn a ≢ 12) where
-      pub due-late : 2 ^ 41 ≤ m → false ≡ dueWord a m
-      unfolding dueWord
+      pub due-late : 2 ^ 41 ≤ m → false ≡ textDueWord a m
+      unfolding textDueWord
       due-late l = rw (ne-eqb _ _ n, le-leb 128 m h, le-ltb m (2 ^ 41) l) (and-false (textKind (kindIn a)))
 
-      pub due-leaf : m < 2 ^ 41 → textKind (kindIn a) ≡ dueWord a m
-      unfolding dueWord
+      pub due-leaf : m < 2 ^ 41 → textKind (kindIn a) ≡ textDueWord a m
+      unfolding textDueWord
       due-leaf l = rw (ne-eqb _ _ n, le-leb 128 m h, lt-ltb m (2 ^ 41) l) (and-true (textKind (kindIn a)))
 
 module _ (k : ℕ) where

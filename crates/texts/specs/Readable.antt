@@ -11,13 +11,13 @@ use Rattle.steps.specs.NodeWords.{first, classIn}
 use Rattle.resolved.specs.Resolved.{Kids}
 use Rattle.resolved.specs.Shown.{Shown, Spelled, leadText, trailText}
 
-pub record Readable (ws measures : List ℕ) (i : ℕ) : Type 0 where
+pub record TextReadable (ws measures : List ℕ) (i : ℕ) : Type 0 where
   pub words : 2 * i + 1 < length ws
   pub measured : i < length measures
   pub class : kindIn (first ws i) ≡ 12 → 2 * classIn (first ws i) + 1 < length ws
 
 -- rooms that show the nodes have it
-pub shown-readable : (t : List Node) (h : Kids) (P : ℕ → Type 0) (p d ws starts sorted log measures : List ℕ) (i : ℕ) → Shown t h P p d ws starts sorted log measures → i < length t → Readable ws measures i
+pub shown-readable : (t : List Node) (h : Kids) (P : ℕ → Type 0) (p d ws starts sorted log measures : List ℕ) (i : ℕ) → Shown t h P p d ws starts sorted log measures → i < length t → TextReadable ws measures i
 shown-readable t h P p d ws starts sorted log measures i s l =
     record {
       words = omega (arith, s .words-long);

@@ -9,11 +9,11 @@ ghost use Rattle.text.specs.Pieces.{bytesOf};
 ghost use Rattle.text.specs.Text.{pick, unescapeString, unescapeUnicode};
 ghost use Rattle.steps.specs.NodeWords.{within};
 ghost use Rattle.resolved.specs.Shown.{leadText, trailText};
-ghost use Rattle.texts.specs.Readable.{Readable};
+ghost use Rattle.texts.specs.Readable.{TextReadable};
 ghost use Rattle.texts.specs.Place.{placed};
 ghost use Rattle.texts.specs.Measure.{measureOf};
 ghost use Rattle.texts.specs.Spell.{PutsText, TextRoom, Spells, StandsDecoded, SpellsNode, Unspelled};
-ghost use Rattle.texts.specs.Due.{textKind, dueWord, DecodableOne, DecodesOne, Decodable, Decodes};
+ghost use Rattle.texts.specs.Due.{textKind, textDueWord, DecodableOne, DecodesOne, Decodable, Decodes};
 use store::NodeId;
 use text::Decoded;
 use text::Quoted;
@@ -78,7 +78,7 @@ fn text_place(second: u64) -> TextPlace
 }
 
 fn lead_place(node: NodeId, nodes: &[u64], measures: &[u64]) -> TextPlace
-    requires { ⌜ Readable (now nodes) (now measures) (node .0) ⌝ }
+    requires { ⌜ TextReadable (now nodes) (now measures) (node .0) ⌝ }
     ensures { λ r. ⌜ ((p d : List ℕ) → placed r p d ≡ leadText p d (now (nodes .entry)) (now (measures .entry)) (node .0)) ⌝ }
 {
     let i = node.0;
@@ -103,7 +103,7 @@ fn lead_place(node: NodeId, nodes: &[u64], measures: &[u64]) -> TextPlace
 }
 
 fn trail_place(node: NodeId, nodes: &[u64], measures: &[u64]) -> TextPlace
-    requires { ⌜ Readable (now nodes) (now measures) (node .0) ⌝ }
+    requires { ⌜ TextReadable (now nodes) (now measures) (node .0) ⌝ }
     ensures { λ r. ⌜ ((p d : List ℕ) → placed r p d ≡ trailText p d (now (nodes .entry)) (now (measures .entry)) (node .0)) ⌝ }
 {
     let i = node.0;
@@ -139,7 +139,7 @@ pub fn lead_part<'a>(
     nodes: &[u64],
     measures: &[u64],
 ) -> &'a [u8]
-    requires { ⌜ Readable (now nodes) (now measures) (node .0) ⌝ }
+    requires { ⌜ TextReadable (now nodes) (now measures) (node .0) ⌝ }
     ensures { λ r. ⌜ now r ≡ leadText (now (pickle .entry)) (now (decoded .entry)) (now (nodes .entry)) (now (measures .entry)) (node .0) ⌝ }
 {
     text_of_place(pickle, decoded, lead_place(node, nodes, measures))
@@ -153,7 +153,7 @@ pub fn trail_part<'a>(
     nodes: &[u64],
     measures: &[u64],
 ) -> &'a [u8]
-    requires { ⌜ Readable (now nodes) (now measures) (node .0) ⌝ }
+    requires { ⌜ TextReadable (now nodes) (now measures) (node .0) ⌝ }
     ensures { λ r. ⌜ now r ≡ trailText (now (pickle .entry)) (now (decoded .entry)) (now (nodes .entry)) (now (measures .entry)) (node .0) ⌝ }
 {
     text_of_place(pickle, decoded, trail_place(node, nodes, measures))
@@ -354,8 +354,8 @@ fn kind_has_text(kind: u64) -> bool
 }
 
 // Whether a node's text is wanted: the walk reached it, as its measure says.
-fn is_due(first: u64, measure: u64) -> bool
-    ensures { λ r. ⌜ r ≡ dueWord first measure ⌝ }
+fn text_is_due(first: u64, measure: u64) -> bool
+    ensures { λ r. ⌜ r ≡ textDueWord first measure ⌝ }
 {
     let kind = first % store::KIND_RADIX;
     if measure < store::DEPTHS {
@@ -387,7 +387,7 @@ fn decode_one(
 {
     let i = node.0;
     let measure = measures[i];
-    if is_due(nodes[2 * i], measure) {
+    if text_is_due(nodes[2 * i], measure) {
         let spelling = spell_node(node, measure, pickle, nodes, decoded, used);
         measures[i] = spelling.measure;
         return spelling.used;

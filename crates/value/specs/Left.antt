@@ -135,18 +135,18 @@ module _ (a s b t : List ℕ) (k l : ℕ) (v o : Ordering) where
       go (node m d r) g p q e = absurd (omega arith)
 
   -- the next two records can be read, and what they say does not wrap
-  pub record Readable (left : ℕ) : Type 0 where
+  pub record NextReadable (left : ℕ) : Type 0 where
     pub reads₁ : Reads a s k
     pub reads₂ : Reads b t l
     pub arity₁ : arityAt a k ≤ length a
     pub arity₂ : arityAt b l ≤ length b
     pub more : 4 * (k + left + arityAt a k) ≤ length a
 
-  pub left-reads : (left : ℕ) → left ≢ 0 → StillToCompare a s b t k l left v o → Readable left
+  pub left-reads : (left : ℕ) → left ≢ 0 → StillToCompare a s b t k l left v o → NextReadable left
   unfolding Stands count size
   left-reads left n h = go (h .first) (h .second) (h .stands₁) (h .stands₂) (h .count₁) (h .count₂)
     where
-      go : (f g : Forest) → Stands a s k f → Stands b t l g → count f ≡ left → count g ≡ left → Readable left
+      go : (f g : Forest) → Stands a s k f → Stands b t l g → count f ≡ left → count g ≡ left → NextReadable left
       go nil g x y p q = absurd (n (sym p))
       go (node m d r) nil x y p q = absurd (n (sym q))
       go (node m d r) (node m′ d′ r′) x y p q =

@@ -3,7 +3,7 @@ use borrow.Author.Needs.{needs}
 use Prim.Native.Nat.{ℕ}
 use mathlib.Core.Bool.{Bool}
 use native.Mathlib.Omega.{arith}
-use Rattle.number.proofs.Space.{Ahead, ahead, tested, tested-yes, tested-no, formless-out, formless-all}
+use Rattle.number.proofs.Space.{Ahead, ahead, tested, tested-yes, tested-no, no-space-out, no-space-all}
 use Rattle.number.proofs.space_at.Statement.{statement}
 use Rattle.number.proofs.space_at.Tie as tie
 
@@ -27,18 +27,18 @@ space-at-spec =
     tie.close
     (tie.spec
     (λ c. search needs)
-    (λ c. formless-out (ahead (c .before .before .args .line .now) (c .before .before .args .at)) (c .if1 .taken))
+    (λ c. no-space-out (ahead (c .before .before .args .line .now) (c .before .before .args .at)) (c .if1 .taken))
     (λ c. search needs)
     (λ c κs. tt)
     (λ c. tested-yes (one (c .before)) (omega arith) (c .if2 .taken))
-    (λ c. formless-out (tested-no (one (c .before .before)) (c .before .if2 .left)) (c .if3 .taken))
+    (λ c. no-space-out (tested-no (one (c .before .before)) (c .before .if2 .left)) (c .if3 .taken))
     (λ c. search needs)
     (λ c. search needs)
     (λ c κs. tt)
     (λ c. tested-yes (two (c .before)) (omega arith) (c .if4 .taken))
-    (λ c. formless-out (tested-no (two (c .before .before)) (c .before .if4 .left)) (c .if5 .taken))
+    (λ c. no-space-out (tested-no (two (c .before .before)) (c .before .if4 .left)) (c .if5 .taken))
     (λ c. search needs)
     (λ c. search needs)
     (λ c κs. tt)
     (λ c. tested-yes (three (c .before)) (omega arith) (c .if6 .taken))
-    (λ c. formless-all (tested-no (three (c .before)) (c .if6 .left))))
+    (λ c. no-space-all (tested-no (three (c .before)) (c .if6 .left))))

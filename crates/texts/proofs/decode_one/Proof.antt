@@ -9,12 +9,12 @@ use Rattle.texts.specs.Due.{textDue, due-word, due-text, passed, spelled
 
 -- ---- the places: the test of the node's first word, and what it tells
 
-abbrev start : tie.After-is-due → tie.Start
+abbrev start : tie.After-text-is-due → tie.Start
 start c = c .before .before .before .before .before .before .before
 
-due : (c : tie.After-is-due) → let a = start c .args in c .is-due .result ≡ textDue (a .pickle .now) (a .nodes .now) (a .node .0) (getD (a .measures .now) (a .node .0) 0)
+due : (c : tie.After-text-is-due) → let a = start c .args in c .text-is-due .result ≡ textDue (a .pickle .now) (a .nodes .now) (a .node .0) (getD (a .measures .now) (a .node .0) 0)
 unfolding first
-due c = c .is-due .ensures ∙ due-word _ _ _ _
+due c = c .text-is-due .ensures ∙ due-word _ _ _ _
 
 -- ---- the needs
 

@@ -12,7 +12,7 @@ use Rattle.value.specs.Order.{order}
 use Rattle.value.specs.Stands.{Stands}
 use Rattle.value.specs.Told.{told}
 use Rattle.value.specs.Walk.{step-first}
-use Rattle.value.specs.Left.{StillToCompare, Readable, left-done, left-reads, left-less, left-greater, left-next, same-kind}
+use Rattle.value.specs.Left.{StillToCompare, NextReadable, left-done, left-reads, left-less, left-greater, left-next, same-kind}
 
 abbrev Inv-loop : tie.InvT-loop
 Inv-loop a i s b j t walk₀ k₀ l₀ walk k l = (v w : Value) → Stands a s i (one v) → Stands b t j (one w) → StillToCompare a s b t k l (walk .left) (told (walk .verdict)) (order v w)
@@ -28,7 +28,7 @@ returns : tie.Need-returns Inv-loop μ-loop
 returns c = λ v w x y. left-done _ _ _ _ _ _ _ _ (rw (c .if1 .taken) at (c .before .loop .inv v w x y))
 
 -- a value is left, so that both can be read
-readable : (c : tie.Else1 Inv-loop μ-loop) → let a = c .before .before .before .before .before .before in let l = c .before .loop in Readable (a .args .a .now) (a .args .s .now) (a .args .b .now) (a .args .t .now) (l .k) (l .l) (told (l .walk .verdict)) (order (a .pre .0 .value) (a .pre .1 .value)) (l .walk .left)
+readable : (c : tie.Else1 Inv-loop μ-loop) → let a = c .before .before .before .before .before .before in let l = c .before .loop in NextReadable (a .args .a .now) (a .args .s .now) (a .args .b .now) (a .args .t .now) (l .k) (l .l) (told (l .walk .verdict)) (order (a .pre .0 .value) (a .pre .1 .value)) (l .walk .left)
 readable c = let a = c .before .before .before .before .before .before .pre in left-reads _ _ _ _ _ _ _ _ _ (c .if1 .left) (c .before .loop .inv (a .0 .value) (a .1 .value) (a .0 .stands) (a .1 .stands))
 
 -- their labels are compared, and the walk steps

@@ -2,7 +2,6 @@
 use borrow.Author.Needs.{needs}
 use Rattle.value.proofs.next.Statement.{statement}
 use Rattle.value.proofs.next.Tie as tie
-use borrow.Author.Needs.{needs}
 use Rattle.value.specs.Told.{told}
 use Rattle.value.specs.Left.{next-new, next-old, next-shorter, next-longer, next-same}
 

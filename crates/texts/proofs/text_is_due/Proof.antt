@@ -1,6 +1,6 @@
--- `texts::is_due` meets its contract. Assumes nothing.
-use Rattle.texts.proofs.is_due.Statement.{statement}
-use Rattle.texts.proofs.is_due.Tie as tie
+-- `texts::text_is_due` meets its contract. Assumes nothing.
+use Rattle.texts.proofs.text_is_due.Statement.{statement}
+use Rattle.texts.proofs.text_is_due.Tie as tie
 use mathlib.Core.Path.{_∙_}
 use Rattle.value.specs.Shape.{kindIn}
 use Rattle.texts.specs.Due.{due-early, due-object, due-late, due-leaf}
@@ -20,5 +20,5 @@ returns-4 : tie.Need-returns-4
 unfolding kindIn
 returns-4 c = c .kind-has-text .ensures ∙ due-leaf (c .before .before .before .before .args .first) (c .before .before .before .before .args .measure) (c .before .before .before .if1 .left) (c .before .before .if2 .left) (c .before .if3 .left)
 
-pub is-due-spec : {M : Type 1} → statement M
-is-due-spec = tie.close (tie.spec returns returns-2 returns-3 (λ c κs. tt) returns-4)
+pub text-is-due-spec : {M : Type 1} → statement M
+text-is-due-spec = tie.close (tie.spec returns returns-2 returns-3 (λ c κs. tt) returns-4)
