@@ -99,7 +99,7 @@ abbrev pub stateWithNode : State → List ℕ → Node → State → ℕ → Lis
 stateWithNode s i n t k m = record { input = i; nodes = t .nodes ++ (n ∷ []); stack = s .stack ++ (length (t .nodes) ∷ []); marks = m; memo = t .memo; links = k }
 
 pub node-more : (s t : State) (rest : List ℕ) (l : Label) (f : Forest) (k : ℕ) (m ks : List ℕ) → m ≡ s .marks → length (s .nodes) ≤ length (t .nodes) → ((i : ℕ) → i < length (s .nodes) → at (t .nodes) i ≡ at (s .nodes) i)
-    → WritesIn (t .nodes) (Between (length (s .nodes)) (length (t .nodes))) ks f → OneMore s rest l f (withNode s rest (record { label = l; kids = ks }) t k m)
+    → WritesIn (t .nodes) (Between (length (s .nodes)) (length (t .nodes))) ks f → OneMore s rest l f (stateWithNode s rest (record { label = l; kids = ks }) t k m)
 node-more s t rest l f k ms ks w m o v =
     let n : Node = record { label = l; kids = ks } in
     let z : length (t .nodes ++ (n ∷ [])) ≡ length (t .nodes) + 1 = length-append (t .nodes) (n ∷ []) in
