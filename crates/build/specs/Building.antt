@@ -20,8 +20,8 @@ use Rattle.reading.specs.Settle.{settle}
 use Rattle.siblings.specs.SideBySide.{Ended, SomeEnded, SideBySide}
 use Rattle.resolve.specs.Rooted.{ReadyToResolve}
 use Rattle.machine.specs.Clear.{UsedTo, zeroed, owners-used, children-used}
-use Rattle.produce.specs.Rooms.{Zeros, zeros-long, zeros-all, front-cleared}
-use Rattle.produce.specs.Measured.{WorkRooms}
+use Rattle.build.specs.Rooms.{Zeros, zeros-long, zeros-all, front-cleared}
+use Rattle.build.specs.Measured.{WorkRooms}
 use Rattle.build.specs.Parts.{minus-none, part-length, part-behind, zeros-at, part-back}
 use Rattle.build.specs.declared.Built.{Built}
 use Rattle.build.specs.declared.Built.the-variants as built
@@ -30,13 +30,6 @@ use Rattle.build.specs.declared.Built.the-variants as built
 pub record At (p ws owners log : List ℕ) (count links : ℕ) (r : Rooms) (c : Counts) : Type 0 where
   pub ended : Ended ws owners log count links r c
   pub pickle : r .pickle ≡ p
-
--- some are, and the root is a node
-pub record AtStop (p ws owners log : List ℕ) (count links root : ℕ) : Type 0 where
-  pub rooms : Rooms
-  pub counts : Counts
-  pub at : At p ws owners log count links rooms counts
-  pub known : root < count
 
 -- the rooms behind STOP, zero up to their stated lengths, and room for the outputs
 pub record Working (list decoded starts sorted measures table text : List ℕ) : Type 0 where
@@ -57,10 +50,6 @@ unfoldable pub Comes : Bool → Forest → Built → List ℕ → List ℕ → L
 Comes left f (built.Refused why) o q o′ q′ = (dueOf left f ≡ no why) × (o′ ≡ o) × (q′ ≡ q)
 Comes left f (built.Made n) o q o′ q′ = (dueOf left f ≡ ok tt) × (n ≡ size (settle f)) × (o′ ≡ table (settle f) 0 ++ drop (4 * size (settle f)) o) × (q′ ≡ text (settle f) ++ drop (length (text (settle f))) q)
 
--- of whatever rooms it could have been lent
-unfoldable pub Builds : List ℕ → List ℕ → List ℕ → List ℕ → ℕ → ℕ → ℕ → Bool → Built → List ℕ → List ℕ → List ℕ → List ℕ → Type 0
-Builds p ws owners log count links root left b o q o′ q′ = (r : Rooms) (c : Counts) → At p ws owners log count links r c → Comes left (one (tree (stateOf r c .nodes) root)) b o q o′ q′
-
 -- of whatever nodes the rooms say, once the children of each stand side by side
 unfoldable pub BuildsLaid : List ℕ → List ℕ → List ℕ → List ℕ → List ℕ → List ℕ → ℕ → Bool → Built → List ℕ → List ℕ → List ℕ → List ℕ → Type 0
 BuildsLaid p ws starts sorted measures dues root left b o q o′ q′ = (k : ReadyToResolve p ws starts sorted measures dues root) → Comes left (one (tree (k .nodes) root)) b o q o′ q′
@@ -77,10 +66,8 @@ module _ {p ws owners log : List ℕ} {count links : ℕ} {r : Rooms} {c : Count
   stands : SaysNodes p ws (stateOf r c .nodes)
   stands = record { rooms = r; counts = c; sound = a .ended .sound; pickle = a .pickle; words = a .ended .words; nodes = refl }
 
-  log-long : (8192 ≤ length owners) × (8192 ≤ length log)
-  log-long =
-      let l = a .ended .sound .firm .lengths in
-      (omega (arith, l .owners, ap length (a .ended .owners-are)), omega (arith, l .children, ap length (a .ended .log-is)))
+  owners-long : 8192 ≤ length owners
+  owners-long = omega (arith, a .ended .sound .firm .lengths .owners, ap length (a .ended .owners-are))
 
 -- of the log, its links are used
 pub log-used : {ws owners log : List ℕ} {count links : ℕ} → SomeEnded ws owners log count links → UsedTo links owners × UsedTo links log
@@ -88,46 +75,51 @@ log-used t =
     let e = t .ended in
     (rw (e .links-are, e .owners-are) at (owners-used (t .rooms) (t .counts) (e .sound .firm)), rw (e .links-are, e .log-is) at (children-used (t .rooms) (t .counts) (e .sound .firm)))
 
--- ---- from each step of `build` to the next
+-- ---- from each step of `answer` to the next
 
-module _ {p ws owners log : List ℕ} {count links root : ℕ} (k : AtStop p ws owners log count links root) {list decoded starts sorted measures o q : List ℕ} (w : Working list decoded starts sorted measures o q) where
+module _ {p ws owners log : List ℕ} {count links root : ℕ} {r : Rooms} {c : Counts} (a : At p ws owners log count links r c) (known : root < count) {list decoded starts sorted measures o q : List ℕ} (w : Working list decoded starts sorted measures o q) where
   pub stopped : SomeEnded ws owners log count links
-  stopped = record { rooms = k .rooms; counts = k .counts; ended = k .at .ended }
+  stopped = record { rooms = r; counts = c; ended = a .ended }
 
   pub count-few : count ≤ 4096
-  count-few = nodes-few (k .at)
+  count-few = nodes-few a
 
   pub children-fit : (count < length starts) × (16384 ≤ length sorted)
-  children-fit = (omega (arith, nodes-few (k .at), zeros-long (w .starts-zero)), zeros-long (w .sorted-zero))
+  children-fit = (omega (arith, nodes-few a, zeros-long (w .starts-zero)), zeros-long (w .sorted-zero))
 
   pub first-zero : getD starts 0 0 ≡ 0
   first-zero = zeros-at (w .starts-zero) 0 (omega arith)
+
+  pub list-fits : 2048 ≤ length list
+  list-fits = zeros-long (w .list-zero)
 
   -- the children are laid out, and the log is cleared
   module _ {starts′ sorted′ owners′ log′ : List ℕ} {used : ℕ} (S : SideBySide ws owners log count links starts sorted starts′ sorted′ used) (sl : length sorted′ ≡ length sorted) (e : (owners′ ≡ zeroed owners) × (log′ ≡ zeroed log)) where
     owners-zeros : Zeros 8192 owners′
     unfolding zeroed
-    owners-zeros = zeros-all (log-long (k .at) .0) (e .0)
+    owners-zeros = zeros-all (owners-long a) (e .0)
 
-    log-zeros : Zeros 8192 log′
+    pub rooms-lent : length log ≡ 8192 → WorkRooms decoded log′ (take 2048 list) o q
     unfolding zeroed
-    log-zeros = zeros-all (log-long (k .at) .1) (e .1)
-
-    pub rooms-lent : WorkRooms decoded log′ list o q
-    rooms-lent =
-        record { decoded-zero = w .decoded-zero; log-zero = log-zeros; list-zero = w .list-zero; table-long = w .table-room; text-long = w .text-room }
+    rooms-lent long =
+        record {
+          decoded-zero = w .decoded-zero;
+          log-zero = rw long at (e .1);
+          list-zero = w .list-zero .zero;
+          table-long = w .table-room;
+          text-long = w .text-room;
+        }
 
     pub parts-fit : (used ≤ length sorted′) × (count ≤ length measures) × (count + 1 ≤ length owners′)
     parts-fit = (
       omega (arith, S .few, zeros-long (w .sorted-zero)),
-      omega (arith, nodes-few (k .at), zeros-long (w .measures-zero)),
-      omega (arith, nodes-few (k .at), zeros-long owners-zeros),
+      omega (arith, nodes-few a, zeros-long (w .measures-zero)),
+      omega (arith, nodes-few a, zeros-long owners-zeros),
     )
 
     -- the parts lent to `build_laid`: the owners' room is for the dues
-    abbrev begins : (r : Rooms) (c : Counts) → At p ws owners log count links r c
-        → ReadyToResolve p ws starts′ (take (used - 0) sorted′) (take (count - 0) measures) (take (count + 1 - 0) owners′) root
-    begins r c a =
+    abbrev begins : ReadyToResolve p ws starts′ (take (used - 0) sorted′) (take (count - 0) measures) (take (count + 1 - 0) owners′) root
+    begins =
         record {
           nodes = stateOf r c .nodes;
           stands = stands a;
@@ -137,16 +129,16 @@ module _ {p ws owners log : List ℕ} {count links root : ℕ} (k : AtStop p ws 
           blank = λ i l. rw (minus-none count) (getD-take count measures i 0 (omega (arith, nodes-many a)) ∙ zeros-at (w .measures-zero) i (omega (arith, nodes-many a, nodes-few a)));
           roomy = omega (arith, nodes-many a, part-length (count + 1) owners′ (parts-fit .2));
           no-dues = rw (minus-none (count + 1)) (getD-take (count + 1) owners′ 0 0 (omega arith) ∙ zeros-at owners-zeros 0 (omega arith));
-          below = omega (arith, k .known, nodes-many a);
+          below = omega (arith, known, nodes-many a);
         }
 
     pub laid-begins : ReadyToResolve p ws starts′ (take (used - 0) sorted′) (take (count - 0) measures) (take (count + 1 - 0) owners′) root
-    laid-begins = begins (k .rooms) (k .counts) (k .at)
+    laid-begins = begins
 
-    pub build-comes : (left : Bool) (b : Built) (o′ q′ : List ℕ) → BuildsLaid p ws starts′ (take (used - 0) sorted′) (take (count - 0) measures) (take (count + 1 - 0) owners′) root left b o q o′ q′
-        → Builds p ws owners log count links root left b o q o′ q′
-    unfolding BuildsLaid Builds
-    build-comes left b o′ q′ m r c a = m (begins r c a)
+    pub laid-comes : (left : Bool) (b : Built) (o′ q′ : List ℕ) → BuildsLaid p ws starts′ (take (used - 0) sorted′) (take (count - 0) measures) (take (count + 1 - 0) owners′) root left b o q o′ q′
+        → Comes left (one (tree (stateOf r c .nodes) root)) b o q o′ q′
+    unfolding BuildsLaid
+    laid-comes left b o′ q′ m = m begins
 
     -- whatever the parts have come to: they are cleared, and the rooms are as they were
     pub clear-fits : (d m n : List ℕ) → length d ≡ length (take (used - 0) sorted′) → length m ≡ length (take (count - 0) measures) → length n ≡ length (take (count + 1 - 0) owners′) → length starts′ ≡ length starts
@@ -161,8 +153,8 @@ module _ {p ws owners log : List ℕ} {count links root : ℕ} (k : AtStop p ws 
         → (cleared (count + 1) (n ++ drop (count + 1 - 0) owners′) ≡ zeroed owners) × (cleared (count + 1) starts′ ≡ starts)
         × (cleared used (d ++ drop (used - 0) sorted′) ≡ sorted) × (cleared count (m ++ drop (count - 0) measures) ≡ measures)
     rooms-back d m n dl ml nl = (
-      part-back owners-zeros (count + 1) (omega (arith, nodes-few (k .at))) n nl ∙ e .0,
-      front-cleared 4098 (count + 1) starts starts′ (w .starts-zero) (omega (arith, nodes-few (k .at))) (S .starts-behind),
+      part-back owners-zeros (count + 1) (omega (arith, nodes-few a)) n nl ∙ e .0,
+      front-cleared 4098 (count + 1) starts starts′ (w .starts-zero) (omega (arith, nodes-few a)) (S .starts-behind),
       front-cleared 16384 used sorted (d ++ drop (used - 0) sorted′) (w .sorted-zero) (S .few) (part-behind used sorted′ d (parts-fit .0) dl ∙ S .sorted-behind),
-      part-back (w .measures-zero) count (nodes-few (k .at)) m ml,
+      part-back (w .measures-zero) count (nodes-few a) m ml,
     )

@@ -31,9 +31,11 @@ use Rattle.reading.specs.Settle.{settle}
 use Rattle.reading.specs.Measure.{measured}
 use Rattle.reading.specs.Reading.{Reading, refuses, reads, readingOf, consumed, leaves, prefixIn, wholeIn, pickleLimit, stopped-refused, stopped-empty, stopped-with, prefix-refused, prefix-told}
 use Rattle.reading.specs.Success.{refusal-number}
-use Rattle.build.specs.Building.{At, AtStop, dueOf, Comes, Builds}
+use Rattle.build.specs.Building.{At, dueOf, Comes}
 use Rattle.build.specs.declared.Built.{Built}
 use Rattle.build.specs.declared.Built.the-variants as built
+use Rattle.build.specs.declared.End.{End}
+use Rattle.build.specs.declared.End.the-variants as end
 
 -- the reading that is asked for, in an edition
 unfoldable pub due : Edition → Bool → List ℕ → Reading
@@ -50,6 +52,21 @@ pub record RanIn (ed : Edition) (o : Outcome) (p nodes owners children stack : L
   pub keys : List ℕ
   pub held : List ℕ
   pub ran : Ran ed o p (roomsOf p nodes owners children stack marks keys held)
+
+-- a run answers with a refusal: its own, or 6 where no value is left
+unfoldable pub RefusesWith : Outcome → Refusal → Type 0
+RefusesWith (outcome.Refused c why) x = x ≡ why
+RefusesWith (outcome.Stopped c) x = (c .stack ≡ 0) × (x ≡ StackUnderflow)
+
+-- how it ended: with that, or with the value on top of its stack
+unfoldable pub Ends : Outcome → List ℕ → End → Type 0
+Ends o stack (end.Refused why links) = RefusesWith o why × (links ≡ countsOf o .links)
+Ends o stack (end.Value root c) = (o ≡ outcome.Stopped c) × (0 < c .stack) × (root .0 ≡ getD stack (c .stack - 1) 0)
+
+-- the answer once a value is built, of a pickle read up to n
+unfoldable pub told : Built → ℕ → Answer
+told (built.Refused why) n = refusedAnswer why
+told (built.Made records) n = record { number = 0; detail = 0; length = n; count = records }
 
 -- ---- both readings from the prefix reading's answer
 
@@ -131,21 +148,24 @@ module _ {ed : Edition} {p nodes owners children stack : List ℕ} where
 
   module _ (all : Bool) (o q : List ℕ) where
     -- the machine refuses
-    pub gives-run : (c : Counts) (why : Refusal) → RanIn ed (outcome.Refused c why) p nodes owners children stack → Gives (due ed all p) (refusedAnswer why) o q o q
+    gives-run : (c : Counts) (why : Refusal) → RanIn ed (outcome.Refused c why) p nodes owners children stack → Gives (due ed all p) (refusedAnswer why) o q o q
     unfolding ended countsOf
     gives-run c why h = gives-refused o q (due ed all p) why (due-refused ed p all why (prefix-refused ed p why (stopped-refused ed p why (h .ran .sound .firm .lengths .pickle) (sym (h .ran .means)))))
 
   -- of its log, the links are used
-  pub refused-used : (c : Counts) (why : Refusal) → RanIn ed (outcome.Refused c why) p nodes owners children stack → UsedTo (c .links) owners × UsedTo (c .links) children
-  unfolding countsOf
-  refused-used c why h = (owners-used (rooms h) c (h .ran .sound .firm), children-used (rooms h) c (h .ran .sound .firm))
+  pub ran-used : (o : Outcome) → RanIn ed o p nodes owners children stack → UsedTo (countsOf o .links) owners × UsedTo (countsOf o .links) children
+  ran-used o h = (owners-used (rooms h) (countsOf o) (h .ran .sound .firm), children-used (rooms h) (countsOf o) (h .ran .sound .firm))
+
+  -- and no more of its stack than there is
+  pub stack-fits : (o : Outcome) → RanIn ed o p nodes owners children stack → countsOf o .stack ≤ length stack
+  stack-fits o h = let f = h .ran .sound .firm in omega (arith, f .stack, f .deepest, f .lengths .stack)
 
   module _ (c : Counts) (h : RanIn ed (outcome.Stopped c) p nodes owners children stack) where
     short : length p ≤ pickleLimit
     unfolding countsOf
     short = h .ran .sound .firm .lengths .pickle
 
-    pub firm : Firm (rooms h) c
+    firm : Firm (rooms h) c
     unfolding countsOf
     firm = h .ran .sound .firm
 
@@ -156,34 +176,25 @@ module _ {ed : Edition} {p nodes owners children stack : List ℕ} where
     deep : length (stateOf (rooms h) c .stack) ≡ c .stack
     deep = stack-length (rooms h) c (omega (arith, firm .stack, firm .deepest, firm .lengths .stack))
 
-    pub stopped-used : UsedTo (c .links) owners × UsedTo (c .links) children
-    stopped-used = (owners-used (rooms h) c firm, children-used (rooms h) c firm)
-
     -- no value is left
-    pub gives-empty : (all : Bool) (o q : List ℕ) → c .stack ≡ 0 → Gives (due ed all p) (refusedAnswer StackUnderflow) o q o q
+    gives-empty : (all : Bool) (o q : List ℕ) → c .stack ≡ 0 → Gives (due ed all p) (refusedAnswer StackUnderflow) o q o q
     gives-empty all o q e = gives-refused o q (due ed all p) StackUnderflow (due-refused ed p all StackUnderflow (prefix-refused ed p StackUnderflow (stopped-empty ed p (stateOf (rooms h) c) short stops (omega (arith, deep, e)))))
 
     -- a value is left
-    module _ (z : 0 < c .stack) where
-      abbrev root : ℕ
-      root = getD stack (c .stack - 1) 0
-
+    module _ (z : 0 < c .stack) (root : ℕ) (is : root ≡ getD stack (c .stack - 1) 0) where
       top-is : last (stateOf (rooms h) c .stack) ≡ root
-      top-is = rw (stack-of (rooms h) c, length-take-le (c .stack) stack (omega (arith, firm .stack, firm .deepest, firm .lengths .stack))) (getD-take (c .stack) stack (c .stack - 1) 0 (omega arith))
+      top-is = rw (stack-of (rooms h) c, length-take-le (c .stack) stack (omega (arith, firm .stack, firm .deepest, firm .lengths .stack))) (getD-take (c .stack) stack (c .stack - 1) 0 (omega arith)) ∙ sym is
 
-      stopped-at : At p nodes owners children (c .nodes) (c .links) (rooms h) c
+      pub stopped-at : At p nodes owners children (c .nodes) (c .links) (rooms h) c
       unfolding countsOf
       stopped-at = record { ended = record { sound = h .ran .sound; words = refl; owners-are = refl; log-is = refl; count-is = refl; links-are = refl }; pickle = refl }
 
-      pub ready : AtStop p nodes owners children (c .nodes) (c .links) root
+      pub root-known : root < c .nodes
       unfolding countsOf
-      ready = record { rooms = rooms h; counts = c; at = stopped-at; known = known }
+      root-known = rw (top-is, nodes-length (rooms h) c) at below
         where
           below : last (stateOf (rooms h) c .stack) < length (stateOf (rooms h) c .nodes)
           below = every-at _ (length (stateOf (rooms h) c .stack) - 1) (stateOf (rooms h) c .stack) 0 (h .ran .sound .range .on-stack) (omega (arith, deep))
-
-          known : root < c .nodes
-          known = rw (top-is, nodes-length (rooms h) c) at below
 
       consumed-at : consumed p (stateOf (rooms h) c) ≡ c .at
       consumed-at = rw (input-of (rooms h) c, length-drop) (omega (arith, firm .at))
@@ -193,15 +204,13 @@ module _ {ed : Edition} {p nodes owners children stack : List ℕ} where
           prefix-told ed p (stateOf (rooms h) c) (last (stateOf (rooms h) c .stack)) (stopped-with ed p (stateOf (rooms h) c) short stops (omega (arith, deep)))
           ∙ ap₂ (λ (n i : ℕ). readingOf n (one (tree (stateOf (rooms h) c .nodes) i))) consumed-at top-is
 
-      module _ (all : Bool) (o q o′ q′ : List ℕ) (b : Built) (B : Builds p nodes owners children (c .nodes) (c .links) root (all && ltb (c .at) (length p)) b o q o′ q′) where
-        pub gives-built-refused : (why : Refusal) → b ≡ built.Refused why → Gives (due ed all p) (refusedAnswer why) o q o′ q′
-        unfolding Builds Comes
-        gives-built-refused why e =
-            let x : Comes (all && ltb (c .at) (length p)) (one (tree (stateOf (rooms h) c .nodes) root)) (built.Refused why) o q o′ q′ = rw e at (B (rooms h) c stopped-at) in
-            rw (x .1, x .2) (gives-refused o q (due ed all p) why (due-told ed p all (c .at) _ reads-to ∙ left-refused _ (c .at) _ why (x .0)))
+      pub gives-built : (all : Bool) (o q o′ q′ : List ℕ) (b : Built) → Comes (all && ltb (c .at) (length p)) (one (tree (stateOf (rooms h) c .nodes) root)) b o q o′ q′ → Gives (due ed all p) (told b (c .at)) o q o′ q′
+      unfolding Comes told
+      gives-built all o q o′ q′ (built.Refused why) x = rw (x .1, x .2) (gives-refused o q (due ed all p) why (due-told ed p all (c .at) _ reads-to ∙ left-refused _ (c .at) _ why (x .0)))
+      gives-built all o q o′ q′ (built.Made n) x = gives-read o q (due ed all p) (c .at) _ n o′ q′ (due-told ed p all (c .at) _ reads-to ∙ left-read _ (c .at) _ (x .0)) (x .1) (x .2) (x .3)
 
-        pub gives-built : (n : ℕ) → b ≡ built.Made n → Gives (due ed all p) (record { number = 0; detail = 0; length = c .at; count = n }) o q o′ q′
-        unfolding Builds Comes
-        gives-built n e =
-            let x : Comes (all && ltb (c .at) (length p)) (one (tree (stateOf (rooms h) c .nodes) root)) (built.Made n) o q o′ q′ = rw e at (B (rooms h) c stopped-at) in
-            gives-read o q (due ed all p) (c .at) _ n o′ q′ (due-told ed p all (c .at) _ reads-to ∙ left-read _ (c .at) _ (x .0)) (x .1) (x .2) (x .3)
+  -- a refusal is the run's, or 6
+  pub gives-refusal : (all : Bool) (o q : List ℕ) (u : Outcome) (why : Refusal) → RanIn ed u p nodes owners children stack → RefusesWith u why → Gives (due ed all p) (refusedAnswer why) o q o q
+  unfolding RefusesWith
+  gives-refusal all o q (outcome.Refused c why) x h e = rw e (gives-run all o q c why h)
+  gives-refusal all o q (outcome.Stopped c) x h e = rw (e .1) (gives-empty c h all o q (e .0))

@@ -20,7 +20,7 @@ use Rattle.resolve.specs.Facts.{Facts}
 use Rattle.resolve.specs.Standing.{node-is, label-is, facts}
 use Rattle.resolve.specs.Rooted.{ReadyToResolve, RootEnds, r-deep, r-word, Roots}
 use Rattle.resolve.specs.declared.WalkAnswer.{WalkAnswer}
-use Rattle.produce.specs.Measured.{Worded, MeasuredAs, Measured, Produces}
+use Rattle.build.specs.Measured.{Worded, MeasuredAs, Measured, Produces}
 use Rattle.build.specs.Building.{dueOf, Comes, BuildsLaid}
 use Rattle.build.specs.Limits.{said, Tells}
 use Rattle.build.specs.declared.Built.the-variants as built

@@ -6,7 +6,7 @@ use lib.ListN.{length, getD, getD-replicate, take, drop}
 use lib.Seq.{drop-at, length-take-le, getD-take}
 use native.Mathlib.Omega.{arith}
 use Rattle.rooms.specs.Cleared.{cleared}
-use Rattle.produce.specs.Rooms.{Zeros, zeros-long, front-cleared}
+use Rattle.build.specs.Rooms.{Zeros, zeros-long, front-cleared}
 
 -- as many as up to m
 pub minus-none : (m : ℕ) → m - 0 ≡ m

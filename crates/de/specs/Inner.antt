@@ -4,7 +4,7 @@ use mathlib.Core.Bool.{Bool}
 use mathlib.Core.List.{List, [], _∷_, _++_, append-assoc}
 use mathlib.Core.Path.{_≡_, sym, _∙_, ap}
 use lib.ListN.{length, length-append, take, drop, replicate, take-append-drop}
-use lib.Seq.{take-at, drop-at, length-take-le, drop-append-le}
+use lib.Seq.{take-at, drop-at, length-take-le, length-front, drop-append-le}
 use native.Mathlib.Omega.{arith}
 use Rattle.refusal.specs.declared.Answer.{Answer}
 use Rattle.refusal.specs.declared.Refusal.the-variants.{TooLong}
@@ -19,7 +19,7 @@ use Rattle.machine.specs.Fresh.{fresh}
 use Rattle.machine.specs.Clear.{UsedTo, zeroed, used-cleared, nodes-used, stack-used, marks-used, keys-used, held-used}
 use Rattle.machine.specs.declared.Outcome.{Outcome}
 use Rattle.reading.specs.Reading.{Reading, pickleLimit, stopped-long, prefix-refused}
-use Rattle.produce.specs.Rooms.{zeros-long}
+use Rattle.build.specs.Rooms.{zeros-long}
 use Rattle.build.specs.Building.{Working}
 use Rattle.build.specs.Given.{RanIn, due, due-refused}
 
@@ -46,13 +46,15 @@ module _ {k : ℕ} {s s′ : List ℕ} (b : ClearsTo k s s′) (j : ℕ) (e : j 
   back-again t q = q ∙ rw e (b .again)
 
 -- what a run leaves of the machine's rooms: what the answer asks of their stated parts, and how the rooms are zero again
-pub record Runs (ed : Edition) (o : Outcome) (p nodes owners children stack marks nodes′ owners′ children′ stack′ marks′ : List ℕ) : Type 0 where
+pub record Runs (ed : Edition) (o : Outcome) (p nodes owners children stack marks keys held nodes′ owners′ children′ stack′ marks′ keys′ held′ : List ℕ) : Type 0 where
   pub ran : RanIn ed o p (take 8192 nodes′) (take 8192 owners′) (take 8192 children′) (take 2048 stack′)
   pub owners-behind : drop 8192 owners′ ≡ drop 8192 owners
   pub children-behind : drop 8192 children′ ≡ drop 8192 children
   pub nodes-back : ClearsTo (2 * countsOf o .nodes) nodes nodes′
   pub stack-back : ClearsTo (countsOf o .deepest) stack stack′
   pub marks-back : ClearsTo (countsOf o .most) marks marks′
+  pub keys-back : ClearsTo (countsOf o .memo) keys keys′
+  pub held-back : ClearsTo (countsOf o .memo) held held′
 
 -- ---- a stated part, lent and put back
 
@@ -70,6 +72,12 @@ module _ (n : ℕ) (s : List ℕ) (z : take n s ≡ replicate n 0) where
 
     part-behind : drop n (e ++ drop n s) ≡ drop n s
     part-behind = drop-at e (drop n s) n (h ∙ part-length)
+
+    pub put-fits : n ≤ length (e ++ drop n s)
+    put-fits = omega (arith, part-fits, length-front s e n h)
+
+    pub put-length : length (take n (e ++ drop n s)) ≡ n
+    put-length = length-take-le n (e ++ drop n s) put-fits
 
     -- of which the first k were used
     part-used : (k : ℕ) → UsedTo k e → ClearsTo k s (e ++ drop n s)
@@ -102,22 +110,18 @@ module _ (p nodes owners children stack marks keys held : List ℕ) (z : AllZero
     firm : Firm (roomsOf p n w d s m k h) (countsOf o)
     firm = r .sound .firm
 
-    pub runs : length n ≡ length (take 8192 nodes) → length w ≡ length (take 8192 owners) → length d ≡ length (take 8192 children) → length s ≡ length (take 2048 stack) → length m ≡ length (take 256 marks)
-        → Runs ed o p nodes owners children stack marks (n ++ drop 8192 nodes) (w ++ drop 8192 owners) (d ++ drop 8192 children) (s ++ drop 2048 stack) (m ++ drop 256 marks)
-    runs en ew ed es em = record {
+    pub runs : length n ≡ length (take 8192 nodes) → length w ≡ length (take 8192 owners) → length d ≡ length (take 8192 children) → length s ≡ length (take 2048 stack) → length m ≡ length (take 256 marks) → length k ≡ length (take 2048 keys) → length h ≡ length (take 1024 held)
+        → Runs ed o p nodes owners children stack marks keys held (n ++ drop 8192 nodes) (w ++ drop 8192 owners) (d ++ drop 8192 children) (s ++ drop 2048 stack) (m ++ drop 256 marks) (k ++ drop 2048 keys) (h ++ drop 1024 held)
+    runs en ew ed es em ek eh = record {
       ran = rw (part-is 8192 nodes (z .0) n en, part-is 8192 owners (z .1 .0) w ew, part-is 8192 children (z .1 .1 .0) d ed, part-is 2048 stack (z .1 .1 .1 .0) s es) (record { marks = m; keys = k; held = h; ran = r });
       owners-behind = part-behind 8192 owners (z .1 .0) w ew;
       children-behind = part-behind 8192 children (z .1 .1 .0) d ed;
       nodes-back = part-used 8192 nodes (z .0) n en (2 * countsOf o .nodes) (nodes-used _ _ firm);
       stack-back = part-used 2048 stack (z .1 .1 .1 .0) s es (countsOf o .deepest) (stack-used _ _ firm);
       marks-back = part-used 256 marks (z .1 .1 .1 .1 .0) m em (countsOf o .most) (marks-used _ _ firm);
+      keys-back = part-used 2048 keys (z .1 .1 .1 .1 .1 .0) k ek (countsOf o .memo) (keys-used _ _ firm);
+      held-back = part-used 1024 held (z .1 .1 .1 .1 .1 .1 .0) h eh (countsOf o .memo) (held-used _ _ firm);
     }
-
-    pub keys-back : length k ≡ length (take 2048 keys) → ClearsTo (countsOf o .memo) keys (k ++ drop 2048 keys)
-    keys-back e = part-used 2048 keys (z .1 .1 .1 .1 .1 .0) k e (countsOf o .memo) (keys-used _ _ firm)
-
-    pub held-back : length h ≡ length (take 1024 held) → ClearsTo (countsOf o .memo) held (h ++ drop 1024 held)
-    held-back e = part-used 1024 held (z .1 .1 .1 .1 .1 .1 .0) h e (countsOf o .memo) (held-used _ _ firm)
 
 -- ---- the answer
 

@@ -20,10 +20,10 @@ ghost use Prim.Native.Nat.{_≤_};
 ghost use mathlib.Core.List.{[], _∷_, map};
 ghost use mathlib.Core.Path.{_≡_};
 ghost use lib.ListN.{length};
-ghost use Rattle.rooms.specs.Stated.{Slices, machineLengths, builderLengths, stated, Long, AllZero, Ready, short, blank};
+ghost use Rattle.rooms.specs.Stated.{Slices, machineLengths, builderLengths, stated, Long, Ready, short, blank};
 ghost use Rattle.machine.specs.Ran.{countsOf};
 ghost use Rattle.build.specs.Given.{due};
-ghost use Rattle.de.specs.Inner.{Runs, InnerReads};
+ghost use Rattle.de.specs.Inner.{InnerReads};
 ghost use Rattle.de.specs.Call.{ReadCall};
 
 fn counts(outcome: Outcome) -> Counts
@@ -35,45 +35,8 @@ fn counts(outcome: Outcome) -> Counts
     }
 }
 
-// The run in the stated parts of the machine's rooms; its memo is zero again.
-fn run_in(
-    edition: Edition,
-    pickle: &[u8],
-    nodes: &mut [u64],
-    owners: &mut [u16],
-    children: &mut [u16],
-    stack: &mut [u16],
-    marks: &mut [u16],
-    keys: &mut [u32],
-    held: &mut [u16],
-) -> Outcome
-    requires { ⌜ length (now pickle) ≤ 65536 ⌝ }
-    requires { ⌜ AllZero machineLengths
-        (now nodes ∷ now owners ∷ now children ∷ now stack ∷ now marks ∷ now keys ∷ now held ∷ []) ⌝ }
-    ensures { λ o.
-        ⌜ Runs edition o (now (pickle .entry))
-        (now (nodes .entry)) (now (owners .entry)) (now (children .entry)) (now (stack .entry)) (now (marks .entry))
-        (now (nodes .exit)) (now (owners .exit)) (now (children .exit)) (now (stack .exit)) (now (marks .exit)) ⌝ }
-    ensures { λ _. ⌜ (now (keys .exit) ≡ now (keys .entry)) × (now (held .exit) ≡ now (held .entry)) ⌝ }
-{
-    let outcome = run(
-        edition,
-        pickle,
-        &mut nodes[0..8192],
-        &mut owners[0..8192],
-        &mut children[0..8192],
-        &mut stack[0..2048],
-        &mut marks[0..256],
-        &mut keys[0..2048],
-        &mut held[0..1024],
-    );
-    let c = counts(outcome);
-    clear_ints(keys, c.memo);
-    clear_shorts(held, c.memo);
-    outcome
-}
-
-// The inner reading: every slice as it came, but what table and text begin with.
+// The inner reading: every slice as it came, but what table and text begin with. The run and its answer are lent the stated parts of rooms that
+// may be longer.
 pub fn read(
     edition: Edition,
     whole: bool,
@@ -109,17 +72,19 @@ pub fn read(
     if pickle.len() > 65536 {
         return refused(Refusal::TooLong);
     }
-    let outcome = run_in(
+    let outcome = run(
         edition,
         pickle,
-        nodes,
-        owners,
-        children,
-        stack,
-        marks,
-        keys,
-        held,
+        &mut nodes[0..8192],
+        &mut owners[0..8192],
+        &mut children[0..8192],
+        &mut stack[0..2048],
+        &mut marks[0..256],
+        &mut keys[0..2048],
+        &mut held[0..1024],
     );
+    let c = counts(outcome);
+    clear_ints(keys, c.memo);
     let a = answer(
         edition,
         outcome,
@@ -137,10 +102,10 @@ pub fn read(
         table,
         text,
     );
-    let c = counts(outcome);
     clear_words(nodes, 2 * c.nodes);
     clear_shorts(stack, c.deepest);
     clear_shorts(marks, c.most);
+    clear_shorts(held, c.memo);
     a
 }
 

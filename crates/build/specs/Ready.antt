@@ -26,8 +26,8 @@ use Rattle.texts.specs.Due.{textDue, Decodes}
 use Rattle.arrange.specs.Walked.{Walked}
 use Rattle.arrange.specs.Settling.{ReadyToSettle}
 use Rattle.arrange.specs.Enough.{walk-over, walk-fits}
-use Rattle.produce.specs.Measured.{Worded, Limited, MeasuredAs}
-use Rattle.produce.specs.Texts.{measures-many}
+use Rattle.build.specs.Measured.{Worded, Limited, MeasuredAs}
+use Rattle.build.specs.Texts.{measures-many}
 
 -- nodes and a root within the limits, the walk from it ready to be settled, and nothing written yet
 pub record Spelt (p d ws starts sorted noted measures log list : List ℕ) (t : List Node) (root : ℕ) : Type 0 where
@@ -35,11 +35,6 @@ pub record Spelt (p d ws starts sorted noted measures log list : List ℕ) (t : 
   pub lent : List ℕ
   pub ready : ReadyToSettle t (walked t 4096 64 root .after) lent noted p d ws starts sorted log measures list
   pub low : (j : ℕ) → getD measures j 0 < 2 ^ 63
-
--- there are such nodes
-pub record Unwritten (p d ws starts sorted noted measures log list : List ℕ) (root : ℕ) : Type 0 where
-  pub nodes : List Node
-  pub are : Spelt p d ws starts sorted noted measures log list nodes root
 
 -- ---- labels with text
 

@@ -16,8 +16,8 @@ use Rattle.resolved.specs.Reached.{textIf}
 use Rattle.resolved.specs.Sums.{upTo}
 use Rattle.resolve.specs.Rooted.{hasWord, worded-texts}
 use Rattle.texts.specs.Due.{textDue, nodeTextLength, dueText, Decodable}
-use Rattle.produce.specs.Rooms.{Zeros, zeros-long}
-use Rattle.produce.specs.Measured.{MeasuredAs}
+use Rattle.build.specs.Rooms.{Zeros, zeros-long}
+use Rattle.build.specs.Measured.{MeasuredAs}
 
 -- ---- one node
 

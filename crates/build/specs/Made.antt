@@ -4,7 +4,7 @@ use mathlib.Core.Bool.{false}
 use mathlib.Core.List.{List}
 use mathlib.Core.Path.{_≡_, refl, _∙_, ap}
 use mathlib.Core.Logic.{inl, inr}
-use lib.ListN.{length, getD, drop, replicate}
+use lib.ListN.{length, getD}
 use native.Mathlib.Decide.{decLt}
 use native.Mathlib.Omega.{arith}
 use Rattle.value.specs.Value.{Label, Value, one, kind, size, depth, text, NoneL, BoolL, I64L, F64L, BytesL, StringL, ListL, TupleL, SetL, FrozenSetL, DictL, GlobalL, ObjectL}
@@ -21,27 +21,10 @@ use Rattle.resolved.specs.Dues.{isDue, dues}
 use Rattle.resolved.specs.Shown.{Shown}
 use Rattle.resolved.specs.Whole.{value-stands-64}
 use Rattle.arrange.specs.Walked.{graph, dues-in, not-settled}
-use Rattle.arrange.specs.Settling.{ReadyToSettle, SettledRooms}
+use Rattle.arrange.specs.Settling.{SettledRooms}
 use Rattle.emit.specs.Roots.{Rooted, Emits}
-use Rattle.produce.specs.Measured.{Produced}
-use Rattle.produce.specs.Ready.{Spelt, inside}
-
--- ---- the Sets and Dicts in order, with nothing said of the list, which is zero again
-
-pub record ArrangedRooms (t : List Node) (s : WalkState) (p d ws starts log measures sorted′ log′ measures′ : List ℕ) (used : ℕ) : Type 0 where
-  pub shown : Shown t (graph t s (dues t (s .done))) (Final 4096 (s .done)) p d ws starts sorted′ log′ measures′
-  pub in-order : (i : ℕ) → In i (dues t (s .done)) → getD measures′ i 0 < 2 ^ 62
-  pub others : (i : ℕ) → ¬ In i (dues t (s .done)) → getD measures′ i 0 ≡ getD measures i 0
-  pub behind : drop used log′ ≡ drop used log
-  pub within : used ≤ length log
-
-abbrev pub SettlesDues : (noted p d ws starts sorted log measures list sorted′ log′ measures′ : List ℕ) (used : ℕ) → Type 0
-SettlesDues noted p d ws starts sorted log measures list sorted′ log′ measures′ used =
-    (t : List Node) (s : WalkState) (lent : List ℕ) → ReadyToSettle t s lent noted p d ws starts sorted log measures list → ArrangedRooms t s p d ws starts log measures sorted′ log′ measures′ used
-
-pub settles-arranged : {t : List Node} {s : WalkState} {p d ws starts log measures list sorted′ log′ measures′ list′ : List ℕ} {used most : ℕ} → SettledRooms t s p d ws starts log measures list sorted′ log′ measures′ list′ used most
-    → ArrangedRooms t s p d ws starts log measures sorted′ log′ measures′ used
-settles-arranged x = record { shown = x .shown; in-order = λ i m. x .in-order i m .1; others = x .others; behind = x .kept .behind; within = x .used-within }
+use Rattle.build.specs.Measured.{Produced}
+use Rattle.build.specs.Ready.{Spelt, inside}
 
 -- ---- the value that the root stands for
 
@@ -64,7 +47,7 @@ object-kept DictL e = absurd (omega arith)
 object-kept (GlobalL m n) e = refl
 object-kept (ObjectL m n b) e = refl
 
-module _ {p d ws starts sorted noted measures log list : List ℕ} {t : List Node} {root : ℕ} (x : Spelt p d ws starts sorted noted measures log list t root) {sorted′ log′ measures′ : List ℕ} {used : ℕ} (a : ArrangedRooms t (walked t 4096 64 root .after) p d ws starts log measures sorted′ log′ measures′ used) where
+module _ {p d ws starts sorted noted measures log list : List ℕ} {t : List Node} {root : ℕ} (x : Spelt p d ws starts sorted noted measures log list t root) {sorted′ log′ measures′ list′ : List ℕ} {used most : ℕ} (a : SettledRooms t (walked t 4096 64 root .after) p d ws starts log measures list sorted′ log′ measures′ list′ used most) where
   abbrev after : WalkState
   after = walked t 4096 64 root .after
 
@@ -83,7 +66,7 @@ module _ {p d ws starts sorted noted measures log list : List ℕ} {t : List Nod
       go : Dec (getD measures′ j 0 < 2 ^ 63) → getD measures′ j 0 < 2 ^ 63
       go (yes l) = l
       go (no l) =
-          let n : ¬ In j (dues t (after .done)) = λ q. let u = a .in-order j q in omega arith in
+          let n : ¬ In j (dues t (after .done)) = λ q. let u = a .in-order j q .1 in omega arith in
           let e = a .others j n in
           let f = x .low j in
           absurd (omega arith)
@@ -125,16 +108,3 @@ module _ {p d ws starts sorted noted measures log list : List ℕ} {t : List Nod
         → Produced (settle (one (tree t root))) table bytes table′ bytes′ (r % 4096)
     unfolding rooted settle
     produced e = let y = e rooted in record { counted = omega (arith, y .lengths, records); table-is = y .table-is; text-is = y .text-is }
-
--- ---- both passes
-
--- rooms to work in, and room for the outputs
-pub record Outputs (log list table bytes : List ℕ) : Type 0 where
-  pub log-zero : log ≡ replicate 8192 0
-  pub list-zero : list ≡ replicate 2048 0
-  pub table-long : 8192 ≤ length table
-  pub text-long : 65536 ≤ length bytes
-
-abbrev pub WritesSettled : (p d ws starts sorted noted measures log list : List ℕ) (root : ℕ) (table bytes table′ bytes′ : List ℕ) (records : ℕ) → Type 0
-WritesSettled p d ws starts sorted noted measures log list root table bytes table′ bytes′ records =
-    (t : List Node) → Spelt p d ws starts sorted noted measures log list t root → Produced (settle (one (tree t root))) table bytes table′ bytes′ records

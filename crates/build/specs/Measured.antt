@@ -4,7 +4,7 @@ use Prim.Native.Nat.{ℕ, _*_, _<_, _≤_}
 use mathlib.Core.Bool.{false}
 use mathlib.Core.List.{List, [], _++_}
 use mathlib.Core.Path.{_≡_}
-use lib.ListN.{length, drop}
+use lib.ListN.{length, drop, replicate}
 use Rattle.value.specs.Value.{Forest, one, kind, size, depth, text, table as tableOf}
 use Rattle.value.specs.Shape.{kindIn}
 use Rattle.steps.specs.State.{Node}
@@ -16,7 +16,7 @@ use Rattle.resolved.specs.Noted.{isContainer}
 use Rattle.resolved.specs.Shown.{nodeLabel}
 use Rattle.resolved.specs.Tree.{walked}
 use Rattle.resolve.specs.Facts.{HoldsWalk}
-use Rattle.produce.specs.Rooms.{Zeros}
+use Rattle.build.specs.Rooms.{Zeros}
 
 -- ---- given
 
@@ -55,8 +55,8 @@ pub record Measured (p ws starts sorted dues measures : List ℕ) (root : ℕ) :
 -- rooms to work in, and room for the outputs
 pub record WorkRooms (decoded log list table bytes : List ℕ) : Type 0 where
   pub decoded-zero : Zeros 65536 decoded
-  pub log-zero : Zeros 8192 log
-  pub list-zero : Zeros 2048 list
+  pub log-zero : log ≡ replicate 8192 0
+  pub list-zero : list ≡ replicate 2048 0
   pub table-long : 8192 ≤ length table
   pub text-long : 65536 ≤ length bytes
 
