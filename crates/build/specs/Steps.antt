@@ -19,7 +19,7 @@ use Rattle.build.specs.Made.{rooted, produced}
 -- ---- after the decoding
 
 module _ {p ws starts sorted noted measures₀ : List ℕ} {root : ℕ} {decoded log list table bytes d measures : List ℕ} {used : ℕ} (m : Measured p ws starts sorted noted measures₀ root) (l : WorkRooms decoded log list table bytes) (D : Decodes p ws decoded measures₀ (length measures₀) d measures used) where
-  log-long : length log ≡ 8192
+  pub log-long : length log ≡ 8192
   log-long = ap length (l .log-zero) ∙ length-replicate {A = ℕ} 8192 0
 
   list-long : length list ≡ 2048
@@ -53,11 +53,11 @@ module _ {p ws starts sorted noted measures₀ : List ℕ} {root : ℕ} {decoded
     pub produces : {table′ bytes′ : List ℕ} {r : ℕ} → Emits p d ws starts sorted′ log′ root measures′ table bytes table′ bytes′ r → Produces p ws starts sorted noted measures₀ root table bytes table′ bytes′ (r % 4096)
     produces e t y = produced (spelt-as y) (settled-as y) (l .table-long) (l .text-long) e
 
-    pub log-fits : length log′ ≡ length log → items ≤ length log′
-    log-fits e = omega (arith, settled-as (m .are) .used-within)
+    pub items-few : items ≤ 8192
+    items-few = omega (arith, log-long, settled-as (m .are) .used-within)
 
     pub log-again : cleared items log′ ≡ log
-    log-again = front-cleared 8192 items log log′ (zeros-whole (l .log-zero)) (omega (arith, log-long, settled-as (m .are) .used-within)) (settled-as (m .are) .kept .behind)
+    log-again = front-cleared 8192 items log log′ (zeros-whole (l .log-zero)) items-few (settled-as (m .are) .kept .behind)
 
     pub most-few : most ≤ 2048
     most-few = omega (arith, list-long, settled-as (m .are) .most-within)

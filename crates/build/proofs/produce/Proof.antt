@@ -3,8 +3,9 @@ use borrow.Author.Needs.{needs}
 use mathlib.Core.Path.{_≡_, _∙_}
 use lib.ListN.{length}
 use native.Mathlib.Nat.{le-refl}
+use native.Mathlib.Omega.{arith}
 use Rattle.build.specs.Texts.{decodable}
-use Rattle.build.specs.Steps.{unsettled, root-ready, most-few, list-begins, list-fits, list-again, log-fits, log-again, decoded-fits, decoded-again, produces}
+use Rattle.build.specs.Steps.{unsettled, root-ready, most-few, list-begins, list-fits, list-again, log-long, items-few, log-again, decoded-fits, decoded-again, produces}
 use Rattle.build.proofs.produce.Statement.{statement}
 use Rattle.build.proofs.produce.Tie as tie
 
@@ -48,7 +49,7 @@ clear-ints-requires : tie.Need-clear-ints-requires
 clear-ints-requires c κs = let e = full (c .before) in let d = decoded e in list-fits (start d .pre .0) (start d .pre .1) (d .decode-all .ensures) (e .settle .ensures) (same e)
 
 clear-shorts-requires : tie.Need-clear-shorts-requires
-clear-shorts-requires c κs = let e = full (c .before .before .before .before .before) in let d = decoded e in log-fits (start d .pre .0) (start d .pre .1) (d .decode-all .ensures) (e .settle .ensures) (e .settle .kept .1 .1 .1 .0)
+clear-shorts-requires c κs = let e = full (c .before .before .before .before .before) in let d = decoded e in let m = start d .pre .0 in let l = start d .pre .1 in omega (arith, items-few m l (d .decode-all .ensures) (e .settle .ensures), most-few m l (d .decode-all .ensures) (e .settle .ensures), log-long m l (d .decode-all .ensures), e .settle .kept .1 .1 .1 .0)
 
 clear-bytes-requires : tie.Need-clear-bytes-requires
 clear-bytes-requires c κs = let d = decoded (full (c .before .before .before .before .before .before .before .before .before)) in decoded-fits (start d .pre .0) (start d .pre .1) (d .decode-all .ensures)
