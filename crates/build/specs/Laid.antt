@@ -1,4 +1,5 @@
--- From the measuring walk to the outputs: where nothing is due the rooms hold what `produce` asks for, and its outputs are what building comes to.
+-- From the measuring walk to the outputs: where nothing is due the rooms hold what the passes behind it ask for, and their outputs are what
+-- building comes to.
 use Prim.Native.Nat.{ℕ, _/_, _%_, _^_, _*_, _<_, _≤_}
 use mathlib.Core.Bool.{Bool, true, false, cond, not}
 use mathlib.Core.List.{List, [], _∷_}

@@ -18,7 +18,6 @@ use Rattle.resolved.specs.Ordered.{Final}
 use Rattle.resolved.specs.Walk.{WalkState}
 use Rattle.resolved.specs.Tree.{walked, root-final}
 use Rattle.resolved.specs.Dues.{isDue, dues}
-use Rattle.resolved.specs.Shown.{Shown}
 use Rattle.resolved.specs.Whole.{value-stands-64}
 use Rattle.arrange.specs.Walked.{graph, dues-in, not-settled}
 use Rattle.arrange.specs.Settling.{SettledRooms}

@@ -1,4 +1,4 @@
--- What `produce` is given and what it makes. Given: nodes as the words say them, a root whose tree is within the limits, the walk from it as
+-- What the passes behind the measuring are given and what they make. Given: nodes as the words say them, a root whose tree is within the limits, the walk from it as
 -- the rooms hold it, and rooms to work in. Made: the table and text of the tree in order.
 use Prim.Native.Nat.{ℕ, _*_, _<_, _≤_}
 use mathlib.Core.Bool.{false}

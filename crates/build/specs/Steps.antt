@@ -1,4 +1,4 @@
--- Each call of `produce`: what it asks for, from what the calls before it left, and what they come to together.
+-- The calls of `build_laid` behind the measuring: what each asks for, from what those before it left, and what they come to together.
 use Prim.Native.Nat.{ℕ, _-_, _%_, _≤_}
 use mathlib.Core.List.{List, _++_}
 use mathlib.Core.Path.{_≡_, _∙_, ap}

@@ -16,7 +16,6 @@ use rooms::zero_ints;
 use rooms::zero_shorts;
 use rooms::zero_words;
 use store::Counts;
-ghost use Prim.Native.Nat.{_≤_};
 ghost use mathlib.Core.List.{[], _∷_, map};
 ghost use mathlib.Core.Path.{_≡_};
 ghost use lib.ListN.{length};

@@ -5,7 +5,6 @@ use mathlib.Core.Path.{_≡_, refl, _∙_, subst}
 use lib.ListN.{length, getD}
 use lib.Seq.{length-front}
 use native.Mathlib.Omega.{arith}
-use Rattle.refusal.specs.declared.Refusal.{Refusal}
 use Rattle.store.specs.declared.Counts.{Counts}
 use Rattle.store.specs.declared.NodeId.{NodeId}
 use Rattle.machine.specs.declared.Outcome.{Outcome}

@@ -1,11 +1,10 @@
 -- `build::end_of` meets its contract: by the outcome. Assumes nothing.
 use borrow.Author.Needs.{needs}
 use Prim.Native.Nat.{_-_, _≤_}
-use mathlib.Core.Path.{_≡_, refl, sym, ap}
+use mathlib.Core.Path.{_≡_, refl, ap}
 use lib.ListN.{length}
 use native.Mathlib.Omega.{arith}
 use Rattle.store.specs.declared.Counts.{Counts}
-use Rattle.machine.specs.declared.Outcome.{Outcome}
 use Rattle.machine.specs.Ran.{countsOf}
 use Rattle.build.specs.Given.{RefusesWith, Ends}
 use Rattle.build.proofs.end_of.Statement.{statement}
