@@ -90,8 +90,8 @@ module _ {p ws owners log : List ℕ} {count links root : ℕ} {r : Rooms} {c : 
   pub first-zero : getD starts 0 0 ≡ 0
   first-zero = zeros-at (w .starts-zero) 0 (omega arith)
 
-  pub list-fits : 2048 ≤ length list
-  list-fits = zeros-long (w .list-zero)
+  pub list-long : 2048 ≤ length list
+  list-long = zeros-long (w .list-zero)
 
   -- the children are laid out, and the log is cleared
   module _ {starts′ sorted′ owners′ log′ : List ℕ} {used : ℕ} (S : SideBySide ws owners log count links starts sorted starts′ sorted′ used) (sl : length sorted′ ≡ length sorted) (e : (owners′ ≡ zeroed owners) × (log′ ≡ zeroed log)) where
@@ -118,8 +118,8 @@ module _ {p ws owners log : List ℕ} {count links root : ℕ} {r : Rooms} {c : 
     )
 
     -- the parts lent to `build_laid`: the owners' room is for the dues
-    abbrev begins : ReadyToResolve p ws starts′ (take (used - 0) sorted′) (take (count - 0) measures) (take (count + 1 - 0) owners′) root
-    begins =
+    pub laid-begins : ReadyToResolve p ws starts′ (take (used - 0) sorted′) (take (count - 0) measures) (take (count + 1 - 0) owners′) root
+    laid-begins =
         record {
           nodes = stateOf r c .nodes;
           stands = stands a;
@@ -132,13 +132,10 @@ module _ {p ws owners log : List ℕ} {count links root : ℕ} {r : Rooms} {c : 
           below = omega (arith, known, nodes-many a);
         }
 
-    pub laid-begins : ReadyToResolve p ws starts′ (take (used - 0) sorted′) (take (count - 0) measures) (take (count + 1 - 0) owners′) root
-    laid-begins = begins
-
     pub laid-comes : (left : Bool) (b : Built) (o′ q′ : List ℕ) → BuildsLaid p ws starts′ (take (used - 0) sorted′) (take (count - 0) measures) (take (count + 1 - 0) owners′) root left b o q o′ q′
         → Comes left (one (tree (stateOf r c .nodes) root)) b o q o′ q′
-    unfolding BuildsLaid
-    laid-comes left b o′ q′ m = m begins
+    unfolding BuildsLaid laid-begins
+    laid-comes left b o′ q′ m = m laid-begins
 
     -- whatever the parts have come to: they are cleared, and the rooms are as they were
     pub clear-fits : (d m n : List ℕ) → length d ≡ length (take (used - 0) sorted′) → length m ≡ length (take (count - 0) measures) → length n ≡ length (take (count + 1 - 0) owners′) → length starts′ ≡ length starts

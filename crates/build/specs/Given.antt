@@ -180,14 +180,14 @@ module _ {ed : Edition} {p nodes owners children stack : List ℕ} where
     gives-empty : (all : Bool) (o q : List ℕ) → c .stack ≡ 0 → Gives (due ed all p) (refusedAnswer StackUnderflow) o q o q
     gives-empty all o q e = gives-refused o q (due ed all p) StackUnderflow (due-refused ed p all StackUnderflow (prefix-refused ed p StackUnderflow (stopped-empty ed p (stateOf (rooms h) c) short stops (omega (arith, deep, e)))))
 
+    pub stopped-at : At p nodes owners children (c .nodes) (c .links) (rooms h) c
+    unfolding countsOf
+    stopped-at = record { ended = record { sound = h .ran .sound; words = refl; owners-are = refl; log-is = refl; count-is = refl; links-are = refl }; pickle = refl }
+
     -- a value is left
     module _ (z : 0 < c .stack) (root : ℕ) (is : root ≡ getD stack (c .stack - 1) 0) where
       top-is : last (stateOf (rooms h) c .stack) ≡ root
       top-is = rw (stack-of (rooms h) c, length-take-le (c .stack) stack (omega (arith, firm .stack, firm .deepest, firm .lengths .stack))) (getD-take (c .stack) stack (c .stack - 1) 0 (omega arith)) ∙ sym is
-
-      pub stopped-at : At p nodes owners children (c .nodes) (c .links) (rooms h) c
-      unfolding countsOf
-      stopped-at = record { ended = record { sound = h .ran .sound; words = refl; owners-are = refl; log-is = refl; count-is = refl; links-are = refl }; pickle = refl }
 
       pub root-known : root < c .nodes
       unfolding countsOf

@@ -93,20 +93,20 @@ due-within left f e = go (measured f) refl e
     go (no why) q e = absurd (let z : _≡_ {A = ℕ} 0 1 = cc in omega arith)
 
 module _ (p ws starts sorted measures dues sorted′ measures′ dues′ : List ℕ) (root : ℕ) (a : WalkAnswer) (R : Roots p ws starts sorted measures dues sorted′ measures′ dues′ root a) (left : Bool) (d : Due) (T : Tells a left d) where
-  told : (k : ReadyToResolve p ws starts sorted measures dues root) → dueOf left (one (tree (k .nodes) root)) ≡ said d
+  due-is : (k : ReadyToResolve p ws starts sorted measures dues root) → dueOf left (one (tree (k .nodes) root)) ≡ said d
   unfolding Roots Tells
-  told k = T (k .nodes) (k .beyond) starts dues measures′ sorted′ dues′ root (R k)
+  due-is k = T (k .nodes) (k .beyond) starts dues measures′ sorted′ dues′ root (R k)
 
   -- a refusal
   pub laid-refused : (why : Refusal) → d ≡ due.Refused why → (o q : List ℕ) → BuildsLaid p ws starts sorted measures dues root left (built.Refused why) o q o q
   unfolding BuildsLaid Comes said
-  laid-refused why e o q k = (told k ∙ ap said e, refl, refl)
+  laid-refused why e o q k = (due-is k ∙ ap said e, refl, refl)
 
   -- nothing
   module _ (e : d ≡ due.Nothing) where
     free : (k : ReadyToResolve p ws starts sorted measures dues root) → dueOf left (one (tree (k .nodes) root)) ≡ ok tt
     unfolding said
-    free k = told k ∙ ap said e
+    free k = due-is k ∙ ap said e
 
     measured-as : (k : ReadyToResolve p ws starts sorted measures dues root) → MeasuredAs p ws starts sorted′ dues′ measures′ (k .nodes) root
     unfolding Roots

@@ -83,7 +83,7 @@ pub fn read(
         &mut held[0..1024],
     );
     let c = counts(outcome);
-    clear_ints(keys, c.memo);
+    clear_ints(keys, c.memo); // zero, as the answer's list has to be
     let a = answer(
         edition,
         outcome,

@@ -11,7 +11,7 @@ use Rattle.machine.specs.declared.Outcome.{Outcome}
 use Rattle.machine.specs.declared.Outcome.the-variants.{Stopped}
 use Rattle.machine.specs.Ran.{countsOf}
 use Rattle.build.specs.Rooms.{part-again}
-use Rattle.build.specs.Building.{Working, At, stopped, count-few, children-fit, first-zero, list-fits, rooms-lent, parts-fit, laid-begins, laid-comes, clear-fits, rooms-back}
+use Rattle.build.specs.Building.{Working, At, stopped, count-few, children-fit, first-zero, list-long, rooms-lent, parts-fit, laid-begins, laid-comes, clear-fits, rooms-back}
 use Rattle.build.specs.Given.{RanIn, RefusesWith, Ends, ran-used, stack-fits, rooms, stopped-at, root-known, gives-built, gives-refusal}
 use Rattle.build.proofs.answer.Statement.{statement}
 use Rattle.build.proofs.answer.Tie as tie
@@ -51,7 +51,7 @@ ran : (r : tie.After-root) → Left (start (value r)) (Stopped (counts r))
 ran r = subst (Left (start (value r))) (ended r .0) (start (value r) .pre .0)
 
 at-stop : (r : tie.After-root) → At (start (value r) .args .pickle .now) (start (value r) .args .nodes .now) (start (value r) .args .owners .now) (start (value r) .args .children .now) (counts r .nodes) (counts r .links) (rooms (ran r)) (counts r)
-at-stop r = stopped-at (counts r) (ran r) (ended r .1) (top r .0) (ended r .2)
+at-stop r = stopped-at (counts r) (ran r)
 
 known : (r : tie.After-root) → top r .0 < counts r .nodes
 known r = root-known (counts r) (ran r) (ended r .1) (top r .0) (ended r .2)
@@ -103,7 +103,7 @@ part-build-laid-end-3 : tie.Need-part-build-laid-end-3
 part-build-laid-end-3 c = parts (c .before .before .before .before .before .before .before .before .before .before .before .before) .2
 
 part-build-laid-end-4 : tie.Need-part-build-laid-end-4
-part-build-laid-end-4 c = let r = laid (c .before .before .before .before .before .before .before .before .before .before .before .before .before .before) in list-fits (at-stop r) (known r) (working r)
+part-build-laid-end-4 c = let r = laid (c .before .before .before .before .before .before .before .before .before .before .before .before .before .before) in list-long (at-stop r) (known r) (working r)
 
 build-laid-requires : tie.Need-build-laid-requires
 build-laid-requires c κs =

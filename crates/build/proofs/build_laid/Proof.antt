@@ -70,6 +70,7 @@ sub-clear-ints c = let s = full c in let d = decoded s in let e = free d in list
 clear-ints-requires : tie.Need-clear-ints-requires
 clear-ints-requires c κs = let s = full (c .before) in let d = decoded s in let e = free d in list-fits (measured e) (start (walked (due e)) .pre .1) (d .decode-all .ensures) (s .settle .ensures) (same s)
 
+-- there is room for the most entries too: who clears those has to fail where the log is not as it was (edit `log_left_dirty`)
 clear-shorts-requires : tie.Need-clear-shorts-requires
 clear-shorts-requires c κs =
     let s = full (c .before .before .before .before .before) in
