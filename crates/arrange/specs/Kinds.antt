@@ -8,7 +8,7 @@ use lib.ListN.{getD, List·getD-eq-default}
 use Rattle.value.specs.Value.{NoneL}
 use Rattle.steps.specs.Opcodes.{isList, isTuple}
 use Rattle.resolved.specs.Shown.{nodeLabels}
-use Rattle.lists.specs.Kinds.{by-kind}
+use Rattle.resolved.specs.Kinds.{by-kind}
 
 module _ (p ws : List ℕ) (a b : ℕ) where
   -- Lists and Tuples

@@ -1,4 +1,7 @@
 -- Sets and Dicts in order, on nodes: entries in a list, the place of a key, and what the settling of one node after the other leaves.
+pub mod Label
+pub mod Glance
+pub mod Ranks
 pub mod Entries
 pub mod Search
 pub mod Moves

@@ -13,7 +13,7 @@ use Rattle.lengths.specs.Sum.{sum, sum-drop}
 use Rattle.op.specs.declared.Edition.the-variants.{Full}
 use Rattle.rooms.specs.Stated.{Slices, begun, filled, Ready, filled-ready}
 use Rattle.reading.specs.Reading.{Reading, whole}
-use Rattle.build.specs.Given.{due}
+use Rattle.de.specs.Given.{due}
 use Rattle.de.specs.Inner.{InnerReads}
 use Rattle.batch.specs.Batch.{sheetsOf, four, answersOf, after}
 

@@ -104,7 +104,7 @@ fn show_all(answers: &[u64]) {
 fn read_plain(sheet: &[u8]) -> Answer {
     let mut table = [0u64; 8192];
     let mut text = [0u8; 65536];
-    console::read(Edition::Plain, sheet, &mut table, &mut text)
+    de::read_in_own_rooms(Edition::Plain, sheet, &mut table, &mut text)
 }
 
 // The lines of sheets of plain data.

@@ -1,8 +1,10 @@
 -- A public reading: 1 where a slice is too short, else the rooms made zero, and the inner reading.
 use mathlib.Core.Bool.{true, false, cond}
-use mathlib.Core.List.{[], _∷_, _++_}
+use Prim.Native.Nat.{ℕ}
+use mathlib.Core.List.{List, [], _∷_, _++_, map}
 use mathlib.Core.Path.{_≡_, refl, sym, _∙_, ap}
-use lib.ListN.{replicate}
+use lib.ListN.{length, getD, drop, replicate}
+use lib.Seq.{drop-at}
 use Rattle.refusal.specs.declared.Refusal.the-variants.{ShortRoom}
 use Rattle.refusal.specs.declared.Answer.{Answer}
 use Rattle.refusal.specs.Numbers.{refusedAnswer}
@@ -29,6 +31,25 @@ ReadCall x l l′ a = record { answer = a; slices = l′ } ≡ reading x l
 -- answer and slices are determined
 pub read-one : (x : Reading) (l l′ l″ : Slices) (a b : Answer) → ReadCall x l l′ a → ReadCall x l l″ b → (a ≡ b) × (l′ ≡ l″)
 read-one x l l′ l″ a b e f = (ap (λ (y : Left). y .answer) (e ∙ sym f), ap (λ (y : Left). y .slices) (e ∙ sym f))
+
+-- ---- in rooms of its own
+
+-- eleven rooms as they are made, all zero and as long as stated, and these outputs
+unfoldable pub ownRooms : List ℕ → List ℕ → Slices
+ownRooms table text = map (λ n. replicate n 0) roomLengths ++ (table ∷ text ∷ [])
+
+-- a call with the reading x in such rooms: what it leaves of the outputs, whatever is left of the rooms, which end with it
+pub record OwnRooms (x : Reading) (table text table′ text′ : List ℕ) (a : Answer) : Type 0 where
+  pub rooms : Slices
+  pub eleven : length rooms ≡ 11
+  pub reads : ReadCall x (ownRooms table text) (rooms ++ (table′ ∷ text′ ∷ [])) a
+
+-- answer and outputs are determined
+pub own-one : (x : Reading) (table text table′ text′ table″ text″ : List ℕ) (a b : Answer) → OwnRooms x table text table′ text′ a → OwnRooms x table text table″ text″ b → (a ≡ b) × (table′ ≡ table″) × (text′ ≡ text″)
+own-one x table text table′ text′ table″ text″ a b p q =
+    let e = read-one x (ownRooms table text) _ _ a b (p .reads) (q .reads) in
+    let f : table′ ∷ text′ ∷ [] ≡ table″ ∷ text″ ∷ [] = sym (drop-at (p .rooms) _ 11 (p .eleven)) ∙ ap (drop 11) (e .1) ∙ drop-at (q .rooms) _ 11 (q .eleven) in
+    (e .0, ap (λ (l : Slices). getD l 0 []) f, ap (λ (l : Slices). getD l 1 []) f)
 
 -- ---- the call, case by case
 

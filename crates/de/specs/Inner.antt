@@ -19,9 +19,9 @@ use Rattle.machine.specs.Fresh.{fresh}
 use Rattle.machine.specs.Clear.{UsedTo, zeroed, used-cleared, nodes-used, stack-used, marks-used, keys-used, held-used}
 use Rattle.machine.specs.declared.Outcome.{Outcome}
 use Rattle.reading.specs.Reading.{Reading, pickleLimit, stopped-long, prefix-refused}
-use Rattle.build.specs.Rooms.{zeros-long}
-use Rattle.build.specs.Building.{Working}
-use Rattle.build.specs.Given.{RanIn, due, due-refused}
+use Rattle.de.specs.Rooms.{zeros-long}
+use Rattle.de.specs.Building.{Working}
+use Rattle.de.specs.Given.{RanIn, due, due-refused}
 
 -- the inner reading x in the slices l leaves l′ and answers a
 pub record InnerReads (x : Reading) (l l′ : Slices) (a : Answer) : Type 0 where

@@ -1,7 +1,8 @@
 // The readings of de.rs. `read` is the inner one, in rooms whose stated parts are zero and are left so: 2 for a pickle that is too long, the run
 // to STOP, its answer, and what was used cleared. `reading` is `from_bytes_prefix` or `from_bytes`, of whatever slices are lent: 1 where one is
 // shorter than stated, the rooms made zero, then the inner one. A call that reads many pickles makes its rooms zero once.
-use build::answer;
+mod build;
+use crate::build::answer;
 use machine::Outcome;
 use machine::run;
 use op::Edition;
@@ -16,14 +17,15 @@ use rooms::zero_ints;
 use rooms::zero_shorts;
 use rooms::zero_words;
 use store::Counts;
+ghost use mathlib.Core.Bool.{true};
 ghost use mathlib.Core.List.{[], _∷_, map};
 ghost use mathlib.Core.Path.{_≡_};
 ghost use lib.ListN.{length};
 ghost use Rattle.rooms.specs.Stated.{Slices, machineLengths, builderLengths, stated, Long, Ready, short, blank};
 ghost use Rattle.machine.specs.Ran.{countsOf};
-ghost use Rattle.build.specs.Given.{due};
+ghost use Rattle.de.specs.Given.{due};
 ghost use Rattle.de.specs.Inner.{InnerReads};
-ghost use Rattle.de.specs.Call.{ReadCall};
+ghost use Rattle.de.specs.Call.{ReadCall, OwnRooms};
 
 fn counts(outcome: Outcome) -> Counts
     ensures { λ c. ⌜ c ≡ countsOf outcome ⌝ }
@@ -256,6 +258,43 @@ pub fn reading(
         starts,
         sorted,
         measures,
+        table,
+        text,
+    )
+}
+
+// Whole data in rooms of its own, some 252 KB of the stack: for programs.
+pub fn read_in_own_rooms(edition: Edition, pickle: &[u8], table: &mut [u64], text: &mut [u8]) -> Answer
+    ensures { λ a.
+        ⌜ OwnRooms (due edition true (now (pickle .entry)))
+        (now (table .entry)) (now (text .entry)) (now (table .exit)) (now (text .exit)) a ⌝ }
+{
+    let mut nodes = [0u64; 8192];
+    let mut owners = [0u16; 8192];
+    let mut children = [0u16; 8192];
+    let mut stack = [0u16; 2048];
+    let mut marks = [0u16; 256];
+    let mut keys = [0u32; 2048];
+    let mut held = [0u16; 1024];
+    let mut unescaped = [0u8; 65536];
+    let mut starts = [0u16; 4098];
+    let mut sorted = [0u16; 16384];
+    let mut measures = [0u64; 4096];
+    reading(
+        edition,
+        true,
+        pickle,
+        &mut nodes,
+        &mut owners,
+        &mut children,
+        &mut stack,
+        &mut marks,
+        &mut keys,
+        &mut held,
+        &mut unescaped,
+        &mut starts,
+        &mut sorted,
+        &mut measures,
         table,
         text,
     )

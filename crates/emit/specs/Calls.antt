@@ -20,8 +20,8 @@ use Rattle.resolved.specs.Noted.{isContainer, leafOf}
 use Rattle.resolved.specs.Moved.{moves, moved}
 use Rattle.resolved.specs.Written.{HasAt, Written, written-none, written-node, written-again}
 use Rattle.resolved.specs.Shown.{Shown, nodeLabel}
-use Rattle.texts.specs.Readable.{TextReadable, shown-readable, spelled-measure}
-use Rattle.lists.specs.Kinds.{kindOf, kind-same, containerKind, container-is}
+use Rattle.resolved.specs.Readable.{TextReadable, shown-readable, spelled-measure}
+use Rattle.resolved.specs.Kinds.{kindOf, kind-same, containerKind, container-is}
 use Rattle.emit.specs.Stores.{sets-before, sets-behind, sets-there}
 use Rattle.emit.specs.Words.{packedPlace, recordIn, textIn, writtenW, written-record, written-size, written-text, written-long, recordFrom}
 use Rattle.emit.specs.Places.{written-copyable}

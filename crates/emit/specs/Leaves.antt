@@ -16,9 +16,9 @@ use Rattle.value.specs.Shape.{kindIn, newIn}
 use Rattle.steps.specs.NodeWords.{first, second}
 use Rattle.resolved.specs.Moved.{moves}
 use Rattle.resolved.specs.Shown.{nodeLabel, labelHasText, leading, trailing, leadText, trailText, Spelled}
-use Rattle.texts.specs.Readable.{TextReadable}
+use Rattle.resolved.specs.Readable.{TextReadable}
 use Rattle.utf8.specs.Stores.{sets-append}
-use Rattle.lists.specs.Kinds.{kindOf, kind-small, containerKind, kind-is}
+use Rattle.resolved.specs.Kinds.{kindOf, kind-small, containerKind, kind-is}
 use Rattle.emit.specs.Copies.{Copyable}
 use Rattle.emit.specs.Words.{packedPlace, recordIn, textIn, writtenW, lengthsOf, recordFrom, textBy, lengthsBy, spoken, text-by, lengths-by, has-text, lengths-all, record-is, from-text, from-names}
 

@@ -22,9 +22,9 @@ use Rattle.resolved.specs.Ranges.{in-at}
 use Rattle.resolved.specs.Noted.{isContainer}
 use Rattle.resolved.specs.Written.{HasAt, part-stays, Written, written-none, written-node, written-stays}
 use Rattle.resolved.specs.Shown.{nodeLabel, fromIn, manyIn, listOf, Inside}
-use Rattle.lists.specs.declared.Range.{Range}
-use Rattle.lists.specs.Listed.{Listed, shown-listed, Ranges, list-length, list-at}
-use Rattle.lists.specs.Kinds.{kindOf, containerKind, kind-is}
+use Rattle.resolved.specs.declared.lists.Range.{Range}
+use Rattle.resolved.specs.NodeList.{Listed, shown-listed, Ranges, list-length, list-at}
+use Rattle.resolved.specs.Kinds.{kindOf, containerKind, kind-is}
 use Rattle.emit.specs.Stores.{sets-before, sets-behind, sets-there, earlier, later, part-late}
 use Rattle.emit.specs.Words.{packedPlace, recordIn, textIn, writtenW, lengthsOf, lengths-all}
 use Rattle.emit.specs.Forests.{text-append, append-none, append-next, depth-behind, written-join}

@@ -12,12 +12,12 @@ use Rattle.store.specs.declared.Effect.{Effect}
 use Rattle.store.specs.declared.Effect.the-variants.{Push, Share, Mark, Go, Make, Extend, Remember, Build, Stop, Refused}
 use Rattle.store.specs.Rooms.{Rooms}
 use Rattle.store.specs.Effects.{Fits, enacted}
-use Rattle.effects.specs.declared.Step.{Step}
-use Rattle.effects.specs.declared.Step.the-variants as step
-use Rattle.effects.specs.Done.{meant, Stays, Done, done-refused}
-use Rattle.effects.specs.Containers.{Makeable, Extendable}
-use Rattle.effects.specs.Memo.{Rememberable}
-use Rattle.effects.specs.Words.{Buildable}
+use Rattle.machine.specs.declared.effects.Step.{Step}
+use Rattle.machine.specs.declared.effects.Step.the-variants as step
+use Rattle.machine.specs.Done.{meant, Stays, Done, done-refused}
+use Rattle.machine.specs.Containers.{Makeable, Extendable}
+use Rattle.machine.specs.Memo.{Rememberable}
+use Rattle.machine.specs.Words.{Buildable}
 
 -- rooms as they are with each pickle, and some pickle with which the effect fits them
 pub record Fitting (e : Effect) (had : ℕ) (rooms : List ℕ → Rooms) : Type 0 where

@@ -1,4 +1,10 @@
 -- The machine's step and run in the rooms that are lent.
+pub mod Done
+pub mod Push
+pub mod Links
+pub mod Containers
+pub mod Words
+pub mod Memo
 pub mod RoomsOf
 pub mod Clear
 pub mod Ran

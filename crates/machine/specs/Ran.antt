@@ -17,9 +17,9 @@ use Rattle.steps.specs.Range.{InRange, step-range}
 use Rattle.store.specs.Rooms.{Rooms, stateOf}
 use Rattle.store.specs.RoomReads.{start-of, input-of}
 use Rattle.store.specs.Effects.{Sound}
-use Rattle.effects.specs.declared.Step.{Step}
-use Rattle.effects.specs.declared.Step.the-variants as step-of
-use Rattle.effects.specs.Done.{meant, Stays, Done}
+use Rattle.machine.specs.declared.effects.Step.{Step}
+use Rattle.machine.specs.declared.effects.Step.the-variants as step-of
+use Rattle.machine.specs.Done.{meant, Stays, Done}
 use Rattle.machine.specs.declared.Outcome.{Outcome}
 use Rattle.machine.specs.declared.Outcome.the-variants as outcome
 

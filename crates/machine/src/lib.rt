@@ -1,14 +1,15 @@
 // The run of de.rs's `Decoder`: `decide` has the one match over the opcode byte and answers an effect, `apply` has it, `run` goes on to
 // STOP. What it used of the rooms is cleared by the counts, by those who lend them.
+pub mod effects;
 use decoder::KeyForm;
-use effects::Step;
-use effects::extend;
-use effects::make;
-use effects::push_id;
-use effects::push_node;
-use effects::put_mark;
-use effects::remember;
-use effects::set_state;
+use crate::effects::Step;
+use crate::effects::extend;
+use crate::effects::make;
+use crate::effects::push_id;
+use crate::effects::push_node;
+use crate::effects::put_mark;
+use crate::effects::remember;
+use crate::effects::set_state;
 use op::Edition;
 use op::Objection;
 use refusal::Refusal;

@@ -13,7 +13,7 @@ use Rattle.resolve.specs.Length.{namesLen, textLen, LengthReadable, len-
 use Rattle.resolve.specs.Word.{packW, textsW, texts-pack}
 use Rattle.resolved.specs.Walk.{WalkState}
 use Rattle.resolved.specs.Noted.{isContainer, isTextLeaf, ahead, leafOf, LeafNoted, unseen, early, reached, Noted, noted-early}
-use Rattle.lists.specs.Kinds.{containerKind}
+use Rattle.resolved.specs.Kinds.{containerKind}
 use Rattle.resolve.specs.Facts.{valueWord, kindAt, classAt, Facts}
 use Rattle.resolve.specs.Known.{word-big, leaf-word, no-text}
 

@@ -23,7 +23,7 @@ use Rattle.resolved.specs.Resolves.{open-not-done}
 use Rattle.resolved.specs.Sums.{apartNext, ordered-apart, apart-short}
 use Rattle.resolved.specs.Listed.{Lists, lists-count, lists-length}
 use Rattle.resolved.specs.Shown.{isSorted}
-use Rattle.lists.specs.Kinds.{containerKind}
+use Rattle.resolved.specs.Kinds.{containerKind}
 
 -- the word of a value
 abbrev pub valueWord : Value → ℕ

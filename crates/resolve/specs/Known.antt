@@ -19,7 +19,7 @@ use Rattle.resolved.specs.Walk.{WalkState, WalkMade, WalkCase, copied, inside, 
 use Rattle.resolved.specs.Resolves.{Resolves}
 use Rattle.resolved.specs.Dues.{isDue, dues}
 use Rattle.resolved.specs.Noted.{isContainer, ahead, leafOf, LeafNoted, unseen, early, reached, Noted, Stamped, stamp-store, stamp-there, stamp-textless, leaf-walk, WordSays, is-fresh, is-taken, is-gone, is-kept, reads}
-use Rattle.lists.specs.Kinds.{containerKind}
+use Rattle.resolved.specs.Kinds.{containerKind}
 use Rattle.resolve.specs.Facts.{valueWord, kindAt, Facts, Shallow}
 use Rattle.resolve.specs.declared.Seen.{Seen}
 use Rattle.resolve.specs.declared.Seen.the-variants.{Open, Empty, Word}

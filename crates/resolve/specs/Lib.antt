@@ -1,4 +1,11 @@
 -- The walk that measures and resolves: what its code reads and keeps, and what it ensures.
+pub mod Sum
+pub mod Store
+pub mod Words
+pub mod Layout
+pub mod Runs
+pub mod SideBySide
+pub mod Examples
 pub mod Length
 pub mod Word
 pub mod Blocked

@@ -20,7 +20,7 @@ use Rattle.resolved.specs.Noted.{isContainer, isTextLeaf}
 use Rattle.resolved.specs.Dues.{isDue}
 use Rattle.resolved.specs.Ranges.{graph-inside}
 use Rattle.resolve.specs.Length.{textLen}
-use Rattle.lists.specs.Kinds.{by-kind, container-node, sorted-due}
+use Rattle.resolved.specs.Kinds.{by-kind, container-node, sorted-due}
 use Rattle.resolve.specs.Facts.{Facts}
 
 -- the nodes t are those that the pickle p and the words ws say

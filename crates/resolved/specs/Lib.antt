@@ -1,4 +1,11 @@
 -- `Builder` on the node table: a walk that leaves a graph, what the graph's nodes stand for, their order, and how they are written out.
+pub mod Readable
+pub mod Place
+pub mod Measure
+pub mod Spell
+pub mod Due
+pub mod Kinds
+pub mod NodeList
 pub mod Resolved
 pub mod Ordered
 pub mod Walk

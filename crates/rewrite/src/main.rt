@@ -16,7 +16,10 @@ fn main() {
     let mut table = [0u64; 8192];
     let mut text = [0u8; 65536];
     let mut output = [0u8; 122883];
-    let read = console::read_input(Edition::Full, &mut table, &mut text);
+    let mut input = [0u8; 65537];
+    let n = io::read_full(0, &mut input);
+    let pickle = console::first(&input, n);
+    let read = de::read_in_own_rooms(Edition::Full, pickle, &mut table, &mut text);
     if read.number != 0 {
         console::show_refusal(read.number, read.detail);
         return;

@@ -17,8 +17,8 @@ use Rattle.steps.specs.Keeps.{stateAfter}
 use Rattle.steps.specs.Shrinks.{step-less}
 use Rattle.steps.specs.Fuel.{runFrom, run-finish, finish-refused, finish-stops, finish-goes}
 use Rattle.store.specs.Rooms.{Rooms, stateOf}
-use Rattle.effects.specs.declared.Step.the-variants as step-of
-use Rattle.effects.specs.Done.{meant, Done}
+use Rattle.machine.specs.declared.effects.Step.the-variants as step-of
+use Rattle.machine.specs.Done.{meant, Done}
 use Rattle.machine.specs.declared.Outcome.{Outcome}
 use Rattle.machine.specs.Ran.{ended, Ran, Steps, onward, afterSteps, after-n-steps}
 

@@ -3,7 +3,7 @@ use mathlib.Core.Bool.{false}
 use mathlib.Core.List.{[], _∷_, _++_}
 use mathlib.Core.Path.{_≡_, refl, sym, _∙_, ap₂}
 use Rattle.rooms.specs.Stated.{Slices, roomLengths, stated, short, blank, long, ready}
-use Rattle.build.specs.Given.{due}
+use Rattle.de.specs.Given.{due}
 use Rattle.de.specs.Call.{call-short, call-reads}
 use Rattle.de.proofs.reading.Statement.{statement}
 use Rattle.de.proofs.reading.Tie as tie

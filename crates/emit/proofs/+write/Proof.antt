@@ -14,8 +14,8 @@ use Rattle.emit.proofs.put_class.Reads as put-class-reads
 use Rattle.emit.proofs.write_atom.Reads as write-atom-reads
 use Rattle.emit.proofs.write_flat.Reads as write-flat-reads
 use Rattle.emit.proofs.write_text.Reads as write-text-reads
-use Rattle.lists.proofs.item.Reads as item-reads
-use Rattle.lists.proofs.range_of.Reads as range-of-reads
+use Rattle.resolved.proofs.lists.item.Reads as item-reads
+use Rattle.resolved.proofs.lists.range_of.Reads as range-of-reads
 use Rattle.emit.proofs.+write.{statement}
 use Rattle.emit.proofs.+write.Tie.{close}
 use mathlib.Core.Bool.{Bool, true, false}

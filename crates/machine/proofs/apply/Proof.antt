@@ -5,10 +5,10 @@ use mathlib.Core.Path.{_≡_, refl, subst}
 use Rattle.store.specs.declared.Effect.{Effect}
 use Rattle.store.specs.Rooms.{Rooms}
 use Rattle.store.specs.Effects.{Fits, enacted}
-use Rattle.effects.specs.Push.{PushNode, PushId, PutMark}
-use Rattle.effects.specs.Containers.{MakesNode, Extends}
-use Rattle.effects.specs.Memo.{Remembers}
-use Rattle.effects.specs.Words.{SetsState}
+use Rattle.machine.specs.Push.{PushNode, PushId, PutMark}
+use Rattle.machine.specs.Containers.{MakesNode, Extends}
+use Rattle.machine.specs.Memo.{Remembers}
+use Rattle.machine.specs.Words.{SetsState}
 use Rattle.machine.specs.RoomsOf.{roomsOf}
 use Rattle.machine.specs.Applied.{Applies, push-lengths, share-lengths, mark-lengths, makeable, extendable, rememberable, buildable, goes-on, stops, refusal-applied}
 

@@ -6,7 +6,7 @@ use Prim.Native.Nat.{_-_}
 use mathlib.Core.Path.{_≡_, refl, subst, _∙_}
 use lib.ListN.{length}
 use Rattle.store.specs.Rooms.{Rooms}
-use Rattle.effects.specs.declared.Step.{Step}
+use Rattle.machine.specs.declared.effects.Step.{Step}
 use Rattle.machine.specs.RoomsOf.{roomsOf}
 use Rattle.machine.specs.Ran.{Stepped, AsLong, as-long, Running, running-start, running-next, running-less, ran-stopped, ran-refused}
 

@@ -1,5 +1,5 @@
 -- `pickle::qelemvir_from_bytes_prefix` meets its contract. Assumes nothing.
-use Rattle.build.specs.Given.{due}
+use Rattle.de.specs.Given.{due}
 use Rattle.pickle.proofs.Lent.{kept-each}
 use Rattle.pickle.proofs.qelemvir_from_bytes_prefix.Statement.{statement}
 use Rattle.pickle.proofs.qelemvir_from_bytes_prefix.Tie as tie

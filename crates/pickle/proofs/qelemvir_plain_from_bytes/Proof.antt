@@ -1,5 +1,5 @@
 -- `pickle::qelemvir_plain_from_bytes` meets its contract. Assumes nothing.
-use Rattle.build.specs.Given.{due}
+use Rattle.de.specs.Given.{due}
 use Rattle.pickle.proofs.Lent.{kept-each}
 use Rattle.pickle.proofs.qelemvir_plain_from_bytes.Statement.{statement}
 use Rattle.pickle.proofs.qelemvir_plain_from_bytes.Tie as tie

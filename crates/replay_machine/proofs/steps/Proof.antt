@@ -8,7 +8,7 @@ use lib.ListN.{length}
 use Rattle.op.specs.declared.Edition.the-variants.{Full}
 use Rattle.store.specs.Rooms.{Rooms}
 use Rattle.store.specs.Effects.{Sound}
-use Rattle.effects.specs.declared.Step.{Step}
+use Rattle.machine.specs.declared.effects.Step.{Step}
 use Rattle.machine.specs.RoomsOf.{roomsOf}
 use Rattle.machine.specs.Ran.{Stepped, AsLong, as-long, step-sound, step-further}
 use Rattle.replay_machine.specs.Shown.{shown}

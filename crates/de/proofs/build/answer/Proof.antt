@@ -1,0 +1,181 @@
+-- `build::answer` meets its contract: the run's refusal, 6, or what building comes to; the parts that are lent fit, and cleared the rooms are
+-- as they were. Assumes nothing.
+use Prim.Native.Nat.{_+_, _-_, _<_, _≤_, zero-le}
+use mathlib.Core.Path.{_≡_, refl, _∙_, subst}
+use lib.ListN.{length, getD}
+use lib.Seq.{length-front}
+use native.Mathlib.Omega.{arith}
+use Rattle.store.specs.declared.Counts.{Counts}
+use Rattle.store.specs.declared.NodeId.{NodeId}
+use Rattle.machine.specs.declared.Outcome.{Outcome}
+use Rattle.machine.specs.declared.Outcome.the-variants.{Stopped}
+use Rattle.machine.specs.Ran.{countsOf}
+use Rattle.de.specs.Rooms.{part-again}
+use Rattle.de.specs.Building.{Working, At, stopped, count-few, children-fit, first-zero, list-long, rooms-lent, parts-fit, laid-begins, laid-comes, clear-fits, rooms-back}
+use Rattle.de.specs.Given.{RanIn, RefusesWith, Ends, ran-used, stack-fits, rooms, stopped-at, root-known, gives-built, gives-refusal}
+use Rattle.de.proofs.build.answer.Statement.{statement}
+use Rattle.de.proofs.build.answer.Tie as tie
+
+abbrev start : tie.After-end-of → tie.Start
+start c = c .before .before .before .before .before .before .before .before .before .before .before .before .before
+
+-- ---- it ended with a refusal
+
+abbrev why : tie.After-why → tie.After-end-of
+why c = c .before .before
+
+refusing : (c : tie.After-why) → RefusesWith (start (why c) .args .outcome) (c .why .given .0 .0) × (c .why .given .0 .1 .0 ≡ countsOf (start (why c) .args .outcome) .links)
+unfolding Ends
+refusing c = let s = start (why c) .args in subst (Ends (s .outcome) (s .stack .now)) (c .why .given .1) (why c .end-of .ensures)
+
+-- ---- it ended with a value
+
+abbrev value : tie.After-root → tie.After-end-of
+value r = r .before .before
+
+abbrev top : tie.After-root → NodeId
+top r = r .root .given .0 .0
+
+abbrev counts : tie.After-root → Counts
+counts r = r .root .given .0 .1 .0
+
+ended : (r : tie.After-root) → (start (value r) .args .outcome ≡ Stopped (counts r)) × (0 < counts r .stack) × (top r .0 ≡ getD (start (value r) .args .stack .now) (counts r .stack - 1) 0)
+unfolding Ends
+ended r = let s = start (value r) .args in subst (Ends (s .outcome) (s .stack .now)) (r .root .given .1) (value r .end-of .ensures)
+
+-- the rooms that the run left
+abbrev Left : tie.Start → Outcome → Type 0
+Left s o = RanIn (s .args .edition) o (s .args .pickle .now) (s .args .nodes .now) (s .args .owners .now) (s .args .children .now) (s .args .stack .now)
+
+ran : (r : tie.After-root) → Left (start (value r)) (Stopped (counts r))
+ran r = subst (Left (start (value r))) (ended r .0) (start (value r) .pre .0)
+
+at-stop : (r : tie.After-root) → At (start (value r) .args .pickle .now) (start (value r) .args .nodes .now) (start (value r) .args .owners .now) (start (value r) .args .children .now) (counts r .nodes) (counts r .links) (rooms (ran r)) (counts r)
+at-stop r = stopped-at (counts r) (ran r)
+
+known : (r : tie.After-root) → top r .0 < counts r .nodes
+known r = root-known (counts r) (ran r) (ended r .1) (top r .0) (ended r .2)
+
+abbrev working : (r : tie.After-root) → Working (start (value r) .args .list .now) (start (value r) .args .decoded .now) (start (value r) .args .starts .now) (start (value r) .args .sorted .now) (start (value r) .args .measures .now) (start (value r) .args .table .now) (start (value r) .args .text .now)
+working r = start (value r) .pre .1 .1
+
+-- from the end back to each call
+abbrev laid : tie.After-lay-out → tie.After-root
+laid c = c .before .before .before .before .before .before
+
+abbrev made : tie.After-build-laid → tie.After-lay-out
+made c = c .before .before .before .before .before .before .before .before .before .before .before .before .before .before .before .before .before .before .before
+
+abbrev cleared : tie.After-clear → tie.After-build-laid
+cleared c = c .before .before .before .before .before .before .before .before .before .before .before .before .before .before .before .before .before .before .before .before .before
+
+abbrev told : tie.After-told-of → tie.After-clear
+told c = c .before .before .before .before .before .before .before .before .before
+
+-- what is laid out leaves the room for the children as long as it was, and the parts fit
+same : (c : tie.After-lay-out) → length (c .lay-out .last .1 .1 .1 .1 .1 .1 .0) ≡ length (start (value (laid c)) .args .sorted .now)
+same c = c .lay-out .kept .1 .1 .1 .1 .1 .1 .0
+
+parts : (c : tie.After-lay-out) → (c .lay-out .result ≤ length (c .lay-out .last .1 .1 .1 .1 .1 .1 .0)) × (counts (laid c) .nodes ≤ length (start (value (laid c)) .args .measures .now)) × (counts (laid c) .nodes + 1 ≤ length (c .lay-out .last .1 .1 .0))
+parts c = let r = laid c in parts-fit (at-stop r) (known r) (working r) (c .lay-out .ensures .0) (same c) (c .lay-out .ensures .1)
+
+-- ---- what is asked on the way
+
+end-of-requires : tie.Need-end-of-requires
+end-of-requires c κs = stack-fits _ (c .before .before .before .before .before .before .before .before .before .before .before .before .pre .0)
+
+clear-log-requires : tie.Need-clear-log-requires
+clear-log-requires c κs = let y = c .before .before .before in rw (refusing y .1) (ran-used _ (start (why y) .pre .0))
+
+lay-out-requires : tie.Need-lay-out-requires
+lay-out-requires c κs = let r = c .before .before .before .before .before in (stopped (at-stop r) (known r) (working r), (children-fit (at-stop r) (known r) (working r), first-zero (at-stop r) (known r) (working r)))
+
+part-build-laid-end : tie.Need-part-build-laid-end
+part-build-laid-end c = parts (c .before .before .before .before .before .before .before .before .before .before) .0
+
+part-build-laid-end-2 : tie.Need-part-build-laid-end-2
+part-build-laid-end-2 c = parts (c .before .before .before .before .before .before .before .before .before .before .before) .1
+
+add-build-laid : tie.Need-add-build-laid
+add-build-laid c = let r = laid (c .before .before .before .before .before .before .before .before .before .before .before .before) in omega (arith, count-few (at-stop r) (known r) (working r))
+
+part-build-laid-end-3 : tie.Need-part-build-laid-end-3
+part-build-laid-end-3 c = parts (c .before .before .before .before .before .before .before .before .before .before .before .before) .2
+
+part-build-laid-end-4 : tie.Need-part-build-laid-end-4
+part-build-laid-end-4 c = let r = laid (c .before .before .before .before .before .before .before .before .before .before .before .before .before .before) in list-long (at-stop r) (known r) (working r)
+
+build-laid-requires : tie.Need-build-laid-requires
+build-laid-requires c κs =
+    let l = c .before .before .before .before .before .before .before .before .before .before .before .before .before .before .before .before .before .before in
+    let r = laid l in
+    let y = l .lay-out .ensures in
+    (laid-begins (at-stop r) (known r) (working r) (y .0) (same l) (y .1), rooms-lent (at-stop r) (known r) (working r) (y .0) (same l) (y .1) (start (value r) .pre .1 .0))
+
+clear-requires : tie.Need-clear-requires
+clear-requires c κs =
+    let m = c .before .before .before .before .before .before .before .before .before .before .before .before .before .before .before .before .before .before .before .before in
+    let d = m .build-laid .last in
+    let k = m .build-laid .kept in
+    let l = made m in
+    let r = laid l in
+    let y = l .lay-out .ensures in
+    clear-fits (at-stop r) (known r) (working r) (y .0) (same l) (y .1) (d .1 .1 .1 .1 .1 .0) (d .1 .1 .1 .1 .1 .1 .0) (d .1 .1 .1 .1 .1 .1 .1 .0) (k .1 .1 .1 .1 .1 .0) (k .1 .1 .1 .1 .1 .1 .0) (k .1 .1 .1 .1 .1 .1 .1 .0) (l .lay-out .kept .1 .1 .1 .1 .1 .0)
+
+-- ---- at the end
+
+returns : tie.Need-returns
+returns c = let y = c .before .before .before .before .before .before .before .before .before in (rw (c .refused .ensures) (gives-refusal _ _ _ _ _ (start (why y) .pre .0) (refusing y .0)), (c .before .before .before .before .before .clear-log .ensures, (refl, refl, refl, refl, refl)))
+
+same-owners : tie.Need-same-length-3
+same-owners c =
+    let e = told c in
+    let m = cleared e .build-laid in
+    let l = made (cleared e) in
+    e .clear .kept .1 .1 .0 ∙ length-front (l .lay-out .last .1 .1 .0) (m .last .1 .1 .1 .1 .1 .1 .1 .0) (counts (laid l) .nodes + 1 - 0) (m .kept .1 .1 .1 .1 .1 .1 .1 .0) ∙ l .lay-out .kept .1 .1 .0
+
+same-children : tie.Need-same-length-4
+same-children c = let m = cleared (told c) in m .build-laid .kept .1 .1 .1 .1 .1 .1 .1 .1 .0 ∙ made m .lay-out .kept .1 .1 .1 .0
+
+same-list : tie.Need-same-length-5
+same-list c = let m = cleared (told c) in length-front (start (value (laid (made m))) .args .list .now) (m .build-laid .last .1 .1 .1 .1 .1 .1 .1 .1 .1 .0) 2048 (m .build-laid .kept .1 .1 .1 .1 .1 .1 .1 .1 .1 .0)
+
+same-starts : tie.Need-same-length-7
+same-starts c = told c .clear .kept .1 .1 .1 .0 ∙ made (cleared (told c)) .lay-out .kept .1 .1 .1 .1 .1 .0
+
+same-sorted : tie.Need-same-length-8
+same-sorted c =
+    let e = told c in
+    let m = cleared e .build-laid in
+    let y = made (cleared e) .lay-out in
+    e .clear .kept .1 .1 .1 .1 .0 ∙ length-front (y .last .1 .1 .1 .1 .1 .1 .0) (m .last .1 .1 .1 .1 .1 .0) (y .result - 0) (m .kept .1 .1 .1 .1 .1 .0) ∙ y .kept .1 .1 .1 .1 .1 .1 .0
+
+same-measures : tie.Need-same-length-9
+same-measures c =
+    let e = told c in
+    let m = cleared e .build-laid in
+    let r = laid (made (cleared e)) in
+    e .clear .kept .1 .1 .1 .1 .1 .0 ∙ length-front (start (value r) .args .measures .now) (m .last .1 .1 .1 .1 .1 .1 .0) (counts r .nodes - 0) (m .kept .1 .1 .1 .1 .1 .1 .0)
+
+returns-2 : tie.Need-returns-2
+returns-2 c =
+    let e = told c .clear .ensures in
+    let m = cleared (told c) .build-laid in
+    let l = made (cleared (told c)) in
+    let r = laid l in
+    let y = l .lay-out .ensures in
+    let b = rooms-back (at-stop r) (known r) (working r) (y .0) (same l) (y .1) (m .last .1 .1 .1 .1 .1 .0) (m .last .1 .1 .1 .1 .1 .1 .0) (m .last .1 .1 .1 .1 .1 .1 .1 .0) (m .kept .1 .1 .1 .1 .1 .0) (m .kept .1 .1 .1 .1 .1 .1 .0) (m .kept .1 .1 .1 .1 .1 .1 .1 .0) in (
+      rw (c .told-of .ensures) (gives-built (counts r) (ran r) (ended r .1) (top r .0) (ended r .2) _ _ _ _ _ _ (laid-comes (at-stop r) (known r) (working r) (y .0) (same l) (y .1) _ _ _ _ (m .ensures .0))),
+      ((e .0 .0 ∙ b .0, m .ensures .1 .log-same ∙ y .1 .1), (part-again 2048 _ _ (m .ensures .1 .list-same), m .ensures .1 .decoded-same, e .0 .1 ∙ b .1, e .1 .0 ∙ b .2, e .1 .1 ∙ b .3)),
+    )
+
+pub answer-spec : {M : Type 1} → statement M
+answer-spec =
+    tie.close
+    (tie.spec
+    end-of-requires (λ c. c .match .keys1) clear-log-requires (λ c κs. tt) (λ c. c .match .keys2) lay-out-requires
+    (λ c. zero-le) (λ c. zero-le) part-build-laid-end (λ c. zero-le) (λ c. zero-le) part-build-laid-end-2 add-build-laid
+    (λ c. zero-le) (λ c. zero-le) part-build-laid-end-3 (λ c. zero-le) (λ c. zero-le) part-build-laid-end-4 build-laid-requires clear-requires (λ c κs. tt)
+    (λ c. c .before .before .before .before .before .clear-log .kept .1 .0) (λ c. c .before .before .before .before .before .clear-log .kept .1 .1 .0) returns
+    same-owners same-children same-list (λ c. cleared (told c) .build-laid .kept .1 .1 .1 .1 .1 .1 .1 .1 .1 .1 .0) same-starts same-sorted same-measures
+    (λ c. cleared (told c) .build-laid .kept .1 .1 .1 .1 .1 .1 .1 .1 .1 .1 .1 .0) (λ c. cleared (told c) .build-laid .kept .1 .1 .1 .1 .1 .1 .1 .1 .1 .1 .1 .1 .0) returns-2)

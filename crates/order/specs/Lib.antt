@@ -1,4 +1,0 @@
--- The order of nodes.
-pub mod Label
-pub mod Glance
-pub mod Ranks
