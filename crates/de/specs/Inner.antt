@@ -11,7 +11,7 @@ use Rattle.refusal.specs.declared.Refusal.the-variants.{TooLong}
 use Rattle.refusal.specs.Numbers.{refusedAnswer}
 use Rattle.op.specs.declared.Edition.{Edition}
 use Rattle.rooms.specs.Cleared.{cleared}
-use Rattle.rooms.specs.Stated.{Slices, machineLengths, stated, AllZero, Ready, filled, filled-none, long, rooms-zero}
+use Rattle.rooms.specs.Stated.{Slices, machineLengths, stated, AllZero, Ready, begun, filled, filled-none, long, rooms-zero}
 use Rattle.store.specs.Effects.{Sound, Firm}
 use Rattle.machine.specs.RoomsOf.{roomsOf}
 use Rattle.machine.specs.Ran.{Ran, startCounts, countsOf}
@@ -147,3 +147,12 @@ module _ (nodes owners children stack marks keys held unescaped starts sorted me
         table-room = o .0;
         text-room = o .1 .0;
       }
+
+  -- and what is left, slice by slice: every room as it came, the outputs begun with the reading's
+  pub reads-all : (x : Reading) (a : Answer) {nodes′ owners′ children′ stack′ marks′ keys′ held′ unescaped′ starts′ sorted′ measures′ table′ text′ : List ℕ}
+      → a ≡ x .answer → nodes′ ≡ nodes → owners′ ≡ owners → children′ ≡ children → stack′ ≡ stack → marks′ ≡ marks → keys′ ≡ keys → held′ ≡ held → unescaped′ ≡ unescaped → starts′ ≡ starts → sorted′ ≡ sorted → measures′ ≡ measures
+      → table′ ≡ begun (x .words) table → text′ ≡ begun (x .bytes) text
+      → InnerReads x (nodes ∷ owners ∷ children ∷ stack ∷ marks ∷ keys ∷ held ∷ unescaped ∷ starts ∷ sorted ∷ measures ∷ table ∷ text ∷ [])
+      (nodes′ ∷ owners′ ∷ children′ ∷ stack′ ∷ marks′ ∷ keys′ ∷ held′ ∷ unescaped′ ∷ starts′ ∷ sorted′ ∷ measures′ ∷ table′ ∷ text′ ∷ []) a
+  unfolding filled
+  reads-all x a e f0 f1 f2 f3 f4 f5 f6 f7 f8 f9 f10 f11 f12 = record { answer = e; slices = rw (f0, f1, f2, f3, f4, f5, f6, f7, f8, f9, f10, f11, f12) }

@@ -5,10 +5,10 @@ use mathlib.Core.Path.{_≡_, refl, _∙_, ap}
 use lib.ListN.{length, drop}
 use lib.Seq.{length-front}
 use native.Mathlib.Omega.{arith}
-use Rattle.rooms.specs.Stated.{Slices, roomLengths, AllZero, filled, same-slices, rooms-zero}
+use Rattle.rooms.specs.Stated.{Slices, roomLengths, AllZero, rooms-zero}
 use Rattle.store.specs.declared.Counts.{Counts}
 use Rattle.machine.specs.Ran.{countsOf}
-use Rattle.de.specs.Inner.{Runs, reads-long, back-fits, back-again, part-fits, put-fits, put-length, part-cleared, begins, runs, machine-zero, working}
+use Rattle.de.specs.Inner.{Runs, reads-long, back-fits, back-again, part-fits, put-fits, put-length, part-cleared, begins, runs, machine-zero, working, reads-all}
 use Rattle.de.proofs.read.Statement.{statement}
 use Rattle.de.proofs.read.Tie as tie
 
@@ -152,7 +152,6 @@ clear-shorts-requires-3 : tie.Need-clear-shorts-requires-3
 clear-shorts-requires-3 c κs = let k = counts (c .before .before .before .before .before .before .before .before .before .before .before .before .before .before .before .before .before .before .before .before .before .before .before .before .before .before .before .before .before .before .before .before) in back-fits (ran (run k) .held-back) _ (ap (λ (x : Counts). x .memo) (counted k))
 
 returns-2 : tie.Need-returns-2
-unfolding filled
 returns-2 c =
     let k = counts (told c) in
     let r = ran (ended c) in
@@ -160,22 +159,16 @@ returns-2 c =
     let z = zero (start (ended c)) in
     let l = ended c .run in
     let e = told c .answer in
-    record {
-      answer = e .ensures .0 .answer;
-      slices = same-slices (back-again (r .nodes-back) _ (ap (λ (x : Counts). 2 * x .nodes) (counted k)) _ (c .before .before .before .before .before .before .before .before .before .before .before .before .before .before .clear-words .ensures))
-          (same-slices (part-cleared 8192 (a .owners .now) (z .1 .0) (owners′ (ended c)) (e .last .1 .1 .1 .1 .1 .1 .0) (length-front (a .owners .now) (l .last .1 .1 .1 .0) 8192 (l .kept .1 .1 .1 .0)) (r .owners-behind) (e .ensures .1 .0 .0))
-          (same-slices (part-cleared 8192 (a .children .now) (z .1 .1 .0) (children′ (ended c)) (e .last .1 .1 .1 .1 .1 .1 .1 .0) (length-front (a .children .now) (l .last .1 .1 .1 .1 .0) 8192 (l .kept .1 .1 .1 .1 .0)) (r .children-behind) (e .ensures .1 .0 .1))
-          (same-slices (back-again (r .stack-back) _ (ap (λ (x : Counts). x .deepest) (counted k)) _ (c .before .before .before .before .before .before .before .before .before .before .clear-shorts .ensures))
-          (same-slices (back-again (r .marks-back) _ (ap (λ (x : Counts). x .most) (counted k)) _ (c .before .before .before .before .before .before .clear-shorts2 .ensures))
-          (same-slices (e .ensures .1 .1 .0 ∙ back-again (r .keys-back) _ (ap (λ (x : Counts). x .memo) (counted k)) _ (told c .before .before .before .before .before .before .before .before .before .before .before .before .before .before .before .before .clear-ints .ensures))
-          (same-slices (back-again (r .held-back) _ (ap (λ (x : Counts). x .memo) (counted k)) _ (c .before .before .clear-shorts3 .ensures))
-          (same-slices (e .ensures .1 .1 .1)
-          (same-slices (e .ensures .1 .1 .2)
-          (same-slices (e .ensures .1 .1 .3)
-          (same-slices (e .ensures .1 .1 .4)
-          (same-slices (e .ensures .0 .table-is)
-          (same-slices (e .ensures .0 .text-is) refl))))))))))));
-    }
+    reads-all _ _ _ _ _ _ _ _ _ _ _ _ _ (start (ended c) .pre) _ _
+    (e .ensures .0 .answer)
+    (back-again (r .nodes-back) _ (ap (λ (x : Counts). 2 * x .nodes) (counted k)) _ (c .before .before .before .before .before .before .before .before .before .before .before .before .before .before .clear-words .ensures))
+    (part-cleared 8192 (a .owners .now) (z .1 .0) (owners′ (ended c)) (e .last .1 .1 .1 .1 .1 .1 .0) (length-front (a .owners .now) (l .last .1 .1 .1 .0) 8192 (l .kept .1 .1 .1 .0)) (r .owners-behind) (e .ensures .1 .0 .0))
+    (part-cleared 8192 (a .children .now) (z .1 .1 .0) (children′ (ended c)) (e .last .1 .1 .1 .1 .1 .1 .1 .0) (length-front (a .children .now) (l .last .1 .1 .1 .1 .0) 8192 (l .kept .1 .1 .1 .1 .0)) (r .children-behind) (e .ensures .1 .0 .1))
+    (back-again (r .stack-back) _ (ap (λ (x : Counts). x .deepest) (counted k)) _ (c .before .before .before .before .before .before .before .before .before .before .clear-shorts .ensures))
+    (back-again (r .marks-back) _ (ap (λ (x : Counts). x .most) (counted k)) _ (c .before .before .before .before .before .before .clear-shorts2 .ensures))
+    (e .ensures .1 .1 .0 ∙ back-again (r .keys-back) _ (ap (λ (x : Counts). x .memo) (counted k)) _ (told c .before .before .before .before .before .before .before .before .before .before .before .before .before .before .before .before .clear-ints .ensures))
+    (back-again (r .held-back) _ (ap (λ (x : Counts). x .memo) (counted k)) _ (c .before .before .clear-shorts3 .ensures))
+    (e .ensures .1 .1 .1) (e .ensures .1 .1 .2) (e .ensures .1 .1 .3) (e .ensures .1 .1 .4) (e .ensures .0 .table-is) (e .ensures .0 .text-is)
 
 -- a room of the run's is as long as it was
 same-nodes : (c : tie.After-slice-known34) → length (nodes′ (ended c)) ≡ length (start (ended c) .args .nodes .now)

@@ -1,11 +1,13 @@
 -- `de::read_in_own_rooms` meets its contract: the reading, in rooms that are made zero and as long as stated. Assumes nothing.
 use mathlib.Core.List.{[], _∷_}
 use mathlib.Core.Path.{refl}
-use borrow.Author.Needs.{needs}
 use Rattle.rooms.specs.Stated.{Slices}
 use Rattle.de.specs.Call.{ownRooms}
 use Rattle.de.proofs.read_in_own_rooms.Statement.{statement}
 use Rattle.de.proofs.read_in_own_rooms.Tie as tie
+
+abbrev called : tie.After-slice-known4 → tie.After-reading
+called c = c .before .before .before .before .before .before .before .before .before .before .before .before .before .before .before
 
 -- what the reading leaves of the rooms
 abbrev left : tie.After-reading → Slices
@@ -16,11 +18,11 @@ left c =
 
 returns : tie.Need-returns
 unfolding ownRooms
-returns c = let r = c .before .before .before .before .before .before .before .before .before .before .before .before .before .before .before in record { rooms = left r; eleven = refl; reads = r .reading .ensures }
+returns c = record { rooms = left (called c); eleven = refl; reads = called c .reading .ensures }
 
 pub read-in-own-rooms-spec : {M : Type 1} → statement M
 read-in-own-rooms-spec =
     tie.close
     (tie.spec
-    (λ c. search needs) (λ c. search needs) (λ c. search needs) (λ c. search needs) (λ c. search needs) (λ c. search needs) (λ c. search needs) (λ c. search needs)
-    (λ c. search needs) (λ c. search needs) (λ c. search needs) (λ c κs. search needs) (λ c. search needs) (λ c. search needs) returns)
+    (λ c. refl) (λ c. refl) (λ c. refl) (λ c. refl) (λ c. refl) (λ c. refl) (λ c. refl) (λ c. refl) (λ c. refl) (λ c. refl) (λ c. refl) (λ c κs. tt)
+    (λ c. called c .reading .kept .1 .1 .1 .1 .1 .1 .1 .1 .1 .1 .1 .1 .1 .1 .0) (λ c. called c .reading .kept .1 .1 .1 .1 .1 .1 .1 .1 .1 .1 .1 .1 .1 .1 .1 .0) returns)
