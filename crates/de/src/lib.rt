@@ -2,6 +2,7 @@
 // to STOP, its answer, and what was used cleared. `reading` is `from_bytes_prefix` or `from_bytes`, of whatever slices are lent: 1 where one is
 // shorter than stated, the rooms made zero, then the inner one. A call that reads many pickles makes its rooms zero once.
 mod build;
+
 use crate::build::answer;
 use machine::Outcome;
 use machine::run;
@@ -264,7 +265,12 @@ pub fn reading(
 }
 
 // Whole data in rooms of its own, some 252 KB of the stack: for programs.
-pub fn read_in_own_rooms(edition: Edition, pickle: &[u8], table: &mut [u64], text: &mut [u8]) -> Answer
+pub fn read_in_own_rooms(
+    edition: Edition,
+    pickle: &[u8],
+    table: &mut [u64],
+    text: &mut [u8],
+) -> Answer
     ensures { λ a.
         ⌜ OwnRooms (due edition true (now (pickle .entry)))
         (now (table .entry)) (now (text .entry)) (now (table .exit)) (now (text .exit)) a ⌝ }

@@ -259,7 +259,12 @@ fn write_text<'a>(
     let bytes = resolved::texts::lead_part(node, pickle, decoded, nodes, measures);
     put_bytes(bytes, text, at as usize);
     let len = bytes.len() as u64;
-    let words = Record(plain_word(resolved::lists::value_kind(nodes[2 * i])), at, len, 0);
+    let words = Record(
+        plain_word(resolved::lists::value_kind(nodes[2 * i])),
+        at,
+        len,
+        0,
+    );
     put_record(table, (to % 0x1000) as usize, words);
     to + 1 + 0x1000 * len
 }

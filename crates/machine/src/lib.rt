@@ -1,7 +1,7 @@
 // The run of de.rs's `Decoder`: `decide` has the one match over the opcode byte and answers an effect, `apply` has it, `run` goes on to
 // STOP. What it used of the rooms is cleared by the counts, by those who lend them.
 pub mod effects;
-use decoder::KeyForm;
+
 use crate::effects::Step;
 use crate::effects::extend;
 use crate::effects::make;
@@ -10,6 +10,7 @@ use crate::effects::push_node;
 use crate::effects::put_mark;
 use crate::effects::remember;
 use crate::effects::set_state;
+use decoder::KeyForm;
 use op::Edition;
 use op::Objection;
 use refusal::Refusal;

@@ -2,6 +2,7 @@
 // measure, each child that is None at its place overwritten by the number of no node, and the Sets and Dicts noted in the order in which they
 // are finished. Nothing is decoded, ordered or written here, so that what comes after is bounded by what is found out here.
 pub mod siblings;
+
 use store::NodeId;
 use text::Decoded;
 use text::Quoted;

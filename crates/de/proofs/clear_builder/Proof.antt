@@ -19,18 +19,9 @@ zero-words-requires c κs = c .before .before .before .before .before .before .b
 same-length : tie.Need-same-length
 same-length c = c .before .before .before .before .before .before .before .before .before .before .before .before .before .before .zero-bytes .kept .0
 
-same-length-2 : tie.Need-same-length-2
-same-length-2 c = c .before .before .before .before .before .before .before .before .before .before .zero-shorts .kept .0
-
-same-length-3 : tie.Need-same-length-3
-same-length-3 c = c .before .before .before .before .before .before .zero-shorts2 .kept .0
-
-same-length-4 : tie.Need-same-length-4
-same-length-4 c = c .before .before .zero-words .kept .0
-
 returns : tie.Need-returns
 unfolding blank
 returns c = same-slices (c .before .before .before .before .before .before .before .before .before .before .before .before .before .before .zero-bytes .ensures) (same-slices (c .before .before .before .before .before .before .before .before .before .before .zero-shorts .ensures) (same-slices (c .before .before .before .before .before .before .zero-shorts2 .ensures) (same-slices (c .before .before .zero-words .ensures) refl)))
 
 pub clear-builder-spec : {M : Type 1} → statement M
-clear-builder-spec = tie.close (tie.spec zero-bytes-requires zero-shorts-requires zero-shorts-requires-2 zero-words-requires same-length same-length-2 same-length-3 same-length-4 returns)
+clear-builder-spec = tie.close (tie.spec zero-bytes-requires zero-shorts-requires zero-shorts-requires-2 zero-words-requires same-length (λ c. c .before .before .before .before .before .before .before .before .before .before .zero-shorts .kept .0) (λ c. c .before .before .before .before .before .before .zero-shorts2 .kept .0) (λ c. c .before .before .zero-words .kept .0) returns)

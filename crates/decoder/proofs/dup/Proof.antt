@@ -14,12 +14,9 @@ returns c = λ r s q. says-refused _ r _ _ (dup-underflow r _ s (c .if1 .taken))
 shared-slice-read-t8 : tie.Need-shared-slice-read-t8
 shared-slice-read-t8 c = let l = c .before .before .before .before .pre in omega (arith, stack-room _ (l .rooms) (l .sound) _ (l .agrees), c .before .before .if1 .left)
 
-cast-t9 : tie.Need-cast-t9
-cast-t9 c = omega (arith, c .shared-slice-known .given (c .before .before .before .before .args .c .stack - 1))
-
 returns-2 : tie.Need-returns-2
 unfolding Decides
 returns-2 c = λ r s q. dup-lent _ _ r s q (c .before .before .if1 .left)
 
 pub dup-spec : {M : Type 1} → statement M
-dup-spec = tie.close (tie.spec returns (λ c. search needs) (λ c. search needs) shared-slice-read-t8 cast-t9 returns-2)
+dup-spec = tie.close (tie.spec returns (λ c. search needs) (λ c. search needs) shared-slice-read-t8 (λ c. omega (arith, c .shared-slice-known .given (c .before .before .before .before .args .c .stack - 1))) returns-2)

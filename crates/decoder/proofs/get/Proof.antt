@@ -23,9 +23,6 @@ shared-slice-read-t9 c =
     let e = ap length (l .agrees .1) in
     omega arith
 
-cast-t10 : tie.Need-cast-t10
-cast-t10 c = omega (arith, c .shared-slice-known3 .given (c .before .before .before .slot .result))
-
 returns : tie.Need-returns
 unfolding Decides
 returns c =
@@ -42,4 +39,4 @@ returns-2 c =
     λ r s q. get-missing r _ s _ (rw (q .0) (rw e at (x .ensures .1)))
 
 pub get-spec : {M : Type 1} → statement M
-get-spec = tie.close (tie.spec slot-requires (λ c. search needs) shared-slice-read-t9 cast-t10 returns returns-2)
+get-spec = tie.close (tie.spec slot-requires (λ c. search needs) shared-slice-read-t9 (λ c. omega (arith, c .shared-slice-known3 .given (c .before .before .before .slot .result))) returns returns-2)

@@ -19,9 +19,6 @@ returns c = let p = c .before .before .before .pre .1 in λ r s a b. says-refuse
 shared-slice-read-owner : tie.Need-shared-slice-read-owner
 shared-slice-read-owner c = let l = start (c .before) .pre .0 in omega (arith, stack-room _ (l .rooms) (l .sound) _ (l .agrees .1), c .before .if1 .left, start (c .before) .pre .1 .0)
 
-cast-owner : tie.Need-cast-owner
-cast-owner c = omega (arith, c .shared-slice-known3 .given (start (c .before) .args .keep - 1))
-
 kind-requires : tie.Need-kind-requires
 kind-requires c κs = let l = start (c .before) .pre .0 in words-room _ (l .rooms) (l .sound) _ _ (l .agrees .0) (l .agrees .1) _ (omega (arith, c .before .if1 .left, start (c .before) .pre .1 .0))
 
@@ -43,4 +40,4 @@ pub grown-spec : {M : Type 1} → statement M
 grown-spec =
     tie.close
     (tie.spec
-    returns (λ c. search needs) (λ c. search needs) shared-slice-read-owner cast-owner kind-requires (λ c κs. search needs) returns-2 returns-3)
+    returns (λ c. search needs) (λ c. search needs) shared-slice-read-owner (λ c. omega (arith, c .shared-slice-known3 .given (start (c .before) .args .keep - 1))) kind-requires (λ c κs. search needs) returns-2 returns-3)

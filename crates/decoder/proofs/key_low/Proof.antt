@@ -19,8 +19,5 @@ returns-2 c =
     let a = c .before .before .before .args in
     λ r s q. key-bytes r (a .c) (a .pickle .now) s q _ _ (omega arith) (c .low-at .ensures .0)
 
-cast-t10 : tie.Need-cast-t10
-cast-t10 c = omega (arith, c .low-at .ensures .1, pow-le-pow-right {n = 256} (omega arith) (c .before .before .before .pre .1))
-
 pub key-low-spec : {M : Type 1} → statement M
-key-low-spec = tie.close (tie.spec (λ c. search needs) returns (λ c. search needs) (λ c κs. search needs) cast-t10 returns-2)
+key-low-spec = tie.close (tie.spec (λ c. search needs) returns (λ c. search needs) (λ c κs. search needs) (λ c. omega (arith, c .low-at .ensures .1, pow-le-pow-right {n = 256} (omega arith) (c .before .before .before .pre .1))) returns-2)

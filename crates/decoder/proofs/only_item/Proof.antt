@@ -5,8 +5,5 @@ use Rattle.decoder.proofs.only_item.Tie as tie
 use native.Mathlib.Omega.{arith}
 use Prim.Native.Nat.{_/_}
 
-cast-t8 : tie.Need-cast-t8
-cast-t8 c = omega (arith, c .shared-slice-known .given (c .before .args .word / 0x1_0000_0000))
-
 pub only-item-spec : {M : Type 1} → statement M
-only-item-spec = tie.close (tie.spec (λ c. search needs) (λ c. search needs) cast-t8 (λ c. search needs))
+only-item-spec = tie.close (tie.spec (λ c. search needs) (λ c. search needs) (λ c. omega (arith, c .shared-slice-known .given (c .before .args .word / 0x1_0000_0000))) (λ c. search needs))

@@ -22,9 +22,6 @@ start c = c .before .before
 returns : tie.Need-returns Inv-loop μ-loop
 returns c = same-length (c .before .args .text .now) (c .before .args .word .now) (c .if1 .taken)
 
-loop-holds : tie.Need-loop-holds Inv-loop μ-loop
-loop-holds c = (search needs, search needs, refl)
-
 returns-2 : tie.Need-returns-2 Inv-loop μ-loop
 returns-2 c =
     let l = c .before .before .before .before in
@@ -44,4 +41,4 @@ returns-3 c =
     same-end (a .text .now) (a .word .now) (l .loop .at) (omega arith) (l .loop .inv .1) ∙ l .loop .inv .2
 
 pub same-text-spec : {M : Type 1} → statement M
-same-text-spec = tie.close (tie.spec Inv-loop μ-loop returns loop-holds (λ c. search needs) (λ c. search needs) returns-2 (λ c. search needs) (λ c. search needs) loop-again returns-3)
+same-text-spec = tie.close (tie.spec Inv-loop μ-loop returns (λ c. (search needs, search needs, refl)) (λ c. search needs) (λ c. search needs) returns-2 (λ c. search needs) (λ c. search needs) loop-again returns-3)

@@ -12,12 +12,9 @@ returns : tie.Need-returns
 unfolding kindBelow
 returns c = rw (c .if1 .taken)
 
-shared-slice-read-result : tie.Need-shared-slice-read-result
-shared-slice-read-result c = (c .before .before .pre .0) (omega (arith, (c .before .before .pre .1), (c .before .if1 .left)))
-
 returns-2 : tie.Need-returns-2
 unfolding kindBelow first kindIn
 returns-2 c = rw (ne-eqb _ 4096 (c .before .if1 .left))
 
 pub is-below-spec : {M : Type 1} → statement M
-is-below-spec = tie.close (tie.spec returns (λ c. search needs) (λ c. search needs) shared-slice-read-result returns-2)
+is-below-spec = tie.close (tie.spec returns (λ c. search needs) (λ c. search needs) (λ c. (c .before .before .pre .0) (omega (arith, (c .before .before .pre .1), (c .before .if1 .left)))) returns-2)

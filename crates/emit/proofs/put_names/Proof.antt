@@ -29,12 +29,6 @@ put-bytes-requires c κs = omega (arith, room (c .before) .0)
 put-bytes-requires-2 : tie.Need-put-bytes-requires-2
 put-bytes-requires-2 c κs = omega (arith, room (first c) .0, simp length-sets at (ap length (c .before .before .before .put-bytes .ensures)))
 
-mul-result : tie.Need-mul-result
-mul-result c = omega (arith, room (second c) .1)
-
-add-result : tie.Need-add-result
-add-result c = omega (arith, room (second c) .1)
-
 returns : tie.Need-returns
 returns c =
     let t = second c in
@@ -42,4 +36,4 @@ returns c =
     texts-names _ _ _ _ _ _ _ (p .0) _ refl (omega (arith, p .1)) (omega (arith, p .1)) (p .1) _ _ (t .before .lead-part .ensures) (t .trail-part .ensures) _ _ (c .before .before .before .before .before .before .put-bytes .ensures) (c .before .before .put-bytes2 .ensures)
 
 pub put-names-spec : {M : Type 1} → statement M
-put-names-spec = tie.close (tie.spec (λ c κs. search needs) (λ c κs. search needs) put-bytes-requires (λ c. search needs) put-bytes-requires-2 mul-result add-result (λ c. search needs) returns)
+put-names-spec = tie.close (tie.spec (λ c κs. search needs) (λ c κs. search needs) put-bytes-requires (λ c. search needs) put-bytes-requires-2 (λ c. omega (arith, room (second c) .1)) (λ c. omega (arith, room (second c) .1)) (λ c. search needs) returns)

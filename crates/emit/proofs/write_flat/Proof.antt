@@ -46,17 +46,8 @@ put-record-requires c κs = let r = c .before .before .before .before .before .b
 returns : tie.Need-returns
 returns c F = flat-none F _ _ _ (c .before .before .before .before .before .if1 .taken) (c .before .before .before .before .record-of .ensures) (c .before .before .put-record .ensures) refl
 
-mul-value-kind : tie.Need-mul-value-kind
-mul-value-kind c = omega (arith, inside c .0)
-
-mul-value-kind-2 : tie.Need-mul-value-kind-2
-mul-value-kind-2 c = omega (arith, inside c .0)
-
 shared-slice-read-value-kind : tie.Need-shared-slice-read-value-kind
 shared-slice-read-value-kind c = inside (c .before) .0
-
-mul-write-again : tie.Need-mul-write-again
-mul-write-again c = omega (arith, inside (some (c .before)) .1)
 
 shared-slice-read-write-again : tie.Need-shared-slice-read-write-again
 shared-slice-read-write-again c = inside (some (c .before .before)) .1
@@ -77,6 +68,6 @@ pub write-flat-spec : {M : Type 1} → statement M
 write-flat-spec =
     tie.close
     (tie.spec
-    (λ c κs. search needs) put-record-requires (λ c. search needs) (λ c. search needs) returns mul-value-kind mul-value-kind-2 shared-slice-read-value-kind
-    (λ c κs. search needs) (λ c κs. search needs) mul-write-again shared-slice-read-write-again write-again-requires (λ c. search needs) (λ c. search needs)
+    (λ c κs. search needs) put-record-requires (λ c. search needs) (λ c. search needs) returns (λ c. omega (arith, inside c .0)) (λ c. omega (arith, inside c .0)) shared-slice-read-value-kind
+    (λ c κs. search needs) (λ c κs. search needs) (λ c. omega (arith, inside (some (c .before)) .1)) shared-slice-read-write-again write-again-requires (λ c. search needs) (λ c. search needs)
     returns-2 write-leaf-requires (λ c. search needs) (λ c. search needs) returns-3)

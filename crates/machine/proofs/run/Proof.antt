@@ -47,9 +47,6 @@ module _ (s : tie.After-take-step Inv-loop μ-loop) where
   took : (t : Step) → s .take-step .result ≡ t → Stepped (start (head .before) .args .edition) t (head .loop .c) had left
   took t is = subst (λ (x : Step). Stepped (start (head .before) .args .edition) x (head .loop .c) had left) is (s .take-step .ensures)
 
-loop-holds : tie.Need-loop-holds Inv-loop μ-loop
-loop-holds c = (running-start _ (rooms c) (start c .pre), as-long (rooms c))
-
 take-step-requires : tie.Need-take-step-requires Inv-loop μ-loop
 take-step-requires c κs = c .before .before .before .before .before .before .before .loop .inv .0 .sound
 
@@ -71,6 +68,6 @@ pub run-spec : {M : Type 1} → statement M
 run-spec =
     tie.close
     (tie.spec
-    Inv-loop μ-loop loop-holds take-step-requires (λ c. search needs) loop-less loop-again (λ c. search needs) (λ c. lengths (stepped (c .before .before .before)) .nodes) (λ c. lengths (stepped (c .before .before .before)) .owners) (λ c. lengths (stepped (c .before .before .before)) .children)
+    Inv-loop μ-loop (λ c. (running-start _ (rooms c) (start c .pre), as-long (rooms c))) take-step-requires (λ c. search needs) loop-less loop-again (λ c. search needs) (λ c. lengths (stepped (c .before .before .before)) .nodes) (λ c. lengths (stepped (c .before .before .before)) .owners) (λ c. lengths (stepped (c .before .before .before)) .children)
     (λ c. lengths (stepped (c .before .before .before)) .stack) (λ c. lengths (stepped (c .before .before .before)) .marks) (λ c. lengths (stepped (c .before .before .before)) .keys) (λ c. lengths (stepped (c .before .before .before)) .held) returns (λ c. search needs) (λ c. lengths (stepped (c .before .before .before)) .nodes) (λ c. lengths (stepped (c .before .before .before)) .owners) (λ c. lengths (stepped (c .before .before .before)) .children) (λ c. lengths (stepped (c .before .before .before)) .stack)
     (λ c. lengths (stepped (c .before .before .before)) .marks) (λ c. lengths (stepped (c .before .before .before)) .keys) (λ c. lengths (stepped (c .before .before .before)) .held) returns-2)

@@ -12,9 +12,6 @@ use Rattle.resolve.specs.Blocked.{held-other, held-none, arguments-taken
 short : (c : tie.After-shared-slice-known) → getD (c .before .before .before .args .sorted .now) (c .before .before .before .args .at) 0 < 65536
 short c = omega (arith, c .shared-slice-known .given (c .before .before .before .args .at))
 
-mul-result : tie.Need-mul-result
-mul-result c = omega (arith, short c)
-
 shared-slice-read-result : tie.Need-shared-slice-read-result
 shared-slice-read-result c =
     let s = c .before .before .before .before in
@@ -33,4 +30,4 @@ returns-3 : tie.Need-returns-3
 returns-3 c = sym (held-none _ _ _ _ _ (c .if2 .left))
 
 pub blocked-spec : {M : Type 1} → statement M
-blocked-spec = tie.close (tie.spec (λ c. search needs) (λ c. search needs) (λ c. omega (arith, short c)) mul-result shared-slice-read-result returns returns-2 returns-3)
+blocked-spec = tie.close (tie.spec (λ c. search needs) (λ c. search needs) (λ c. omega (arith, short c)) (λ c. omega (arith, short c)) shared-slice-read-result returns returns-2 returns-3)

@@ -19,12 +19,6 @@ object c = c .before .before .before
 returns : tie.Need-returns
 returns c = own-none _ _ _ _ _ (c .before .before .before .before .pre) (c .if1 .taken)
 
-mul-m : tie.Need-mul-m
-mul-m c = omega (arith, start (c .before) .pre .class-below (c .before .if1 .left))
-
-slice-read-m : tie.Need-slice-read-m
-slice-read-m c = omega (arith, start (c .before .before) .pre .class-below (c .before .before .if1 .left))
-
 returns-2 : tie.Need-returns-2
 returns-2 c = let e = c .before .before .before in own-kept _ _ _ _ _ (start e .pre) (e .if1 .left) (c .if2 .taken)
 
@@ -50,5 +44,5 @@ pub own-text-len-spec : {M : Type 1} → statement M
 own-text-len-spec =
     tie.close
     (tie.spec
-    returns (λ c. search needs) (λ c. search needs) (λ c. search needs) mul-m slice-read-m returns-2 leaf-word-requires add-measures mul-measures-3
+    returns (λ c. search needs) (λ c. search needs) (λ c. search needs) (λ c. omega (arith, start (c .before) .pre .class-below (c .before .if1 .left))) (λ c. omega (arith, start (c .before .before) .pre .class-below (c .before .before .if1 .left))) returns-2 leaf-word-requires add-measures mul-measures-3
     slice-write-measures (λ c. search needs) returns-3)

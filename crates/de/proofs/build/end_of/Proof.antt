@@ -26,15 +26,6 @@ returns : tie.Need-returns
 unfolding Ends RefusesWith countsOf
 returns c = rw (c .before .before .before .outcome2 .given .1) ((c .if1 .taken, refl), refl)
 
-mul-t10 : tie.Need-mul-t10
-mul-t10 c = omega (arith, fits (c .before .before .before .before))
-
-shared-slice-read-t12 : tie.Need-shared-slice-read-t12
-shared-slice-read-t12 c = omega (arith, fits (c .before .before .before .before .before), c .before .before .if1 .left)
-
-cast-t13 : tie.Need-cast-t13
-cast-t13 c = omega (arith, c .shared-slice-known .given (counts (c .before .before .before .before .before) .stack - 1))
-
 returns-2 : tie.Need-returns-2
 unfolding Ends RefusesWith countsOf
 returns-2 c = rw (c .before .outcome .given .1) (refl, refl)
@@ -44,4 +35,4 @@ unfolding Ends
 returns-3 c = (c .before .before .before .before .before .outcome2 .given .1, omega (arith, c .before .before .if1 .left), refl)
 
 pub end-of-spec : {M : Type 1} → statement M
-end-of-spec = tie.close (tie.spec (λ c. c .match .keys1) (λ c. c .match .keys2) returns (λ c. search needs) mul-t10 shared-slice-read-t12 cast-t13 returns-2 returns-3)
+end-of-spec = tie.close (tie.spec (λ c. c .match .keys1) (λ c. c .match .keys2) returns (λ c. search needs) (λ c. omega (arith, fits (c .before .before .before .before))) (λ c. omega (arith, fits (c .before .before .before .before .before), c .before .before .if1 .left)) (λ c. omega (arith, c .shared-slice-known .given (counts (c .before .before .before .before .before) .stack - 1))) returns-2 returns-3)

@@ -14,23 +14,8 @@ Inv-loop children₀ links n stack from i₀ children i = (children ≡ filledBy
 abbrev μ-loop : tie.MeasureT-loop
 μ-loop children₀ links n stack from i₀ children i = n - i
 
-loop-holds : tie.Need-loop-holds Inv-loop μ-loop
-loop-holds c = (filled-none _ _ _, omega arith)
-
-add-at : tie.Need-add-at Inv-loop μ-loop
-add-at c = omega (arith, c .before .before .pre .0, c .loop-test .taken)
-
-add-value : tie.Need-add-value Inv-loop μ-loop
-add-value c = omega (arith, c .before .before .pre .1, c .loop-test .taken)
-
-shared-slice-read-children : tie.Need-shared-slice-read-children Inv-loop μ-loop
-shared-slice-read-children c = omega (arith, c .before .before .before .pre .1, c .before .loop-test .taken)
-
 slice-write-children : tie.Need-slice-write-children Inv-loop μ-loop
 slice-write-children c = omega (arith, c .before .before .before .pre .0, c .before .loop-test .taken, filled-same _ _ _ _ _ (c .before .before .loop .inv .0))
-
-loop-again : tie.Need-loop-again Inv-loop μ-loop
-loop-again c = (filled-more _ _ _ _ _ (c .before .before .loop .inv .0), omega (arith, c .before .loop-test .taken))
 
 same-length : tie.Need-same-length Inv-loop μ-loop
 same-length c = filled-same _ _ _ _ _ (c .before .loop .inv .0)
@@ -39,4 +24,4 @@ returns : tie.Need-returns Inv-loop μ-loop
 returns c = filled-end _ _ _ _ _ _ (c .before .loop .inv .0) (c .before .loop .inv .1) (c .loop-test .left)
 
 pub copy-children-spec : {M : Type 1} → statement M
-copy-children-spec = tie.close (tie.spec Inv-loop μ-loop loop-holds add-at add-value (λ c. search needs) shared-slice-read-children (λ c. search needs) slice-write-children (λ c. search needs) (λ c. search needs) loop-again same-length returns)
+copy-children-spec = tie.close (tie.spec Inv-loop μ-loop (λ c. (filled-none _ _ _, omega arith)) (λ c. omega (arith, c .before .before .pre .0, c .loop-test .taken)) (λ c. omega (arith, c .before .before .pre .1, c .loop-test .taken)) (λ c. search needs) (λ c. omega (arith, c .before .before .before .pre .1, c .before .loop-test .taken)) (λ c. search needs) slice-write-children (λ c. search needs) (λ c. search needs) (λ c. (filled-more _ _ _ _ _ (c .before .before .loop .inv .0), omega (arith, c .before .loop-test .taken))) same-length returns)

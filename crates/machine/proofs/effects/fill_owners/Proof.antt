@@ -13,18 +13,6 @@ Inv-loop owners₀ links n id i₀ owners i = (owners ≡ filledBy owners₀ lin
 abbrev μ-loop : tie.MeasureT-loop
 μ-loop owners₀ links n id i₀ owners i = n - i
 
-loop-holds : tie.Need-loop-holds Inv-loop μ-loop
-loop-holds c = (filled-none _ _ _, omega arith)
-
-add-at : tie.Need-add-at Inv-loop μ-loop
-add-at c = omega (arith, c .before .before .before .pre .0, c .loop-test .taken)
-
-slice-write-owners : tie.Need-slice-write-owners Inv-loop μ-loop
-slice-write-owners c = omega (arith, c .before .before .before .pre .0, c .loop-test .taken, filled-same _ _ _ _ _ (c .before .loop .inv .0))
-
-loop-again : tie.Need-loop-again Inv-loop μ-loop
-loop-again c = (filled-more _ _ _ _ _ (c .before .loop .inv .0), omega (arith, c .loop-test .taken))
-
 same-length : tie.Need-same-length Inv-loop μ-loop
 same-length c = filled-same _ _ _ _ _ (c .before .loop .inv .0)
 
@@ -32,4 +20,4 @@ returns : tie.Need-returns Inv-loop μ-loop
 returns c = filled-end _ _ _ _ _ _ (c .before .loop .inv .0) (c .before .loop .inv .1) (c .loop-test .left)
 
 pub fill-owners-spec : {M : Type 1} → statement M
-fill-owners-spec = tie.close (tie.spec Inv-loop μ-loop (λ c. search needs) loop-holds add-at (λ c. search needs) slice-write-owners (λ c. search needs) (λ c. search needs) loop-again same-length returns)
+fill-owners-spec = tie.close (tie.spec Inv-loop μ-loop (λ c. search needs) (λ c. (filled-none _ _ _, omega arith)) (λ c. omega (arith, c .before .before .before .pre .0, c .loop-test .taken)) (λ c. search needs) (λ c. omega (arith, c .before .before .before .pre .0, c .loop-test .taken, filled-same _ _ _ _ _ (c .before .loop .inv .0))) (λ c. search needs) (λ c. search needs) (λ c. (filled-more _ _ _ _ _ (c .before .loop .inv .0), omega (arith, c .loop-test .taken))) same-length returns)

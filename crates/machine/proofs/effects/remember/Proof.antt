@@ -38,14 +38,8 @@ returns c =
 returns-2 : tie.Need-returns-2
 returns-2 c = let s = c .before .before .before .before .slot .ensures in full-lent _ _ _ _ _ _ (s .0) (c .before .before .if1 .left) (s .1) (c .if2 .taken)
 
-mul-keys : tie.Need-mul-keys
-mul-keys c = omega (arith, free c .slot .ensures .0, c .if2 .left)
-
 slice-write-keys : tie.Need-slice-write-keys
 slice-write-keys c = let v = remember-room _ _ _ _ _ (start (free c) .pre) in omega (arith, free c .slot .ensures .0, c .if2 .left)
-
-mul-held-2 : tie.Need-mul-held-2
-mul-held-2 c = omega (arith, free (c .before) .slot .ensures .0, c .before .if2 .left)
 
 slice-write-held-2 : tie.Need-slice-write-held-2
 slice-write-held-2 c = let v = remember-room _ _ _ _ _ (start (free (c .before)) .pre) in omega (arith, free (c .before) .slot .ensures .0, c .before .if2 .left)
@@ -60,6 +54,6 @@ pub remember-spec : {M : Type 1} → statement M
 remember-spec =
     tie.close
     (tie.spec
-    slot-requires (λ c. let v = remember-room _ _ _ _ _ (start (there c) .pre) in omega arith) mul-held slice-write-held (λ c. search needs) (λ c. search needs) returns (λ c. search needs) returns-2 mul-keys
-    slice-write-keys (λ c. let v = remember-room _ _ _ _ _ (start (free (c .before)) .pre) in omega arith) mul-held-2 slice-write-held-2 (λ c. search needs) (λ c. search needs) (λ c. search needs) (λ c κs. search needs)
+    slot-requires (λ c. let v = remember-room _ _ _ _ _ (start (there c) .pre) in omega arith) mul-held slice-write-held (λ c. search needs) (λ c. search needs) returns (λ c. search needs) returns-2 (λ c. omega (arith, free c .slot .ensures .0, c .if2 .left))
+    slice-write-keys (λ c. let v = remember-room _ _ _ _ _ (start (free (c .before)) .pre) in omega arith) (λ c. omega (arith, free (c .before) .slot .ensures .0, c .before .if2 .left)) slice-write-held-2 (λ c. search needs) (λ c. search needs) (λ c. search needs) (λ c κs. search needs)
     (λ c. search needs) (λ c. search needs) returns-3)

@@ -23,9 +23,6 @@ start c = c .before .before .before .before .before
 
 -- ---- the needs
 
-loop-holds : tie.Need-loop-holds Inv-loop μ-loop
-loop-holds c = (omega arith, decodes-none _ _ _ _)
-
 decode-one-requires : tie.Need-decode-one-requires Inv-loop μ-loop
 decode-one-requires c κs =
     let t = c .before .before in
@@ -39,12 +36,6 @@ loop-again c =
     let h = head t in
     (omega arith, rw (add-one (h .loop .i)) (turn-more _ _ _ _ _ (start h .pre) (h .loop .i) (t .loop-test .taken) _ _ _ (h .loop .inv .1) _ _ _ (d .decode-one .ensures)))
 
-same-length : tie.Need-same-length Inv-loop μ-loop
-same-length c = c .before .loop .inv .1 .same-room
-
-same-length-2 : tie.Need-same-length-2 Inv-loop μ-loop
-same-length-2 c = c .before .loop .inv .1 .same-measures
-
 returns : tie.Need-returns Inv-loop μ-loop
 returns c =
     let h = c .before in
@@ -52,4 +43,4 @@ returns c =
     rw e at (h .loop .inv .1)
 
 pub decode-all-spec : {M : Type 1} → statement M
-decode-all-spec = tie.close (tie.spec Inv-loop μ-loop loop-holds decode-one-requires (λ c. omega arith) (λ c. omega arith) loop-again same-length same-length-2 returns)
+decode-all-spec = tie.close (tie.spec Inv-loop μ-loop (λ c. (omega arith, decodes-none _ _ _ _)) decode-one-requires (λ c. omega arith) (λ c. omega arith) loop-again (λ c. c .before .loop .inv .1 .same-room) (λ c. c .before .loop .inv .1 .same-measures) returns)
