@@ -1,4 +1,6 @@
--- What the inner reading asks and leaves, and what the public readings promise.
+-- What building at STOP asks and comes to, what the inner reading asks and leaves, and what the public readings promise.
+
+-- building: what each pass leaves is what the next asks for; what a run's answer gives of crate reading's readings
 pub mod Rooms
 pub mod Parts
 pub mod Measured
@@ -10,6 +12,8 @@ pub mod Building
 pub mod Limits
 pub mod Laid
 pub mod Given
+
+-- the readings
 pub mod Inner
 pub mod Call
 pub mod Theorems

@@ -1,4 +1,6 @@
 -- The walk that measures and resolves: what its code reads and keeps, and what it ensures.
+
+-- before it: each node's children side by side
 pub mod Sum
 pub mod Store
 pub mod Words
@@ -6,6 +8,8 @@ pub mod Layout
 pub mod Runs
 pub mod SideBySide
 pub mod Examples
+
+-- the walk
 pub mod Length
 pub mod Word
 pub mod Blocked

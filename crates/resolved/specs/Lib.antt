@@ -1,11 +1,4 @@
 -- `Builder` on the node table: a walk that leaves a graph, what the graph's nodes stand for, their order, and how they are written out.
-pub mod Readable
-pub mod Place
-pub mod Measure
-pub mod Spell
-pub mod Due
-pub mod Kinds
-pub mod NodeList
 pub mod Resolved
 pub mod Ordered
 pub mod Walk
@@ -31,3 +24,14 @@ pub mod Shown
 pub mod Listed
 pub mod Sums
 pub mod Reached
+
+-- a node's kind and its list, in the rooms
+pub mod Kinds
+pub mod NodeList
+
+-- a node's text
+pub mod Readable
+pub mod Place
+pub mod Measure
+pub mod Spell
+pub mod Due

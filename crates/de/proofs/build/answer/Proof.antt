@@ -11,7 +11,7 @@ use Rattle.machine.specs.declared.Outcome.{Outcome}
 use Rattle.machine.specs.declared.Outcome.the-variants.{Stopped}
 use Rattle.machine.specs.Ran.{countsOf}
 use Rattle.de.specs.Rooms.{part-again}
-use Rattle.de.specs.Building.{Working, At, stopped, count-few, children-fit, first-zero, list-long, rooms-lent, parts-fit, laid-begins, laid-comes, clear-fits, rooms-back}
+use Rattle.de.specs.Building.{Working, At, stopped, count-few, children-fit, first-zero, list-long, rooms-lent, parts-fit, laid-begins, laid-comes, clear-fits, rooms-back, log-used}
 use Rattle.de.specs.Given.{RanIn, RefusesWith, Ends, ran-used, stack-fits, rooms, stopped-at, root-known, gives-built, gives-refusal}
 use Rattle.de.proofs.build.answer.Statement.{statement}
 use Rattle.de.proofs.build.answer.Tie as tie
@@ -60,11 +60,14 @@ abbrev working : (r : tie.After-root) → Working (start (value r) .args .list .
 working r = start (value r) .pre .1 .1
 
 -- from the end back to each call
-abbrev laid : tie.After-lay-out → tie.After-root
+abbrev laid : tie.After-lay → tie.After-root
 laid c = c .before .before .before .before .before .before
 
-abbrev made : tie.After-build-laid → tie.After-lay-out
-made c = c .before .before .before .before .before .before .before .before .before .before .before .before .before .before .before .before .before .before .before
+abbrev logged : tie.After-clear-log2 → tie.After-lay
+logged c = c .before .before .before .before .before .before .before
+
+abbrev made : tie.After-build-laid → tie.After-clear-log2
+made c = c .before .before .before .before .before .before .before .before .before .before .before .before .before .before .before
 
 abbrev cleared : tie.After-clear → tie.After-build-laid
 cleared c = c .before .before .before .before .before .before .before .before .before .before .before .before .before .before .before .before .before .before .before .before .before
@@ -72,12 +75,12 @@ cleared c = c .before .before .before .before .before .before .before .before .b
 abbrev told : tie.After-told-of → tie.After-clear
 told c = c .before .before .before .before .before .before .before .before .before
 
--- what is laid out leaves the room for the children as long as it was, and the parts fit
-same : (c : tie.After-lay-out) → length (c .lay-out .last .1 .1 .1 .1 .1 .1 .0) ≡ length (start (value (laid c)) .args .sorted .now)
-same c = c .lay-out .kept .1 .1 .1 .1 .1 .1 .0
+-- the children's room stays as long as it was, and the parts fit
+same : (c : tie.After-lay) → length (c .lay .last .1 .1 .1 .1 .1 .1 .0) ≡ length (start (value (laid c)) .args .sorted .now)
+same c = c .lay .kept .1 .1 .1 .1 .1 .1 .0
 
-parts : (c : tie.After-lay-out) → (c .lay-out .result ≤ length (c .lay-out .last .1 .1 .1 .1 .1 .1 .0)) × (counts (laid c) .nodes ≤ length (start (value (laid c)) .args .measures .now)) × (counts (laid c) .nodes + 1 ≤ length (c .lay-out .last .1 .1 .0))
-parts c = let r = laid c in parts-fit (at-stop r) (known r) (working r) (c .lay-out .ensures .0) (same c) (c .lay-out .ensures .1)
+parts : (c : tie.After-clear-log2) → (logged c .lay .result ≤ length (logged c .lay .last .1 .1 .1 .1 .1 .1 .0)) × (counts (laid (logged c)) .nodes ≤ length (start (value (laid (logged c))) .args .measures .now)) × (counts (laid (logged c)) .nodes + 1 ≤ length (c .clear-log2 .last .1 .0))
+parts c = let l = logged c in let r = laid l in parts-fit (at-stop r) (known r) (working r) (l .lay .ensures) (same l) (c .clear-log2 .ensures)
 
 -- ---- what is asked on the way
 
@@ -87,30 +90,33 @@ end-of-requires c κs = stack-fits _ (c .before .before .before .before .before 
 clear-log-requires : tie.Need-clear-log-requires
 clear-log-requires c κs = let y = c .before .before .before in rw (refusing y .1) (ran-used _ (start (why y) .pre .0))
 
-lay-out-requires : tie.Need-lay-out-requires
-lay-out-requires c κs = let r = c .before .before .before .before .before in (stopped (at-stop r) (known r) (working r), (children-fit (at-stop r) (known r) (working r), first-zero (at-stop r) (known r) (working r)))
+lay-requires : tie.Need-lay-requires
+lay-requires c κs = let r = c .before .before .before .before .before in (stopped (at-stop r) (known r) (working r), (children-fit (at-stop r) (known r) (working r), first-zero (at-stop r) (known r) (working r)))
+
+clear-log-requires-2 : tie.Need-clear-log-requires-2
+clear-log-requires-2 c κs = let r = laid (c .before .before .before .before .before .before) in log-used (stopped (at-stop r) (known r) (working r))
 
 part-build-laid-end : tie.Need-part-build-laid-end
-part-build-laid-end c = parts (c .before .before .before .before .before .before .before .before .before .before) .0
+part-build-laid-end c = parts (c .before .before .before .before .before .before) .0
 
 part-build-laid-end-2 : tie.Need-part-build-laid-end-2
-part-build-laid-end-2 c = parts (c .before .before .before .before .before .before .before .before .before .before .before) .1
+part-build-laid-end-2 c = parts (c .before .before .before .before .before .before .before) .1
 
 add-build-laid : tie.Need-add-build-laid
-add-build-laid c = let r = laid (c .before .before .before .before .before .before .before .before .before .before .before .before) in omega (arith, count-few (at-stop r) (known r) (working r))
+add-build-laid c = let r = laid (logged (c .before .before .before .before .before .before .before .before)) in omega (arith, count-few (at-stop r) (known r) (working r))
 
 part-build-laid-end-3 : tie.Need-part-build-laid-end-3
-part-build-laid-end-3 c = parts (c .before .before .before .before .before .before .before .before .before .before .before .before) .2
+part-build-laid-end-3 c = parts (c .before .before .before .before .before .before .before .before) .2
 
 part-build-laid-end-4 : tie.Need-part-build-laid-end-4
-part-build-laid-end-4 c = let r = laid (c .before .before .before .before .before .before .before .before .before .before .before .before .before .before) in list-long (at-stop r) (known r) (working r)
+part-build-laid-end-4 c = let r = laid (logged (c .before .before .before .before .before .before .before .before .before .before)) in list-long (at-stop r) (known r) (working r)
 
 build-laid-requires : tie.Need-build-laid-requires
 build-laid-requires c κs =
-    let l = c .before .before .before .before .before .before .before .before .before .before .before .before .before .before .before .before .before .before in
-    let r = laid l in
-    let y = l .lay-out .ensures in
-    (laid-begins (at-stop r) (known r) (working r) (y .0) (same l) (y .1), rooms-lent (at-stop r) (known r) (working r) (y .0) (same l) (y .1) (start (value r) .pre .1 .0))
+    let l = c .before .before .before .before .before .before .before .before .before .before .before .before .before .before in
+    let y = logged l in
+    let r = laid y in
+    (laid-begins (at-stop r) (known r) (working r) (y .lay .ensures) (same y) (l .clear-log2 .ensures), rooms-lent (at-stop r) (known r) (working r) (y .lay .ensures) (same y) (l .clear-log2 .ensures) (start (value r) .pre .1 .0))
 
 clear-requires : tie.Need-clear-requires
 clear-requires c κs =
@@ -118,9 +124,9 @@ clear-requires c κs =
     let d = m .build-laid .last in
     let k = m .build-laid .kept in
     let l = made m in
-    let r = laid l in
-    let y = l .lay-out .ensures in
-    clear-fits (at-stop r) (known r) (working r) (y .0) (same l) (y .1) (d .1 .1 .1 .1 .1 .0) (d .1 .1 .1 .1 .1 .1 .0) (d .1 .1 .1 .1 .1 .1 .1 .0) (k .1 .1 .1 .1 .1 .0) (k .1 .1 .1 .1 .1 .1 .0) (k .1 .1 .1 .1 .1 .1 .1 .0) (l .lay-out .kept .1 .1 .1 .1 .1 .0)
+    let y = logged l in
+    let r = laid y in
+    clear-fits (at-stop r) (known r) (working r) (y .lay .ensures) (same y) (l .clear-log2 .ensures) (d .1 .1 .1 .1 .1 .0) (d .1 .1 .1 .1 .1 .1 .0) (d .1 .1 .1 .1 .1 .1 .1 .0) (k .1 .1 .1 .1 .1 .0) (k .1 .1 .1 .1 .1 .1 .0) (k .1 .1 .1 .1 .1 .1 .1 .0) (y .lay .kept .1 .1 .1 .1 .1 .0)
 
 -- ---- at the end
 
@@ -132,29 +138,29 @@ same-owners c =
     let e = told c in
     let m = cleared e .build-laid in
     let l = made (cleared e) in
-    e .clear .kept .1 .1 .0 ∙ length-front (l .lay-out .last .1 .1 .0) (m .last .1 .1 .1 .1 .1 .1 .1 .0) (counts (laid l) .nodes + 1 - 0) (m .kept .1 .1 .1 .1 .1 .1 .1 .0) ∙ l .lay-out .kept .1 .1 .0
+    e .clear .kept .1 .1 .0 ∙ length-front (l .clear-log2 .last .1 .0) (m .last .1 .1 .1 .1 .1 .1 .1 .0) (counts (laid (logged l)) .nodes + 1 - 0) (m .kept .1 .1 .1 .1 .1 .1 .1 .0) ∙ l .clear-log2 .kept .1 .0
 
 same-children : tie.Need-same-length-4
-same-children c = let m = cleared (told c) in m .build-laid .kept .1 .1 .1 .1 .1 .1 .1 .1 .0 ∙ made m .lay-out .kept .1 .1 .1 .0
+same-children c = let m = cleared (told c) in m .build-laid .kept .1 .1 .1 .1 .1 .1 .1 .1 .0 ∙ made m .clear-log2 .kept .1 .1 .0
 
 same-list : tie.Need-same-length-5
-same-list c = let m = cleared (told c) in length-front (start (value (laid (made m))) .args .list .now) (m .build-laid .last .1 .1 .1 .1 .1 .1 .1 .1 .1 .0) 2048 (m .build-laid .kept .1 .1 .1 .1 .1 .1 .1 .1 .1 .0)
+same-list c = let m = cleared (told c) in length-front (start (value (laid (logged (made m)))) .args .list .now) (m .build-laid .last .1 .1 .1 .1 .1 .1 .1 .1 .1 .0) 2048 (m .build-laid .kept .1 .1 .1 .1 .1 .1 .1 .1 .1 .0)
 
 same-starts : tie.Need-same-length-7
-same-starts c = told c .clear .kept .1 .1 .1 .0 ∙ made (cleared (told c)) .lay-out .kept .1 .1 .1 .1 .1 .0
+same-starts c = told c .clear .kept .1 .1 .1 .0 ∙ logged (made (cleared (told c))) .lay .kept .1 .1 .1 .1 .1 .0
 
 same-sorted : tie.Need-same-length-8
 same-sorted c =
     let e = told c in
     let m = cleared e .build-laid in
-    let y = made (cleared e) .lay-out in
+    let y = logged (made (cleared e)) .lay in
     e .clear .kept .1 .1 .1 .1 .0 ∙ length-front (y .last .1 .1 .1 .1 .1 .1 .0) (m .last .1 .1 .1 .1 .1 .0) (y .result - 0) (m .kept .1 .1 .1 .1 .1 .0) ∙ y .kept .1 .1 .1 .1 .1 .1 .0
 
 same-measures : tie.Need-same-length-9
 same-measures c =
     let e = told c in
     let m = cleared e .build-laid in
-    let r = laid (made (cleared e)) in
+    let r = laid (logged (made (cleared e))) in
     e .clear .kept .1 .1 .1 .1 .1 .0 ∙ length-front (start (value r) .args .measures .now) (m .last .1 .1 .1 .1 .1 .1 .0) (counts r .nodes - 0) (m .kept .1 .1 .1 .1 .1 .1 .0)
 
 returns-2 : tie.Need-returns-2
@@ -162,18 +168,18 @@ returns-2 c =
     let e = told c .clear .ensures in
     let m = cleared (told c) .build-laid in
     let l = made (cleared (told c)) in
-    let r = laid l in
-    let y = l .lay-out .ensures in
-    let b = rooms-back (at-stop r) (known r) (working r) (y .0) (same l) (y .1) (m .last .1 .1 .1 .1 .1 .0) (m .last .1 .1 .1 .1 .1 .1 .0) (m .last .1 .1 .1 .1 .1 .1 .1 .0) (m .kept .1 .1 .1 .1 .1 .0) (m .kept .1 .1 .1 .1 .1 .1 .0) (m .kept .1 .1 .1 .1 .1 .1 .1 .0) in (
-      rw (c .told-of .ensures) (gives-built (counts r) (ran r) (ended r .1) (top r .0) (ended r .2) _ _ _ _ _ _ (laid-comes (at-stop r) (known r) (working r) (y .0) (same l) (y .1) _ _ _ _ (m .ensures .0))),
-      ((e .0 .0 ∙ b .0, m .ensures .1 .log-same ∙ y .1 .1), (part-again 2048 _ _ (m .ensures .1 .list-same), m .ensures .1 .decoded-same, e .0 .1 ∙ b .1, e .1 .0 ∙ b .2, e .1 .1 ∙ b .3)),
+    let y = logged l in
+    let r = laid y in
+    let b = rooms-back (at-stop r) (known r) (working r) (y .lay .ensures) (same y) (l .clear-log2 .ensures) (m .last .1 .1 .1 .1 .1 .0) (m .last .1 .1 .1 .1 .1 .1 .0) (m .last .1 .1 .1 .1 .1 .1 .1 .0) (m .kept .1 .1 .1 .1 .1 .0) (m .kept .1 .1 .1 .1 .1 .1 .0) (m .kept .1 .1 .1 .1 .1 .1 .1 .0) in (
+      rw (c .told-of .ensures) (gives-built (counts r) (ran r) (ended r .1) (top r .0) (ended r .2) _ _ _ _ _ _ (laid-comes (at-stop r) (known r) (working r) (y .lay .ensures) (same y) (l .clear-log2 .ensures) _ _ _ _ (m .ensures .0))),
+      ((e .0 .0 ∙ b .0, m .ensures .1 .log-same ∙ l .clear-log2 .ensures .1), (part-again 2048 _ _ (m .ensures .1 .list-same), m .ensures .1 .decoded-same, e .0 .1 ∙ b .1, e .1 .0 ∙ b .2, e .1 .1 ∙ b .3)),
     )
 
 pub answer-spec : {M : Type 1} → statement M
 answer-spec =
     tie.close
     (tie.spec
-    end-of-requires (λ c. c .match .keys1) clear-log-requires (λ c κs. tt) (λ c. c .match .keys2) lay-out-requires
+    end-of-requires (λ c. c .match .keys1) clear-log-requires (λ c κs. tt) (λ c. c .match .keys2) lay-requires clear-log-requires-2
     (λ c. zero-le) (λ c. zero-le) part-build-laid-end (λ c. zero-le) (λ c. zero-le) part-build-laid-end-2 add-build-laid
     (λ c. zero-le) (λ c. zero-le) part-build-laid-end-3 (λ c. zero-le) (λ c. zero-le) part-build-laid-end-4 build-laid-requires clear-requires (λ c κs. tt)
     (λ c. c .before .before .before .before .before .clear-log .kept .1 .0) (λ c. c .before .before .before .before .before .clear-log .kept .1 .1 .0) returns
