@@ -12,7 +12,7 @@ use native.Mathlib.Omega.{arith}
 use Rattle.lengths.specs.Sum.{sum}
 use Rattle.rooms.specs.Stated.{Slices, tableSlice, textSlice, begun, filled, Ready, filled-ready, rooms-filled, table-again, text-again}
 use Rattle.reading.specs.Reading.{whole}
-use Rattle.resolved.specs.Written.{drop-take}
+use Rattle.resolve.specs.Written.{drop-take}
 use Rattle.batch.specs.Batch.{sheetsOf, four, answersOf, after}
 
 -- sheet i, from 0 on

@@ -12,7 +12,6 @@ pub mod Building
 pub mod Limits
 pub mod Laid
 pub mod Given
-
 -- the readings
 pub mod Inner
 pub mod Call

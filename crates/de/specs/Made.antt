@@ -13,14 +13,14 @@ use Rattle.reading.specs.Build.{at, tree}
 use Rattle.reading.specs.Settle.{arrange, settle}
 use Rattle.reading.specs.Smaller.{settle-smaller}
 use Rattle.reading.specs.Unfold.{In}
-use Rattle.resolved.specs.Resolved.{StandsFor}
-use Rattle.resolved.specs.Ordered.{Final}
-use Rattle.resolved.specs.Walk.{WalkState}
-use Rattle.resolved.specs.Tree.{walked, root-final}
-use Rattle.resolved.specs.Dues.{isDue, dues}
-use Rattle.resolved.specs.Whole.{value-stands-64}
-use Rattle.arrange.specs.Walked.{graph, dues-in, not-settled}
-use Rattle.arrange.specs.Settling.{SettledRooms}
+use Rattle.resolve.specs.Resolved.{StandsFor}
+use Rattle.resolve.specs.Ordered.{Final}
+use Rattle.resolve.specs.Walk.{WalkState}
+use Rattle.resolve.specs.Tree.{walked, root-final}
+use Rattle.resolve.specs.Dues.{isDue, dues}
+use Rattle.resolve.specs.Whole.{value-stands-64}
+use Rattle.emit.specs.Walked.{graph, dues-in, not-settled}
+use Rattle.emit.specs.Settling.{SettledRooms}
 use Rattle.emit.specs.Roots.{Rooted, Emits}
 use Rattle.de.specs.Measured.{Produced}
 use Rattle.de.specs.Ready.{Spelt, inside}

@@ -12,9 +12,9 @@ use Rattle.steps.specs.NodeWords.{first, classIn}
 use Rattle.reading.specs.Build.{at, tree}
 use Rattle.reading.specs.Graph.{Graph}
 use Rattle.reading.specs.Settle.{settle}
-use Rattle.resolved.specs.Noted.{isContainer}
-use Rattle.resolved.specs.Shown.{nodeLabel}
-use Rattle.resolved.specs.Tree.{walked}
+use Rattle.resolve.specs.Noted.{isContainer}
+use Rattle.resolve.specs.Shown.{nodeLabel}
+use Rattle.resolve.specs.Tree.{walked}
 use Rattle.resolve.specs.Facts.{HoldsWalk}
 use Rattle.de.specs.Rooms.{Zeros}
 

@@ -14,18 +14,18 @@ use Rattle.value.specs.Value.{Label, Value, one, size, NoneL, BoolL, I64L, F64L
 use Rattle.steps.specs.State.{Node}
 use Rattle.reading.specs.Build.{at, tree}
 use Rattle.reading.specs.Unfold.{In, outside-nodes}
-use Rattle.resolved.specs.Ordered.{Final}
-use Rattle.resolved.specs.Walk.{WalkState, walkStart, walk-build}
-use Rattle.resolved.specs.Resolves.{resolves-empty}
-use Rattle.resolved.specs.Tree.{walked, levels-enough}
-use Rattle.resolved.specs.Noted.{isContainer, isTextLeaf, ahead}
-use Rattle.resolved.specs.Ranges.{graph-inside}
-use Rattle.resolved.specs.Shown.{Shown, Spelled, labelHasText}
+use Rattle.resolve.specs.Ordered.{Final}
+use Rattle.resolve.specs.Walk.{WalkState, walkStart, walk-build}
+use Rattle.resolve.specs.Resolves.{resolves-empty}
+use Rattle.resolve.specs.Tree.{walked, levels-enough}
+use Rattle.resolve.specs.Noted.{isContainer, isTextLeaf, ahead}
+use Rattle.resolve.specs.Ranges.{graph-inside}
+use Rattle.resolve.specs.Shown.{Shown, Spelled, labelHasText}
 use Rattle.resolve.specs.Rooted.{root-words, measures-low}
-use Rattle.resolved.specs.Due.{textDue, Decodes}
-use Rattle.arrange.specs.Walked.{Walked}
-use Rattle.arrange.specs.Settling.{ReadyToSettle}
-use Rattle.arrange.specs.Enough.{walk-over, walk-fits}
+use Rattle.resolve.specs.Due.{textDue, Decodes}
+use Rattle.emit.specs.Walked.{Walked}
+use Rattle.emit.specs.Settling.{ReadyToSettle}
+use Rattle.emit.specs.Enough.{walk-over, walk-fits}
 use Rattle.de.specs.Measured.{Worded, Limited, MeasuredAs}
 use Rattle.de.specs.Texts.{measures-many}
 

@@ -6,9 +6,9 @@ use lib.ListN.{length, length-replicate, take, drop}
 use native.Mathlib.Omega.{arith}
 use Rattle.rooms.specs.Cleared.{cleared}
 use Rattle.steps.specs.State.{Node}
-use Rattle.resolved.specs.Tree.{walked}
-use Rattle.resolved.specs.Due.{dueText, Decodes}
-use Rattle.arrange.specs.Settling.{Unsettled, SettledRooms, SettlesAll}
+use Rattle.resolve.specs.Tree.{walked}
+use Rattle.resolve.specs.Due.{dueText, Decodes}
+use Rattle.emit.specs.Settling.{Unsettled, SettledRooms, SettlesAll}
 use Rattle.emit.specs.Roots.{Rooted, Emits}
 use Rattle.de.specs.Rooms.{zeros-long, zeros-whole, front-cleared, end-begins, end-fits, end-cleared}
 use Rattle.de.specs.Measured.{MeasuredAs, Measured, WorkRooms, Produces}

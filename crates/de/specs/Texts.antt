@@ -10,12 +10,12 @@ use native.Mathlib.Omega.{arith}
 use Rattle.value.specs.Value.{Label, textOf, NoneL, BoolL, I64L, F64L, BytesL, StringL, ListL, TupleL, SetL, FrozenSetL, DictL, GlobalL, ObjectL}
 use Rattle.steps.specs.State.{Node}
 use Rattle.reading.specs.Build.{at}
-use Rattle.resolved.specs.Noted.{isContainer, ahead}
-use Rattle.resolved.specs.Shown.{leading, trailing, labelHasText}
-use Rattle.resolved.specs.Reached.{textIf}
-use Rattle.resolved.specs.Sums.{upTo}
+use Rattle.resolve.specs.Noted.{isContainer, ahead}
+use Rattle.resolve.specs.Shown.{leading, trailing, labelHasText}
+use Rattle.resolve.specs.Reached.{textIf}
+use Rattle.resolve.specs.Sums.{upTo}
 use Rattle.resolve.specs.Rooted.{hasWord, worded-texts}
-use Rattle.resolved.specs.Due.{textDue, nodeTextLength, dueText, Decodable}
+use Rattle.resolve.specs.Due.{textDue, nodeTextLength, dueText, Decodable}
 use Rattle.de.specs.Rooms.{Zeros, zeros-long}
 use Rattle.de.specs.Measured.{MeasuredAs}
 

@@ -14,14 +14,14 @@ use Rattle.value.specs.Shape.{kindIn, newIn}
 use Rattle.steps.specs.State.{Node}
 use Rattle.steps.specs.NodeWords.{first}
 use Rattle.reading.specs.Build.{at}
-use Rattle.resolved.specs.Resolved.{Kids, sNil, sNode, StandsFor, value-unique, stand-label}
-use Rattle.resolved.specs.Ordered.{Final}
-use Rattle.resolved.specs.Noted.{isContainer, leafOf}
-use Rattle.resolved.specs.Moved.{moves, moved}
-use Rattle.resolved.specs.Written.{HasAt, Written, written-none, written-node, written-again}
-use Rattle.resolved.specs.Shown.{Shown, nodeLabel}
-use Rattle.resolved.specs.Readable.{TextReadable, shown-readable, spelled-measure}
-use Rattle.resolved.specs.Kinds.{kindOf, kind-same, containerKind, container-is}
+use Rattle.resolve.specs.Resolved.{Kids, sNil, sNode, StandsFor, value-unique, stand-label}
+use Rattle.resolve.specs.Ordered.{Final}
+use Rattle.resolve.specs.Noted.{isContainer, leafOf}
+use Rattle.resolve.specs.Moved.{moves, moved}
+use Rattle.resolve.specs.Written.{HasAt, Written, written-none, written-node, written-again}
+use Rattle.resolve.specs.Shown.{Shown, nodeLabel}
+use Rattle.resolve.specs.Readable.{TextReadable, shown-readable, spelled-measure}
+use Rattle.resolve.specs.Kinds.{kindOf, kind-same, containerKind, container-is}
 use Rattle.emit.specs.Stores.{sets-before, sets-behind, sets-there}
 use Rattle.emit.specs.Words.{packedPlace, recordIn, textIn, writtenW, written-record, written-size, written-text, written-long, recordFrom}
 use Rattle.emit.specs.Places.{written-copyable}

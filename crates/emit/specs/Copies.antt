@@ -8,7 +8,7 @@ use lib.Seq.{sets, length-sets, drop-cons, drop-length, length-take-le, getD-tak
 use native.Mathlib.Nat.{add-zero}
 use native.Mathlib.Numerals.{add-one}
 use native.Mathlib.Omega.{arith}
-use Rattle.resolved.specs.Moved.{hasTextPlace, moves}
+use Rattle.resolve.specs.Moved.{hasTextPlace, moves}
 use Rattle.emit.specs.Stores.{sets-before, early}
 
 -- ---- a text

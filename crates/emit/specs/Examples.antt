@@ -13,10 +13,10 @@ use Rattle.steps.specs.State.{Node}
 use Rattle.steps.specs.NodeWords.{first, second}
 use Rattle.reading.specs.Build.{at}
 use Rattle.reading.specs.Unfold.{In, here, there}
-use Rattle.resolved.specs.Resolved.{Kids, sNil, sNode}
-use Rattle.resolved.specs.Ordered.{Final}
-use Rattle.resolved.specs.Noted.{isContainer}
-use Rattle.resolved.specs.Shown.{Shown, nodeLabel, labelHasText, Spelled, isSorted, fromIn, manyIn, roomOf, listOf, Inside}
+use Rattle.resolve.specs.Resolved.{Kids, sNil, sNode}
+use Rattle.resolve.specs.Ordered.{Final}
+use Rattle.resolve.specs.Noted.{isContainer}
+use Rattle.resolve.specs.Shown.{Shown, nodeLabel, labelHasText, Spelled, isSorted, fromIn, manyIn, roomOf, listOf, Inside}
 use Rattle.emit.specs.Roots.{Rooted}
 
 nodes : List Node

@@ -8,8 +8,8 @@ use Rattle.value.specs.Value.{Forest, Value, one, nil, node, textOf, text, coun
 use Rattle.value.specs.Stands.{_⊕_}
 use Rattle.steps.specs.State.{Node}
 use Rattle.reading.specs.Build.{before}
-use Rattle.resolved.specs.Resolved.{Kids, Stand, sNil, sNode}
-use Rattle.resolved.specs.Written.{part-join, Written}
+use Rattle.resolve.specs.Resolved.{Kids, Stand, sNil, sNode}
+use Rattle.resolve.specs.Written.{part-join, Written}
 
 pub text-append : (f g : Forest) → text (f ⊕ g) ≡ text f ++ text g
 unfolding text _⊕_

@@ -14,11 +14,11 @@ use native.Mathlib.Numerals.{add-one}
 use Rattle.value.specs.Value.{Label, kind, textOf, recordOf}
 use Rattle.value.specs.Shape.{kindIn, newIn}
 use Rattle.steps.specs.NodeWords.{first, second}
-use Rattle.resolved.specs.Moved.{moves}
-use Rattle.resolved.specs.Shown.{nodeLabel, labelHasText, leading, trailing, leadText, trailText, Spelled}
-use Rattle.resolved.specs.Readable.{TextReadable}
+use Rattle.resolve.specs.Moved.{moves}
+use Rattle.resolve.specs.Shown.{nodeLabel, labelHasText, leading, trailing, leadText, trailText, Spelled}
+use Rattle.resolve.specs.Readable.{TextReadable}
 use Rattle.utf8.specs.Stores.{sets-append}
-use Rattle.resolved.specs.Kinds.{kindOf, kind-small, containerKind, kind-is}
+use Rattle.resolve.specs.Kinds.{kindOf, kind-small, containerKind, kind-is}
 use Rattle.emit.specs.Copies.{Copyable}
 use Rattle.emit.specs.Words.{packedPlace, recordIn, textIn, writtenW, lengthsOf, recordFrom, textBy, lengthsBy, spoken, text-by, lengths-by, has-text, lengths-all, record-is, from-text, from-names}
 

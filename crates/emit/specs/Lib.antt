@@ -1,4 +1,23 @@
 -- Writing a value's table and text: what the code means.
+
+-- order: the order of two nodes
+pub mod Label
+pub mod Glance
+pub mod Ranks
+-- arrange: Sets and Dicts in order, on nodes: entries in a list, the place of a key, and what the settling of one node after the other leaves
+pub mod Entries
+pub mod Search
+pub mod Moves
+pub mod Arranging
+pub mod Kinds
+pub mod Due
+pub mod Ascending
+pub mod Walked
+pub mod Standing
+pub mod Turn
+pub mod Settling
+pub mod Enough
+-- the value written
 pub mod Stores
 pub mod Copies
 pub mod Words

@@ -8,9 +8,9 @@ use lib.Seq.{getD-take, getD-drop}
 use native.Mathlib.Omega.{arith}
 use Rattle.value.specs.Value.{Label, Forest, textOf, text, count, size, recordOf, table, table-length, NoneL, BoolL, I64L, F64L, BytesL, StringL, ListL, TupleL, SetL, FrozenSetL, DictL, GlobalL, ObjectL, nil, node}
 use Rattle.steps.specs.State.{Node}
-use Rattle.resolved.specs.Resolved.{Kids}
-use Rattle.resolved.specs.Moved.{hasTextPlace, regroup}
-use Rattle.resolved.specs.Written.{Written}
+use Rattle.resolve.specs.Resolved.{Kids}
+use Rattle.resolve.specs.Moved.{hasTextPlace, regroup}
+use Rattle.resolve.specs.Written.{Written}
 use Rattle.emit.specs.Copies.{Copyable}
 
 no : {A : Type 0} → false ≡ true → A

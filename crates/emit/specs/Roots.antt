@@ -9,8 +9,8 @@ use native.Mathlib.Omega.{arith}
 use Rattle.value.specs.Value.{Value, one, text, size, depth, table as tableOf, table-length}
 use Rattle.steps.specs.State.{Node}
 use Rattle.reading.specs.Build.{at}
-use Rattle.resolved.specs.Resolved.{Kids, StandsFor}
-use Rattle.resolved.specs.Ordered.{Final}
+use Rattle.resolve.specs.Resolved.{Kids, StandsFor}
+use Rattle.resolve.specs.Ordered.{Final}
 use Rattle.emit.specs.Leaves.{opened}
 use Rattle.emit.specs.Calls.{Begun, ReadyNode, Flat, Open, PutValue, WroteNode}
 

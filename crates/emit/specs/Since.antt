@@ -11,9 +11,9 @@ use native.Mathlib.Omega.{arith}
 use Rattle.value.specs.Value.{Value, one, size, text, table}
 use Rattle.steps.specs.State.{Node}
 use Rattle.reading.specs.Build.{at}
-use Rattle.resolved.specs.Resolved.{Kids}
-use Rattle.resolved.specs.Noted.{isContainer}
-use Rattle.resolved.specs.Written.{Written, written-stays}
+use Rattle.resolve.specs.Resolved.{Kids}
+use Rattle.resolve.specs.Noted.{isContainer}
+use Rattle.resolve.specs.Written.{Written, written-stays}
 use Rattle.emit.specs.Stores.{part-late}
 use Rattle.emit.specs.Words.{writtenW}
 

@@ -5,7 +5,7 @@ use mathlib.Core.Path.{_≡_, refl, sym, _∙_, ap}
 use lib.ListN.{length, getD, take, drop, set}
 use lib.Seq.{sets, sets-eq, take-set-le, drop-set-lt, getD-take, drop-at, length-take-le, take-append-seam, take-take, drop-drop}
 use native.Mathlib.Omega.{arith}
-use Rattle.resolved.specs.Written.{HasAt}
+use Rattle.resolve.specs.Written.{HasAt}
 
 pub sets-before : (l : List ℕ) (i : ℕ) (vs : List ℕ) (n : ℕ) → n ≤ i → take n (sets l i vs) ≡ take n l
 sets-before l i [] n h = refl

@@ -15,16 +15,16 @@ use Rattle.value.specs.Stands.{_⊕_, size-append}
 use Rattle.steps.specs.State.{Node}
 use Rattle.steps.specs.NodeWords.{first}
 use Rattle.reading.specs.Build.{at, before}
-use Rattle.resolved.specs.Resolved.{Kids, Stand, sNil, sNode, StandsFor, stand-label, stand-in}
-use Rattle.resolved.specs.Ordered.{Final}
-use Rattle.resolved.specs.Moved.{text-before}
-use Rattle.resolved.specs.Ranges.{in-at}
-use Rattle.resolved.specs.Noted.{isContainer}
-use Rattle.resolved.specs.Written.{HasAt, part-stays, Written, written-none, written-node, written-stays}
-use Rattle.resolved.specs.Shown.{nodeLabel, fromIn, manyIn, listOf, Inside}
-use Rattle.resolved.specs.declared.lists.Range.{Range}
-use Rattle.resolved.specs.NodeList.{Listed, shown-listed, Ranges, list-length, list-at}
-use Rattle.resolved.specs.Kinds.{kindOf, containerKind, kind-is}
+use Rattle.resolve.specs.Resolved.{Kids, Stand, sNil, sNode, StandsFor, stand-label, stand-in}
+use Rattle.resolve.specs.Ordered.{Final}
+use Rattle.resolve.specs.Moved.{text-before}
+use Rattle.resolve.specs.Ranges.{in-at}
+use Rattle.resolve.specs.Noted.{isContainer}
+use Rattle.resolve.specs.Written.{HasAt, part-stays, Written, written-none, written-node, written-stays}
+use Rattle.resolve.specs.Shown.{nodeLabel, fromIn, manyIn, listOf, Inside}
+use Rattle.resolve.specs.declared.lists.Range.{Range}
+use Rattle.resolve.specs.NodeList.{Listed, shown-listed, Ranges, list-length, list-at}
+use Rattle.resolve.specs.Kinds.{kindOf, containerKind, kind-is}
 use Rattle.emit.specs.Stores.{sets-before, sets-behind, sets-there, earlier, later, part-late}
 use Rattle.emit.specs.Words.{packedPlace, recordIn, textIn, writtenW, lengthsOf, lengths-all}
 use Rattle.emit.specs.Forests.{text-append, append-none, append-next, depth-behind, written-join}

@@ -11,7 +11,7 @@ use native.Mathlib.Omega.{arith}
 use Rattle.value.specs.Value.{Label, bit, half, kind, textOf, recordOf, NoneL, BoolL, I64L, F64L, BytesL, StringL, ListL, TupleL, SetL, FrozenSetL, DictL, GlobalL, ObjectL}
 use Rattle.value.specs.Shape.{kindIn, newIn}
 use Rattle.steps.specs.NodeWords.{first, second}
-use Rattle.resolved.specs.Shown.{nodeLabels, nodeLabel, labelHasText, leading, trailing}
+use Rattle.resolve.specs.Shown.{nodeLabels, nodeLabel, labelHasText, leading, trailing}
 
 -- ---- a place: the next record, and 4,096 times where the next text begins
 

@@ -1,5 +1,8 @@
 // The last pass of the reading: a root's value straight into the lent table and text, records in preorder, each text behind those before
 // it. A container is written once; at any other place its records and its text are copied, text places moved.
+pub mod arrange;
+mod order;
+
 ghost use mathlib.Core.Path.{_≡_};
 ghost use mathlib.Core.Bool.{true, false, cond};
 ghost use mathlib.Core.List.{[], _∷_};
@@ -8,11 +11,11 @@ ghost use lib.ListN.{length, take, drop};
 ghost use lib.Seq.{sets};
 ghost use Rattle.value.specs.Shape.{newIn};
 ghost use Rattle.steps.specs.NodeWords.{first};
-ghost use Rattle.resolved.specs.Moved.{hasTextPlace, moves};
+ghost use Rattle.resolve.specs.Moved.{hasTextPlace, moves};
 ghost use Rattle.emit.specs.Copies.{Copyable};
 ghost use Rattle.emit.specs.Words.{packedPlace, recordIn, textIn, writtenW, recordFrom};
-ghost use Rattle.resolved.specs.Kinds.{kindOf, containerKind};
-ghost use Rattle.resolved.specs.Shown.{nodeLabel};
+ghost use Rattle.resolve.specs.Kinds.{kindOf, containerKind};
+ghost use Rattle.resolve.specs.Shown.{nodeLabel};
 ghost use Rattle.emit.specs.Leaves.{TextReady, TextPut, kindBelow, AtomReady, AtomPut, LeafReady, LeafPut, CopyReady, CopyPut, FinishReady, FinishPut, opened};
 ghost use Rattle.emit.specs.Calls.{Flat, FlatWrites, Open};
 ghost use Rattle.emit.specs.Turns.{Writes};
@@ -131,7 +134,7 @@ fn record_of(first: u64, second: u64, lengths: u64, at: u64, values: u64, size: 
     requires { ⌜ (kindOf first ≡ 12 → values ≤ 2) ⌝ }
     ensures { λ r. ⌜ r .0 ∷ r .1 ∷ r .2 ∷ r .3 ∷ [] ≡ recordFrom (kindOf first) (newIn first) second lengths at values size ⌝ }
 {
-    let kind = resolved::lists::value_kind(first);
+    let kind = resolve::lists::value_kind(first);
     if kind == value::KIND_OBJECT {
         let head = value::head_of(first);
         let word = value::word_of(Head {
@@ -177,8 +180,8 @@ fn put_names<'a>(
     requires { ⌜ 11 ≤ kindOf (first (now nodes) (node .0)) ⌝ }
     ensures { λ r. ⌜ TextPut (now (pickle .entry)) (now (nodes .entry)) (node .0) (now (text .entry)) at (now (text .exit)) r ⌝ }
 {
-    let module = resolved::texts::lead_part(node, pickle, decoded, nodes, measures);
-    let name = resolved::texts::trail_part(node, pickle, decoded, nodes, measures);
+    let module = resolve::texts::lead_part(node, pickle, decoded, nodes, measures);
+    let name = resolve::texts::trail_part(node, pickle, decoded, nodes, measures);
     put_bytes(module, text, at);
     put_bytes(name, text, at + module.len());
     module.len() as u64 * 0x1_0000_0000 + name.len() as u64
@@ -199,7 +202,7 @@ fn put_class<'a>(
     ensures { λ r. ⌜ TextPut (now (pickle .entry)) (now (nodes .entry)) (node .0) (now (text .entry)) at (now (text .exit)) r ⌝ }
 {
     let i = node.0;
-    if resolved::lists::value_kind(nodes[2 * i]) == value::KIND_OBJECT {
+    if resolve::lists::value_kind(nodes[2 * i]) == value::KIND_OBJECT {
         return put_names(node, pickle, decoded, nodes, measures, text, at);
     }
     0
@@ -256,11 +259,11 @@ fn write_text<'a>(
 {
     let i = node.0;
     let at = to / 0x1000;
-    let bytes = resolved::texts::lead_part(node, pickle, decoded, nodes, measures);
+    let bytes = resolve::texts::lead_part(node, pickle, decoded, nodes, measures);
     put_bytes(bytes, text, at as usize);
     let len = bytes.len() as u64;
     let words = Record(
-        plain_word(resolved::lists::value_kind(nodes[2 * i])),
+        plain_word(resolve::lists::value_kind(nodes[2 * i])),
         at,
         len,
         0,
@@ -287,7 +290,7 @@ fn write_leaf<'a>(
         (now (text .entry)) (now (table .exit)) (now (text .exit)) r ⌝ }
 {
     let i = node.0;
-    let kind = resolved::lists::value_kind(nodes[2 * i]);
+    let kind = resolve::lists::value_kind(nodes[2 * i]);
     if kind < value::KIND_BYTES {
         return write_atom(node, to, nodes, table);
     }
@@ -335,7 +338,7 @@ fn is_open(node: NodeId, nodes: &[u64], measures: &[u64]) -> bool
     if i == store::NOWHERE {
         return false;
     }
-    if resolved::lists::is_container(resolved::lists::value_kind(nodes[2 * i])) {
+    if resolve::lists::is_container(resolve::lists::value_kind(nodes[2 * i])) {
         return measures[i] < WRITTEN;
     }
     false
@@ -363,7 +366,7 @@ fn write_flat<'a>(
         put_record(table, (to % 0x1000) as usize, words);
         return to + 1;
     }
-    if resolved::lists::is_container(resolved::lists::value_kind(nodes[2 * i])) {
+    if resolve::lists::is_container(resolve::lists::value_kind(nodes[2 * i])) {
         return write_again(measures[i], to, table, text);
     }
     write_leaf(node, to, pickle, decoded, nodes, measures, table, text)
@@ -431,7 +434,7 @@ fn write<'a>(
         (now (table .entry)) (now (text .entry)) (now (measures .exit)) (now (table .exit)) (now (text .exit))
         r ⌝ }
 {
-    let range = resolved::lists::range_of(node, nodes, starts, measures);
+    let range = resolve::lists::range_of(node, nodes, starts, measures);
     let from = range.at;
     let end = range.end;
     let at = (to / 0x1000) as usize;
@@ -439,7 +442,7 @@ fn write<'a>(
     let mut next = behind(to, lengths);
     let mut j = from;
     while j < end {
-        let child = resolved::lists::item(range.log, j, sorted, log);
+        let child = resolve::lists::item(range.log, j, sorted, log);
         if is_below(child, value::KIND_BYTES, nodes) {
             next = write_atom(child, next, nodes, table); // most are: no call that lends the texts
         } else if is_below(child, value::KIND_LIST, nodes) {

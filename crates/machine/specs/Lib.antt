@@ -7,7 +7,6 @@ pub mod Links
 pub mod Containers
 pub mod Words
 pub mod Memo
-
 -- a step, the run
 pub mod RoomsOf
 pub mod Clear

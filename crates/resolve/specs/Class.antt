@@ -11,9 +11,9 @@ use Rattle.reading.specs.Build.{at}
 use Rattle.reading.specs.Unfold.{In}
 use Rattle.resolve.specs.Length.{namesLen, textLen, LengthReadable, len-global, len-object}
 use Rattle.resolve.specs.Word.{packW, textsW, texts-pack}
-use Rattle.resolved.specs.Walk.{WalkState}
-use Rattle.resolved.specs.Noted.{isContainer, isTextLeaf, ahead, leafOf, LeafNoted, unseen, early, reached, Noted, noted-early}
-use Rattle.resolved.specs.Kinds.{containerKind}
+use Rattle.resolve.specs.Walk.{WalkState}
+use Rattle.resolve.specs.Noted.{isContainer, isTextLeaf, ahead, leafOf, LeafNoted, unseen, early, reached, Noted, noted-early}
+use Rattle.resolve.specs.Kinds.{containerKind}
 use Rattle.resolve.specs.Facts.{valueWord, kindAt, classAt, Facts}
 use Rattle.resolve.specs.Known.{word-big, leaf-word, no-text}
 

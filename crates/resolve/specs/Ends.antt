@@ -19,13 +19,13 @@ use Rattle.reading.specs.Measures.{valueMeasure, measure}
 use Rattle.resolve.specs.Word.{packW, deepW, valuesW, textsW, deep-pack}
 use Rattle.resolve.specs.Length.{textLen}
 use Rattle.resolve.specs.Blocked.{argumentsTaken, headTaken}
-use Rattle.resolved.specs.Walk.{WalkState, WalkMade, stageR, eachR, finishR, walk}
-use Rattle.resolved.specs.Resolves.{stage-own}
-use Rattle.resolved.specs.Inside.{walk-within}
-use Rattle.resolved.specs.Noted.{isContainer, leafOf, LeafNoted, unseen, early, reached, Noted, WordSays, is-fresh, is-taken, is-gone, is-kept, reads}
-use Rattle.resolved.specs.Ranges.{ListsLie}
-use Rattle.resolved.specs.Resolving.{walk-resolves}
-use Rattle.resolved.specs.Fits.{fits-take, fits-block}
+use Rattle.resolve.specs.Walk.{WalkState, WalkMade, stageR, eachR, finishR, walk}
+use Rattle.resolve.specs.Resolves.{stage-own}
+use Rattle.resolve.specs.Inside.{walk-within}
+use Rattle.resolve.specs.Noted.{isContainer, leafOf, LeafNoted, unseen, early, reached, Noted, WordSays, is-fresh, is-taken, is-gone, is-kept, reads}
+use Rattle.resolve.specs.Ranges.{ListsLie}
+use Rattle.resolve.specs.Resolving.{walk-resolves}
+use Rattle.resolve.specs.Fits.{fits-take, fits-block}
 use Rattle.resolve.specs.Facts.{valueWord, kindAt, classAt, Shallow, HoldsWalk}
 use Rattle.resolve.specs.Noting.{Notes}
 use Rattle.resolve.specs.Class.{OwnTextReadable, Owns}

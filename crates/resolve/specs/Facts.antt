@@ -14,16 +14,16 @@ use Rattle.reading.specs.Unfold.{In, here, there}
 use Rattle.reading.specs.Measures.{valueMeasure}
 use Rattle.resolve.specs.Length.{textLen, LengthReadable}
 use Rattle.resolve.specs.Word.{measureWord}
-use Rattle.resolved.specs.Walk.{WalkState}
-use Rattle.resolved.specs.Inside.{DoneWithin}
-use Rattle.resolved.specs.Dues.{isDue, dues}
-use Rattle.resolved.specs.Noted.{isContainer, isTextLeaf}
-use Rattle.resolved.specs.Fits.{FitsState}
-use Rattle.resolved.specs.Resolves.{open-not-done}
-use Rattle.resolved.specs.Sums.{apartNext, ordered-apart, apart-short}
-use Rattle.resolved.specs.Listed.{Lists, lists-count, lists-length}
-use Rattle.resolved.specs.Shown.{isSorted}
-use Rattle.resolved.specs.Kinds.{containerKind}
+use Rattle.resolve.specs.Walk.{WalkState}
+use Rattle.resolve.specs.Inside.{DoneWithin}
+use Rattle.resolve.specs.Dues.{isDue, dues}
+use Rattle.resolve.specs.Noted.{isContainer, isTextLeaf}
+use Rattle.resolve.specs.Fits.{FitsState}
+use Rattle.resolve.specs.Resolves.{open-not-done}
+use Rattle.resolve.specs.Sums.{apartNext, ordered-apart, apart-short}
+use Rattle.resolve.specs.Listed.{Lists, lists-count, lists-length}
+use Rattle.resolve.specs.Shown.{isSorted}
+use Rattle.resolve.specs.Kinds.{containerKind}
 
 -- the word of a value
 abbrev pub valueWord : Value → ℕ

@@ -15,11 +15,11 @@ use Rattle.reading.specs.Unfold.{Staged, same, other, staged}
 use Rattle.reading.specs.Measures.{valueMeasure, measure}
 use Rattle.resolve.specs.Length.{textLen, len-nothing}
 use Rattle.resolve.specs.Word.{packW, word-large}
-use Rattle.resolved.specs.Walk.{WalkState, WalkMade, WalkCase, copied, inside, stuck, entered, walk-case, gone, stageR, eachR, finishR, walk}
-use Rattle.resolved.specs.Resolves.{Resolves}
-use Rattle.resolved.specs.Dues.{isDue, dues}
-use Rattle.resolved.specs.Noted.{isContainer, ahead, leafOf, LeafNoted, unseen, early, reached, Noted, Stamped, stamp-store, stamp-there, stamp-textless, leaf-walk, WordSays, is-fresh, is-taken, is-gone, is-kept, reads}
-use Rattle.resolved.specs.Kinds.{containerKind}
+use Rattle.resolve.specs.Walk.{WalkState, WalkMade, WalkCase, copied, inside, stuck, entered, walk-case, gone, stageR, eachR, finishR, walk}
+use Rattle.resolve.specs.Resolves.{Resolves}
+use Rattle.resolve.specs.Dues.{isDue, dues}
+use Rattle.resolve.specs.Noted.{isContainer, ahead, leafOf, LeafNoted, unseen, early, reached, Noted, Stamped, stamp-store, stamp-there, stamp-textless, leaf-walk, WordSays, is-fresh, is-taken, is-gone, is-kept, reads}
+use Rattle.resolve.specs.Kinds.{containerKind}
 use Rattle.resolve.specs.Facts.{valueWord, kindAt, Facts, Shallow}
 use Rattle.resolve.specs.declared.Seen.{Seen}
 use Rattle.resolve.specs.declared.Seen.the-variants.{Open, Empty, Word}

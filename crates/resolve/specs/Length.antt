@@ -23,7 +23,7 @@ use Rattle.text.specs.Answers.{decoded-len, decoded-bad, quoted-plain, quoted-e
 use Rattle.value.specs.Value.{Label, NoneL, textOf}
 use Rattle.value.specs.Shape.{kindIn}
 use Rattle.steps.specs.NodeWords.{first, second, within, classIn, moduleOf, nameOf}
-use Rattle.resolved.specs.Shown.{nodeLabels, nodeLabel}
+use Rattle.resolve.specs.Shown.{nodeLabels, nodeLabel}
 
 -- of node i's label
 unfoldable pub textLen : List ℕ → List ℕ → ℕ → ℕ

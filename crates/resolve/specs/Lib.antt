@@ -1,6 +1,41 @@
--- The walk that measures and resolves: what its code reads and keeps, and what it ensures.
+-- The resolved graph: what it is, and how it is made of the nodes at STOP and read off the rooms.
 
--- before it: each node's children side by side
+-- `Builder` on the node table: a walk that leaves a graph, what the graph's nodes stand for, their order, and how they are written out
+pub mod Resolved
+pub mod Ordered
+pub mod Walk
+pub mod Resolves
+pub mod Resolving
+pub mod Tree
+pub mod Settled
+pub mod Arrange
+pub mod Inside
+pub mod Dues
+pub mod Compare
+pub mod Whole
+pub mod Found
+pub mod Moved
+pub mod Written
+pub mod Capacity
+pub mod Ranges
+pub mod Noted
+pub mod Turns
+pub mod ResolvedExamples
+pub mod Fits
+pub mod Shown
+pub mod Listed
+pub mod Sums
+pub mod Reached
+-- lists: a node's kind and its list, in the rooms
+pub mod Kinds
+pub mod NodeList
+-- texts: a node's text
+pub mod Readable
+pub mod Place
+pub mod Measure
+pub mod Spell
+pub mod Due
+-- siblings: each node's children side by side
 pub mod Sum
 pub mod Store
 pub mod Words
@@ -8,8 +43,7 @@ pub mod Layout
 pub mod Runs
 pub mod SideBySide
 pub mod Examples
-
--- the walk
+-- the walk that measures and resolves: what its code reads and keeps, and what it ensures
 pub mod Length
 pub mod Word
 pub mod Blocked

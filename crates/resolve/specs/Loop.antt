@@ -12,13 +12,13 @@ use Rattle.reading.specs.Build.{Stage, taken, kept, stage, at}
 use Rattle.reading.specs.Unfold.{In, here, there, Staged, same, other, staged}
 use Rattle.reading.specs.Measures.{Measure, nilM, pushM, valueMeasure, measure}
 use Rattle.resolve.specs.Word.{packW, deepW, valuesW, textsW, deep-pack, values-pack, texts-pack}
-use Rattle.resolved.specs.Walk.{WalkState, WalkMade, overwrite, eachR, finishR, walk}
-use Rattle.resolved.specs.Resolves.{WalkCalled, old-taken}
-use Rattle.resolved.specs.Resolving.{Resolved, each-resolves, walk-resolves}
-use Rattle.resolved.specs.Turns.{Turn, turn-next, turn-end, turn-deep, push-nil}
-use Rattle.resolved.specs.Dues.{dues}
-use Rattle.resolved.specs.Noted.{isContainer}
-use Rattle.resolved.specs.Fits.{FitsState, fits-put, fits-same, fits-finish}
+use Rattle.resolve.specs.Walk.{WalkState, WalkMade, overwrite, eachR, finishR, walk}
+use Rattle.resolve.specs.Resolves.{WalkCalled, old-taken}
+use Rattle.resolve.specs.Resolving.{Resolved, each-resolves, walk-resolves}
+use Rattle.resolve.specs.Turns.{Turn, turn-next, turn-end, turn-deep, push-nil}
+use Rattle.resolve.specs.Dues.{dues}
+use Rattle.resolve.specs.Noted.{isContainer}
+use Rattle.resolve.specs.Fits.{FitsState, fits-put, fits-same, fits-finish}
 use Rattle.resolve.specs.Facts.{valueWord, kindAt, Facts, Shallow, HoldsWalk, one-more, note-fits}
 use Rattle.resolve.specs.Noting.{Notes}
 

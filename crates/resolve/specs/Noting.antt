@@ -5,8 +5,8 @@ use mathlib.Core.List.{List, _∷_}
 use mathlib.Core.Path.{_≡_}
 use lib.ListN.{length, getD, set}
 use native.Mathlib.Omega.{arith}
-use Rattle.resolved.specs.Listed.{Lists, lists-count, lists-more}
-use Rattle.resolved.specs.Shown.{isSorted}
+use Rattle.resolve.specs.Listed.{Lists, lists-count, lists-more}
+use Rattle.resolve.specs.Shown.{isSorted}
 
 -- whatever the room lists, it lists the node too where its kind is a Set's or a Dict's
 unfoldable pub Notes : ℕ → ℕ → List ℕ → List ℕ → Type 0

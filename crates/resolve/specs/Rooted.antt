@@ -19,18 +19,18 @@ use Rattle.reading.specs.Unfold.{In, fresh-left-all}
 use Rattle.reading.specs.Fuel.{build-fuel}
 use Rattle.reading.specs.Shallow.{deep, levels}
 use Rattle.reading.specs.Measures.{valueMeasure, measure, measure-deep, measure-values, measure-texts}
-use Rattle.resolved.specs.Resolved.{StandsFor}
-use Rattle.resolved.specs.Walk.{WalkState, walkStart, walk-build}
-use Rattle.resolved.specs.Tree.{walked, tree-stands, levels-enough, root-slot}
-use Rattle.resolved.specs.Inside.{walk-within}
-use Rattle.resolved.specs.Dues.{dues}
-use Rattle.resolved.specs.Ranges.{ListsLie}
-use Rattle.resolved.specs.Resolving.{walk-resolves}
-use Rattle.resolved.specs.Listed.{lists-none}
-use Rattle.resolved.specs.Sums.{upTo}
-use Rattle.resolved.specs.Noted.{isContainer, isTextLeaf, ahead, leafOf, LeafNoted, unseen, early, reached, WordSays, is-fresh, is-taken, is-gone, is-kept, reads}
-use Rattle.resolved.specs.Reached.{textIf, container-done, leaf-done, done-leaf, done-container, texts-held}
-use Rattle.resolved.specs.Fits.{fits-start}
+use Rattle.resolve.specs.Resolved.{StandsFor}
+use Rattle.resolve.specs.Walk.{WalkState, walkStart, walk-build}
+use Rattle.resolve.specs.Tree.{walked, tree-stands, levels-enough, root-slot}
+use Rattle.resolve.specs.Inside.{walk-within}
+use Rattle.resolve.specs.Dues.{dues}
+use Rattle.resolve.specs.Ranges.{ListsLie}
+use Rattle.resolve.specs.Resolving.{walk-resolves}
+use Rattle.resolve.specs.Listed.{lists-none}
+use Rattle.resolve.specs.Sums.{upTo}
+use Rattle.resolve.specs.Noted.{isContainer, isTextLeaf, ahead, leafOf, LeafNoted, unseen, early, reached, WordSays, is-fresh, is-taken, is-gone, is-kept, reads}
+use Rattle.resolve.specs.Reached.{textIf, container-done, leaf-done, done-leaf, done-container, texts-held}
+use Rattle.resolve.specs.Fits.{fits-start}
 use Rattle.resolve.specs.Length.{LengthReadable}
 use Rattle.resolve.specs.Word.{packW}
 use Rattle.resolve.specs.Facts.{valueWord, Facts, Shallow, HoldsWalk}

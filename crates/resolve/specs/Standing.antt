@@ -15,12 +15,12 @@ use Rattle.store.specs.RoomReads.{node-at, nodes-length}
 use Rattle.store.specs.Effects.{Firm, Sound}
 use Rattle.reading.specs.Build.{at}
 use Rattle.reading.specs.Graph.{Graph}
-use Rattle.resolved.specs.Shown.{nodeLabels, nodeLabel}
-use Rattle.resolved.specs.Noted.{isContainer, isTextLeaf}
-use Rattle.resolved.specs.Dues.{isDue}
-use Rattle.resolved.specs.Ranges.{graph-inside}
+use Rattle.resolve.specs.Shown.{nodeLabels, nodeLabel}
+use Rattle.resolve.specs.Noted.{isContainer, isTextLeaf}
+use Rattle.resolve.specs.Dues.{isDue}
+use Rattle.resolve.specs.Ranges.{graph-inside}
 use Rattle.resolve.specs.Length.{textLen}
-use Rattle.resolved.specs.Kinds.{by-kind, container-node, sorted-due}
+use Rattle.resolve.specs.Kinds.{by-kind, container-node, sorted-due}
 use Rattle.resolve.specs.Facts.{Facts}
 
 -- the nodes t are those that the pickle p and the words ws say

@@ -1,7 +1,9 @@
 // The root's tree measured, and its graph resolved, in one walk over the nodes: depth, values and text of each container as one word in its
 // measure, each child that is None at its place overwritten by the number of no node, and the Sets and Dicts noted in the order in which they
 // are finished. Nothing is decoded, ordered or written here, so that what comes after is bounded by what is found out here.
+pub mod lists;
 pub mod siblings;
+pub mod texts;
 
 use store::NodeId;
 use text::Decoded;
@@ -163,7 +165,7 @@ fn known(node: NodeId, pickle: &[u8], nodes: &[u64], measures: &mut [u64]) -> Se
         measures[n] = w;
         return Seen::Word(w);
     }
-    if resolved::lists::is_container(kind) {
+    if crate::lists::is_container(kind) {
         return Seen::Open;
     }
     let w = leaf_word(node, pickle, nodes);
@@ -214,7 +216,7 @@ fn note(kind: u64, node: NodeId, dues: &mut [u16])
     requires { ⌜ (node .0 < 65536) × (getD (now dues) 0 0 < 65535) × (getD (now dues) 0 0 + 1 < length (now dues)) ⌝ }
     ensures { λ r. ⌜ Notes kind (node .0) (now (dues .entry)) (now (dues .exit)) ⌝ }
 {
-    if !resolved::lists::is_sorted(kind) {
+    if !crate::lists::is_sorted(kind) {
         return;
     }
     let count = dues[0] as usize + 1;

@@ -14,8 +14,8 @@ use Rattle.emit.proofs.put_class.Reads as put-class-reads
 use Rattle.emit.proofs.write_atom.Reads as write-atom-reads
 use Rattle.emit.proofs.write_flat.Reads as write-flat-reads
 use Rattle.emit.proofs.write_text.Reads as write-text-reads
-use Rattle.resolved.proofs.lists.item.Reads as item-reads
-use Rattle.resolved.proofs.lists.range_of.Reads as range-of-reads
+use Rattle.resolve.proofs.lists.item.Reads as item-reads
+use Rattle.resolve.proofs.lists.range_of.Reads as range-of-reads
 use Rattle.emit.proofs.+write.{statement}
 use Rattle.emit.proofs.+write.Tie.{close}
 use mathlib.Core.Bool.{Bool, true, false}
@@ -24,7 +24,7 @@ use mathlib.Core.Path.{_≡_, refl, sym, _∙_}
 use mathlib.Core.Logic.{⊎-elim}
 use native.Mathlib.Omega.{arith}
 use lib.ListN.{length, length-set, getD}
-use Rattle.resolved.specs.Shown.{nodeLabel}
+use Rattle.resolve.specs.Shown.{nodeLabel}
 use Rattle.emit.specs.Leaves.{kindBelow, AtomPut, LeafPut, opened, atom-ready, atom-leaf}
 use Rattle.emit.specs.Calls.{Open, ReadyNode, FlatWrites, ready-most, ready-inside, below-kind, below-ready, not-below}
 use Rattle.emit.specs.Turns.{open-small, open-kind, open-text, open-behind, open-levels, open-listed, list-end, list-room, OpenWithText, text-entered, WrittenChildren, turn-start, turn-left, turn-over, turn-item, turn-finish, turn-ready, child-open, child-flat, next-walked, next-flat, next-leaf, turn-same, open-done, Writes}

@@ -4,7 +4,7 @@ use Rattle.emit.proofs.is_placed.Statement.{statement}
 use Rattle.emit.proofs.is_placed.Tie as tie
 use borrow.Author.Tests.{ne-eqb}
 use Rattle.value.specs.Shape.{kindIn}
-use Rattle.resolved.specs.Moved.{hasTextPlace}
+use Rattle.resolve.specs.Moved.{hasTextPlace}
 
 returns : tie.Need-returns
 unfolding hasTextPlace kindIn

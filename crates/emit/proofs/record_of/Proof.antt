@@ -5,7 +5,7 @@ use Rattle.emit.proofs.record_of.Tie as tie
 use Prim.Native.Nat.{_<_}
 use native.Mathlib.Omega.{arith}
 use Rattle.value.specs.Shape.{newIn}
-use Rattle.resolved.specs.Kinds.{kind-small}
+use Rattle.resolve.specs.Kinds.{kind-small}
 use Rattle.emit.specs.Words.{from-object, from-none, from-bool, from-dict, from-names, from-number, from-text, from-items}
 
 returns : tie.Need-returns

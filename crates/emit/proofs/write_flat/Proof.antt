@@ -8,7 +8,7 @@ use mathlib.Core.Path.{_≡_, refl, sym, _∙_}
 use native.Mathlib.Omega.{arith}
 use lib.ListN.{length}
 use Rattle.steps.specs.NodeWords.{first}
-use Rattle.resolved.specs.Kinds.{kindOf, containerKind}
+use Rattle.resolve.specs.Kinds.{kindOf, containerKind}
 use Rattle.emit.specs.Calls.{Flat, size-one, ready-most, ready-inside, flat-none, flat-copy, flat-copied, flat-leaf-ready, flat-made}
 
 -- ---- the places: the node is one of the nodes, and whether it is a container

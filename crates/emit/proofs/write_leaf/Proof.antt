@@ -6,7 +6,7 @@ use Prim.Native.Nat.{_≤_}
 use mathlib.Core.Path.{_∙_}
 use native.Mathlib.Omega.{arith}
 use Rattle.steps.specs.NodeWords.{first}
-use Rattle.resolved.specs.Kinds.{kindOf}
+use Rattle.resolve.specs.Kinds.{kindOf}
 use Rattle.emit.specs.Leaves.{atom-ready, atom-leaf, named-kind, names-fit, names-leaf}
 
 abbrev start : tie.After-value-kind → tie.Start

@@ -6,7 +6,7 @@ use Prim.Native.Nat.{ℕ, _<_}
 use mathlib.Core.Path.{_≡_, _∙_}
 use native.Mathlib.Omega.{arith}
 use Rattle.steps.specs.NodeWords.{first}
-use Rattle.resolved.specs.Kinds.{kind-small}
+use Rattle.resolve.specs.Kinds.{kind-small}
 use Rattle.emit.specs.Leaves.{text-room, text-fits, text-leaf}
 
 small : (r k : ℕ) → r ≡ k → k < 13 → r < 16
