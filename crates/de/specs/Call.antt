@@ -1,15 +1,16 @@
 -- A public reading: 1 where a slice is too short, else the rooms made zero, and the inner reading.
 use mathlib.Core.Bool.{true, false, cond}
-use Prim.Native.Nat.{ℕ}
+use Prim.Native.Nat.{ℕ, _≤_}
 use mathlib.Core.List.{List, [], _∷_, _++_, map}
 use mathlib.Core.Path.{_≡_, refl, sym, _∙_, ap}
-use lib.ListN.{length, getD, drop, replicate}
-use lib.Seq.{drop-at}
+use lib.ListN.{length, length-replicate, replicate}
+use borrow.Author.Tests.{le-ltb}
+use native.Mathlib.Omega.{arith}
 use Rattle.refusal.specs.declared.Refusal.the-variants.{ShortRoom}
 use Rattle.refusal.specs.declared.Answer.{Answer}
 use Rattle.refusal.specs.Numbers.{refusedAnswer}
 use Rattle.rooms.specs.Cleared.{cleared}
-use Rattle.rooms.specs.Stated.{Slices, roomLengths, stated, short, blank, filled}
+use Rattle.rooms.specs.Stated.{Slices, roomLengths, outputLengths, stated, tableSlice, textSlice, short, blank, filled}
 use Rattle.reading.specs.Reading.{Reading}
 
 -- what a call answers, and what it leaves of what it was lent
@@ -38,18 +39,29 @@ read-one x l l′ l″ a b e f = (ap (λ (y : Left). y .answer) (e ∙ sym f), a
 unfoldable pub ownRooms : List ℕ → List ℕ → Slices
 ownRooms table text = map (λ n. replicate n 0) roomLengths ++ (table ∷ text ∷ [])
 
--- a call with the reading x in such rooms: what it leaves of the outputs, whatever is left of the rooms, which end with it
-pub record OwnRooms (x : Reading) (table text table′ text′ : List ℕ) (a : Answer) : Type 0 where
-  pub rooms : Slices
-  pub eleven : length rooms ≡ 11
-  pub reads : ReadCall x (ownRooms table text) (rooms ++ (table′ ∷ text′ ∷ [])) a
+-- a call with the reading x in such rooms, which end with it: its answer, and what it leaves of the outputs
+pub record OwnRoomsCall (x : Reading) (table text table′ text′ : List ℕ) (a : Answer) : Type 0 where
+  pub answer : a ≡ reading x (ownRooms table text) .answer
+  pub table-left : table′ ≡ tableSlice (reading x (ownRooms table text) .slices)
+  pub text-left : text′ ≡ textSlice (reading x (ownRooms table text) .slices)
 
 -- answer and outputs are determined
-pub own-one : (x : Reading) (table text table′ text′ table″ text″ : List ℕ) (a b : Answer) → OwnRooms x table text table′ text′ a → OwnRooms x table text table″ text″ b → (a ≡ b) × (table′ ≡ table″) × (text′ ≡ text″)
-own-one x table text table′ text′ table″ text″ a b p q =
-    let e = read-one x (ownRooms table text) _ _ a b (p .reads) (q .reads) in
-    let f : table′ ∷ text′ ∷ [] ≡ table″ ∷ text″ ∷ [] = sym (drop-at (p .rooms) _ 11 (p .eleven)) ∙ ap (drop 11) (e .1) ∙ drop-at (q .rooms) _ 11 (q .eleven) in
-    (e .0, ap (λ (l : Slices). getD l 0 []) f, ap (λ (l : Slices). getD l 1 []) f)
+pub own-one : (x : Reading) (table text table′ text′ table″ text″ : List ℕ) (a b : Answer) → OwnRoomsCall x table text table′ text′ a → OwnRoomsCall x table text table″ text″ b → (a ≡ b) × (table′ ≡ table″) × (text′ ≡ text″)
+own-one x table text table′ text′ table″ text″ a b p q = (p .answer ∙ sym (q .answer), p .table-left ∙ sym (q .table-left), p .text-left ∙ sym (q .text-left))
+
+rooms-long : (ns ms : List ℕ) (l : Slices) → short ms l ≡ false → short (ns ++ ms) (map (λ n. replicate n 0) ns ++ l) ≡ false
+unfolding short
+rooms-long [] ms l e = e
+rooms-long (n ∷ ns) ms l e = rw (length-replicate, le-ltb n n (omega arith)) (rooms-long ns ms l e)
+
+outputs-long : (table text : List ℕ) → 8192 ≤ length table → 65536 ≤ length text → short outputLengths (table ∷ text ∷ []) ≡ false
+unfolding short
+outputs-long table text h k = rw (le-ltb (length table) 8192 h, le-ltb (length text) 65536 k)
+
+-- 1 is for short outputs alone: with long ones the answer is the reading's
+pub own-reads : (x : Reading) (table text table′ text′ : List ℕ) (a : Answer) → 8192 ≤ length table → 65536 ≤ length text → OwnRoomsCall x table text table′ text′ a → a ≡ x .answer
+unfolding reading ownRooms
+own-reads x table text table′ text′ a h k p = rw (rooms-long roomLengths outputLengths (table ∷ text ∷ []) (outputs-long table text h k)) at (p .answer)
 
 -- ---- the call, case by case
 

@@ -59,9 +59,9 @@ RefusesWith (outcome.Refused c why) x = x ≡ why
 RefusesWith (outcome.Stopped c) x = (c .stack ≡ 0) × (x ≡ StackUnderflow)
 
 -- how it ended: with that, or with the value on top of its stack
-unfoldable pub Ends : Outcome → List ℕ → End → Type 0
-Ends o stack (end.Refused why links) = RefusesWith o why × (links ≡ countsOf o .links)
-Ends o stack (end.Value root c) = (o ≡ outcome.Stopped c) × (0 < c .stack) × (root .0 ≡ getD stack (c .stack - 1) 0)
+unfoldable pub RunEnds : Outcome → List ℕ → End → Type 0
+RunEnds o stack (end.Refused why links) = RefusesWith o why × (links ≡ countsOf o .links)
+RunEnds o stack (end.Value root c) = (o ≡ outcome.Stopped c) × (0 < c .stack) × (root .0 ≡ getD stack (c .stack - 1) 0)
 
 -- the answer once a value is built, of a pickle read up to n
 unfoldable pub told : Built → ℕ → Answer

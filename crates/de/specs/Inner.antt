@@ -148,11 +148,11 @@ module _ (nodes owners children stack marks keys held unescaped starts sorted me
         text-room = o .1 .0;
       }
 
-  -- and what is left, slice by slice: every room as it came, the outputs begun with the reading's
-  pub reads-all : (x : Reading) (a : Answer) {nodes′ owners′ children′ stack′ marks′ keys′ held′ unescaped′ starts′ sorted′ measures′ table′ text′ : List ℕ}
-      → a ≡ x .answer → nodes′ ≡ nodes → owners′ ≡ owners → children′ ≡ children → stack′ ≡ stack → marks′ ≡ marks → keys′ ≡ keys → held′ ≡ held → unescaped′ ≡ unescaped → starts′ ≡ starts → sorted′ ≡ sorted → measures′ ≡ measures
-      → table′ ≡ begun (x .words) table → text′ ≡ begun (x .bytes) text
-      → InnerReads x (nodes ∷ owners ∷ children ∷ stack ∷ marks ∷ keys ∷ held ∷ unescaped ∷ starts ∷ sorted ∷ measures ∷ table ∷ text ∷ [])
-      (nodes′ ∷ owners′ ∷ children′ ∷ stack′ ∷ marks′ ∷ keys′ ∷ held′ ∷ unescaped′ ∷ starts′ ∷ sorted′ ∷ measures′ ∷ table′ ∷ text′ ∷ []) a
-  unfolding filled
-  reads-all x a e f0 f1 f2 f3 f4 f5 f6 f7 f8 f9 f10 f11 f12 = record { answer = e; slices = rw (f0, f1, f2, f3, f4, f5, f6, f7, f8, f9, f10, f11, f12) }
+-- what is left, slice by slice: every room as it came, the outputs begun with the reading's
+pub reads-all : (x : Reading) (a : Answer) {nodes owners children stack marks keys held unescaped starts sorted measures table text nodes′ owners′ children′ stack′ marks′ keys′ held′ unescaped′ starts′ sorted′ measures′ table′ text′ : List ℕ}
+    → a ≡ x .answer → nodes′ ≡ nodes → owners′ ≡ owners → children′ ≡ children → stack′ ≡ stack → marks′ ≡ marks → keys′ ≡ keys → held′ ≡ held → unescaped′ ≡ unescaped → starts′ ≡ starts → sorted′ ≡ sorted → measures′ ≡ measures
+    → table′ ≡ begun (x .words) table → text′ ≡ begun (x .bytes) text
+    → InnerReads x (nodes ∷ owners ∷ children ∷ stack ∷ marks ∷ keys ∷ held ∷ unescaped ∷ starts ∷ sorted ∷ measures ∷ table ∷ text ∷ [])
+    (nodes′ ∷ owners′ ∷ children′ ∷ stack′ ∷ marks′ ∷ keys′ ∷ held′ ∷ unescaped′ ∷ starts′ ∷ sorted′ ∷ measures′ ∷ table′ ∷ text′ ∷ []) a
+unfolding filled
+reads-all x a e f0 f1 f2 f3 f4 f5 f6 f7 f8 f9 f10 f11 f12 = record { answer = e; slices = rw (f0, f1, f2, f3, f4, f5, f6, f7, f8, f9, f10, f11, f12) }

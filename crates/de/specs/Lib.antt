@@ -5,7 +5,7 @@ pub mod Rooms
 pub mod Parts
 pub mod Measured
 pub mod Texts
-pub mod Ready
+pub mod Spelt
 pub mod Made
 pub mod Steps
 pub mod Building

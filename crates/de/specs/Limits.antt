@@ -10,7 +10,7 @@ use Rattle.value.specs.Value.{Value, one, size, depth, text}
 use Rattle.steps.specs.State.{Node, Res, ok, no, _>>=_, need}
 use Rattle.reading.specs.Build.{tree}
 use Rattle.reading.specs.Measure.{measured, too-deep, too-many-values, text-full, within-limits}
-use Rattle.resolve.specs.Word.{valuesW, textsW, values-pack, texts-pack}
+use Rattle.resolve.specs.MeasureWord.{valuesW, textsW, values-pack, texts-pack}
 use Rattle.resolve.specs.Rooted.{MeasuresTo, RootEnds, r-deep, r-word}
 use Rattle.resolve.specs.declared.WalkAnswer.{WalkAnswer}
 use Rattle.resolve.specs.declared.WalkAnswer.the-variants as answer

@@ -23,7 +23,7 @@ use Rattle.emit.specs.Walked.{graph, dues-in, not-settled}
 use Rattle.emit.specs.Settling.{SettledRooms}
 use Rattle.emit.specs.Roots.{Rooted, Emits}
 use Rattle.de.specs.Measured.{Produced}
-use Rattle.de.specs.Ready.{Spelt, inside}
+use Rattle.de.specs.Spelt.{Spelt, inside}
 
 -- ---- the value that the root stands for
 

@@ -7,13 +7,13 @@ use native.Mathlib.Omega.{arith}
 use Rattle.rooms.specs.Cleared.{cleared}
 use Rattle.steps.specs.State.{Node}
 use Rattle.resolve.specs.Tree.{walked}
-use Rattle.resolve.specs.Due.{dueText, Decodes}
+use Rattle.resolve.specs.TextsDue.{dueText, Decodes}
 use Rattle.emit.specs.Settling.{Unsettled, SettledRooms, SettlesAll}
 use Rattle.emit.specs.Roots.{Rooted, Emits}
 use Rattle.de.specs.Rooms.{zeros-long, zeros-whole, front-cleared, end-begins, end-fits, end-cleared}
 use Rattle.de.specs.Measured.{MeasuredAs, Measured, WorkRooms, Produces}
 use Rattle.de.specs.Texts.{measures-many, texts-fit}
-use Rattle.de.specs.Ready.{Spelt, spelt}
+use Rattle.de.specs.Spelt.{Spelt, spelt}
 use Rattle.de.specs.Made.{rooted, produced}
 
 -- ---- after the decoding

@@ -15,7 +15,7 @@ use Rattle.resolve.specs.Shown.{leading, trailing, labelHasText}
 use Rattle.resolve.specs.Reached.{textIf}
 use Rattle.resolve.specs.Sums.{upTo}
 use Rattle.resolve.specs.Rooted.{hasWord, worded-texts}
-use Rattle.resolve.specs.Due.{textDue, nodeTextLength, dueText, Decodable}
+use Rattle.resolve.specs.TextsDue.{textDue, nodeTextLength, dueText, Decodable}
 use Rattle.de.specs.Rooms.{Zeros, zeros-long}
 use Rattle.de.specs.Measured.{MeasuredAs}
 

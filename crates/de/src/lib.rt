@@ -1,6 +1,7 @@
 // The readings of de.rs. `read` is the inner one, in rooms whose stated parts are zero and are left so: 2 for a pickle that is too long, the run
 // to STOP, its answer, and what was used cleared. `reading` is `from_bytes_prefix` or `from_bytes`, of whatever slices are lent: 1 where one is
-// shorter than stated, the rooms made zero, then the inner one. A call that reads many pickles makes its rooms zero once.
+// shorter than stated, the rooms made zero, then the inner one. A call that reads many pickles makes its rooms zero once. `read_in_own_rooms` is
+// `from_bytes` in rooms that it makes. Module build has the answer of a run.
 mod build;
 
 use crate::build::answer;
@@ -26,7 +27,7 @@ ghost use Rattle.rooms.specs.Stated.{Slices, machineLengths, builderLengths, st
 ghost use Rattle.machine.specs.Ran.{countsOf};
 ghost use Rattle.de.specs.Given.{due};
 ghost use Rattle.de.specs.Inner.{InnerReads};
-ghost use Rattle.de.specs.Call.{ReadCall, OwnRooms};
+ghost use Rattle.de.specs.Call.{ReadCall, OwnRoomsCall};
 
 fn counts(outcome: Outcome) -> Counts
     ensures { λ c. ⌜ c ≡ countsOf outcome ⌝ }
@@ -272,7 +273,7 @@ pub fn read_in_own_rooms(
     text: &mut [u8],
 ) -> Answer
     ensures { λ a.
-        ⌜ OwnRooms (due edition true (now (pickle .entry)))
+        ⌜ OwnRoomsCall (due edition true (now (pickle .entry)))
         (now (table .entry)) (now (text .entry)) (now (table .exit)) (now (text .exit)) a ⌝ }
 {
     let mut nodes = [0u64; 8192];

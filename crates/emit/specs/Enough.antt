@@ -25,7 +25,7 @@ use Rattle.resolve.specs.Whole.{walk-bounded}
 use Rattle.resolve.specs.Capacity.{weighs, weightOf, spent, walk-spent, ownItems, items-count, items-spent}
 use Rattle.emit.specs.Walked.{Walked}
 use Rattle.emit.specs.Standing.{setItems}
-use Rattle.emit.specs.Turn.{Roomy}
+use Rattle.emit.specs.SettlingTurn.{Roomy}
 
 -- ---- contents and items, each counted once
 

@@ -1,4 +1,4 @@
--- Writing a value's table and text: what the code means.
+-- The order of nodes, Sets and Dicts put in order, and a value's table and text written: what the code means.
 
 -- order: the order of two nodes
 pub mod Label
@@ -14,7 +14,7 @@ pub mod Due
 pub mod Ascending
 pub mod Walked
 pub mod Standing
-pub mod Turn
+pub mod SettlingTurn
 pub mod Settling
 pub mod Enough
 -- the value written

@@ -28,7 +28,7 @@ fn main() {
     let mut table = [0u64; 8192];
     let mut text = [0u8; 65536];
     let mut output = [0u8; 65536];
-    let mut input = [0u8; 65537];
+    let mut input = [0u8; 65537]; // a byte more than a pickle may have: enough to know that it is too long
     let n = io::read_full(0, &mut input);
     let pickle = console::first(&input, n);
     let read = de::read_in_own_rooms(console::edition(), pickle, &mut table, &mut text);

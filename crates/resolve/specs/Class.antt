@@ -10,7 +10,7 @@ use Rattle.steps.specs.State.{Node}
 use Rattle.reading.specs.Build.{at}
 use Rattle.reading.specs.Unfold.{In}
 use Rattle.resolve.specs.Length.{namesLen, textLen, LengthReadable, len-global, len-object}
-use Rattle.resolve.specs.Word.{packW, textsW, texts-pack}
+use Rattle.resolve.specs.MeasureWord.{packW, textsW, texts-pack}
 use Rattle.resolve.specs.Walk.{WalkState}
 use Rattle.resolve.specs.Noted.{isContainer, isTextLeaf, ahead, leafOf, LeafNoted, unseen, early, reached, Noted, noted-early}
 use Rattle.resolve.specs.Kinds.{containerKind}

@@ -16,7 +16,7 @@ use Rattle.steps.specs.State.{Node}
 use Rattle.reading.specs.Build.{Stage, fresh, taken, kept, stage, none, at, isTaken, firstTaken, blocked}
 use Rattle.reading.specs.Unfold.{In, here, Staged, same, other, staged}
 use Rattle.reading.specs.Measures.{valueMeasure, measure}
-use Rattle.resolve.specs.Word.{packW, deepW, valuesW, textsW, deep-pack}
+use Rattle.resolve.specs.MeasureWord.{packW, deepW, valuesW, textsW, deep-pack}
 use Rattle.resolve.specs.Length.{textLen}
 use Rattle.resolve.specs.Blocked.{argumentsTaken, headTaken}
 use Rattle.resolve.specs.Walk.{WalkState, WalkMade, stageR, eachR, finishR, walk}

@@ -13,7 +13,7 @@ use Rattle.reading.specs.Build.{taken, kept, at}
 use Rattle.reading.specs.Unfold.{In, here, there}
 use Rattle.reading.specs.Measures.{valueMeasure}
 use Rattle.resolve.specs.Length.{textLen, LengthReadable}
-use Rattle.resolve.specs.Word.{measureWord}
+use Rattle.resolve.specs.MeasureWord.{measureWord}
 use Rattle.resolve.specs.Walk.{WalkState}
 use Rattle.resolve.specs.Inside.{DoneWithin}
 use Rattle.resolve.specs.Dues.{isDue, dues}
@@ -21,7 +21,7 @@ use Rattle.resolve.specs.Noted.{isContainer, isTextLeaf}
 use Rattle.resolve.specs.Fits.{FitsState}
 use Rattle.resolve.specs.Resolves.{open-not-done}
 use Rattle.resolve.specs.Sums.{apartNext, ordered-apart, apart-short}
-use Rattle.resolve.specs.Listed.{Lists, lists-count, lists-length}
+use Rattle.resolve.specs.DuesRoom.{Lists, lists-count, lists-length}
 use Rattle.resolve.specs.Shown.{isSorted}
 use Rattle.resolve.specs.Kinds.{containerKind}
 

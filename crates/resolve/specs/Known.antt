@@ -14,7 +14,7 @@ use Rattle.reading.specs.Build.{fresh, taken, kept, stage, none, at}
 use Rattle.reading.specs.Unfold.{Staged, same, other, staged}
 use Rattle.reading.specs.Measures.{valueMeasure, measure}
 use Rattle.resolve.specs.Length.{textLen, len-nothing}
-use Rattle.resolve.specs.Word.{packW, word-large}
+use Rattle.resolve.specs.MeasureWord.{packW, word-large}
 use Rattle.resolve.specs.Walk.{WalkState, WalkMade, WalkCase, copied, inside, stuck, entered, walk-case, gone, stageR, eachR, finishR, walk}
 use Rattle.resolve.specs.Resolves.{Resolves}
 use Rattle.resolve.specs.Dues.{isDue, dues}

@@ -20,10 +20,10 @@ pub mod Capacity
 pub mod Ranges
 pub mod Noted
 pub mod Turns
-pub mod ResolvedExamples
+pub mod WalkExamples
 pub mod Fits
 pub mod Shown
-pub mod Listed
+pub mod DuesRoom
 pub mod Sums
 pub mod Reached
 -- lists: a node's kind and its list, in the rooms
@@ -32,20 +32,20 @@ pub mod NodeList
 -- texts: a node's text
 pub mod Readable
 pub mod Place
-pub mod Measure
+pub mod DecodedMeasure
 pub mod Spell
-pub mod Due
+pub mod TextsDue
 -- siblings: each node's children side by side
-pub mod Sum
+pub mod LinkSums
 pub mod Store
-pub mod Words
+pub mod ChildWords
 pub mod Layout
 pub mod Runs
 pub mod SideBySide
-pub mod Examples
+pub mod LayoutExamples
 -- the walk that measures and resolves: what its code reads and keeps, and what it ensures
 pub mod Length
-pub mod Word
+pub mod MeasureWord
 pub mod Blocked
 pub mod Facts
 pub mod Noting

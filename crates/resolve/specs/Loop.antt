@@ -11,7 +11,7 @@ use Rattle.steps.specs.State.{Node}
 use Rattle.reading.specs.Build.{Stage, taken, kept, stage, at}
 use Rattle.reading.specs.Unfold.{In, here, there, Staged, same, other, staged}
 use Rattle.reading.specs.Measures.{Measure, nilM, pushM, valueMeasure, measure}
-use Rattle.resolve.specs.Word.{packW, deepW, valuesW, textsW, deep-pack, values-pack, texts-pack}
+use Rattle.resolve.specs.MeasureWord.{packW, deepW, valuesW, textsW, deep-pack, values-pack, texts-pack}
 use Rattle.resolve.specs.Walk.{WalkState, WalkMade, overwrite, eachR, finishR, walk}
 use Rattle.resolve.specs.Resolves.{WalkCalled, old-taken}
 use Rattle.resolve.specs.Resolving.{Resolved, each-resolves, walk-resolves}

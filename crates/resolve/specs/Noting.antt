@@ -5,7 +5,7 @@ use mathlib.Core.List.{List, _∷_}
 use mathlib.Core.Path.{_≡_}
 use lib.ListN.{length, getD, set}
 use native.Mathlib.Omega.{arith}
-use Rattle.resolve.specs.Listed.{Lists, lists-count, lists-more}
+use Rattle.resolve.specs.DuesRoom.{Lists, lists-count, lists-more}
 use Rattle.resolve.specs.Shown.{isSorted}
 
 -- whatever the room lists, it lists the node too where its kind is a Set's or a Dict's

@@ -26,13 +26,13 @@ use Rattle.resolve.specs.Inside.{walk-within}
 use Rattle.resolve.specs.Dues.{dues}
 use Rattle.resolve.specs.Ranges.{ListsLie}
 use Rattle.resolve.specs.Resolving.{walk-resolves}
-use Rattle.resolve.specs.Listed.{lists-none}
+use Rattle.resolve.specs.DuesRoom.{lists-none}
 use Rattle.resolve.specs.Sums.{upTo}
 use Rattle.resolve.specs.Noted.{isContainer, isTextLeaf, ahead, leafOf, LeafNoted, unseen, early, reached, WordSays, is-fresh, is-taken, is-gone, is-kept, reads}
 use Rattle.resolve.specs.Reached.{textIf, container-done, leaf-done, done-leaf, done-container, texts-held}
 use Rattle.resolve.specs.Fits.{fits-start}
 use Rattle.resolve.specs.Length.{LengthReadable}
-use Rattle.resolve.specs.Word.{packW}
+use Rattle.resolve.specs.MeasureWord.{packW}
 use Rattle.resolve.specs.Facts.{valueWord, Facts, Shallow, HoldsWalk}
 use Rattle.resolve.specs.Known.{word-big, word-low, leaf-deep, Knows, k-open, k-empty, k-word, Learns}
 use Rattle.resolve.specs.Ends.{Opens, WalkEnds, ends-deep, ends-empty, ends-word, Walks}

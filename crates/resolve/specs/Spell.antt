@@ -18,7 +18,7 @@ use Rattle.value.specs.Shape.{kindIn}
 use Rattle.steps.specs.NodeWords.{first, second, within, classIn, moduleOf, nameOf}
 use Rattle.resolve.specs.Shown.{nodeLabels, nodeLabel, leading, trailing, labelHasText, rawLead, rawTrail}
 use Rattle.resolve.specs.declared.texts.Spelling.{Spelling}
-use Rattle.resolve.specs.Measure.{measureOf}
+use Rattle.resolve.specs.DecodedMeasure.{measureOf}
 
 -- v is put at `at` of the room d
 pub record PutsText (v d : List ℕ) (at : ℕ) (d′ : List ℕ) (n : ℕ) : Type 0 where

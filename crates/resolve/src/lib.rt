@@ -1,6 +1,7 @@
 // The root's tree measured, and its graph resolved, in one walk over the nodes: depth, values and text of each container as one word in its
 // measure, each child that is None at its place overwritten by the number of no node, and the Sets and Dicts noted in the order in which they
-// are finished. Nothing is decoded, ordered or written here, so that what comes after is bounded by what is found out here.
+// are finished. The walk decodes, orders and writes nothing, so that what comes after is bounded by what it finds out. Module siblings comes before
+// it; lists and texts are how the passes behind it read a node off the rooms.
 pub mod lists;
 pub mod siblings;
 pub mod texts;
@@ -18,7 +19,7 @@ ghost use lib.Seq.{slice};
 ghost use Rattle.text.specs.Pieces.{bytesOf};
 ghost use Rattle.text.specs.Text.{unescapeString, unescapeUnicode};
 ghost use Rattle.resolve.specs.Length.{namesLen, textLen, LengthReadable};
-ghost use Rattle.resolve.specs.Word.{packW};
+ghost use Rattle.resolve.specs.MeasureWord.{packW};
 ghost use Rattle.resolve.specs.Blocked.{argumentsTaken};
 ghost use Rattle.resolve.specs.Noting.{Notes};
 ghost use Rattle.resolve.specs.Class.{OwnTextReadable, Owns};

@@ -1,5 +1,5 @@
 // What the machine keeps in its rooms: nodes and memo numbers, the counts of what is used, and the effect that an opcode decides on. The
-// opcodes read it, effects writes it, the passes behind STOP go on from it. specs/ has what rooms and counts say of the state.
+// opcodes read it, the effects write it, the passes behind STOP go on from it. specs/ has what rooms and counts say of the state.
 use refusal::Refusal;
 ghost use mathlib.Core.Bool.{true};
 ghost use mathlib.Core.Path.{_≡_};
@@ -87,7 +87,7 @@ pub const AHEAD: u64 = 0x200_0000_0000;
 // What the walk packs is below this, with AHEAD too.
 pub const MEASURED: u64 = 0x400_0000_0000;
 
-// A measure from here on, and below that of a decoded text (texts) or of what is written (emit), is of a Set or Dict in order: where its list
+// A measure from here on, and below that of a decoded text or of what is written (emit), is of a Set or Dict in order: where its list
 // begins, below SHORTS, and how many it has, below SHORTS again.
 pub const IN_ORDER: u64 = 0x2000_0000_0000_0000;
 

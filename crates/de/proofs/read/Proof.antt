@@ -1,7 +1,7 @@
 -- `de::read` meets its contract: 2, or the run, its answer, and what was used cleared. Assumes nothing.
 use Prim.Native.Nat.{ℕ, _*_, zero-le}
 use mathlib.Core.List.{List, [], _∷_, _++_}
-use mathlib.Core.Path.{_≡_, refl, _∙_, ap}
+use mathlib.Core.Path.{_≡_, _∙_, ap}
 use lib.ListN.{length, drop}
 use lib.Seq.{length-front}
 use native.Mathlib.Omega.{arith}
@@ -159,7 +159,7 @@ returns-2 c =
     let z = zero (start (ended c)) in
     let l = ended c .run in
     let e = told c .answer in
-    reads-all _ _ _ _ _ _ _ _ _ _ _ _ _ (start (ended c) .pre) _ _
+    reads-all _ _
     (e .ensures .0 .answer)
     (back-again (r .nodes-back) _ (ap (λ (x : Counts). 2 * x .nodes) (counted k)) _ (c .before .before .before .before .before .before .before .before .before .before .before .before .before .before .clear-words .ensures))
     (part-cleared 8192 (a .owners .now) (z .1 .0) (owners′ (ended c)) (e .last .1 .1 .1 .1 .1 .1 .0) (length-front (a .owners .now) (l .last .1 .1 .1 .0) 8192 (l .kept .1 .1 .1 .0)) (r .owners-behind) (e .ensures .1 .0 .0))

@@ -1,24 +1,16 @@
 -- `de::read_in_own_rooms` meets its contract: the reading, in rooms that are made zero and as long as stated. Assumes nothing.
-use mathlib.Core.List.{[], _∷_}
-use mathlib.Core.Path.{refl}
-use Rattle.rooms.specs.Stated.{Slices}
-use Rattle.de.specs.Call.{ownRooms}
+use mathlib.Core.Path.{refl, ap}
+use Rattle.rooms.specs.Stated.{tableSlice, textSlice}
+use Rattle.de.specs.Call.{Left, ownRooms}
 use Rattle.de.proofs.read_in_own_rooms.Statement.{statement}
 use Rattle.de.proofs.read_in_own_rooms.Tie as tie
 
 abbrev called : tie.After-slice-known4 → tie.After-reading
 called c = c .before .before .before .before .before .before .before .before .before .before .before .before .before .before .before
 
--- what the reading leaves of the rooms
-abbrev left : tie.After-reading → Slices
-left c =
-    let l = c .reading .last .1 .1 .1 in
-    l .0 ∷ l .1 .0 ∷ l .1 .1 .0 ∷ l .1 .1 .1 .0 ∷ l .1 .1 .1 .1 .0 ∷ l .1 .1 .1 .1 .1 .0 ∷ l .1 .1 .1 .1 .1 .1 .0
-    ∷ l .1 .1 .1 .1 .1 .1 .1 .0 ∷ l .1 .1 .1 .1 .1 .1 .1 .1 .0 ∷ l .1 .1 .1 .1 .1 .1 .1 .1 .1 .0 ∷ l .1 .1 .1 .1 .1 .1 .1 .1 .1 .1 .0 ∷ []
-
 returns : tie.Need-returns
 unfolding ownRooms
-returns c = record { rooms = left (called c); eleven = refl; reads = called c .reading .ensures }
+returns c = let e = called c .reading .ensures in record { answer = ap (λ (l : Left). l .answer) e; table-left = ap (λ (l : Left). tableSlice (l .slices)) e; text-left = ap (λ (l : Left). textSlice (l .slices)) e }
 
 pub read-in-own-rooms-spec : {M : Type 1} → statement M
 read-in-own-rooms-spec =

@@ -40,4 +40,5 @@ pub grown-spec : {M : Type 1} → statement M
 grown-spec =
     tie.close
     (tie.spec
-    returns (λ c. search needs) (λ c. search needs) shared-slice-read-owner (λ c. omega (arith, c .shared-slice-known3 .given (start (c .before) .args .keep - 1))) kind-requires (λ c κs. search needs) returns-2 returns-3)
+    returns (λ c. search needs) (λ c. search needs) shared-slice-read-owner
+    (λ c. omega (arith, c .shared-slice-known3 .given (start (c .before) .args .keep - 1))) kind-requires (λ c κs. search needs) returns-2 returns-3)

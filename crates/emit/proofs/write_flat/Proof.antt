@@ -68,6 +68,7 @@ pub write-flat-spec : {M : Type 1} → statement M
 write-flat-spec =
     tie.close
     (tie.spec
-    (λ c κs. search needs) put-record-requires (λ c. search needs) (λ c. search needs) returns (λ c. omega (arith, inside c .0)) (λ c. omega (arith, inside c .0)) shared-slice-read-value-kind
-    (λ c κs. search needs) (λ c κs. search needs) (λ c. omega (arith, inside (some (c .before)) .1)) shared-slice-read-write-again write-again-requires (λ c. search needs) (λ c. search needs)
-    returns-2 write-leaf-requires (λ c. search needs) (λ c. search needs) returns-3)
+    (λ c κs. search needs) put-record-requires (λ c. search needs) (λ c. search needs) returns (λ c. omega (arith, inside c .0))
+    (λ c. omega (arith, inside c .0)) shared-slice-read-value-kind (λ c κs. search needs) (λ c κs. search needs)
+    (λ c. omega (arith, inside (some (c .before)) .1)) shared-slice-read-write-again write-again-requires (λ c. search needs) (λ c. search needs) returns-2
+    write-leaf-requires (λ c. search needs) (λ c. search needs) returns-3)

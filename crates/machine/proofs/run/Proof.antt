@@ -68,6 +68,11 @@ pub run-spec : {M : Type 1} → statement M
 run-spec =
     tie.close
     (tie.spec
-    Inv-loop μ-loop (λ c. (running-start _ (rooms c) (start c .pre), as-long (rooms c))) take-step-requires (λ c. search needs) loop-less loop-again (λ c. search needs) (λ c. lengths (stepped (c .before .before .before)) .nodes) (λ c. lengths (stepped (c .before .before .before)) .owners) (λ c. lengths (stepped (c .before .before .before)) .children)
-    (λ c. lengths (stepped (c .before .before .before)) .stack) (λ c. lengths (stepped (c .before .before .before)) .marks) (λ c. lengths (stepped (c .before .before .before)) .keys) (λ c. lengths (stepped (c .before .before .before)) .held) returns (λ c. search needs) (λ c. lengths (stepped (c .before .before .before)) .nodes) (λ c. lengths (stepped (c .before .before .before)) .owners) (λ c. lengths (stepped (c .before .before .before)) .children) (λ c. lengths (stepped (c .before .before .before)) .stack)
-    (λ c. lengths (stepped (c .before .before .before)) .marks) (λ c. lengths (stepped (c .before .before .before)) .keys) (λ c. lengths (stepped (c .before .before .before)) .held) returns-2)
+    Inv-loop μ-loop (λ c. (running-start _ (rooms c) (start c .pre), as-long (rooms c))) take-step-requires (λ c. search needs) loop-less loop-again
+    (λ c. search needs) (λ c. lengths (stepped (c .before .before .before)) .nodes) (λ c. lengths (stepped (c .before .before .before)) .owners)
+    (λ c. lengths (stepped (c .before .before .before)) .children) (λ c. lengths (stepped (c .before .before .before)) .stack)
+    (λ c. lengths (stepped (c .before .before .before)) .marks) (λ c. lengths (stepped (c .before .before .before)) .keys)
+    (λ c. lengths (stepped (c .before .before .before)) .held) returns (λ c. search needs) (λ c. lengths (stepped (c .before .before .before)) .nodes)
+    (λ c. lengths (stepped (c .before .before .before)) .owners) (λ c. lengths (stepped (c .before .before .before)) .children)
+    (λ c. lengths (stepped (c .before .before .before)) .stack) (λ c. lengths (stepped (c .before .before .before)) .marks)
+    (λ c. lengths (stepped (c .before .before .before)) .keys) (λ c. lengths (stepped (c .before .before .before)) .held) returns-2)

@@ -29,7 +29,7 @@ use Rattle.resolve.specs.declared.Seen.the-variants as seen
 use Rattle.resolve.specs.declared.WalkAnswer.{WalkAnswer}
 use Rattle.resolve.specs.declared.WalkAnswer.the-variants as answer
 use Rattle.resolve.specs.Class.{Owns}
-use Rattle.resolve.specs.Word.{deepW, valuesW, textsW}
+use Rattle.resolve.specs.MeasureWord.{deepW, valuesW, textsW}
 use Rattle.resolve.specs.Loop.{LoopBegins, Midway, mid-start, mid-room}
 use Rattle.resolve.specs.Walk.{walk}
 use Rattle.resolve.specs.Ends.{Opens, WalkEnds, Walks, open-free, moved, own-len, open-words, open-starts, open-measured, open-owned, enter, ends-blocked, ends-too, ends-done, known-deep, known-word, known-empty, known-open, walk-deep, walk-word, walk-empty, child-at, open-end, open-first, arms-meet}

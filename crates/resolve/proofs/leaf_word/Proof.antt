@@ -2,7 +2,7 @@
 use borrow.Author.Needs.{needs}
 use Rattle.resolve.proofs.leaf_word.Statement.{statement}
 use Rattle.resolve.proofs.leaf_word.Tie as tie
-use Rattle.resolve.specs.Word.{packW}
+use Rattle.resolve.specs.MeasureWord.{packW}
 
 returns : tie.Need-returns
 unfolding packW

@@ -3,7 +3,7 @@ use borrow.Author.Needs.{needs}
 use Rattle.resolve.proofs.own_text_len.Statement.{statement}
 use Rattle.resolve.proofs.own_text_len.Tie as tie
 use native.Mathlib.Omega.{arith}
-use Rattle.resolve.specs.Word.{packW}
+use Rattle.resolve.specs.MeasureWord.{packW}
 use Rattle.resolve.specs.Class.{own-none, own-kept, own-new}
 
 -- ---- the places: it is an Object, its class's measure is read, its class is to be measured
@@ -44,5 +44,6 @@ pub own-text-len-spec : {M : Type 1} → statement M
 own-text-len-spec =
     tie.close
     (tie.spec
-    returns (λ c. search needs) (λ c. search needs) (λ c. search needs) (λ c. omega (arith, start (c .before) .pre .class-below (c .before .if1 .left))) (λ c. omega (arith, start (c .before .before) .pre .class-below (c .before .before .if1 .left))) returns-2 leaf-word-requires add-measures mul-measures-3
+    returns (λ c. search needs) (λ c. search needs) (λ c. search needs) (λ c. omega (arith, start (c .before) .pre .class-below (c .before .if1 .left)))
+    (λ c. omega (arith, start (c .before .before) .pre .class-below (c .before .before .if1 .left))) returns-2 leaf-word-requires add-measures mul-measures-3
     slice-write-measures (λ c. search needs) returns-3)

@@ -12,7 +12,7 @@ use Rattle.machine.specs.declared.Outcome.the-variants.{Stopped}
 use Rattle.machine.specs.Ran.{countsOf}
 use Rattle.de.specs.Rooms.{part-again}
 use Rattle.de.specs.Building.{Working, At, stopped, count-few, children-fit, first-zero, list-long, rooms-lent, parts-fit, laid-begins, laid-comes, clear-fits, rooms-back, log-used}
-use Rattle.de.specs.Given.{RanIn, RefusesWith, Ends, ran-used, stack-fits, rooms, stopped-at, root-known, gives-built, gives-refusal}
+use Rattle.de.specs.Given.{RanIn, RefusesWith, RunEnds, ran-used, stack-fits, rooms, stopped-at, root-known, gives-built, gives-refusal}
 use Rattle.de.proofs.build.answer.Statement.{statement}
 use Rattle.de.proofs.build.answer.Tie as tie
 
@@ -25,8 +25,8 @@ abbrev why : tie.After-why → tie.After-end-of
 why c = c .before .before
 
 refusing : (c : tie.After-why) → RefusesWith (start (why c) .args .outcome) (c .why .given .0 .0) × (c .why .given .0 .1 .0 ≡ countsOf (start (why c) .args .outcome) .links)
-unfolding Ends
-refusing c = let s = start (why c) .args in subst (Ends (s .outcome) (s .stack .now)) (c .why .given .1) (why c .end-of .ensures)
+unfolding RunEnds
+refusing c = let s = start (why c) .args in subst (RunEnds (s .outcome) (s .stack .now)) (c .why .given .1) (why c .end-of .ensures)
 
 -- ---- it ended with a value
 
@@ -40,8 +40,8 @@ abbrev counts : tie.After-root → Counts
 counts r = r .root .given .0 .1 .0
 
 ended : (r : tie.After-root) → (start (value r) .args .outcome ≡ Stopped (counts r)) × (0 < counts r .stack) × (top r .0 ≡ getD (start (value r) .args .stack .now) (counts r .stack - 1) 0)
-unfolding Ends
-ended r = let s = start (value r) .args in subst (Ends (s .outcome) (s .stack .now)) (r .root .given .1) (value r .end-of .ensures)
+unfolding RunEnds
+ended r = let s = start (value r) .args in subst (RunEnds (s .outcome) (s .stack .now)) (r .root .given .1) (value r .end-of .ensures)
 
 -- the rooms that the run left
 abbrev Left : tie.Start → Outcome → Type 0

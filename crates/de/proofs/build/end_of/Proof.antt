@@ -6,7 +6,7 @@ use lib.ListN.{length}
 use native.Mathlib.Omega.{arith}
 use Rattle.store.specs.declared.Counts.{Counts}
 use Rattle.machine.specs.Ran.{countsOf}
-use Rattle.de.specs.Given.{RefusesWith, Ends}
+use Rattle.de.specs.Given.{RefusesWith, RunEnds}
 use Rattle.de.proofs.build.end_of.Statement.{statement}
 use Rattle.de.proofs.build.end_of.Tie as tie
 
@@ -23,15 +23,15 @@ unfolding countsOf
 fits c = let e : countsOf (start c .args .outcome) ≡ counts c = ap countsOf (c .outcome2 .given .1) in rw e at (start c .pre)
 
 returns : tie.Need-returns
-unfolding Ends RefusesWith countsOf
+unfolding RunEnds RefusesWith countsOf
 returns c = rw (c .before .before .before .outcome2 .given .1) ((c .if1 .taken, refl), refl)
 
 returns-2 : tie.Need-returns-2
-unfolding Ends RefusesWith countsOf
+unfolding RunEnds RefusesWith countsOf
 returns-2 c = rw (c .before .outcome .given .1) (refl, refl)
 
 returns-3 : tie.Need-returns-3
-unfolding Ends
+unfolding RunEnds
 returns-3 c = (c .before .before .before .before .before .outcome2 .given .1, omega (arith, c .before .before .if1 .left), refl)
 
 pub end-of-spec : {M : Type 1} → statement M

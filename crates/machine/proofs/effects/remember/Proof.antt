@@ -54,6 +54,8 @@ pub remember-spec : {M : Type 1} → statement M
 remember-spec =
     tie.close
     (tie.spec
-    slot-requires (λ c. let v = remember-room _ _ _ _ _ (start (there c) .pre) in omega arith) mul-held slice-write-held (λ c. search needs) (λ c. search needs) returns (λ c. search needs) returns-2 (λ c. omega (arith, free c .slot .ensures .0, c .if2 .left))
-    slice-write-keys (λ c. let v = remember-room _ _ _ _ _ (start (free (c .before)) .pre) in omega arith) (λ c. omega (arith, free (c .before) .slot .ensures .0, c .before .if2 .left)) slice-write-held-2 (λ c. search needs) (λ c. search needs) (λ c. search needs) (λ c κs. search needs)
-    (λ c. search needs) (λ c. search needs) returns-3)
+    slot-requires (λ c. let v = remember-room _ _ _ _ _ (start (there c) .pre) in omega arith) mul-held slice-write-held (λ c. search needs) (λ c. search needs)
+    returns (λ c. search needs) returns-2 (λ c. omega (arith, free c .slot .ensures .0, c .if2 .left)) slice-write-keys
+    (λ c. let v = remember-room _ _ _ _ _ (start (free (c .before)) .pre) in omega arith)
+    (λ c. omega (arith, free (c .before) .slot .ensures .0, c .before .if2 .left)) slice-write-held-2 (λ c. search needs) (λ c. search needs)
+    (λ c. search needs) (λ c κs. search needs) (λ c. search needs) (λ c. search needs) returns-3)

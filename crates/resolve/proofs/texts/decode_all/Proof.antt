@@ -5,7 +5,7 @@ use Prim.Native.Nat.{_-_, _≤_}
 use mathlib.Core.Path.{_≡_}
 use native.Mathlib.Numerals.{add-one}
 use native.Mathlib.Omega.{arith}
-use Rattle.resolve.specs.Due.{Decodes, decodes-none, turn-ready, turn-more}
+use Rattle.resolve.specs.TextsDue.{Decodes, decodes-none, turn-ready, turn-more}
 
 abbrev Inv-loop : tie.InvT-loop
 Inv-loop nodes count pickle decoded₀ measures₀ used₀ i₀ decoded measures used i = (i ≤ count) × Decodes pickle nodes decoded₀ measures₀ i decoded measures used

@@ -5,7 +5,7 @@ use Rattle.resolve.proofs.texts.decode_one.Tie as tie
 use mathlib.Core.Path.{_≡_, refl, sym, _∙_}
 use lib.ListN.{getD}
 use Rattle.steps.specs.NodeWords.{first}
-use Rattle.resolve.specs.Due.{textDue, due-word, due-text, passed, spelled}
+use Rattle.resolve.specs.TextsDue.{textDue, due-word, due-text, passed, spelled}
 
 -- ---- the places: the test of the node's first word, and what it tells
 

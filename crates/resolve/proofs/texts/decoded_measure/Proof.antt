@@ -3,7 +3,7 @@ use borrow.Author.Needs.{needs}
 use Rattle.resolve.proofs.texts.decoded_measure.Statement.{statement}
 use Rattle.resolve.proofs.texts.decoded_measure.Tie as tie
 use mathlib.Core.Path.{refl}
-use Rattle.resolve.specs.Measure.{measureOf}
+use Rattle.resolve.specs.DecodedMeasure.{measureOf}
 
 returns : tie.Need-returns
 unfolding measureOf

@@ -1,7 +1,7 @@
 -- `texts::kind_has_text` meets its contract. Assumes nothing.
 use Rattle.resolve.proofs.texts.kind_has_text.Statement.{statement}
 use Rattle.resolve.proofs.texts.kind_has_text.Tie as tie
-use Rattle.resolve.specs.Due.{kind-below-4, kind-below-6, kind-below-11, kind-behind}
+use Rattle.resolve.specs.TextsDue.{kind-below-4, kind-below-6, kind-below-11, kind-behind}
 
 returns : tie.Need-returns
 returns c = kind-below-4 (c .before .args .kind) (c .if1 .taken)

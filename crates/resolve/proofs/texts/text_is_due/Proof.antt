@@ -3,7 +3,7 @@ use Rattle.resolve.proofs.texts.text_is_due.Statement.{statement}
 use Rattle.resolve.proofs.texts.text_is_due.Tie as tie
 use mathlib.Core.Path.{_∙_}
 use Rattle.value.specs.Shape.{kindIn}
-use Rattle.resolve.specs.Due.{due-early, due-object, due-late, due-leaf}
+use Rattle.resolve.specs.TextsDue.{due-early, due-object, due-late, due-leaf}
 
 returns : tie.Need-returns
 returns c = due-early (c .before .args .first) (c .before .args .measure) (c .if1 .taken)

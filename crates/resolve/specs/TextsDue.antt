@@ -18,7 +18,7 @@ use Rattle.resolve.specs.Noted.{isContainer}
 use Rattle.resolve.specs.Written.{drop-take}
 use Rattle.resolve.specs.Shown.{nodeLabels, nodeLabel, leading, trailing, labelHasText, isDecoded, placeIn, leadIn, trailIn, rawLead, rawTrail, leadText, trailText, Spelled}
 use Rattle.resolve.specs.declared.texts.Spelling.{Spelling}
-use Rattle.resolve.specs.Measure.{measureOf, measure-least, measure-most, measure-decoded, measure-place, measure-lead, measure-trail}
+use Rattle.resolve.specs.DecodedMeasure.{measureOf, measure-least, measure-most, measure-decoded, measure-place, measure-lead, measure-trail}
 use Rattle.resolve.specs.Spell.{TextRoom, StandsDecoded, stays, stands, SpellsNode}
 
 -- ---- whose text is wanted

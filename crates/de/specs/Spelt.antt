@@ -22,7 +22,7 @@ use Rattle.resolve.specs.Noted.{isContainer, isTextLeaf, ahead}
 use Rattle.resolve.specs.Ranges.{graph-inside}
 use Rattle.resolve.specs.Shown.{Shown, Spelled, labelHasText}
 use Rattle.resolve.specs.Rooted.{root-words, measures-low}
-use Rattle.resolve.specs.Due.{textDue, Decodes}
+use Rattle.resolve.specs.TextsDue.{textDue, Decodes}
 use Rattle.emit.specs.Walked.{Walked}
 use Rattle.emit.specs.Settling.{ReadyToSettle}
 use Rattle.emit.specs.Enough.{walk-over, walk-fits}
