@@ -12,6 +12,7 @@ use Rattle.rooms.specs.Cleared.{cleared}
 use Rattle.steps.specs.State.{Res, ok, no, _>>=_, need}
 use Rattle.store.specs.declared.Counts.{Counts}
 use Rattle.store.specs.Rooms.{Rooms, stateOf}
+use Rattle.store.specs.Effects.{Behind}
 use Rattle.store.specs.RoomReads.{nodes-length}
 use Rattle.reading.specs.Build.{tree}
 use Rattle.resolve.specs.Standing.{SaysNodes}
@@ -19,17 +20,18 @@ use Rattle.reading.specs.Measure.{measured}
 use Rattle.reading.specs.Settle.{settle}
 use Rattle.resolve.specs.SideBySide.{Ended, SomeEnded, SideBySide}
 use Rattle.resolve.specs.Rooted.{ReadyToResolve}
-use Rattle.machine.specs.Clear.{UsedTo, zeroed, owners-used, children-used}
-use Rattle.de.specs.Rooms.{Zeros, zeros-long, zeros-all, front-cleared}
+use Rattle.de.specs.Rooms.{Zeros, zeros-long, front-cleared}
 use Rattle.de.specs.Measured.{WorkRooms}
 use Rattle.de.specs.Parts.{minus-none, part-length, part-behind, zeros-at, part-back}
 use Rattle.de.specs.declared.build.Built.{Built}
 use Rattle.de.specs.declared.build.Built.the-variants as built
 
--- r and c are the machine's at its STOP, with this pickle, these words, this log and these counts
+-- r and c are the machine's at its STOP, with this pickle, these words, this log, which was zero, and these counts
 pub record At (p ws owners log : List ℕ) (count links : ℕ) (r : Rooms) (c : Counts) : Type 0 where
   pub ended : Ended ws owners log count links r c
   pub pickle : r .pickle ≡ p
+  pub owners-zero : Zeros 8192 (r .lent .owners)
+  pub log-zero : Zeros 8192 (r .lent .children)
 
 -- the rooms behind STOP, zero up to their stated lengths, and room for the outputs
 pub record Working (list decoded starts sorted measures table text : List ℕ) : Type 0 where
@@ -66,14 +68,15 @@ module _ {p ws owners log : List ℕ} {count links : ℕ} {r : Rooms} {c : Count
   stands : SaysNodes p ws (stateOf r c .nodes)
   stands = record { rooms = r; counts = c; sound = a .ended .sound; pickle = a .pickle; words = a .ended .words; nodes = refl }
 
-  owners-long : 8192 ≤ length owners
-  owners-long = omega (arith, a .ended .sound .firm .lengths .owners, ap length (a .ended .owners-are))
+  -- a room of the log, once its links are cleared
+  links-cleared : {lent room : List ℕ} → Zeros 8192 lent → Behind (c .links) lent room → Zeros 8192 (cleared links room)
+  links-cleared {lent} {room} z b = rw (front-cleared 8192 links lent room z (omega (arith, a .ended .sound .firm .links, a .ended .links-are)) (rw (a .ended .links-are) at (b .same))) z
 
--- of the log, its links are used
-pub log-used : {ws owners log : List ℕ} {count links : ℕ} → SomeEnded ws owners log count links → UsedTo links owners × UsedTo links log
-log-used t =
-    let e = t .ended in
-    (rw (e .links-are, e .owners-are) at (owners-used (t .rooms) (t .counts) (e .sound .firm)), rw (e .links-are, e .log-is) at (children-used (t .rooms) (t .counts) (e .sound .firm)))
+  owners-cleared : Zeros 8192 (cleared links owners)
+  owners-cleared = rw (a .ended .owners-are) at (links-cleared (a .owners-zero) (a .ended .sound .firm .clean .owners))
+
+  log-cleared : Zeros 8192 (cleared links log)
+  log-cleared = rw (a .ended .log-is) at (links-cleared (a .log-zero) (a .ended .sound .firm .clean .children))
 
 -- ---- from each step of `answer` to the next
 
@@ -94,17 +97,15 @@ module _ {p ws owners log : List ℕ} {count links root : ℕ} {r : Rooms} {c : 
   list-long = zeros-long (w .list-zero)
 
   -- the children are laid out, and the log is cleared
-  module _ {starts′ sorted′ owners′ log′ : List ℕ} {used : ℕ} (S : SideBySide ws owners log count links starts sorted starts′ sorted′ used) (sl : length sorted′ ≡ length sorted) (e : (owners′ ≡ zeroed owners) × (log′ ≡ zeroed log)) where
+  module _ {starts′ sorted′ owners′ log′ : List ℕ} {used : ℕ} (S : SideBySide ws owners log count links starts sorted starts′ sorted′ used) (sl : length sorted′ ≡ length sorted) (eo : owners′ ≡ cleared links owners) (el : log′ ≡ cleared links log) where
     owners-zeros : Zeros 8192 owners′
-    unfolding zeroed
-    owners-zeros = zeros-all (owners-long a) (e .0)
+    owners-zeros = rw eo (owners-cleared a)
 
-    pub rooms-lent : length log ≡ 8192 → WorkRooms decoded log′ (take 2048 list) o q
-    unfolding zeroed
-    rooms-lent long =
+    pub rooms-lent : WorkRooms decoded log′ (take 2048 list) o q
+    rooms-lent =
         record {
           decoded-zero = w .decoded-zero;
-          log-zero = rw long at (e .1);
+          log-zero = rw el (log-cleared a);
           list-zero = w .list-zero .zero;
           table-long = w .table-room;
           text-long = w .text-room;
@@ -139,18 +140,20 @@ module _ {p ws owners log : List ℕ} {count links root : ℕ} {r : Rooms} {c : 
 
     -- whatever the parts have come to: they are cleared, and the rooms are as they were
     pub clear-fits : (d m n : List ℕ) → length d ≡ length (take (used - 0) sorted′) → length m ≡ length (take (count - 0) measures) → length n ≡ length (take (count + 1 - 0) owners′) → length starts′ ≡ length starts
-        → ((count + 1 ≤ length (n ++ drop (count + 1 - 0) owners′)) × (count + 1 ≤ length starts′))
-        × ((used ≤ length (d ++ drop (used - 0) sorted′)) × (count ≤ length (m ++ drop (count - 0) measures)) × (count ≤ 4096))
+        → (count + 1 ≤ length (n ++ drop (count + 1 - 0) owners′)) × (count + 1 ≤ length starts′)
+        × (used ≤ length (d ++ drop (used - 0) sorted′)) × (count ≤ length (m ++ drop (count - 0) measures))
     clear-fits d m n dl ml nl tl = (
-      (omega (arith, parts-fit .2, length-front owners′ n (count + 1 - 0) nl), omega (arith, children-fit .0, tl)),
-      (omega (arith, parts-fit .0, length-front sorted′ d (used - 0) dl), omega (arith, parts-fit .1, length-front measures m (count - 0) ml), count-few),
+      omega (arith, parts-fit .2, length-front owners′ n (count + 1 - 0) nl),
+      omega (arith, children-fit .0, tl),
+      omega (arith, parts-fit .0, length-front sorted′ d (used - 0) dl),
+      omega (arith, parts-fit .1, length-front measures m (count - 0) ml),
     )
 
     pub rooms-back : (d m n : List ℕ) → length d ≡ length (take (used - 0) sorted′) → length m ≡ length (take (count - 0) measures) → length n ≡ length (take (count + 1 - 0) owners′)
-        → (cleared (count + 1) (n ++ drop (count + 1 - 0) owners′) ≡ zeroed owners) × (cleared (count + 1) starts′ ≡ starts)
+        → (cleared (count + 1) (n ++ drop (count + 1 - 0) owners′) ≡ cleared links owners) × (cleared (count + 1) starts′ ≡ starts)
         × (cleared used (d ++ drop (used - 0) sorted′) ≡ sorted) × (cleared count (m ++ drop (count - 0) measures) ≡ measures)
     rooms-back d m n dl ml nl = (
-      part-back owners-zeros (count + 1) (omega (arith, nodes-few a)) n nl ∙ e .0,
+      part-back owners-zeros (count + 1) (omega (arith, nodes-few a)) n nl ∙ eo,
       front-cleared 4098 (count + 1) starts starts′ (w .starts-zero) (omega (arith, nodes-few a)) (S .starts-behind),
       front-cleared 16384 used sorted (d ++ drop (used - 0) sorted′) (w .sorted-zero) (S .few) (part-behind used sorted′ d (parts-fit .0) dl ∙ S .sorted-behind),
       part-back (w .measures-zero) count (nodes-few a) m ml,

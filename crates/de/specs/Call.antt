@@ -45,6 +45,10 @@ pub record OwnRoomsCall (x : Reading) (table text table′ text′ : List ℕ) (
   pub table-left : table′ ≡ tableSlice (reading x (ownRooms table text) .slices)
   pub text-left : text′ ≡ textSlice (reading x (ownRooms table text) .slices)
 
+-- from a call with such rooms
+pub own-calls : (x : Reading) (table text : List ℕ) (l : Slices) (a : Answer) → ReadCall x (ownRooms table text) l a → OwnRoomsCall x table text (tableSlice l) (textSlice l) a
+own-calls x table text l a e = record { answer = ap (λ (y : Left). y .answer) e; table-left = ap (λ (y : Left). tableSlice (y .slices)) e; text-left = ap (λ (y : Left). textSlice (y .slices)) e }
+
 -- answer and outputs are determined
 pub own-one : (x : Reading) (table text table′ text′ table″ text″ : List ℕ) (a b : Answer) → OwnRoomsCall x table text table′ text′ a → OwnRoomsCall x table text table″ text″ b → (a ≡ b) × (table′ ≡ table″) × (text′ ≡ text″)
 own-one x table text table′ text′ table″ text″ a b p q = (p .answer ∙ sym (q .answer), p .table-left ∙ sym (q .table-left), p .text-left ∙ sym (q .text-left))

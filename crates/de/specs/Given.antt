@@ -17,12 +17,11 @@ use Rattle.value.specs.Value.{Forest, one, size, text, table, table-length}
 use Rattle.steps.specs.State.{Res, ok, no, _>>=_, need, last}
 use Rattle.store.specs.declared.Counts.{Counts}
 use Rattle.steps.specs.Run.{run}
-use Rattle.store.specs.Rooms.{Rooms, stateOf}
+use Rattle.store.specs.Rooms.{Lent, Rooms, stateOf}
 use Rattle.store.specs.Effects.{Firm}
 use Rattle.steps.specs.Out.{every-at}
 use Rattle.store.specs.RoomReads.{input-of, stack-of, stack-length, nodes-length}
 use Rattle.machine.specs.RoomsOf.{roomsOf}
-use Rattle.machine.specs.Clear.{UsedTo, owners-used, children-used}
 use Rattle.machine.specs.Ran.{Ran, ended, countsOf}
 use Rattle.machine.specs.declared.Outcome.{Outcome}
 use Rattle.machine.specs.declared.Outcome.the-variants as outcome
@@ -31,6 +30,7 @@ use Rattle.reading.specs.Settle.{settle}
 use Rattle.reading.specs.Measure.{measured}
 use Rattle.reading.specs.Reading.{Reading, refuses, reads, readingOf, consumed, leaves, prefixIn, wholeIn, pickleLimit, stopped-refused, stopped-empty, stopped-with, prefix-refused, prefix-told}
 use Rattle.reading.specs.Success.{refusal-number}
+use Rattle.de.specs.Rooms.{Zeros}
 use Rattle.de.specs.Building.{At, dueOf, Comes}
 use Rattle.de.specs.declared.build.Built.{Built}
 use Rattle.de.specs.declared.build.Built.the-variants as built
@@ -46,12 +46,15 @@ pub record Gives (x : Reading) (a : Answer) (o q o′ q′ : List ℕ) : Type 0 
   pub table-is : o′ ≡ x .words ++ drop (length (x .words)) o
   pub text-is : q′ ≡ x .bytes ++ drop (length (x .bytes)) q
 
--- the rooms that a run left, of which these are lent
+-- the rooms that a run left, of which these are lent; its log was zero
 pub record RanIn (ed : Edition) (o : Outcome) (p nodes owners children stack : List ℕ) : Type 0 where
+  pub before : Lent
   pub marks : List ℕ
   pub keys : List ℕ
   pub held : List ℕ
-  pub ran : Ran ed o p (roomsOf p nodes owners children stack marks keys held)
+  pub ran : Ran ed o p (roomsOf before p nodes owners children stack marks keys held)
+  pub owners-zero : Zeros 8192 (before .owners)
+  pub children-zero : Zeros 8192 (before .children)
 
 -- a run answers with a refusal: its own, or 6 where no value is left
 unfoldable pub RefusesWith : Outcome → Refusal → Type 0
@@ -144,7 +147,7 @@ module _ (o q : List ℕ) where
 
 module _ {ed : Edition} {p nodes owners children stack : List ℕ} where
   abbrev pub rooms : {o : Outcome} → RanIn ed o p nodes owners children stack → Rooms
-  rooms h = roomsOf p nodes owners children stack (h .marks) (h .keys) (h .held)
+  rooms h = roomsOf (h .before) p nodes owners children stack (h .marks) (h .keys) (h .held)
 
   module _ (all : Bool) (o q : List ℕ) where
     -- the machine refuses
@@ -152,11 +155,11 @@ module _ {ed : Edition} {p nodes owners children stack : List ℕ} where
     unfolding ended countsOf
     gives-run c why h = gives-refused o q (due ed all p) why (due-refused ed p all why (prefix-refused ed p why (stopped-refused ed p why (h .ran .sound .firm .lengths .pickle) (sym (h .ran .means)))))
 
-  -- of its log, the links are used
-  pub ran-used : (o : Outcome) → RanIn ed o p nodes owners children stack → UsedTo (countsOf o .links) owners × UsedTo (countsOf o .links) children
-  ran-used o h = (owners-used (rooms h) (countsOf o) (h .ran .sound .firm), children-used (rooms h) (countsOf o) (h .ran .sound .firm))
+  -- its links are in the log
+  pub links-fit : (o : Outcome) → RanIn ed o p nodes owners children stack → (countsOf o .links ≤ length owners) × (countsOf o .links ≤ length children)
+  links-fit o h = let f = h .ran .sound .firm in (omega (arith, f .links, f .lengths .owners), omega (arith, f .links, f .lengths .children))
 
-  -- and no more of its stack than there is
+  -- and what is on its stack in the stack's room
   pub stack-fits : (o : Outcome) → RanIn ed o p nodes owners children stack → countsOf o .stack ≤ length stack
   stack-fits o h = let f = h .ran .sound .firm in omega (arith, f .stack, f .deepest, f .lengths .stack)
 
@@ -182,7 +185,7 @@ module _ {ed : Edition} {p nodes owners children stack : List ℕ} where
 
     pub stopped-at : At p nodes owners children (c .nodes) (c .links) (rooms h) c
     unfolding countsOf
-    stopped-at = record { ended = record { sound = h .ran .sound; words = refl; owners-are = refl; log-is = refl; count-is = refl; links-are = refl }; pickle = refl }
+    stopped-at = record { ended = record { sound = h .ran .sound; words = refl; owners-are = refl; log-is = refl; count-is = refl; links-are = refl }; pickle = refl; owners-zero = h .owners-zero; log-zero = h .children-zero }
 
     -- a value is left
     module _ (z : 0 < c .stack) (root : ℕ) (is : root ≡ getD stack (c .stack - 1) 0) where

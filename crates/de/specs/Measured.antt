@@ -55,7 +55,7 @@ pub record Measured (p ws starts sorted dues measures : List ℕ) (root : ℕ) :
 -- rooms to work in, and room for the outputs
 pub record WorkRooms (decoded log list table bytes : List ℕ) : Type 0 where
   pub decoded-zero : Zeros 65536 decoded
-  pub log-zero : log ≡ replicate 8192 0
+  pub log-zero : Zeros 8192 log
   pub list-zero : list ≡ replicate 2048 0
   pub table-long : 8192 ≤ length table
   pub text-long : 65536 ≤ length bytes

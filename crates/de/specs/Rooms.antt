@@ -25,12 +25,6 @@ drop-zeros zero m h = let e : m - 0 ≡ m = omega arith in rw e
 drop-zeros (suc n) zero h = absurd (omega arith)
 drop-zeros (suc n) (suc m) h = let e : suc m - suc n ≡ m - n = omega arith in rw e (drop-zeros n m (omega arith))
 
-pub zeros-all : {n m : ℕ} {room : List ℕ} → n ≤ m → room ≡ replicate m 0 → Zeros n room
-zeros-all {n} {m} h e = record { zero = ap (take n) e ∙ take-zeros n m h }
-
-pub zeros-whole : {n : ℕ} {room : List ℕ} → room ≡ replicate n 0 → Zeros n room
-zeros-whole {n} e = zeros-all (let h : n ≤ n = omega arith in h) e
-
 -- used from the start, up to `used`
 pub front-cleared : (n used : ℕ) (room room′ : List ℕ) → Zeros n room → used ≤ n → drop used room′ ≡ drop used room → cleared used room′ ≡ room
 unfolding cleared

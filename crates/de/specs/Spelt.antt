@@ -153,7 +153,7 @@ module _ {p ws starts sorted noted measures₀ : List ℕ} {t : List Node} {root
       no-node : (i : ℕ) → Final 4096 [] i → i < length t → ⊥
       no-node i (inl e) l = omega (arith, m .limited .worded .beyond)
 
-  pub spelt : (log list : List ℕ) → length log ≡ 8192 → length list ≡ 2048 → Spelt p d ws starts sorted noted measures log list t root
+  pub spelt : (log list : List ℕ) → 8192 ≤ length log → length list ≡ 2048 → Spelt p d ws starts sorted noted measures log list t root
   spelt log list a b =
       record {
         limited = m .limited;

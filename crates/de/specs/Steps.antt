@@ -10,7 +10,7 @@ use Rattle.resolve.specs.Tree.{walked}
 use Rattle.resolve.specs.TextsDue.{dueText, Decodes}
 use Rattle.emit.specs.Settling.{Unsettled, SettledRooms, SettlesAll}
 use Rattle.emit.specs.Roots.{Rooted, Emits}
-use Rattle.de.specs.Rooms.{zeros-long, zeros-whole, front-cleared, end-begins, end-fits, end-cleared}
+use Rattle.de.specs.Rooms.{zeros-long, front-cleared, end-begins, end-fits, end-cleared}
 use Rattle.de.specs.Measured.{MeasuredAs, Measured, WorkRooms, Produces}
 use Rattle.de.specs.Texts.{measures-many, texts-fit}
 use Rattle.de.specs.Spelt.{Spelt, spelt}
@@ -19,8 +19,8 @@ use Rattle.de.specs.Made.{rooted, produced}
 -- ---- after the decoding
 
 module _ {p ws starts sorted noted measures₀ : List ℕ} {root : ℕ} {decoded log list table bytes d measures : List ℕ} {used : ℕ} (m : Measured p ws starts sorted noted measures₀ root) (l : WorkRooms decoded log list table bytes) (D : Decodes p ws decoded measures₀ (length measures₀) d measures used) where
-  pub log-long : length log ≡ 8192
-  log-long = ap length (l .log-zero) ∙ length-replicate {A = ℕ} 8192 0
+  pub log-long : 8192 ≤ length log
+  log-long = zeros-long (l .log-zero)
 
   list-long : length list ≡ 2048
   list-long = ap length (l .list-zero) ∙ length-replicate {A = ℕ} 2048 0
@@ -54,10 +54,10 @@ module _ {p ws starts sorted noted measures₀ : List ℕ} {root : ℕ} {decoded
     produces e t y = produced (spelt-as y) (settled-as y) (l .table-long) (l .text-long) e
 
     pub items-few : items ≤ 8192
-    items-few = omega (arith, log-long, settled-as (m .are) .used-within)
+    items-few = settled-as (m .are) .used-within
 
     pub log-again : cleared items log′ ≡ log
-    log-again = front-cleared 8192 items log log′ (zeros-whole (l .log-zero)) items-few (settled-as (m .are) .kept .behind)
+    log-again = front-cleared 8192 items log log′ (l .log-zero) items-few (settled-as (m .are) .kept .behind)
 
     pub most-few : most ≤ 2048
     most-few = omega (arith, list-long, settled-as (m .are) .most-within)

@@ -38,8 +38,7 @@ fn counts(outcome: Outcome) -> Counts
     }
 }
 
-// The inner reading: every slice as it came, but what table and text begin with. The run and its answer are lent the stated parts of rooms that
-// may be longer.
+// The inner reading: every slice as it came, but what table and text begin with.
 pub fn read(
     edition: Edition,
     whole: bool,
@@ -78,13 +77,13 @@ pub fn read(
     let outcome = run(
         edition,
         pickle,
-        &mut nodes[0..8192],
-        &mut owners[0..8192],
-        &mut children[0..8192],
-        &mut stack[0..2048],
-        &mut marks[0..256],
-        &mut keys[0..2048],
-        &mut held[0..1024],
+        nodes,
+        owners,
+        children,
+        stack,
+        marks,
+        keys,
+        held,
     );
     let c = counts(outcome);
     clear_ints(keys, c.memo); // zero, as the answer's list has to be
@@ -93,10 +92,10 @@ pub fn read(
         outcome,
         whole,
         pickle,
-        &stack[0..2048],
-        &nodes[0..8192],
-        &mut owners[0..8192],
-        &mut children[0..8192],
+        stack,
+        nodes,
+        owners,
+        children,
         keys,
         unescaped,
         starts,

@@ -120,13 +120,13 @@ module _ (t : List Node) (inside : (i j : ℕ) → In j (at t i .kids) → j < l
       }
 
   -- and what it made fits
-  pub walk-fits : (log list : List ℕ) → size (one (walked t 4096 64 root .value)) ≤ length list → size (one (walked t 4096 64 root .value)) ≤ length log → length log < 65536 → Roomy t after log list
+  pub walk-fits : (log list : List ℕ) → size (one (walked t 4096 64 root .value)) ≤ length list → size (one (walked t 4096 64 root .value)) ≤ 8192 → 8192 ≤ length log → Roomy t after log list
   unfolding spent
   walk-fits log list h k l =
       record {
         listed = λ i m. (let a = its-contents i m in omega arith, let a = its-content-items i m in omega arith);
-        logged = let a = all-items t after resolves (after .done) (λ i m. m) in let b = items-spent t 4096 beyond 64 root in omega arith;
-        short = l;
+        logged = l;
+        few = let a = all-items t after resolves (after .done) (λ i m. m) in let b = items-spent t 4096 beyond 64 root in omega arith;
       }
     where
       v : Value

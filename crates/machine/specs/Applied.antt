@@ -10,7 +10,7 @@ use Rattle.store.specs.declared.NodeId.{NodeId}
 use Rattle.store.specs.declared.MemoKey.{MemoKey}
 use Rattle.store.specs.declared.Effect.{Effect}
 use Rattle.store.specs.declared.Effect.the-variants.{Push, Share, Mark, Go, Make, Extend, Remember, Build, Stop, Refused}
-use Rattle.store.specs.Rooms.{Rooms}
+use Rattle.store.specs.Rooms.{Lent, Rooms}
 use Rattle.store.specs.Effects.{Fits, enacted}
 use Rattle.machine.specs.declared.effects.Step.{Step}
 use Rattle.machine.specs.declared.effects.Step.the-variants as step
@@ -19,14 +19,15 @@ use Rattle.machine.specs.Containers.{Makeable, Extendable}
 use Rattle.machine.specs.Memo.{Rememberable}
 use Rattle.machine.specs.Words.{Buildable}
 
--- rooms as they are with each pickle, and some pickle with which the effect fits them
-pub record Fitting (e : Effect) (had : ℕ) (rooms : List ℕ → Rooms) : Type 0 where
+-- rooms that the effect fits, had they been lent in some way and with some pickle
+pub record Fitting (e : Effect) (had : ℕ) (rooms : Lent → List ℕ → Rooms) : Type 0 where
+  pub lent : Lent
   pub pickle : List ℕ
-  pub fits : Fits e (rooms pickle) had
+  pub fits : Fits e (rooms lent pickle) had
 
--- with all pickles with which it fits, the step t has it
-unfoldable pub Applies : Effect → ℕ → Step → (List ℕ → Rooms) → (List ℕ → Rooms) → Type 0
-Applies e had t before after = (p : List ℕ) → Fits e (before p) had → Done t (before p) (after p) (enacted e (before p) had)
+-- in whatever way they were lent and with whatever pickle, if it fits the step t has it
+unfoldable pub Applies : Effect → ℕ → Step → (Lent → List ℕ → Rooms) → (Lent → List ℕ → Rooms) → Type 0
+Applies e had t before after = (l : Lent) (p : List ℕ) → Fits e (before l p) had → Done t (before l p) (after l p) (enacted e (before l p) had)
 
 module _ (r : Rooms) (h : ℕ) (c : Counts) where
   pub push-lengths : (a b : ℕ) → Fits (Push c a b) r h → (8192 ≤ length (r .nodes)) × (2048 ≤ length (r .stack))

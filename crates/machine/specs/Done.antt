@@ -1,9 +1,9 @@
 -- What a step comes to in the rooms: its meaning for the machine, and what is kept.
-use Prim.Native.Nat.{ℕ, _+_, _*_, _<_, _≤_, max}
+use Prim.Native.Nat.{ℕ, _+_, _-_, _*_, _<_, _≤_, max}
 use mathlib.Core.List.{List}
-use mathlib.Core.Path.{_≡_, refl, sym, _∙_}
-use lib.ListN.{set}
-use lib.Seq.{getD-set-other}
+use mathlib.Core.Path.{_≡_, refl, sym, _∙_, ap}
+use lib.ListN.{set, drop}
+use lib.Seq.{drop-set-lt, drop-drop}
 use native.Mathlib.Numerals.{add-one}
 use native.Mathlib.Omega.{arith}
 use Rattle.refusal.specs.declared.Refusal.{Refusal}
@@ -12,7 +12,7 @@ use Rattle.steps.specs.State.{Res, ok, no}
 use Rattle.steps.specs.Run.{Next, goes, stops}
 use Rattle.store.specs.Rooms.{Rooms, stateOf}
 use Rattle.steps.specs.NodeWords.{wordsSet}
-use Rattle.store.specs.Effects.{Firm, ZeroFrom}
+use Rattle.store.specs.Effects.{Firm, Behind}
 use Rattle.machine.specs.declared.effects.Step.{Step}
 use Rattle.machine.specs.declared.effects.Step.the-variants as step
 
@@ -41,12 +41,16 @@ done-refused why r n e = record { means = sym e; stays = refl }
 abbrev pub pushedTo : Counts → ℕ → ℕ → Counts
 pushedTo c n l = record { at = c .at; nodes = n; links = l; stack = c .stack + 1; deepest = max (c .deepest) (c .stack + 1); marks = c .marks; most = c .most; memo = c .memo; greatest = c .greatest }
 
--- ---- zero from a number on
+-- ---- more of a room used
 
-module _ (n m : ℕ) (l : List ℕ) (h : ZeroFrom n l) (k : n ≤ m) where
-  pub blank-set : (p x : ℕ) → p < m → ZeroFrom m (set l p x)
-  unfolding ZeroFrom
-  blank-set p x q i j = getD-set-other l p i x 0 (λ e. omega arith) ∙ h i (omega arith)
+module _ {n m : ℕ} {lent room : List ℕ} (h : Behind n lent room) (k : n ≤ m) where
+  more : drop m room ≡ drop m lent
+  more =
+      let e : n + (m - n) ≡ m = omega arith in
+      rw e at (sym (drop-drop (m - n) n room) ∙ ap (drop (m - n)) (h .same) ∙ drop-drop (m - n) n lent)
+
+  pub behind-set : (p x : ℕ) → p < m → Behind m lent (set room p x)
+  behind-set p x q = record { same = drop-set-lt m room p x q ∙ more }
 
 -- a node's two words, one after the other
 pub words-plus : (ws : List ℕ) (i a b : ℕ) → set (set ws (2 * i) a) (2 * i + 1) b ≡ wordsSet ws i a b

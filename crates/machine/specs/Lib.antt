@@ -9,7 +9,5 @@ pub mod Words
 pub mod Memo
 -- a step, the run
 pub mod RoomsOf
-pub mod Clear
 pub mod Ran
 pub mod Applied
-pub mod Fresh

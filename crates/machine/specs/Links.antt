@@ -17,7 +17,7 @@ use Rattle.store.specs.RoomReads.{nodes-length}
 use Rattle.store.specs.RoomKeeps.{kept-link, suc-low, suc-high}
 use Rattle.store.specs.RoomLinks.{extend-none, link-next, link-counted}
 use Rattle.store.specs.Effects.{Firm, above}
-use Rattle.machine.specs.Done.{blank-set}
+use Rattle.machine.specs.Done.{behind-set}
 
 -- ---- one link after the other
 
@@ -131,7 +131,7 @@ module _ (r : Rooms) (c : Counts) (o : ℕ) where
         memo = f .memo;
         numbered = f .numbered;
         kept = kept-link ns ws cs n (c .nodes) (f .kept) o k room h (l .holds) owner-room child-room small (l .end);
-        clean = record { nodes = blank-set (2 * c .nodes) (2 * c .nodes) ns (f .clean .nodes) (omega arith) (suc (2 * o)) (suc (second ns o)) (omega arith); owners = blank-set n (suc n) ws (f .clean .owners) (omega arith) n o (omega arith); children = blank-set n (suc n) cs (f .clean .children) (omega arith) n k (omega arith); stack = f .clean .stack; marks = f .clean .marks; keys = f .clean .keys; held = f .clean .held };
+        clean = record { nodes = behind-set (f .clean .nodes) (omega arith) (suc (2 * o)) (suc (second ns o)) (omega arith); owners = behind-set (f .clean .owners) (omega arith) n o (omega arith); children = behind-set (f .clean .children) (omega arith) n k (omega arith); stack = f .clean .stack; marks = f .clean .marks; keys = f .clean .keys; held = f .clean .held };
       }
 
       next-holds : HoldsLinks (first ns′ o)

@@ -20,7 +20,7 @@ use Rattle.store.specs.RoomKeeps.{Empty, empty-zero, kept-node}
 use Rattle.store.specs.Effects.{Firm, Fits, enacted}
 use Rattle.machine.specs.declared.effects.Step.{Step}
 use Rattle.machine.specs.declared.effects.Step.the-variants as step
-use Rattle.machine.specs.Done.{meant, Stays, Done, done-refused, pushedTo, blank-set}
+use Rattle.machine.specs.Done.{meant, Stays, Done, done-refused, pushedTo, behind-set}
 
 -- ---- the functions' promises
 
@@ -70,7 +70,7 @@ module _ (r : Rooms) (c : Counts) (f : Firm r c) where
     memo = f .memo;
     numbered = f .numbered;
     kept = f .kept;
-    clean = record { nodes = f .clean .nodes; owners = f .clean .owners; children = f .clean .children; stack = blank-set (c .deepest) (max (c .deepest) (c .stack + 1)) (r .stack) (f .clean .stack) (omega arith) (c .stack) i (omega arith); marks = f .clean .marks; keys = f .clean .keys; held = f .clean .held };
+    clean = record { nodes = f .clean .nodes; owners = f .clean .owners; children = f .clean .children; stack = behind-set (f .clean .stack) (omega arith) (c .stack) i (omega arith); marks = f .clean .marks; keys = f .clean .keys; held = f .clean .held };
   }
 
 -- ---- a node more
@@ -118,7 +118,7 @@ module _ (r : Rooms) (c : Counts) (f : Firm r c) where
       memo = f .memo;
       numbered = f .numbered;
       kept = rw (add-one (c .nodes)) (kept-node (r .nodes) (r .owners) (r .children) (c .links) (c .nodes) (f .kept) a b words-room log-room class empty);
-      clean = record { nodes = blank-set (2 * (c .nodes + 1)) (2 * (c .nodes + 1)) (set (r .nodes) (2 * c .nodes) a) (blank-set (2 * c .nodes) (2 * (c .nodes + 1)) (r .nodes) (f .clean .nodes) (omega arith) (2 * c .nodes) a (omega arith)) (omega arith) (suc (2 * c .nodes)) b (omega arith); owners = f .clean .owners; children = f .clean .children; stack = f .clean .stack; marks = f .clean .marks; keys = f .clean .keys; held = f .clean .held };
+      clean = record { nodes = behind-set (behind-set {m = 2 * (c .nodes + 1)} (f .clean .nodes) (omega arith) (2 * c .nodes) a (omega arith)) (omega arith) (suc (2 * c .nodes)) b (omega arith); owners = f .clean .owners; children = f .clean .children; stack = f .clean .stack; marks = f .clean .marks; keys = f .clean .keys; held = f .clean .held };
     }
 
 -- ---- what the functions answer
@@ -193,7 +193,7 @@ module _ (r : Rooms) (h : ℕ) (c : Counts) where
       memo = f .memo;
       numbered = f .numbered;
       kept = f .kept;
-      clean = record { nodes = f .clean .nodes; owners = f .clean .owners; children = f .clean .children; stack = f .clean .stack; marks = blank-set (c .most) (max (c .most) (c .marks + 1)) (r .marks) (f .clean .marks) (omega arith) (c .marks) (c .stack) (omega arith); keys = f .clean .keys; held = f .clean .held };
+      clean = record { nodes = f .clean .nodes; owners = f .clean .owners; children = f .clean .children; stack = f .clean .stack; marks = behind-set (f .clean .marks) (omega arith) (c .marks) (c .stack) (omega arith); keys = f .clean .keys; held = f .clean .held };
     }
 
   pub put-mark-full : Fits (Mark c) r h → marksLimit ≤ c .marks → Done (step.Refused c MarksFull) r r (enacted (Mark c) r h)

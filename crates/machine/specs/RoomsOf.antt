@@ -25,7 +25,7 @@ use Rattle.value.specs.Shape.{kindIn}
 use Rattle.steps.specs.State.{State, _>>=_, byte, kidless, push}
 use Rattle.steps.specs.Opcodes.{tupleN}
 use Rattle.steps.specs.Run.{going, does, decide, admit, step}
-use Rattle.store.specs.Rooms.{Rooms, stateOf}
+use Rattle.store.specs.Rooms.{Lent, Rooms, stateOf}
 use Rattle.steps.specs.NodeWords.{nodeIs, HoldsLinks, aList, aTuple, aDict}
 use Rattle.store.specs.RoomKeeps.{class-none}
 use Rattle.steps.specs.Pickletools.{decided-own}
@@ -33,8 +33,15 @@ use Rattle.store.specs.Effects.{Sound, SomeRooms, Decides, Fits, enacted, refus
 use Rattle.decoder.specs.Reads.{cutTo, bytes-short, bytes-got}
 use Rattle.decoder.specs.ReadsMemo.{sound-read}
 
-abbrev pub roomsOf : List ℕ → List ℕ → List ℕ → List ℕ → List ℕ → List ℕ → List ℕ → List ℕ → Rooms
-roomsOf p n w c s m k h = record { pickle = p; nodes = n; owners = w; children = c; stack = s; marks = m; keys = k; held = h }
+abbrev pub roomsOf : Lent → List ℕ → List ℕ → List ℕ → List ℕ → List ℕ → List ℕ → List ℕ → List ℕ → Rooms
+roomsOf l p n w c s m k h = record { lent = l; pickle = p; nodes = n; owners = w; children = c; stack = s; marks = m; keys = k; held = h }
+
+abbrev pub lentOf : List ℕ → List ℕ → List ℕ → List ℕ → List ℕ → List ℕ → List ℕ → Lent
+lentOf n w c s m k h = record { nodes = n; owners = w; children = c; stack = s; marks = m; keys = k; held = h }
+
+-- before anything is written
+abbrev pub lentRooms : List ℕ → List ℕ → List ℕ → List ℕ → List ℕ → List ℕ → List ℕ → List ℕ → Rooms
+lentRooms p n w c s m k h = roomsOf (lentOf n w c s m k h) p n w c s m k h
 
 -- rooms with these lists
 pub record Agrees (p n d s m k h : List ℕ) (r : Rooms) : Type 0 where

@@ -18,7 +18,7 @@ use Rattle.store.specs.RoomKeeps.{kept-build}
 use Rattle.store.specs.Effects.{Fits, enacted, withState}
 use Rattle.machine.specs.declared.effects.Step.{Step}
 use Rattle.machine.specs.declared.effects.Step.the-variants as step
-use Rattle.machine.specs.Done.{meant, Stays, Done, words-plus, blank-set}
+use Rattle.machine.specs.Done.{meant, Stays, Done, words-plus, behind-set}
 
 -- ---- the functions' promises
 
@@ -78,7 +78,7 @@ module _ (r : Rooms) (c : Counts) (o i h : ℕ) (f : Fits (Build c (record { 0 =
           memo = g .memo;
           numbered = g .numbered;
           kept = kept-build (r .nodes) (r .owners) (r .children) (c .links) (c .nodes) (g .kept) o a′ b′ i (omega arith) (f .3) t;
-          clean = record { nodes = blank-set (2 * c .nodes) (2 * c .nodes) (set (r .nodes) (2 * o) a′) (blank-set (2 * c .nodes) (2 * c .nodes) (r .nodes) (g .clean .nodes) (omega arith) (2 * o) a′ (omega arith)) (omega arith) (suc (2 * o)) b′ (omega arith); owners = g .clean .owners; children = g .clean .children; stack = g .clean .stack; marks = g .clean .marks; keys = g .clean .keys; held = g .clean .held };
+          clean = record { nodes = behind-set (behind-set {m = 2 * c .nodes} (g .clean .nodes) (omega arith) (2 * o) a′ (omega arith)) (omega arith) (suc (2 * o)) b′ (omega arith); owners = g .clean .owners; children = g .clean .children; stack = g .clean .stack; marks = g .clean .marks; keys = g .clean .keys; held = g .clean .held };
         };
       }
 

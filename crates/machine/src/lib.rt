@@ -17,10 +17,10 @@ use refusal::Refusal;
 use store::Counts;
 use store::Effect;
 ghost use Rattle.steps.specs.Run.{step};
-ghost use Rattle.store.specs.Effects.{SomeRooms, Decides, Sound};
-ghost use Rattle.machine.specs.RoomsOf.{roomsOf, Agrees};
+ghost use Rattle.store.specs.Effects.{SomeRooms, Decides, Lengths};
+ghost use Rattle.machine.specs.RoomsOf.{roomsOf, lentOf, lentRooms, Agrees};
 ghost use Rattle.machine.specs.Applied.{Fitting, Applies};
-ghost use Rattle.machine.specs.Ran.{startCounts, Stepped, Ran};
+ghost use Rattle.machine.specs.Ran.{SomeSound, Takes, Ran};
 
 // Has an effect. It reads no pickle: what it does is right for all pickles with which the effect fits.
 fn apply(
@@ -34,13 +34,13 @@ fn apply(
     had: usize,
     e: Effect,
 ) -> Step
-    requires { ⌜ Fitting e had (λ p. roomsOf p
+    requires { ⌜ Fitting e had (λ l p. roomsOf l p
         (now nodes) (now owners) (now children) (now stack) (now marks) (now keys) (now held)) ⌝ }
     ensures { λ t.
         ⌜ Applies e had t
-        (λ p. roomsOf p (now (nodes .entry)) (now (owners .entry)) (now (children .entry)) (now (stack .entry))
+        (λ l p. roomsOf l p (now (nodes .entry)) (now (owners .entry)) (now (children .entry)) (now (stack .entry))
         (now (marks .entry)) (now (keys .entry)) (now (held .entry)))
-        (λ p. roomsOf p (now (nodes .exit)) (now (owners .exit)) (now (children .exit)) (now (stack .exit))
+        (λ l p. roomsOf l p (now (nodes .exit)) (now (owners .exit)) (now (children .exit)) (now (stack .exit))
         (now (marks .exit)) (now (keys .exit)) (now (held .exit))) ⌝ }
 {
     match e {
@@ -158,13 +158,13 @@ pub fn take_step(
     held: &mut [u16],
     c: Counts,
 ) -> Step
-    requires { ⌜ Sound (roomsOf (now pickle)
-        (now nodes) (now owners) (now children) (now stack) (now marks) (now keys) (now held)) c ⌝ }
+    requires { ⌜ SomeSound c (λ l. roomsOf l (now pickle)
+        (now nodes) (now owners) (now children) (now stack) (now marks) (now keys) (now held)) ⌝ }
     ensures { λ t.
-        ⌜ Stepped edition t c
-        (roomsOf (now (pickle .entry)) (now (nodes .entry)) (now (owners .entry)) (now (children .entry)) (now (stack .entry))
+        ⌜ Takes edition t c
+        (λ l. roomsOf l (now (pickle .entry)) (now (nodes .entry)) (now (owners .entry)) (now (children .entry)) (now (stack .entry))
         (now (marks .entry)) (now (keys .entry)) (now (held .entry)))
-        (roomsOf (now (pickle .entry)) (now (nodes .exit)) (now (owners .exit)) (now (children .exit)) (now (stack .exit))
+        (λ l. roomsOf l (now (pickle .entry)) (now (nodes .exit)) (now (owners .exit)) (now (children .exit)) (now (stack .exit))
         (now (marks .exit)) (now (keys .exit)) (now (held .exit))) ⌝ }
 {
     let e = decide(
@@ -197,7 +197,7 @@ pub enum Outcome {
     Refused(Counts, Refusal),
 }
 
-// The run to STOP, in rooms that are all zero.
+// The run to STOP, in rooms that are long enough.
 pub fn run(
     edition: Edition,
     pickle: &[u8],
@@ -209,11 +209,14 @@ pub fn run(
     keys: &mut [u32],
     held: &mut [u16],
 ) -> Outcome
-    requires { ⌜ Sound (roomsOf (now pickle)
-        (now nodes) (now owners) (now children) (now stack) (now marks) (now keys) (now held)) startCounts ⌝ }
+    requires { ⌜ Lengths (lentRooms (now pickle)
+        (now nodes) (now owners) (now children) (now stack) (now marks) (now keys) (now held)) ⌝ }
     ensures { λ o.
         ⌜ Ran edition o (now (pickle .entry))
-        (roomsOf (now (pickle .entry)) (now (nodes .exit)) (now (owners .exit)) (now (children .exit)) (now (stack .exit))
+        (roomsOf
+        (lentOf (now (nodes .entry)) (now (owners .entry)) (now (children .entry)) (now (stack .entry))
+        (now (marks .entry)) (now (keys .entry)) (now (held .entry)))
+        (now (pickle .entry)) (now (nodes .exit)) (now (owners .exit)) (now (children .exit)) (now (stack .exit))
         (now (marks .exit)) (now (keys .exit)) (now (held .exit))) ⌝ }
 {
     let mut c = Counts {

@@ -8,9 +8,8 @@ use op::Edition;
 use store::Counts;
 ghost use Prim.Native.Nat.{_≤_};
 ghost use lib.ListN.{length};
-ghost use Rattle.store.specs.Effects.{Sound};
-ghost use Rattle.machine.specs.RoomsOf.{roomsOf};
-ghost use Rattle.machine.specs.Ran.{startCounts};
+ghost use Rattle.store.specs.Effects.{Lengths};
+ghost use Rattle.machine.specs.RoomsOf.{lentRooms};
 ghost use Rattle.replay_machine.specs.Shown.{CountsInRange};
 
 fn blank() {
@@ -41,7 +40,7 @@ fn steps(
     keys: &mut [u32],
     held: &mut [u16],
 ) -> Outcome
-    requires { ⌜ Sound (roomsOf (now pickle) (now nodes) (now owners) (now children) (now stack) (now marks) (now keys) (now held)) startCounts ⌝ }
+    requires { ⌜ Lengths (lentRooms (now pickle) (now nodes) (now owners) (now children) (now stack) (now marks) (now keys) (now held)) ⌝ }
 {
     let mut c = Counts {
         at: 0,
@@ -111,7 +110,7 @@ fn show(
     keys: &mut [u32],
     held: &mut [u16],
 )
-    requires { ⌜ Sound (roomsOf (now pickle) (now nodes) (now owners) (now children) (now stack) (now marks) (now keys) (now held)) startCounts ⌝ }
+    requires { ⌜ Lengths (lentRooms (now pickle) (now nodes) (now owners) (now children) (now stack) (now marks) (now keys) (now held)) ⌝ }
 {
     match steps(pickle, nodes, owners, children, stack, marks, keys, held) {
         Outcome::Stopped(c) => show_stop(nodes, owners, children, stack, c),

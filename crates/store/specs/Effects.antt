@@ -75,19 +75,19 @@ pub record Lengths (r : Rooms) : Type 0 where
   pub keys : memoLimit ≤ length (r .keys)
   pub held : memoLimit ≤ length (r .held)
 
--- zero from n on
-unfoldable pub ZeroFrom : ℕ → List ℕ → Type 0
-ZeroFrom n l = (i : ℕ) → n ≤ i → getD l i 0 ≡ 0
+-- behind its first n numbers a room is as it was lent
+pub record Behind (n : ℕ) (lent room : List ℕ) : Type 0 where
+  pub same : drop n room ≡ drop n lent
 
 -- nothing but what was used was written
 pub record Clean (r : Rooms) (c : Counts) : Type 0 where
-  pub nodes : ZeroFrom (2 * c .nodes) (r .nodes)
-  pub owners : ZeroFrom (c .links) (r .owners)
-  pub children : ZeroFrom (c .links) (r .children)
-  pub stack : ZeroFrom (c .deepest) (r .stack)
-  pub marks : ZeroFrom (c .most) (r .marks)
-  pub keys : ZeroFrom (c .memo) (r .keys)
-  pub held : ZeroFrom (c .memo) (r .held)
+  pub nodes : Behind (2 * c .nodes) (r .lent .nodes) (r .nodes)
+  pub owners : Behind (c .links) (r .lent .owners) (r .owners)
+  pub children : Behind (c .links) (r .lent .children) (r .children)
+  pub stack : Behind (c .deepest) (r .lent .stack) (r .stack)
+  pub marks : Behind (c .most) (r .lent .marks) (r .marks)
+  pub keys : Behind (c .memo) (r .lent .keys) (r .keys)
+  pub held : Behind (c .memo) (r .lent .held) (r .held)
 
 pub record Firm (r : Rooms) (c : Counts) : Type 0 where
   pub lengths : Lengths r

@@ -12,7 +12,7 @@ use Rattle.value.specs.Shape.{kindIn, newIn, stateIn}
 use Rattle.steps.specs.State.{ok, kidless}
 use Rattle.steps.specs.Run.{run}
 use Rattle.steps.specs.Examples.{shared}
-use Rattle.store.specs.Rooms.{Rooms, Counts, tabulated, linkedItems, entries, stateOf}
+use Rattle.store.specs.Rooms.{Lent, Rooms, Counts, tabulated, linkedItems, entries, stateOf}
 use Rattle.steps.specs.NodeWords.{first, second, within, classIn, moduleOf, nameOf, partsOf, nodeIs}
 
 -- opens what the examples compute with
@@ -20,9 +20,14 @@ unfoldable evaluates : Unit {0}
 unfolding utf8-evaluates text-evaluates bytesOf kindIn newIn stateIn tabulated linkedItems entries first second within classIn moduleOf nameOf partsOf nodeIs stateOf
 evaluates = tt
 
+-- how the rooms were lent does not count
+abbrev noRooms : Lent
+noRooms = record { nodes = []; owners = []; children = []; stack = []; marks = []; keys = []; held = [] }
+
 -- the pickle of `shared`: a List of the 5, and a Tuple of it twice; what lies behind the counts does not count
 abbrev pub sharedRooms : Rooms
 sharedRooms = record {
+  lent = noRooms;
   pickle = 0x80 ∷ 0x02 ∷ 0x5D ∷ 0x71 ∷ 0x00 ∷ 0x68 ∷ 0x00 ∷ 0x4B ∷ 0x05 ∷ 0x61 ∷ 0x86 ∷ 0x2E ∷ [];
   nodes = 6 ∷ 1 ∷ 2 ∷ 5 ∷ 7 ∷ 2 ∷ 9 ∷ 9 ∷ [];
   owners = 0 ∷ 2 ∷ 2 ∷ 0 ∷ [];
@@ -43,6 +48,7 @@ shared-rooms = shared
 -- cm\nC\n)\x81}b, an Object with a state; V\u00e9\n, X of one byte FF, U of one A, S'\n'\n
 abbrev pub objectRooms : Rooms
 objectRooms = record {
+  lent = noRooms;
   pickle = 99 ∷ 109 ∷ 10 ∷ 67 ∷ 10 ∷ 41 ∷ 129 ∷ 125 ∷ 98 ∷ 86 ∷ 92 ∷ 117 ∷ 48 ∷ 48 ∷ 101 ∷ 57 ∷ 10 ∷ 88 ∷ 1 ∷ 0 ∷ 0 ∷ 0 ∷ 255 ∷ 85 ∷ 1 ∷ 65 ∷ 83 ∷ 39 ∷ 92 ∷ 110 ∷ 39 ∷ 10 ∷ 46 ∷ [];
   nodes = (11 + 16 * (1 + 2 ^ 24 * 1)) ∷ (3 + 2 ^ 32 * 1) ∷ 7 ∷ 0 ∷ (12 + 16 * (1 + 2 * 1 + 4 * 0)) ∷ (1 + 2 ^ 32 * 3) ∷ 10 ∷ 0 ∷ 14 ∷ (10 + 2 ^ 32 * 6) ∷ 5 ∷ (22 + 2 ^ 32 * 1) ∷ 4 ∷ (25 + 2 ^ 32 * 1) ∷ 13 ∷ (27 + 2 ^ 32 * 4) ∷ [];
   owners = [];

@@ -11,8 +11,19 @@ use Rattle.steps.specs.State.{Node, State}
 use Rattle.steps.specs.NodeWords.{first, second, classIn, nodeIs, HoldsLinks}
 pub use Rattle.store.specs.declared.Counts.{Counts}
 
--- the rooms: the pickle, two words a node, the log of links (owner, child), stack, marks, the memo (number, node)
+-- the rooms as a run was lent them
+pub record Lent : Type 0 where
+  pub nodes : List ℕ
+  pub owners : List ℕ
+  pub children : List ℕ
+  pub stack : List ℕ
+  pub marks : List ℕ
+  pub keys : List ℕ
+  pub held : List ℕ
+
+-- the rooms: the pickle, two words a node, the log of links (owner, child), stack, marks, the memo (number, node); and as they were lent
 pub record Rooms : Type 0 where
+  pub lent : Lent
   pub pickle : List ℕ
   pub nodes : List ℕ
   pub owners : List ℕ
@@ -66,19 +77,19 @@ stateOf r c = record { input = drop (c .at) (r .pickle); nodes = nodesOf r c; st
 -- ---- one room changed
 
 abbrev pub wordsIn : Rooms → List ℕ → Rooms
-wordsIn r l = record { pickle = r .pickle; nodes = l; owners = r .owners; children = r .children; stack = r .stack; marks = r .marks; keys = r .keys; held = r .held }
+wordsIn r l = record { lent = r .lent; pickle = r .pickle; nodes = l; owners = r .owners; children = r .children; stack = r .stack; marks = r .marks; keys = r .keys; held = r .held }
 
 abbrev pub logIn : Rooms → List ℕ → List ℕ → Rooms
-logIn r ws cs = record { pickle = r .pickle; nodes = r .nodes; owners = ws; children = cs; stack = r .stack; marks = r .marks; keys = r .keys; held = r .held }
+logIn r ws cs = record { lent = r .lent; pickle = r .pickle; nodes = r .nodes; owners = ws; children = cs; stack = r .stack; marks = r .marks; keys = r .keys; held = r .held }
 
 abbrev pub stackIn : Rooms → List ℕ → Rooms
-stackIn r l = record { pickle = r .pickle; nodes = r .nodes; owners = r .owners; children = r .children; stack = l; marks = r .marks; keys = r .keys; held = r .held }
+stackIn r l = record { lent = r .lent; pickle = r .pickle; nodes = r .nodes; owners = r .owners; children = r .children; stack = l; marks = r .marks; keys = r .keys; held = r .held }
 
 abbrev pub marksIn : Rooms → List ℕ → Rooms
-marksIn r l = record { pickle = r .pickle; nodes = r .nodes; owners = r .owners; children = r .children; stack = r .stack; marks = l; keys = r .keys; held = r .held }
+marksIn r l = record { lent = r .lent; pickle = r .pickle; nodes = r .nodes; owners = r .owners; children = r .children; stack = r .stack; marks = l; keys = r .keys; held = r .held }
 
 abbrev pub memoIn : Rooms → List ℕ → List ℕ → Rooms
-memoIn r ks hs = record { pickle = r .pickle; nodes = r .nodes; owners = r .owners; children = r .children; stack = r .stack; marks = r .marks; keys = ks; held = hs }
+memoIn r ks hs = record { lent = r .lent; pickle = r .pickle; nodes = r .nodes; owners = r .owners; children = r .children; stack = r .stack; marks = r .marks; keys = ks; held = hs }
 
 -- ---- one count changed
 

@@ -1,7 +1,6 @@
 -- `de::read_in_own_rooms` meets its contract: the reading, in rooms that are made zero and as long as stated. Assumes nothing.
-use mathlib.Core.Path.{refl, ap}
-use Rattle.rooms.specs.Stated.{tableSlice, textSlice}
-use Rattle.de.specs.Call.{Left, ownRooms}
+use mathlib.Core.Path.{refl}
+use Rattle.de.specs.Call.{ownRooms, own-calls}
 use Rattle.de.proofs.read_in_own_rooms.Statement.{statement}
 use Rattle.de.proofs.read_in_own_rooms.Tie as tie
 
@@ -10,7 +9,7 @@ called c = c .before .before .before .before .before .before .before .before .be
 
 returns : tie.Need-returns
 unfolding ownRooms
-returns c = let e = called c .reading .ensures in record { answer = ap (λ (l : Left). l .answer) e; table-left = ap (λ (l : Left). tableSlice (l .slices)) e; text-left = ap (λ (l : Left). textSlice (l .slices)) e }
+returns c = own-calls _ _ _ _ _ (called c .reading .ensures)
 
 pub read-in-own-rooms-spec : {M : Type 1} → statement M
 read-in-own-rooms-spec =

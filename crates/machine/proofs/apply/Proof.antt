@@ -18,7 +18,7 @@ start c = c .before .before .before .before .before .before .before
 
 -- the rooms, and that the effect, once it is told, fits them
 abbrev rooms : tie.After-slice-known7 → Rooms
-rooms c = roomsOf (start c .pre .pickle) (start c .args .nodes .now) (start c .args .owners .now) (start c .args .children .now) (start c .args .stack .now) (start c .args .marks .now) (start c .args .keys .now) (start c .args .held .now)
+rooms c = roomsOf (start c .pre .lent) (start c .pre .pickle) (start c .args .nodes .now) (start c .args .owners .now) (start c .args .children .now) (start c .args .stack .now) (start c .args .marks .now) (start c .args .keys .now) (start c .args .held .now)
 
 fits : (c : tie.After-slice-known7) (e : Effect) → start c .args .e ≡ e → Fits e (rooms c) (start c .args .had)
 fits c e is = subst (λ (x : Effect). Fits x (rooms c) (start c .args .had)) is (start c .pre .fits)
@@ -90,46 +90,46 @@ set-state-requires c κs = buildable _ _ _ _ _ (fits (build c .before .before) _
 
 returns : tie.Need-returns
 unfolding Applies PushNode
-returns c = λ p f.
+returns c = λ l p f.
     let done = pushed c in
     let e = push (done .before) .e .given .1 in
     rw e (done .push-node .ensures _ _ refl refl (rw e at f))
 
 returns-2 : tie.Need-returns-2
 unfolding Applies PushId
-returns-2 c = λ p f.
+returns-2 c = λ l p f.
     let done = shared c in
     let e = share (done .before) .e2 .given .1 in
     rw e (done .push-id .ensures _ _ refl (rw e at f))
 
 returns-3 : tie.Need-returns-3
 unfolding Applies PutMark
-returns-3 c = λ p f.
+returns-3 c = λ l p f.
     let done = marked c in
     let e = mark (done .before) .e3 .given .1 in
     rw e (done .put-mark .ensures _ _ refl (rw e at f))
 
 returns-4 : tie.Need-returns-4
 unfolding Applies
-returns-4 c = λ p f. let e = c .before .e4 .given .1 in rw e (goes-on _ _ _ (rw e at f))
+returns-4 c = λ l p f. let e = c .before .e4 .given .1 in rw e (goes-on _ _ _ (rw e at f))
 
 returns-5 : tie.Need-returns-5
 unfolding Applies MakesNode
-returns-5 c = λ p f.
+returns-5 c = λ l p f.
     let done = made c in
     let e = make (done .before) .e5 .given .1 in
     rw e (done .make .ensures _ refl refl refl refl (rw e at f))
 
 returns-6 : tie.Need-returns-6
 unfolding Applies Extends
-returns-6 c = λ p f.
+returns-6 c = λ l p f.
     let done = extended c in
     let e = extend (done .before) .e6 .given .1 in
     rw e (done .extend .ensures _ refl refl refl refl (rw e at f))
 
 returns-7 : tie.Need-returns-7
 unfolding Applies Remembers Fits enacted
-returns-7 c = λ p f.
+returns-7 c = λ l p f.
     let done = remembered c in
     let arm = remember (done .before) in
     let e = arm .e7 .given .1 in
@@ -137,18 +137,18 @@ returns-7 c = λ p f.
 
 returns-8 : tie.Need-returns-8
 unfolding Applies SetsState
-returns-8 c = λ p f.
+returns-8 c = λ l p f.
     let done = built c in
     let e = build (done .before) .e8 .given .1 in
     rw e (done .set-state .ensures _ _ refl (rw e at f))
 
 returns-9 : tie.Need-returns-9
 unfolding Applies
-returns-9 c = λ p f. let e = c .before .e9 .given .1 in rw e (stops _ _ _ (rw e at f))
+returns-9 c = λ l p f. let e = c .before .e9 .given .1 in rw e (stops _ _ _ (rw e at f))
 
 returns-10 : tie.Need-returns-10
 unfolding Applies
-returns-10 c = λ p f. rw (c .before .e10 .given .1) (refusal-applied _ _ _ _ _ _)
+returns-10 c = λ l p f. rw (c .before .e10 .given .1) (refusal-applied _ _ _ _ _ _)
 
 pub apply-spec : {M : Type 1} → statement M
 apply-spec =

@@ -1,13 +1,11 @@
--- Rooms that are all zero are what a run begins with. Assumes nothing.
-use borrow.Author.Needs.{needs}
+-- The rooms that it makes are long enough for a run. Assumes nothing.
 use Rattle.probe_machine.proofs.probe_machine.Statement.{statement}
 use Rattle.probe_machine.proofs.probe_machine.Tie as tie
 use borrow.Author.Needs.{needs}
-use native.Mathlib.Omega.{arith}
-use Rattle.machine.specs.Fresh.{fresh}
+use Rattle.machine.specs.Ran.{made-long}
 
 run-requires : tie.Need-run-requires
-run-requires c κs = fresh _ 8192 8192 8192 2048 256 1024 1024 (c .before .before .before .before .before .before .before .if1 .left) (omega arith) (omega arith) (omega arith) (omega arith) (omega arith) (omega arith) (omega arith)
+run-requires c κs = made-long _ (c .before .before .before .before .before .before .before .if1 .left)
 
 pub probe-machine-spec : {M : Type 1} → statement M
 probe-machine-spec =

@@ -1,12 +1,11 @@
--- Rooms that are all zero are what a run begins with. Assumes nothing.
+-- The rooms that it makes are long enough for a run. Assumes nothing.
 use borrow.Author.Needs.{needs}
 use Rattle.replay_machine.proofs.in_rooms.Statement.{statement}
 use Rattle.replay_machine.proofs.in_rooms.Tie as tie
-use native.Mathlib.Omega.{arith}
-use Rattle.machine.specs.Fresh.{fresh}
+use Rattle.machine.specs.Ran.{made-long}
 
 show-requires : tie.Need-show-requires
-show-requires c κs = fresh _ 8192 8192 8192 2048 256 1024 1024 (c .before .before .before .before .before .before .before .before .pre) (omega arith) (omega arith) (omega arith) (omega arith) (omega arith) (omega arith) (omega arith)
+show-requires c κs = made-long _ (c .before .before .before .before .before .before .before .before .pre)
 
 pub in-rooms-spec : {M : Type 1} → statement M
 in-rooms-spec =

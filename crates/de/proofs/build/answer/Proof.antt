@@ -1,8 +1,9 @@
 -- `build::answer` meets its contract: the run's refusal, 6, or what building comes to; the parts that are lent fit, and cleared the rooms are
 -- as they were. Assumes nothing.
 use Prim.Native.Nat.{_+_, _-_, _<_, _≤_, zero-le}
+use mathlib.Core.List.{_++_}
 use mathlib.Core.Path.{_≡_, refl, _∙_, subst}
-use lib.ListN.{length, getD}
+use lib.ListN.{length, getD, drop}
 use lib.Seq.{length-front}
 use native.Mathlib.Omega.{arith}
 use Rattle.store.specs.declared.Counts.{Counts}
@@ -11,8 +12,8 @@ use Rattle.machine.specs.declared.Outcome.{Outcome}
 use Rattle.machine.specs.declared.Outcome.the-variants.{Stopped}
 use Rattle.machine.specs.Ran.{countsOf}
 use Rattle.de.specs.Rooms.{part-again}
-use Rattle.de.specs.Building.{Working, At, stopped, count-few, children-fit, first-zero, list-long, rooms-lent, parts-fit, laid-begins, laid-comes, clear-fits, rooms-back, log-used}
-use Rattle.de.specs.Given.{RanIn, RefusesWith, RunEnds, ran-used, stack-fits, rooms, stopped-at, root-known, gives-built, gives-refusal}
+use Rattle.de.specs.Building.{Working, At, stopped, count-few, children-fit, first-zero, list-long, rooms-lent, parts-fit, laid-begins, laid-comes, clear-fits, rooms-back}
+use Rattle.de.specs.Given.{RanIn, RefusesWith, RunEnds, links-fit, stack-fits, rooms, stopped-at, root-known, gives-built, gives-refusal}
 use Rattle.de.proofs.build.answer.Statement.{statement}
 use Rattle.de.proofs.build.answer.Tie as tie
 
@@ -57,131 +58,159 @@ known : (r : tie.After-root) → top r .0 < counts r .nodes
 known r = root-known (counts r) (ran r) (ended r .1) (top r .0) (ended r .2)
 
 abbrev working : (r : tie.After-root) → Working (start (value r) .args .list .now) (start (value r) .args .decoded .now) (start (value r) .args .starts .now) (start (value r) .args .sorted .now) (start (value r) .args .measures .now) (start (value r) .args .table .now) (start (value r) .args .text .now)
-working r = start (value r) .pre .1 .1
+working r = start (value r) .pre .1
+
+fit : (r : tie.After-root) → (counts r .links ≤ length (start (value r) .args .owners .now)) × (counts r .links ≤ length (start (value r) .args .children .now))
+unfolding countsOf
+fit r = links-fit _ (ran r)
 
 -- from the end back to each call
 abbrev laid : tie.After-lay → tie.After-root
 laid c = c .before .before .before .before .before .before
 
-abbrev logged : tie.After-clear-log2 → tie.After-lay
-logged c = c .before .before .before .before .before .before .before
+-- the log's owners, then its children are cleared
+abbrev disowned : tie.After-clear-shorts4 → tie.After-clear-shorts3
+disowned c = c .before .before .before .before
 
-abbrev made : tie.After-build-laid → tie.After-clear-log2
-made c = c .before .before .before .before .before .before .before .before .before .before .before .before .before .before .before
+abbrev logged : tie.After-clear-shorts4 → tie.After-lay
+logged c = disowned c .before .before .before .before .before .before
 
-abbrev cleared : tie.After-clear → tie.After-build-laid
-cleared c = c .before .before .before .before .before .before .before .before .before .before .before .before .before .before .before .before .before .before .before .before .before
+abbrev made : tie.After-build-laid → tie.After-clear-shorts4
+made c = c .before .before .before .before .before .before .before .before .before .before .before .before .before
 
-abbrev told : tie.After-told-of → tie.After-clear
-told c = c .before .before .before .before .before .before .before .before .before
+-- then owners, starts, sorted and measures
+abbrev cleared-owners : tie.After-clear-shorts5 → tie.After-build-laid
+cleared-owners c = c .before .before .before .before .before .before .before .before .before .before .before .before .before .before .before .before .before .before
+
+abbrev cleared-starts : tie.After-clear-shorts6 → tie.After-clear-shorts5
+cleared-starts c = c .before .before .before .before
+
+abbrev cleared-sorted : tie.After-clear-shorts7 → tie.After-clear-shorts6
+cleared-sorted c = c .before .before .before .before
+
+abbrev cleared-measures : tie.After-clear-words → tie.After-clear-shorts7
+cleared-measures c = c .before .before .before .before
+
+abbrev told : tie.After-told-of → tie.After-clear-words
+told c = c .before .before .before
+
+abbrev built : tie.After-told-of → tie.After-build-laid
+built c = cleared-owners (cleared-starts (cleared-sorted (cleared-measures (told c))))
 
 -- the children's room stays as long as it was, and the parts fit
 same : (c : tie.After-lay) → length (c .lay .last .1 .1 .1 .1 .1 .1 .0) ≡ length (start (value (laid c)) .args .sorted .now)
 same c = c .lay .kept .1 .1 .1 .1 .1 .1 .0
 
-parts : (c : tie.After-clear-log2) → (logged c .lay .result ≤ length (logged c .lay .last .1 .1 .1 .1 .1 .1 .0)) × (counts (laid (logged c)) .nodes ≤ length (start (value (laid (logged c))) .args .measures .now)) × (counts (laid (logged c)) .nodes + 1 ≤ length (c .clear-log2 .last .1 .0))
-parts c = let l = logged c in let r = laid l in parts-fit (at-stop r) (known r) (working r) (l .lay .ensures) (same l) (c .clear-log2 .ensures)
+parts : (c : tie.After-clear-shorts4) → (logged c .lay .result ≤ length (logged c .lay .last .1 .1 .1 .1 .1 .1 .0)) × (counts (laid (logged c)) .nodes ≤ length (start (value (laid (logged c))) .args .measures .now)) × (counts (laid (logged c)) .nodes + 1 ≤ length (disowned c .clear-shorts3 .last .0))
+parts c = let l = logged c in let r = laid l in parts-fit (at-stop r) (known r) (working r) (l .lay .ensures) (same l) (disowned c .clear-shorts3 .ensures) (c .clear-shorts4 .ensures)
+
+-- what is built is cleared, room by room
+fits : (m : tie.After-build-laid) → let d = m .build-laid .last in let y = logged (made m) .lay in let n = counts (laid (logged (made m))) .nodes in
+    (n + 1 ≤ length (d .1 .1 .1 .1 .1 .1 .1 .0 ++ drop (n + 1 - 0) (disowned (made m) .clear-shorts3 .last .0))) × (n + 1 ≤ length (y .last .1 .1 .1 .1 .1 .0))
+    × (y .result ≤ length (d .1 .1 .1 .1 .1 .0 ++ drop (y .result - 0) (y .last .1 .1 .1 .1 .1 .1 .0))) × (n ≤ length (d .1 .1 .1 .1 .1 .1 .0 ++ drop (n - 0) (start (value (laid (logged (made m)))) .args .measures .now)))
+fits m =
+    let d = m .build-laid .last in
+    let k = m .build-laid .kept in
+    let l = made m in
+    let y = logged l in
+    let r = laid y in
+    clear-fits (at-stop r) (known r) (working r) (y .lay .ensures) (same y) (disowned l .clear-shorts3 .ensures) (l .clear-shorts4 .ensures) (d .1 .1 .1 .1 .1 .0) (d .1 .1 .1 .1 .1 .1 .0) (d .1 .1 .1 .1 .1 .1 .1 .0) (k .1 .1 .1 .1 .1 .0) (k .1 .1 .1 .1 .1 .1 .0) (k .1 .1 .1 .1 .1 .1 .1 .0) (y .lay .kept .1 .1 .1 .1 .1 .0)
+
+few : (m : tie.After-build-laid) → counts (laid (logged (made m))) .nodes ≤ 4096
+few m = let r = laid (logged (made m)) in count-few (at-stop r) (known r) (working r)
 
 -- ---- what is asked on the way
 
 end-of-requires : tie.Need-end-of-requires
 end-of-requires c κs = stack-fits _ (c .before .before .before .before .before .before .before .before .before .before .before .before .pre .0)
 
-clear-log-requires : tie.Need-clear-log-requires
-clear-log-requires c κs = let y = c .before .before .before in rw (refusing y .1) (ran-used _ (start (why y) .pre .0))
+clear-shorts-requires : tie.Need-clear-shorts-requires
+clear-shorts-requires c κs = let y = c .before .before in rw (refusing y .1) (links-fit _ (start (why y) .pre .0) .0)
+
+clear-shorts-requires-2 : tie.Need-clear-shorts-requires-2
+clear-shorts-requires-2 c κs = let y = c .before .before .before .before .before .before in rw (refusing y .1) (links-fit _ (start (why y) .pre .0) .1)
 
 lay-requires : tie.Need-lay-requires
 lay-requires c κs = let r = c .before .before .before .before .before in (stopped (at-stop r) (known r) (working r), (children-fit (at-stop r) (known r) (working r), first-zero (at-stop r) (known r) (working r)))
 
-clear-log-requires-2 : tie.Need-clear-log-requires-2
-clear-log-requires-2 c κs = let r = laid (c .before .before .before .before .before .before) in log-used (stopped (at-stop r) (known r) (working r))
-
-part-build-laid-end : tie.Need-part-build-laid-end
-part-build-laid-end c = parts (c .before .before .before .before .before .before) .0
-
-part-build-laid-end-2 : tie.Need-part-build-laid-end-2
-part-build-laid-end-2 c = parts (c .before .before .before .before .before .before .before) .1
-
 add-build-laid : tie.Need-add-build-laid
-add-build-laid c = let r = laid (logged (c .before .before .before .before .before .before .before .before)) in omega (arith, count-few (at-stop r) (known r) (working r))
-
-part-build-laid-end-3 : tie.Need-part-build-laid-end-3
-part-build-laid-end-3 c = parts (c .before .before .before .before .before .before .before .before) .2
+add-build-laid c = let r = laid (logged (c .before .before .before .before .before .before)) in omega (arith, count-few (at-stop r) (known r) (working r))
 
 part-build-laid-end-4 : tie.Need-part-build-laid-end-4
-part-build-laid-end-4 c = let r = laid (logged (c .before .before .before .before .before .before .before .before .before .before)) in list-long (at-stop r) (known r) (working r)
+part-build-laid-end-4 c = let r = laid (logged (c .before .before .before .before .before .before .before .before)) in list-long (at-stop r) (known r) (working r)
 
 build-laid-requires : tie.Need-build-laid-requires
 build-laid-requires c κs =
-    let l = c .before .before .before .before .before .before .before .before .before .before .before .before .before .before in
+    let l = c .before .before .before .before .before .before .before .before .before .before .before .before in
+    let o = disowned l .clear-shorts3 .ensures in
     let y = logged l in
     let r = laid y in
-    (laid-begins (at-stop r) (known r) (working r) (y .lay .ensures) (same y) (l .clear-log2 .ensures), rooms-lent (at-stop r) (known r) (working r) (y .lay .ensures) (same y) (l .clear-log2 .ensures) (start (value r) .pre .1 .0))
-
-clear-requires : tie.Need-clear-requires
-clear-requires c κs =
-    let m = c .before .before .before .before .before .before .before .before .before .before .before .before .before .before .before .before .before .before .before .before in
-    let d = m .build-laid .last in
-    let k = m .build-laid .kept in
-    let l = made m in
-    let y = logged l in
-    let r = laid y in
-    clear-fits (at-stop r) (known r) (working r) (y .lay .ensures) (same y) (l .clear-log2 .ensures) (d .1 .1 .1 .1 .1 .0) (d .1 .1 .1 .1 .1 .1 .0) (d .1 .1 .1 .1 .1 .1 .1 .0) (k .1 .1 .1 .1 .1 .0) (k .1 .1 .1 .1 .1 .1 .0) (k .1 .1 .1 .1 .1 .1 .1 .0) (y .lay .kept .1 .1 .1 .1 .1 .0)
+    (laid-begins (at-stop r) (known r) (working r) (y .lay .ensures) (same y) o (l .clear-shorts4 .ensures), rooms-lent (at-stop r) (known r) (working r) (y .lay .ensures) (same y) o (l .clear-shorts4 .ensures))
 
 -- ---- at the end
 
 returns : tie.Need-returns
-returns c = let y = c .before .before .before .before .before .before .before .before .before in (rw (c .refused .ensures) (gives-refusal _ _ _ _ _ (start (why y) .pre .0) (refusing y .0)), (c .before .before .before .before .before .clear-log .ensures, (refl, refl, refl, refl, refl)))
+returns c =
+    let k = c .before .before .before in
+    let o = k .before .before .before .before in
+    let y = o .before .before .before in
+    let n = refusing y .1 in
+    (rw (c .refused .ensures) (gives-refusal _ _ _ _ _ (start (why y) .pre .0) (refusing y .0)), ((rw n at (o .clear-shorts .ensures), rw n at (k .clear-shorts2 .ensures)), (refl, refl, refl, refl, refl)))
 
 same-owners : tie.Need-same-length-3
 same-owners c =
-    let e = told c in
-    let m = cleared e .build-laid in
-    let l = made (cleared e) in
-    e .clear .kept .1 .1 .0 ∙ length-front (l .clear-log2 .last .1 .0) (m .last .1 .1 .1 .1 .1 .1 .1 .0) (counts (laid (logged l)) .nodes + 1 - 0) (m .kept .1 .1 .1 .1 .1 .1 .1 .0) ∙ l .clear-log2 .kept .1 .0
+    let o = cleared-starts (cleared-sorted (cleared-measures (told c))) in
+    let m = built c .build-laid in
+    let l = made (built c) in
+    o .clear-shorts5 .kept .0 ∙ length-front (disowned l .clear-shorts3 .last .0) (m .last .1 .1 .1 .1 .1 .1 .1 .0) (counts (laid (logged l)) .nodes + 1 - 0) (m .kept .1 .1 .1 .1 .1 .1 .1 .0) ∙ disowned l .clear-shorts3 .kept .0
 
 same-children : tie.Need-same-length-4
-same-children c = let m = cleared (told c) in m .build-laid .kept .1 .1 .1 .1 .1 .1 .1 .1 .0 ∙ made m .clear-log2 .kept .1 .1 .0
+same-children c = built c .build-laid .kept .1 .1 .1 .1 .1 .1 .1 .1 .0 ∙ made (built c) .clear-shorts4 .kept .0
 
 same-list : tie.Need-same-length-5
-same-list c = let m = cleared (told c) in length-front (start (value (laid (logged (made m)))) .args .list .now) (m .build-laid .last .1 .1 .1 .1 .1 .1 .1 .1 .1 .0) 2048 (m .build-laid .kept .1 .1 .1 .1 .1 .1 .1 .1 .1 .0)
+same-list c = let m = built c in length-front (start (value (laid (logged (made m)))) .args .list .now) (m .build-laid .last .1 .1 .1 .1 .1 .1 .1 .1 .1 .0) 2048 (m .build-laid .kept .1 .1 .1 .1 .1 .1 .1 .1 .1 .0)
 
 same-starts : tie.Need-same-length-7
-same-starts c = told c .clear .kept .1 .1 .1 .0 ∙ logged (made (cleared (told c))) .lay .kept .1 .1 .1 .1 .1 .0
+same-starts c = cleared-sorted (cleared-measures (told c)) .clear-shorts6 .kept .0 ∙ logged (made (built c)) .lay .kept .1 .1 .1 .1 .1 .0
 
 same-sorted : tie.Need-same-length-8
 same-sorted c =
-    let e = told c in
-    let m = cleared e .build-laid in
-    let y = logged (made (cleared e)) .lay in
-    e .clear .kept .1 .1 .1 .1 .0 ∙ length-front (y .last .1 .1 .1 .1 .1 .1 .0) (m .last .1 .1 .1 .1 .1 .0) (y .result - 0) (m .kept .1 .1 .1 .1 .1 .0) ∙ y .kept .1 .1 .1 .1 .1 .1 .0
+    let m = built c .build-laid in
+    let y = logged (made (built c)) .lay in
+    cleared-measures (told c) .clear-shorts7 .kept .0 ∙ length-front (y .last .1 .1 .1 .1 .1 .1 .0) (m .last .1 .1 .1 .1 .1 .0) (y .result - 0) (m .kept .1 .1 .1 .1 .1 .0) ∙ y .kept .1 .1 .1 .1 .1 .1 .0
 
 same-measures : tie.Need-same-length-9
 same-measures c =
-    let e = told c in
-    let m = cleared e .build-laid in
-    let r = laid (logged (made (cleared e))) in
-    e .clear .kept .1 .1 .1 .1 .1 .0 ∙ length-front (start (value r) .args .measures .now) (m .last .1 .1 .1 .1 .1 .1 .0) (counts r .nodes - 0) (m .kept .1 .1 .1 .1 .1 .1 .0)
+    let m = built c .build-laid in
+    let r = laid (logged (made (built c))) in
+    told c .clear-words .kept .0 ∙ length-front (start (value r) .args .measures .now) (m .last .1 .1 .1 .1 .1 .1 .0) (counts r .nodes - 0) (m .kept .1 .1 .1 .1 .1 .1 .0)
 
 returns-2 : tie.Need-returns-2
+unfolding countsOf
 returns-2 c =
-    let e = told c .clear .ensures in
-    let m = cleared (told c) .build-laid in
-    let l = made (cleared (told c)) in
+    let s = cleared-measures (told c) in
+    let t = cleared-sorted s in
+    let m = built c .build-laid in
+    let l = made (built c) in
+    let o = disowned l .clear-shorts3 .ensures in
+    let k = l .clear-shorts4 .ensures in
     let y = logged l in
     let r = laid y in
-    let b = rooms-back (at-stop r) (known r) (working r) (y .lay .ensures) (same y) (l .clear-log2 .ensures) (m .last .1 .1 .1 .1 .1 .0) (m .last .1 .1 .1 .1 .1 .1 .0) (m .last .1 .1 .1 .1 .1 .1 .1 .0) (m .kept .1 .1 .1 .1 .1 .0) (m .kept .1 .1 .1 .1 .1 .1 .0) (m .kept .1 .1 .1 .1 .1 .1 .1 .0) in (
-      rw (c .told-of .ensures) (gives-built (counts r) (ran r) (ended r .1) (top r .0) (ended r .2) _ _ _ _ _ _ (laid-comes (at-stop r) (known r) (working r) (y .lay .ensures) (same y) (l .clear-log2 .ensures) _ _ _ _ (m .ensures .0))),
-      ((e .0 .0 ∙ b .0, m .ensures .1 .log-same ∙ l .clear-log2 .ensures .1), (part-again 2048 _ _ (m .ensures .1 .list-same), m .ensures .1 .decoded-same, e .0 .1 ∙ b .1, e .1 .0 ∙ b .2, e .1 .1 ∙ b .3)),
+    let b = rooms-back (at-stop r) (known r) (working r) (y .lay .ensures) (same y) o k (m .last .1 .1 .1 .1 .1 .0) (m .last .1 .1 .1 .1 .1 .1 .0) (m .last .1 .1 .1 .1 .1 .1 .1 .0) (m .kept .1 .1 .1 .1 .1 .0) (m .kept .1 .1 .1 .1 .1 .1 .0) (m .kept .1 .1 .1 .1 .1 .1 .1 .0) in (
+      rw (c .told-of .ensures) (gives-built (counts r) (ran r) (ended r .1) (top r .0) (ended r .2) _ _ _ _ _ _ (laid-comes (at-stop r) (known r) (working r) (y .lay .ensures) (same y) o k _ _ _ _ (m .ensures .0))),
+      (rw (ended r .0) (cleared-starts t .clear-shorts5 .ensures ∙ b .0, m .ensures .1 .log-same ∙ k), (part-again 2048 _ _ (m .ensures .1 .list-same), m .ensures .1 .decoded-same, t .clear-shorts6 .ensures ∙ b .1, s .clear-shorts7 .ensures ∙ b .2, told c .clear-words .ensures ∙ b .3)),
     )
 
 pub answer-spec : {M : Type 1} → statement M
 answer-spec =
     tie.close
     (tie.spec
-    end-of-requires (λ c. c .match .keys1) clear-log-requires (λ c κs. tt) (λ c. c .match .keys2) lay-requires clear-log-requires-2
-    (λ c. zero-le) (λ c. zero-le) part-build-laid-end (λ c. zero-le) (λ c. zero-le) part-build-laid-end-2 add-build-laid
-    (λ c. zero-le) (λ c. zero-le) part-build-laid-end-3 (λ c. zero-le) (λ c. zero-le) part-build-laid-end-4 build-laid-requires clear-requires (λ c κs. tt)
-    (λ c. c .before .before .before .before .before .clear-log .kept .1 .0) (λ c. c .before .before .before .before .before .clear-log .kept .1 .1 .0) returns
-    same-owners same-children same-list (λ c. cleared (told c) .build-laid .kept .1 .1 .1 .1 .1 .1 .1 .1 .1 .1 .0) same-starts same-sorted same-measures
-    (λ c. cleared (told c) .build-laid .kept .1 .1 .1 .1 .1 .1 .1 .1 .1 .1 .1 .0) (λ c. cleared (told c) .build-laid .kept .1 .1 .1 .1 .1 .1 .1 .1 .1 .1 .1 .1 .0) returns-2)
+    end-of-requires (λ c. c .match .keys1) clear-shorts-requires clear-shorts-requires-2 (λ c κs. tt) (λ c. c .match .keys2) lay-requires
+    (λ c κs. fit (laid (c .before .before .before .before .before)) .0) (λ c κs. fit (laid (c .before .before .before .before .before .before .before .before .before)) .1)
+    (λ c. zero-le) (λ c. zero-le) (λ c. parts (c .before .before .before .before) .0) (λ c. zero-le) (λ c. zero-le) (λ c. parts (c .before .before .before .before .before) .1) add-build-laid
+    (λ c. zero-le) (λ c. zero-le) (λ c. parts (c .before .before .before .before .before .before) .2) (λ c. zero-le) (λ c. zero-le) part-build-laid-end-4 build-laid-requires
+    (λ c. omega (arith, few (c .before .before .before .before .before .before .before .before .before .before .before .before .before .before .before .before .before))) (λ c κs. fits (c .before .before .before .before .before .before .before .before .before .before .before .before .before .before .before .before .before) .0) (λ c. omega (arith, few (cleared-owners (c .before .before .before)))) (λ c κs. fits (cleared-owners (c .before .before .before)) .1)
+    (λ c κs. fits (cleared-owners (cleared-starts (c .before .before .before))) .2) (λ c κs. fits (cleared-owners (cleared-starts (cleared-sorted (c .before .before .before)))) .3) (λ c κs. tt)
+    (λ c. c .before .before .before .before .before .before .before .clear-shorts .kept .0) (λ c. c .before .before .before .clear-shorts2 .kept .0) returns
+    same-owners same-children same-list (λ c. built c .build-laid .kept .1 .1 .1 .1 .1 .1 .1 .1 .1 .1 .0) same-starts same-sorted same-measures
+    (λ c. built c .build-laid .kept .1 .1 .1 .1 .1 .1 .1 .1 .1 .1 .1 .0) (λ c. built c .build-laid .kept .1 .1 .1 .1 .1 .1 .1 .1 .1 .1 .1 .1 .0) returns-2)
