@@ -61,6 +61,14 @@ fn most(x: u64, y: u64) -> u64
     if x < y { y } else { x }
 }
 
+// A word of its parts.
+fn measure_word(depth: u64, values: u64, text_len: u64) -> u64
+    requires { ⌜ depth ≤ 128 ⌝ }
+    ensures { λ r. ⌜ r ≡ packW depth values «text_len» ⌝ }
+{
+    depth + store::DEPTHS * least(values, 2049) + store::TEXT_AT * least(text_len, 65537)
+}
+
 // ---- how long a node's text is
 
 // Of a Global's module and name.
@@ -139,7 +147,7 @@ fn leaf_word(node: NodeId, pickle: &[u8], nodes: &[u64]) -> u64
     requires { ⌜ LengthReadable (now pickle) (now nodes) (node .0) ⌝ }
     ensures { λ r. ⌜ r ≡ packW 1 1 (textLen (now (pickle .entry)) (now (nodes .entry)) (node .0)) ⌝ }
 {
-    LEAF + store::TEXT_AT * least(node_text_len(pickle, nodes, node) as u64, 65537)
+    measure_word(1, 1, node_text_len(pickle, nodes, node) as u64)
 }
 
 // A node as far as no walk is needed for it.
@@ -297,10 +305,7 @@ fn measure(
         i += 1;
     }
     note(kind, node, dues);
-    let w = deepest
-        + 1
-        + store::DEPTHS * least(values, 2049)
-        + store::TEXT_AT * least(texts, 65537);
+    let w = measure_word(deepest + 1, values, texts);
     measures[n] = w;
     WalkAnswer::Word(w)
 }

@@ -10,7 +10,7 @@ use Rattle.resolve.proofs.measure.Kinds as kinds
 use Rattle.resolve.proofs.+measure.Lts-measure as lts
 use Rattle.resolve.proofs.blocked.Reads as blocked-reads
 use Rattle.resolve.proofs.known.Reads as known-reads
-use Rattle.resolve.proofs.least.Reads as least-reads
+use Rattle.resolve.proofs.measure_word.Reads as measure-word-reads
 use Rattle.resolve.proofs.most.Reads as most-reads
 use Rattle.resolve.proofs.note.Reads as note-reads
 use Rattle.resolve.proofs.own_text_len.Reads as own-text-len-reads
@@ -29,7 +29,7 @@ use Rattle.resolve.specs.declared.Seen.the-variants as seen
 use Rattle.resolve.specs.declared.WalkAnswer.{WalkAnswer}
 use Rattle.resolve.specs.declared.WalkAnswer.the-variants as answer
 use Rattle.resolve.specs.Class.{Owns}
-use Rattle.resolve.specs.MeasureWord.{deepW, valuesW, textsW}
+use Rattle.resolve.specs.MeasureWord.{packW, deepW, valuesW, textsW}
 use Rattle.resolve.specs.Loop.{LoopBegins, Midway, mid-start, mid-room}
 use Rattle.resolve.specs.Walk.{walk}
 use Rattle.resolve.specs.Ends.{Opens, WalkEnds, Walks, open-free, moved, own-len, open-words, open-starts, open-measured, open-owned, enter, ends-blocked, ends-too, ends-done, known-deep, known-word, known-empty, known-open, walk-deep, walk-word, walk-empty, child-at, open-end, open-first, arms-meet}
@@ -45,7 +45,7 @@ below t = and 6 kinds.ps (falls 6 kinds.ps _<_ μ t) reads.Pre
 
 -- what is known of the calls
 abbrev calls : ℕ → lts.Claims
-calls t = (blocked-reads.Asked, blocked-reads.Learnt, own-text-len-reads.Asked, own-text-len-reads.Learnt, known-reads.Asked, known-reads.Learnt, below t, reads.Post, most-reads.Asked, most-reads.Learnt, note-reads.Asked, note-reads.Learnt, least-reads.Asked, least-reads.Learnt)
+calls t = (blocked-reads.Asked, blocked-reads.Learnt, own-text-len-reads.Asked, own-text-len-reads.Learnt, known-reads.Asked, known-reads.Learnt, below t, reads.Post, most-reads.Asked, most-reads.Learnt, note-reads.Asked, note-reads.Learnt, measure-word-reads.Asked, measure-word-reads.Learnt)
 
 abbrev Inv-loop : lts.InvT-loop
 Inv-loop node levels starts sorted₀ pickle nodes measures₀ dues₀ n kind at end texts₀ deepest₀ values₀ i₀ sorted measures dues texts deepest values i =
@@ -169,12 +169,6 @@ fits-next i end a b = omega arith
 
 falls-by-one : (i end : ℕ) → i < end → end - (i + 1) < end - i
 falls-by-one i end a = omega arith
-
-fits-texted : (texts r : ℕ) → r ≡ min texts 65537 → Fits w64 (524288 * r)
-fits-texted texts r a = omega arith
-
-fits-word : (deepest values texts v r : ℕ) → deepest ≤ 127 → v ≡ min values 2049 → r ≡ min texts 65537 → Fits w64 (deepest + 1 + 128 * v + 524288 * r)
-fits-word deepest values texts v r a b e = omega arith
 
 module _ (t : ℕ) where
   -- ---- the places that the needs look back to
@@ -461,44 +455,30 @@ module _ (t : ℕ) where
       let I = enter (moved (opens (begin h)) _ _ (texted h .own-text-len .ensures)) in
       mid-room I _ (h .loop .inv .6 I)
 
-  add-w : lts.Need-add-w (calls t) (own t) reads.Post Inv-loop μ-loop
-  add-w c = omega (arith, c .before .before .before .before .before .loop .inv .5)
+  add-measure-word : lts.Need-add-measure-word (calls t) (own t) reads.Post Inv-loop μ-loop
+  add-measure-word c = omega (arith, c .before .before .before .before .before .loop .inv .5)
 
-  mul-w : lts.Need-mul-w (calls t) (own t) reads.Post Inv-loop μ-loop
-  mul-w c = omega (arith, c .least .ensures)
+  measure-word-requires : lts.Need-measure-word-requires (calls t) (own t) reads.Post Inv-loop μ-loop
+  measure-word-requires c κs = omega (arith, c .before .before .before .before .before .loop .inv .5)
 
-  add-w-2 : lts.Need-add-w-2 (calls t) (own t) reads.Post Inv-loop μ-loop
-  add-w-2 c = omega (arith, c .least .ensures, c .before .before .before .before .before .before .loop .inv .5)
+  -- the turns are over
+  abbrev over : lts.After-measure-word (calls t) (own t) reads.Post Inv-loop μ-loop → Head
+  over c = c .before .before .before .before .before .before
 
-  mul-w-2 : lts.Need-mul-w-2 (calls t) (own t) reads.Post Inv-loop μ-loop
-  mul-w-2 c = fits-texted _ _ (c .least2 .ensures)
-
-  add-w-3 : lts.Need-add-w-3 (calls t) (own t) reads.Post Inv-loop μ-loop
-  add-w-3 c = fits-word _ _ _ _ _ (c .before .before .before .before .before .before .before .loop .inv .5) (c .before .least .ensures) (c .least2 .ensures)
-
-  mul-measures-3 : lts.Need-mul-measures-3 (calls t) (own t) reads.Post Inv-loop μ-loop
-  mul-measures-3 c = let s = begin (c .before .before .before .before .before .before .before) in omega (arith, open-measured (opens s), measures-long (c .before .before .before .before .before .before .before))
-
-  slice-write-measures-3 : lts.Need-slice-write-measures-3 (calls t) (own t) reads.Post Inv-loop μ-loop
-  slice-write-measures-3 c = let s = begin (c .before .before .before .before .before .before .before) in omega (arith, open-measured (opens s), measures-long (c .before .before .before .before .before .before .before))
-
-  same-length-12 : lts.Need-same-length-12 (calls t) (own t) reads.Post Inv-loop μ-loop
-  same-length-12 c = c .before .before .before .before .before .before .before .loop .inv .0
+  measured-still : (c : lts.After-measure-word (calls t) (own t) reads.Post Inv-loop μ-loop) → begin (over c) .args .node .0 < length (over c .loop .measures)
+  measured-still c = omega (arith, open-measured (opens (begin (over c))), measures-long (over c))
 
   same-length-13 : lts.Need-same-length-13 (calls t) (own t) reads.Post Inv-loop μ-loop
-  same-length-13 c = let h = c .before .before .before .before .before .before .before in length-set (h .loop .measures) (begin h .args .node .0) (h .loop .deepest + 1 + 128 * c .before .least .result + 524288 * c .least2 .result) ∙ measures-long h
-
-  same-length-14 : lts.Need-same-length-14 (calls t) (own t) reads.Post Inv-loop μ-loop
-  same-length-14 c = c .before .before .before .before .note .kept .1 .1 .0 ∙ c .before .before .before .before .before .before .before .loop .inv .1
+  same-length-13 c = length-set (over c .loop .measures) (begin (over c) .args .node .0) (c .measure-word .result) ∙ measures-long (over c)
 
   returns-5 : lts.Need-returns-5 (calls t) (own t) reads.Post Inv-loop μ-loop
-  unfolding Walks
+  unfolding Walks packW
   returns-5 c o =
-      let h = c .before .before .before .before .before .before .before in
+      let h = over c in
       let x = texted h in
       let m = moved o _ _ (x .own-text-len .ensures) in
-      ends-done m _ (begin h .pre .1 .0 .0) (free x o) (h .loop .inv .6 (enter m)) _ _ (begin h .pre .1 .0 .1) (c .before .before .before .before .before .before .loop-test .left) (c .before .before .before .before .note .ensures)
-      (own-len o _ _ (x .own-text-len .ensures)) (omega (arith, c .before .least .ensures, c .least2 .ensures))
+      ends-done m _ (begin h .pre .1 .0 .0) (free x o) (h .loop .inv .6 (enter m)) _ _ (begin h .pre .1 .0 .1) (c .before .before .before .before .before .loop-test .left) (c .before .before .before .note .ensures)
+      (own-len o _ _ (x .own-text-len .ensures)) (c .measure-word .ensures)
 
 pub +measure-spec : {M : Type 1} → statement M
 +measure-spec =
@@ -511,5 +491,5 @@ pub +measure-spec : {M : Type 1} → statement M
     (same-length-8 t) (returns-3 t) (λ c. c .match .keys2) (mul-sorted t) (slice-write-sorted t) (λ c. c .match .keys3) (sub-measure t)
     (measure-requires t) (λ c. c .match2 .keys1) (same-length-9 t) (same-length-10 t) (same-length-11 t) (returns-4 t) (λ c. c .match2 .keys2)
     (mul-sorted-2 t) (slice-write-sorted-2 t) (λ c. c .match2 .keys3) (λ c κs. tt) (add-values t) (add-texts t) (add-i t) (loop-less t)
-    (loop-again t) (note-requires t) (add-w t) (λ c κs. tt) (mul-w t) (add-w-2 t) (λ c κs. tt) (mul-w-2 t) (add-w-3 t)
-    (mul-measures-3 t) (slice-write-measures-3 t) (same-length-12 t) (same-length-13 t) (same-length-14 t) (returns-5 t)
+    (loop-again t) (note-requires t) (add-measure-word t) (measure-word-requires t) (λ c. omega (arith, measured-still t c)) (measured-still t)
+    (λ c. over t c .loop .inv .0) (same-length-13 t) (λ c. c .before .before .before .note .kept .1 .1 .0 ∙ over t c .loop .inv .1) (returns-5 t)
