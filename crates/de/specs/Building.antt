@@ -12,7 +12,7 @@ use Rattle.rooms.specs.Cleared.{cleared}
 use Rattle.steps.specs.State.{Res, ok, no, _>>=_, need}
 use Rattle.store.specs.declared.Counts.{Counts}
 use Rattle.store.specs.Rooms.{Rooms, stateOf}
-use Rattle.store.specs.Effects.{Behind}
+use Rattle.store.specs.Effects.{AsLentBehind}
 use Rattle.store.specs.RoomReads.{nodes-length}
 use Rattle.reading.specs.Build.{tree}
 use Rattle.resolve.specs.Standing.{SaysNodes}
@@ -20,9 +20,8 @@ use Rattle.reading.specs.Measure.{measured}
 use Rattle.reading.specs.Settle.{settle}
 use Rattle.resolve.specs.SideBySide.{Ended, SomeEnded, SideBySide}
 use Rattle.resolve.specs.Rooted.{ReadyToResolve}
-use Rattle.de.specs.Rooms.{Zeros, zeros-long, front-cleared}
+use Rattle.de.specs.Rooms.{Zeros, zeros-long, front-cleared, minus-none, part-length, part-behind, zeros-at, part-back}
 use Rattle.de.specs.Measured.{WorkRooms}
-use Rattle.de.specs.Parts.{minus-none, part-length, part-behind, zeros-at, part-back}
 use Rattle.de.specs.declared.build.Built.{Built}
 use Rattle.de.specs.declared.build.Built.the-variants as built
 
@@ -69,7 +68,7 @@ module _ {p ws owners log : List ℕ} {count links : ℕ} {r : Rooms} {c : Count
   stands = record { rooms = r; counts = c; sound = a .ended .sound; pickle = a .pickle; words = a .ended .words; nodes = refl }
 
   -- a room of the log, once its links are cleared
-  links-cleared : {lent room : List ℕ} → Zeros 8192 lent → Behind (c .links) lent room → Zeros 8192 (cleared links room)
+  links-cleared : {lent room : List ℕ} → Zeros 8192 lent → AsLentBehind (c .links) lent room → Zeros 8192 (cleared links room)
   links-cleared {lent} {room} z b = rw (front-cleared 8192 links lent room z (omega (arith, a .ended .sound .firm .links, a .ended .links-are)) (rw (a .ended .links-are) at (b .same))) z
 
   owners-cleared : Zeros 8192 (cleared links owners)
@@ -97,15 +96,15 @@ module _ {p ws owners log : List ℕ} {count links root : ℕ} {r : Rooms} {c : 
   list-long = zeros-long (w .list-zero)
 
   -- the children are laid out, and the log is cleared
-  module _ {starts′ sorted′ owners′ log′ : List ℕ} {used : ℕ} (S : SideBySide ws owners log count links starts sorted starts′ sorted′ used) (sl : length sorted′ ≡ length sorted) (eo : owners′ ≡ cleared links owners) (el : log′ ≡ cleared links log) where
+  module _ {starts′ sorted′ owners′ : List ℕ} {used : ℕ} (S : SideBySide ws owners log count links starts sorted starts′ sorted′ used) (sl : length sorted′ ≡ length sorted) (e : owners′ ≡ cleared links owners) where
     owners-zeros : Zeros 8192 owners′
-    owners-zeros = rw eo (owners-cleared a)
+    owners-zeros = rw e (owners-cleared a)
 
-    pub rooms-lent : WorkRooms decoded log′ (take 2048 list) o q
-    rooms-lent =
+    pub rooms-lent : (log′ : List ℕ) → log′ ≡ cleared links log → WorkRooms decoded log′ (take 2048 list) o q
+    rooms-lent log′ l =
         record {
           decoded-zero = w .decoded-zero;
-          log-zero = rw el (log-cleared a);
+          log-zero = rw l (log-cleared a);
           list-zero = w .list-zero .zero;
           table-long = w .table-room;
           text-long = w .text-room;
@@ -153,7 +152,7 @@ module _ {p ws owners log : List ℕ} {count links root : ℕ} {r : Rooms} {c : 
         → (cleared (count + 1) (n ++ drop (count + 1 - 0) owners′) ≡ cleared links owners) × (cleared (count + 1) starts′ ≡ starts)
         × (cleared used (d ++ drop (used - 0) sorted′) ≡ sorted) × (cleared count (m ++ drop (count - 0) measures) ≡ measures)
     rooms-back d m n dl ml nl = (
-      part-back owners-zeros (count + 1) (omega (arith, nodes-few a)) n nl ∙ eo,
+      part-back owners-zeros (count + 1) (omega (arith, nodes-few a)) n nl ∙ e,
       front-cleared 4098 (count + 1) starts starts′ (w .starts-zero) (omega (arith, nodes-few a)) (S .starts-behind),
       front-cleared 16384 used sorted (d ++ drop (used - 0) sorted′) (w .sorted-zero) (S .few) (part-behind used sorted′ d (parts-fit .0) dl ∙ S .sorted-behind),
       part-back (w .measures-zero) count (nodes-few a) m ml,

@@ -17,7 +17,7 @@ use Rattle.value.specs.Value.{Forest, one, size, text, table, table-length}
 use Rattle.steps.specs.State.{Res, ok, no, _>>=_, need, last}
 use Rattle.store.specs.declared.Counts.{Counts}
 use Rattle.steps.specs.Run.{run}
-use Rattle.store.specs.Rooms.{Lent, Rooms, stateOf}
+use Rattle.store.specs.Rooms.{LentAs, Rooms, stateOf}
 use Rattle.store.specs.Effects.{Firm}
 use Rattle.steps.specs.Out.{every-at}
 use Rattle.store.specs.RoomReads.{input-of, stack-of, stack-length, nodes-length}
@@ -48,7 +48,7 @@ pub record Gives (x : Reading) (a : Answer) (o q o′ q′ : List ℕ) : Type 0 
 
 -- the rooms that a run left, of which these are lent; its log was zero
 pub record RanIn (ed : Edition) (o : Outcome) (p nodes owners children stack : List ℕ) : Type 0 where
-  pub before : Lent
+  pub before : LentAs
   pub marks : List ℕ
   pub keys : List ℕ
   pub held : List ℕ

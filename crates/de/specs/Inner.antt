@@ -11,7 +11,7 @@ use Rattle.refusal.specs.Numbers.{refusedAnswer}
 use Rattle.op.specs.declared.Edition.{Edition}
 use Rattle.rooms.specs.Cleared.{cleared}
 use Rattle.rooms.specs.Stated.{Slices, machineLengths, stated, AllZero, Ready, begun, filled, filled-none, long, rooms-zero}
-use Rattle.store.specs.Effects.{Lengths, Behind}
+use Rattle.store.specs.Effects.{Lengths, AsLentBehind}
 use Rattle.machine.specs.RoomsOf.{roomsOf, lentOf, lentRooms}
 use Rattle.machine.specs.Ran.{Ran, countsOf}
 use Rattle.machine.specs.declared.Outcome.{Outcome}
@@ -42,7 +42,7 @@ module _ {k : ℕ} {s s′ : List ℕ} (b : ClearsTo k s s′) (j : ℕ) (e : j 
   pub back-again : (t : List ℕ) → t ≡ cleared j s′ → t ≡ s
   back-again t q = q ∙ rw e (b .again)
 
--- what a run leaves of the machine's rooms: what the answer asks, and how each is zero again
+-- what a run leaves of the machine's rooms: what the answer asks, and how each is as it came again
 pub record Runs (ed : Edition) (o : Outcome) (p nodes owners children stack marks keys held nodes′ owners′ children′ stack′ marks′ keys′ held′ : List ℕ) : Type 0 where
   pub ran : RanIn ed o p nodes′ owners′ children′ stack′
   pub nodes-back : ClearsTo (2 * countsOf o .nodes) nodes nodes′
@@ -56,13 +56,13 @@ pub record Runs (ed : Edition) (o : Outcome) (p nodes owners children stack mark
 -- ---- the run
 
 -- of a room whose first n are zero, k of them are used
-clears : {k : ℕ} {s s′ : List ℕ} (n : ℕ) → take n s ≡ replicate n 0 → k ≤ n → k ≤ length s′ → Behind k s s′ → ClearsTo k s s′
+clears : {k : ℕ} {s s′ : List ℕ} (n : ℕ) → take n s ≡ replicate n 0 → k ≤ n → k ≤ length s′ → AsLentBehind k s s′ → ClearsTo k s s′
 clears {k} {s} {s′} n z few fits b = record { fits = fits; again = front-cleared n k s s′ (record { zero = z }) few (b .same) }
 
-module _ (p nodes owners children stack marks keys held : List ℕ) (z : AllZero machineLengths (nodes ∷ owners ∷ children ∷ stack ∷ marks ∷ keys ∷ held ∷ [])) where
-  zero-long : (n : ℕ) (room : List ℕ) → take n room ≡ replicate n 0 → n ≤ length room
-  zero-long n room e = zeros-long (record { zero = e })
+zero-long : (n : ℕ) (room : List ℕ) → take n room ≡ replicate n 0 → n ≤ length room
+zero-long n room e = zeros-long (record { zero = e })
 
+module _ (p nodes owners children stack marks keys held : List ℕ) (z : AllZero machineLengths (nodes ∷ owners ∷ children ∷ stack ∷ marks ∷ keys ∷ held ∷ [])) where
   -- what it asks
   pub begins : length p ≤ 65536 → Lengths (lentRooms p nodes owners children stack marks keys held)
   begins h = record {
@@ -96,7 +96,7 @@ module _ (p nodes owners children stack marks keys held : List ℕ) (z : AllZero
 -- ---- the answer
 
 module _ (nodes owners children stack marks keys held unescaped starts sorted measures table text : List ℕ) (r : Ready (nodes ∷ owners ∷ children ∷ stack ∷ marks ∷ keys ∷ held ∷ unescaped ∷ starts ∷ sorted ∷ measures ∷ table ∷ text ∷ [])) where
-  -- what the run asks of its rooms
+  -- the machine's rooms are zero up to their stated lengths
   pub machine-zero : AllZero machineLengths (nodes ∷ owners ∷ children ∷ stack ∷ marks ∷ keys ∷ held ∷ [])
   machine-zero =
       let z = rooms-zero _ r in

@@ -2,7 +2,6 @@
 
 -- building: what each pass leaves is what the next asks for; what a run's answer gives of crate reading's readings
 pub mod Rooms
-pub mod Parts
 pub mod Measured
 pub mod Texts
 pub mod Spelt

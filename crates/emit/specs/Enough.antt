@@ -125,7 +125,7 @@ module _ (t : List Node) (inside : (i j : ℕ) → In j (at t i .kids) → j < l
   walk-fits log list h k l =
       record {
         listed = λ i m. (let a = its-contents i m in omega arith, let a = its-content-items i m in omega arith);
-        logged = l;
+        log-long = l;
         few = let a = all-items t after resolves (after .done) (λ i m. m) in let b = items-spent t 4096 beyond 64 root in omega arith;
       }
     where

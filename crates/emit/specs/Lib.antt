@@ -2,14 +2,12 @@
 
 -- order: the order of two nodes
 pub mod Label
-pub mod Glance
 pub mod Ranks
 -- arrange: Sets and Dicts in order, on nodes: entries in a list, the place of a key, and what the settling of one node after the other leaves
 pub mod Entries
 pub mod Search
 pub mod Moves
 pub mod Arranging
-pub mod Kinds
 pub mod Due
 pub mod Ascending
 pub mod Walked
@@ -22,7 +20,6 @@ pub mod Stores
 pub mod Copies
 pub mod Words
 pub mod Places
-pub mod Forests
 pub mod Leaves
 pub mod Since
 pub mod Calls

@@ -1,7 +1,7 @@
 -- A container's list, walked: its text is written, then child after child; at the end its record and its measure.
 use Prim.Native.Nat.{ℕ, suc, _+_, _-_, _*_, _^_, _/_, _%_, _<_, _≤_}
 use mathlib.Core.Bool.{Bool, true, false, cond}
-use mathlib.Core.List.{List, [], _∷_}
+use mathlib.Core.List.{List, [], _∷_, _++_, append-assoc}
 use mathlib.Core.Path.{_≡_, refl, sym, _∙_, ap}
 use mathlib.Core.Logic.{_≢_, inl}
 use lib.ListN.{length, length-append, getD, take, drop, set}
@@ -10,7 +10,7 @@ use borrow.Author.Tests.{le-ltb, ne-eqb}
 use native.Mathlib.Decide.{ℕ-discrete, decLt}
 use native.Mathlib.Numerals.{add-one}
 use native.Mathlib.Omega.{arith}
-use Rattle.value.specs.Value.{Forest, Value, one, nil, node, kind, textOf, text, size, depth, recordOf, record-length, table as tableOf}
+use Rattle.value.specs.Value.{Forest, Value, one, nil, node, kind, textOf, text, size, depth, recordOf, record-length, table as tableOf, count, table, table-length}
 use Rattle.value.specs.Stands.{_⊕_, size-append}
 use Rattle.steps.specs.State.{Node}
 use Rattle.steps.specs.NodeWords.{first}
@@ -20,17 +20,64 @@ use Rattle.resolve.specs.Ordered.{Final}
 use Rattle.resolve.specs.Moved.{text-before}
 use Rattle.resolve.specs.Ranges.{in-at}
 use Rattle.resolve.specs.Noted.{isContainer}
-use Rattle.resolve.specs.Written.{HasAt, part-stays, Written, written-none, written-node, written-stays}
+use Rattle.resolve.specs.Written.{HasAt, part-stays, Written, written-none, written-node, written-stays, part-join}
 use Rattle.resolve.specs.Shown.{nodeLabel, fromIn, manyIn, listOf, Inside}
 use Rattle.resolve.specs.declared.lists.Range.{Range}
 use Rattle.resolve.specs.NodeList.{Listed, shown-listed, Ranges, list-length, list-at}
 use Rattle.resolve.specs.Kinds.{kindOf, containerKind, kind-is}
 use Rattle.emit.specs.Stores.{sets-before, sets-behind, sets-there, earlier, later, part-late}
 use Rattle.emit.specs.Words.{packedPlace, recordIn, textIn, writtenW, lengthsOf, lengths-all}
-use Rattle.emit.specs.Forests.{text-append, append-none, append-next, depth-behind, written-join}
 use Rattle.emit.specs.Leaves.{TextReady, TextPut, kindBelow, LeafPut, record-at, FinishReady, FinishPut, opened}
 use Rattle.emit.specs.Since.{Since, since-then, since-late, since-measure, since-fresh}
 use Rattle.emit.specs.Calls.{ReadyNode, Flat, Open, PutValue, WroteNode, size-one, text-one, ready-most, ready-below, ready-label, ready-container, ready-text, below-made}
+
+-- ---- values behind others: their text, their records, the nodes that stand for them, and both written
+
+pub text-append : (f g : Forest) → text (f ⊕ g) ≡ text f ++ text g
+unfolding text _⊕_
+text-append nil g = refl
+text-append (node l c r) g = rw (text-append r g) (simp append-assoc)
+
+pub table-append : (f g : Forest) (p : ℕ) → table (f ⊕ g) p ≡ table f p ++ table g (p + length (text f))
+unfolding table text _⊕_
+table-append nil g p = let e : p + 0 ≡ p = omega arith in rw e
+table-append (node l c r) g p =
+    let q = p + length (textOf l) in
+    let u = q + length (text c) in
+    let e : p + length (textOf l ++ (text c ++ text r)) ≡ u + length (text r) = rw (length-append, length-append) (omega arith) in
+    rw (e, table-append r g u)
+    (sym (append-assoc (recordOf l p (count c) (suc (size c))) (table c q ++ table r u) _ ∙ ap (λ (s : List ℕ). recordOf l p (count c) (suc (size c)) ++ s) (append-assoc (table c q) (table r u) _)))
+
+pub append-none : (f : Forest) → f ⊕ nil ≡ f
+unfolding _⊕_
+append-none nil = refl
+append-none (node l c r) = ap (node l c) (append-none r)
+
+-- the first of those behind comes to those before
+pub append-next : (f : Forest) (v : Value) (g : Forest) → (f ⊕ one v) ⊕ g ≡ f ⊕ before v g
+unfolding _⊕_
+append-next nil v g = refl
+append-next (node l c r) v g = ap (node l c) (append-next r v g)
+
+pub depth-behind : (f g : Forest) → depth g ≤ depth (f ⊕ g)
+unfolding depth _⊕_
+depth-behind nil g = omega arith
+depth-behind (node l c r) g = let h = depth-behind r g in omega arith
+
+pub stand-append : {t : List Node} {h : Kids} {is js : List ℕ} {f g : Forest} → Stand t h is f → Stand t h js g → Stand t h (is ++ js) (f ⊕ g)
+unfolding _⊕_
+stand-append sNil b = b
+stand-append (sNode x a) b = sNode x (stand-append a b)
+
+pub written-join : {t : List Node} {h : Kids} {records bytes : List ℕ} {is js : List ℕ} {f g : Forest} (a p : ℕ) → Written t h records bytes is f a p → Written t h records bytes js g (a + size f) (p + length (text f))
+    → Written t h records bytes (is ++ js) (f ⊕ g) a p
+written-join {records = records} {bytes = bytes} {f = f} {g = g} a p x y =
+    let m = table-length f p in
+    record {
+      stands = stand-append (x .stands) (y .stands);
+      table-is = rw (table-append f g p) (part-join records (4 * a) (4 * (a + size f)) _ _ (x .table-is) (omega arith) (y .table-is));
+      text-is = rw (text-append f g) (part-join bytes p (p + length (text f)) _ _ (x .text-is) refl (y .text-is));
+    }
 
 -- ---- a container that is to be walked
 

@@ -273,41 +273,6 @@ fn write_text<'a>(
     to + 1 + 0x1000 * len
 }
 
-// A leaf.
-fn write_leaf<'a>(
-    node: NodeId,
-    to: u64,
-    pickle: &'a [u8],
-    decoded: &'a [u8],
-    nodes: &[u64],
-    measures: &[u64],
-    table: &mut [u64],
-    text: &mut [u8],
-) -> u64
-    requires { ⌜ LeafReady (now pickle) (now decoded) (now nodes) (now measures) (node .0) to (now table) (now text) ⌝ }
-    requires { ⌜ containerKind (kindOf (first (now nodes) (node .0))) ≡ false ⌝ }
-    ensures { λ r. ⌜ LeafPut
-        (nodeLabel (now (pickle .entry)) (now (nodes .entry)) (node .0)) to (now (table .entry))
-        (now (text .entry)) (now (table .exit)) (now (text .exit)) r ⌝ }
-{
-    let i = node.0;
-    let kind = resolve::lists::value_kind(nodes[2 * i]);
-    if kind < value::KIND_BYTES {
-        return write_atom(node, to, nodes, table);
-    }
-    if kind < value::KIND_LIST {
-        return write_text(node, to, pickle, decoded, nodes, measures, table, text);
-    }
-    let at = to / 0x1000;
-    let lengths = put_names(node, pickle, decoded, nodes, measures, text, at as usize);
-    put_record(
-        table,
-        (to % 0x1000) as usize,
-        Record(plain_word(kind), at, lengths, 0),
-    );
-    behind(to, lengths)
-}
-
 // A container that is written already, by its measure, once more.
 fn write_again(measure: u64, to: u64, table: &mut [u64], text: &mut [u8]) -> u64
     requires { ⌜ CopyReady measure to (now table) (now text) ⌝ }
@@ -367,10 +332,24 @@ fn write_flat<'a>(
         put_record(table, (to % 0x1000) as usize, words);
         return to + 1;
     }
-    if resolve::lists::is_container(resolve::lists::value_kind(nodes[2 * i])) {
+    let kind = resolve::lists::value_kind(nodes[2 * i]);
+    if resolve::lists::is_container(kind) {
         return write_again(measures[i], to, table, text);
     }
-    write_leaf(node, to, pickle, decoded, nodes, measures, table, text)
+    if kind < value::KIND_BYTES {
+        return write_atom(node, to, nodes, table);
+    }
+    if kind < value::KIND_LIST {
+        return write_text(node, to, pickle, decoded, nodes, measures, table, text);
+    }
+    let at = to / 0x1000;
+    let lengths = put_names(node, pickle, decoded, nodes, measures, text, at as usize);
+    put_record(
+        table,
+        (to % 0x1000) as usize,
+        Record(plain_word(kind), at, lengths, 0),
+    );
+    behind(to, lengths)
 }
 
 // The measure of a container that is written from `to` on and ends at `next`.

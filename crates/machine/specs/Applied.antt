@@ -10,7 +10,7 @@ use Rattle.store.specs.declared.NodeId.{NodeId}
 use Rattle.store.specs.declared.MemoKey.{MemoKey}
 use Rattle.store.specs.declared.Effect.{Effect}
 use Rattle.store.specs.declared.Effect.the-variants.{Push, Share, Mark, Go, Make, Extend, Remember, Build, Stop, Refused}
-use Rattle.store.specs.Rooms.{Lent, Rooms}
+use Rattle.store.specs.Rooms.{LentAs, Rooms}
 use Rattle.store.specs.Effects.{Fits, enacted}
 use Rattle.machine.specs.declared.effects.Step.{Step}
 use Rattle.machine.specs.declared.effects.Step.the-variants as step
@@ -20,14 +20,14 @@ use Rattle.machine.specs.Memo.{Rememberable}
 use Rattle.machine.specs.Words.{Buildable}
 
 -- rooms that the effect fits, had they been lent in some way and with some pickle
-pub record Fitting (e : Effect) (had : ℕ) (rooms : Lent → List ℕ → Rooms) : Type 0 where
-  pub lent : Lent
+pub record Fitting (e : Effect) (had : ℕ) (rooms : LentAs → List ℕ → Rooms) : Type 0 where
+  pub lent : LentAs
   pub pickle : List ℕ
   pub fits : Fits e (rooms lent pickle) had
 
 -- in whatever way they were lent and with whatever pickle, if it fits the step t has it
-unfoldable pub Applies : Effect → ℕ → Step → (Lent → List ℕ → Rooms) → (Lent → List ℕ → Rooms) → Type 0
-Applies e had t before after = (l : Lent) (p : List ℕ) → Fits e (before l p) had → Done t (before l p) (after l p) (enacted e (before l p) had)
+unfoldable pub Applies : Effect → ℕ → Step → (LentAs → List ℕ → Rooms) → (LentAs → List ℕ → Rooms) → Type 0
+Applies e had t before after = (l : LentAs) (p : List ℕ) → Fits e (before l p) had → Done t (before l p) (after l p) (enacted e (before l p) had)
 
 module _ (r : Rooms) (h : ℕ) (c : Counts) where
   pub push-lengths : (a b : ℕ) → Fits (Push c a b) r h → (8192 ≤ length (r .nodes)) × (2048 ≤ length (r .stack))

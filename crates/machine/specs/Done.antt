@@ -12,7 +12,7 @@ use Rattle.steps.specs.State.{Res, ok, no}
 use Rattle.steps.specs.Run.{Next, goes, stops}
 use Rattle.store.specs.Rooms.{Rooms, stateOf}
 use Rattle.steps.specs.NodeWords.{wordsSet}
-use Rattle.store.specs.Effects.{Firm, Behind}
+use Rattle.store.specs.Effects.{Firm, AsLentBehind}
 use Rattle.machine.specs.declared.effects.Step.{Step}
 use Rattle.machine.specs.declared.effects.Step.the-variants as step
 
@@ -43,13 +43,13 @@ pushedTo c n l = record { at = c .at; nodes = n; links = l; stack = c .stack + 1
 
 -- ---- more of a room used
 
-module _ {n m : ℕ} {lent room : List ℕ} (h : Behind n lent room) (k : n ≤ m) where
+module _ {n m : ℕ} {lent room : List ℕ} (h : AsLentBehind n lent room) (k : n ≤ m) where
   more : drop m room ≡ drop m lent
   more =
       let e : n + (m - n) ≡ m = omega arith in
       rw e at (sym (drop-drop (m - n) n room) ∙ ap (drop (m - n)) (h .same) ∙ drop-drop (m - n) n lent)
 
-  pub behind-set : (p x : ℕ) → p < m → Behind m lent (set room p x)
+  pub behind-set : (p x : ℕ) → p < m → AsLentBehind m lent (set room p x)
   behind-set p x q = record { same = drop-set-lt m room p x q ∙ more }
 
 -- a node's two words, one after the other

@@ -14,11 +14,11 @@ use Rattle.steps.specs.Keeps.{stateAfter}
 use Rattle.steps.specs.Shrinks.{step-less}
 use Rattle.steps.specs.Fuel.{runFrom, run-finish, finish-refused, finish-stops, finish-goes}
 use Rattle.steps.specs.Range.{InRange, step-range, start-range}
-use Rattle.store.specs.Rooms.{Lent, Rooms, stateOf}
+use Rattle.store.specs.Rooms.{LentAs, Rooms, stateOf}
 use Rattle.store.specs.RoomReads.{start-of, input-of}
 use Rattle.store.specs.RoomKeeps.{kept-start}
 use Rattle.store.specs.RoomMemo.{numbered-none}
-use Rattle.store.specs.Effects.{Lengths, Behind, Sound}
+use Rattle.store.specs.Effects.{Lengths, AsLentBehind, Sound}
 use Rattle.machine.specs.declared.effects.Step.{Step}
 use Rattle.machine.specs.declared.effects.Step.the-variants as step-of
 use Rattle.machine.specs.Done.{meant, Stays, Done}
@@ -35,13 +35,13 @@ abbrev pub Stepped : Edition → Step → Counts → Rooms → Rooms → Type 0
 Stepped ed t c r r′ = Done t r r′ (step ed (stateOf r c))
 
 -- rooms that are sound, had they been lent in some way
-pub record SomeSound (c : Counts) (rooms : Lent → Rooms) : Type 0 where
-  pub lent : Lent
+pub record SomeSound (c : Counts) (rooms : LentAs → Rooms) : Type 0 where
+  pub lent : LentAs
   pub sound : Sound (rooms lent) c
 
 -- in whatever way they were lent, if they are sound the step is t
-unfoldable pub Takes : Edition → Step → Counts → (Lent → Rooms) → (Lent → Rooms) → Type 0
-Takes ed t c before after = (l : Lent) → Sound (before l) c → Stepped ed t c (before l) (after l)
+unfoldable pub StepTaken : Edition → Step → Counts → (LentAs → Rooms) → (LentAs → Rooms) → Type 0
+StepTaken ed t c before after = (l : LentAs) → Sound (before l) c → Stepped ed t c (before l) (after l)
 
 -- what an outcome means
 unfoldable pub ended : Outcome → Rooms → Res State
@@ -68,6 +68,38 @@ pub record AsLong (r : Rooms) : Type 0 where
   pub marks : length (r .marks) ≡ length (r .lent .marks)
   pub keys : length (r .keys) ≡ length (r .lent .keys)
   pub held : length (r .held) ≡ length (r .lent .held)
+
+-- ---- rooms as they are lent
+
+as-lent : {n : ℕ} {room : List ℕ} → AsLentBehind n room room
+as-lent = record { same = refl }
+
+-- rooms that are long enough are sound as they are lent
+pub lent-sound : (p nodes owners children stack marks keys held : List ℕ) → Lengths (lentRooms p nodes owners children stack marks keys held) → Sound (lentRooms p nodes owners children stack marks keys held) startCounts
+lent-sound p nodes owners children stack marks keys held l = record {
+  firm = record {
+    lengths = l;
+    at = omega arith;
+    nodes = omega arith;
+    links = omega arith;
+    stack = omega arith;
+    deepest = omega arith;
+    marks = omega arith;
+    most = omega arith;
+    memo = omega arith;
+    numbered = numbered-none keys 0;
+    kept = kept-start nodes owners children;
+    clean = record { nodes = as-lent; owners = as-lent; children = as-lent; stack = as-lent; marks = as-lent; keys = as-lent; held = as-lent };
+  };
+  range = rw (start-of (lentRooms p nodes owners children stack marks keys held)) (start-range p);
+}
+
+-- as a program makes them
+pub made-long : (p : List ℕ) → length p ≤ 65536 → Lengths (lentRooms p (replicate 8192 0) (replicate 8192 0) (replicate 8192 0) (replicate 2048 0) (replicate 256 0) (replicate 1024 0) (replicate 1024 0))
+made-long p h = record { pickle = h; nodes = long 8192; owners = long 8192; children = long 8192; stack = long 2048; marks = long 256; keys = long 1024; held = long 1024 }
+  where
+    long : (n : ℕ) → n ≤ length (replicate {A = ℕ} n 0)
+    long n = rw length-replicate (omega arith)
 
 -- ---- one step
 
@@ -108,36 +140,6 @@ pub record Running (ed : Edition) (p : List ℕ) (r : Rooms) (c : Counts) : Type
   pub left : runFrom ed (stateOf r c) ≡ run ed p
   pub sound : Sound r c
   pub same : r .pickle ≡ p
-
-as-lent : {n : ℕ} {room : List ℕ} → Behind n room room
-as-lent = record { same = refl }
-
--- rooms that are long enough are sound as they are lent
-pub lent-sound : (p nodes owners children stack marks keys held : List ℕ) → Lengths (lentRooms p nodes owners children stack marks keys held) → Sound (lentRooms p nodes owners children stack marks keys held) startCounts
-lent-sound p nodes owners children stack marks keys held l = record {
-  firm = record {
-    lengths = l;
-    at = omega arith;
-    nodes = omega arith;
-    links = omega arith;
-    stack = omega arith;
-    deepest = omega arith;
-    marks = omega arith;
-    most = omega arith;
-    memo = omega arith;
-    numbered = numbered-none keys 0;
-    kept = kept-start nodes owners children;
-    clean = record { nodes = as-lent; owners = as-lent; children = as-lent; stack = as-lent; marks = as-lent; keys = as-lent; held = as-lent };
-  };
-  range = rw (start-of (lentRooms p nodes owners children stack marks keys held)) (start-range p);
-}
-
--- as a program makes them
-pub made-long : (p : List ℕ) → length p ≤ 65536 → Lengths (lentRooms p (replicate 8192 0) (replicate 8192 0) (replicate 8192 0) (replicate 2048 0) (replicate 256 0) (replicate 1024 0) (replicate 1024 0))
-made-long p h = record { pickle = h; nodes = long 8192; owners = long 8192; children = long 8192; stack = long 2048; marks = long 256; keys = long 1024; held = long 1024 }
-  where
-    long : (n : ℕ) → n ≤ length (replicate {A = ℕ} n 0)
-    long n = rw length-replicate (omega arith)
 
 pub running-start : (ed : Edition) (r : Rooms) → Sound r startCounts → Running ed (r .pickle) r startCounts
 running-start ed r s = record { left = rw (start-of r) (sym (run-finish ed (r .pickle))); sound = s; same = refl }

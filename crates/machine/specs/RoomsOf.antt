@@ -25,7 +25,7 @@ use Rattle.value.specs.Shape.{kindIn}
 use Rattle.steps.specs.State.{State, _>>=_, byte, kidless, push}
 use Rattle.steps.specs.Opcodes.{tupleN}
 use Rattle.steps.specs.Run.{going, does, decide, admit, step}
-use Rattle.store.specs.Rooms.{Lent, Rooms, stateOf}
+use Rattle.store.specs.Rooms.{LentAs, Rooms, stateOf}
 use Rattle.steps.specs.NodeWords.{nodeIs, HoldsLinks, aList, aTuple, aDict}
 use Rattle.store.specs.RoomKeeps.{class-none}
 use Rattle.steps.specs.Pickletools.{decided-own}
@@ -33,10 +33,10 @@ use Rattle.store.specs.Effects.{Sound, SomeRooms, Decides, Fits, enacted, refus
 use Rattle.decoder.specs.Reads.{cutTo, bytes-short, bytes-got}
 use Rattle.decoder.specs.ReadsMemo.{sound-read}
 
-abbrev pub roomsOf : Lent → List ℕ → List ℕ → List ℕ → List ℕ → List ℕ → List ℕ → List ℕ → List ℕ → Rooms
+abbrev pub roomsOf : LentAs → List ℕ → List ℕ → List ℕ → List ℕ → List ℕ → List ℕ → List ℕ → List ℕ → Rooms
 roomsOf l p n w c s m k h = record { lent = l; pickle = p; nodes = n; owners = w; children = c; stack = s; marks = m; keys = k; held = h }
 
-abbrev pub lentOf : List ℕ → List ℕ → List ℕ → List ℕ → List ℕ → List ℕ → List ℕ → Lent
+abbrev pub lentOf : List ℕ → List ℕ → List ℕ → List ℕ → List ℕ → List ℕ → List ℕ → LentAs
 lentOf n w c s m k h = record { nodes = n; owners = w; children = c; stack = s; marks = m; keys = k; held = h }
 
 -- before anything is written

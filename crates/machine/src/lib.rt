@@ -20,9 +20,9 @@ ghost use Rattle.steps.specs.Run.{step};
 ghost use Rattle.store.specs.Effects.{SomeRooms, Decides, Lengths};
 ghost use Rattle.machine.specs.RoomsOf.{roomsOf, lentOf, lentRooms, Agrees};
 ghost use Rattle.machine.specs.Applied.{Fitting, Applies};
-ghost use Rattle.machine.specs.Ran.{SomeSound, Takes, Ran};
+ghost use Rattle.machine.specs.Ran.{SomeSound, StepTaken, Ran};
 
-// Has an effect. It reads no pickle: what it does is right for all pickles with which the effect fits.
+// Has an effect. It reads no pickle: what it does is right for all pickles with which the effect fits, and however the rooms were lent.
 fn apply(
     nodes: &mut [u64],
     owners: &mut [u16],
@@ -161,7 +161,7 @@ pub fn take_step(
     requires { ⌜ SomeSound c (λ l. roomsOf l (now pickle)
         (now nodes) (now owners) (now children) (now stack) (now marks) (now keys) (now held)) ⌝ }
     ensures { λ t.
-        ⌜ Takes edition t c
+        ⌜ StepTaken edition t c
         (λ l. roomsOf l (now (pickle .entry)) (now (nodes .entry)) (now (owners .entry)) (now (children .entry)) (now (stack .entry))
         (now (marks .entry)) (now (keys .entry)) (now (held .entry)))
         (λ l. roomsOf l (now (pickle .entry)) (now (nodes .exit)) (now (owners .exit)) (now (children .exit)) (now (stack .exit))

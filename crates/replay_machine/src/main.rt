@@ -142,7 +142,7 @@ fn show_stop(nodes: &[u64], owners: &[u16], children: &[u16], stack: &[u16], c: 
     io::write_all(1, b"\n");
 }
 
-// A pickle in rooms that are all zero.
+// A pickle in rooms of its own, long enough for a run.
 fn in_rooms(pickle: &[u8])
     requires { ⌜ length (now pickle) ≤ 65536 ⌝ }
 {

@@ -27,7 +27,7 @@ use Rattle.resolve.specs.Ranges.{ListsLie}
 use Rattle.resolve.specs.Resolving.{walk-resolves}
 use Rattle.resolve.specs.Fits.{fits-take, fits-block}
 use Rattle.resolve.specs.Facts.{valueWord, kindAt, classAt, Shallow, HoldsWalk}
-use Rattle.resolve.specs.Noting.{Notes}
+use Rattle.resolve.specs.DuesRoom.{Notes}
 use Rattle.resolve.specs.Class.{OwnTextReadable, Owns}
 use Rattle.resolve.specs.Known.{word-big, Yields, Knows, k-open, k-empty, k-word, Learns}
 use Rattle.resolve.specs.Loop.{AtStage, LoopBegins, ChildWalked, Midway, mid-start, called, child-below, too-deep, mid-same, mid-none, mid-word, mid-shallow, mid-finish}

@@ -3,7 +3,7 @@ use Prim.Native.Nat.{ℕ, _+_, _-_, _*_, _^_, _/_, _%_, _<_, _≤_}
 use mathlib.Core.List.{List, _++_}
 use mathlib.Core.Path.{_≡_, sym, _∙_, ap}
 use mathlib.Core.Logic.{_≢_}
-use lib.ListN.{length, length-append, length-take, length-drop, getD, set, take, drop, replicate, length-replicate, getD-replicate, List·getD-map, List·getD-eq-default}
+use lib.ListN.{length, length-append, length-take, length-drop, getD, set, replicate, length-replicate, getD-replicate, List·getD-map, List·getD-eq-default}
 use lib.Seq.{getD-set-other}
 use native.Mathlib.Decide.{decLt}
 use native.Mathlib.Numerals.{add-one}
@@ -62,11 +62,11 @@ len-none p ws a b v w x y z t =
     all (yes l) = getD-replicate 15 (a % 16) 0 0 l
     all (no l) = List·getD-eq-default (replicate 15 0) 0 {n = a % 16} (rw length-replicate (omega arith))
 
--- ---- a part of a text, which may end before it
+-- ---- a text in the pickle, which may end before it
 
-module _ (t : List ℕ) (place n : ℕ) where
-  pub cut-short : (m : ℕ) (l : List ℕ) → length t ≤ m → l ≡ take n (drop place t) → length l ≤ m
-  cut-short m l h e = rw (e, length-take, length-drop) (omega arith)
+pub within-short : (p l : List ℕ) (k w m : ℕ) → length p ≤ m → l ≡ within k w p → length l ≤ m
+unfolding within
+within-short p l k w m h e = rw (e, length-take, length-drop) (omega arith)
 
 -- ---- a line's text, by what the code finds out of it: a line that is refused has none
 
@@ -99,13 +99,13 @@ module _ (l : List ℕ) (r : Decoded) (y : decodedSays r ≡ lengthOf (unescapeU
 
 -- ---- the code's returns, with the words as it reads them
 
-module _ (p : List ℕ) (a b : ℕ) (l m : List ℕ) (x y : ℕ) (el : l ≡ take (a / 16 / 2 ^ 24) (drop (a / 16 % 2 ^ 24) p)) (ex : x ≡ length (repair l)) (em : m ≡ take (b / 2 ^ 32) (drop (b % 2 ^ 32) p)) (ey : y ≡ length (repair m)) where
+module _ (p : List ℕ) (a b : ℕ) (l m : List ℕ) (x y : ℕ) (el : l ≡ within 24 (a / 16) p) (ex : x ≡ length (repair l)) (em : m ≡ within 32 b p) (ey : y ≡ length (repair m)) where
   pub names-len : x + y ≡ namesLen p a b
-  unfolding namesLen moduleOf nameOf within
+  unfolding namesLen moduleOf nameOf
   names-len = rw (ex, ey, el, em) (sym (length-append (moduleOf p a) (nameOf p b)))
 
   pub names-short : length p ≤ 65536 → x + y ≤ 393216
-  names-short h = omega (arith, repair-length l, repair-length m, cut-short p (a / 16 % 2 ^ 24) (a / 16 / 2 ^ 24) 65536 l h el, cut-short p (b % 2 ^ 32) (b / 2 ^ 32) 65536 m h em)
+  names-short h = omega (arith, repair-length l, repair-length m, within-short p l 24 (a / 16) 65536 h el, within-short p m 32 b 65536 h em)
 
 -- a and b are node i's words, n the text's length
 module _ (p ws : List ℕ) (i a b : ℕ) (ea : a ≡ getD ws (2 * i) 0) (eb : b ≡ getD ws (2 * i + 1) 0) where
@@ -117,12 +117,10 @@ module _ (p ws : List ℕ) (i a b : ℕ) (ea : a ≡ getD ws (2 * i) 0) (eb : b 
   unfolding lenIs kindIn
   of-kind k e = rw (← e) of-words
 
-  pub len-bytes : (l : List ℕ) → a % 16 ≡ 4 → l ≡ take (b / 2 ^ 32) (drop (b % 2 ^ 32) p) → length l ≡ textLen p ws i
-  unfolding within
+  pub len-bytes : (l : List ℕ) → a % 16 ≡ 4 → l ≡ within 32 b p → length l ≡ textLen p ws i
   len-bytes l e x = ap length x ∙ of-kind 4 e
 
-  pub len-string : (l : List ℕ) (n : ℕ) → a % 16 ≡ 5 → l ≡ take (b / 2 ^ 32) (drop (b % 2 ^ 32) p) → n ≡ length (repair l) → n ≡ textLen p ws i
-  unfolding within
+  pub len-string : (l : List ℕ) (n : ℕ) → a % 16 ≡ 5 → l ≡ within 32 b p → n ≡ length (repair l) → n ≡ textLen p ws i
   len-string l n e x y = y ∙ ap (λ (t : List ℕ). length (repair t)) x ∙ of-kind 5 e
 
   pub len-global : (n : ℕ) → a % 16 ≡ 11 → n ≡ namesLen p a b → n ≡ textLen p ws i
@@ -133,12 +131,10 @@ module _ (p ws : List ℕ) (i a b : ℕ) (ea : a ≡ getD ws (2 * i) 0) (eb : b 
   unfolding namesLen first second classIn
   len-object n e x = x ∙ ap (λ (k : ℕ). namesLen p (getD ws (2 * (a / 64)) 0) (getD ws k 0)) (add-one (2 * (a / 64))) ∙ of-kind 12 e
 
-  pub len-escaped : (l : List ℕ) (n : ℕ) → a % 16 ≡ 13 → l ≡ take (b / 2 ^ 32) (drop (b % 2 ^ 32) p) → n ≡ length (bytesOf (unescapeString l)) → n ≡ textLen p ws i
-  unfolding within
+  pub len-escaped : (l : List ℕ) (n : ℕ) → a % 16 ≡ 13 → l ≡ within 32 b p → n ≡ length (bytesOf (unescapeString l)) → n ≡ textLen p ws i
   len-escaped l n e x y = y ∙ ap (λ (t : List ℕ). length (bytesOf (unescapeString t))) x ∙ of-kind 13 e
 
-  pub len-unicode : (l : List ℕ) (n : ℕ) → a % 16 ≡ 14 → l ≡ take (b / 2 ^ 32) (drop (b % 2 ^ 32) p) → n ≡ length (bytesOf (unescapeUnicode l)) → n ≡ textLen p ws i
-  unfolding within
+  pub len-unicode : (l : List ℕ) (n : ℕ) → a % 16 ≡ 14 → l ≡ within 32 b p → n ≡ length (bytesOf (unescapeUnicode l)) → n ≡ textLen p ws i
   len-unicode l n e x y = y ∙ ap (λ (t : List ℕ). length (bytesOf (unescapeUnicode t))) x ∙ of-kind 14 e
 
   pub len-nothing : a % 16 ≢ 4 → a % 16 ≢ 5 → a % 16 ≢ 11 → a % 16 ≢ 12 → a % 16 ≢ 13 → a % 16 ≢ 14 → 0 ≡ textLen p ws i

@@ -13,7 +13,6 @@ pub mod Inside
 pub mod Dues
 pub mod Compare
 pub mod Whole
-pub mod Found
 pub mod Moved
 pub mod Written
 pub mod Capacity
@@ -37,7 +36,6 @@ pub mod Spell
 pub mod TextsDue
 -- siblings: each node's children side by side
 pub mod LinkSums
-pub mod Store
 pub mod ChildWords
 pub mod Layout
 pub mod Runs
@@ -48,7 +46,6 @@ pub mod Length
 pub mod MeasureWord
 pub mod Blocked
 pub mod Facts
-pub mod Noting
 pub mod Known
 pub mod Class
 pub mod Loop

@@ -20,7 +20,7 @@ use Rattle.resolve.specs.Dues.{dues}
 use Rattle.resolve.specs.Noted.{isContainer}
 use Rattle.resolve.specs.Fits.{FitsState, fits-put, fits-same, fits-finish}
 use Rattle.resolve.specs.Facts.{valueWord, kindAt, Facts, Shallow, HoldsWalk, one-more, note-fits}
-use Rattle.resolve.specs.Noting.{Notes}
+use Rattle.resolve.specs.DuesRoom.{Notes}
 
 -- the rooms hold some state of a walk over some nodes, in which container n is at stage m with its children as they were; the room of dues, lent
 -- as it was, has room

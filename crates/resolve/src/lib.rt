@@ -6,6 +6,8 @@ pub mod lists;
 pub mod siblings;
 pub mod texts;
 
+use crate::texts::module_text;
+use crate::texts::raw_text;
 use store::NodeId;
 use text::Decoded;
 use text::Quoted;
@@ -21,7 +23,7 @@ ghost use Rattle.text.specs.Text.{unescapeString, unescapeUnicode};
 ghost use Rattle.resolve.specs.Length.{namesLen, textLen, LengthReadable};
 ghost use Rattle.resolve.specs.MeasureWord.{packW};
 ghost use Rattle.resolve.specs.Blocked.{argumentsTaken};
-ghost use Rattle.resolve.specs.Noting.{Notes};
+ghost use Rattle.resolve.specs.DuesRoom.{Notes};
 ghost use Rattle.resolve.specs.Class.{OwnTextReadable, Owns};
 ghost use Rattle.resolve.specs.Known.{Learns};
 ghost use Rattle.resolve.specs.Ends.{Opens, Walks};
@@ -61,7 +63,7 @@ fn most(x: u64, y: u64) -> u64
     if x < y { y } else { x }
 }
 
-// A word of its parts.
+// A measure's word, values and text capped. The bound on depth is only so that nothing wraps.
 fn measure_word(depth: u64, values: u64, text_len: u64) -> u64
     requires { ⌜ depth ≤ 128 ⌝ }
     ensures { λ r. ⌜ r ≡ packW depth values «text_len» ⌝ }
@@ -76,12 +78,8 @@ fn global_text_len(pickle: &[u8], a: u64, b: u64) -> usize
     requires { ⌜ length (now pickle) ≤ 65536 ⌝ }
     ensures { λ r. ⌜ r ≡ namesLen (now (pickle .entry)) a b ⌝ }
 {
-    let module = repaired_len(value::cut(
-        pickle,
-        a / store::KIND_RADIX % store::MODULE_LEN_AT,
-        a / store::KIND_RADIX / store::MODULE_LEN_AT,
-    ));
-    let name = repaired_len(value::cut(pickle, b % store::HALF, b / store::HALF));
+    let module = repaired_len(module_text(pickle, a));
+    let name = repaired_len(raw_text(pickle, b));
     module + name
 }
 
@@ -114,15 +112,13 @@ fn node_text_len(pickle: &[u8], nodes: &[u64], node: NodeId) -> usize
     let i = node.0;
     let a = nodes[2 * i];
     let b = nodes[2 * i + 1];
-    let place = b % store::HALF;
-    let len = b / store::HALF;
     let kind = a % store::KIND_RADIX;
     if kind == value::KIND_BYTES {
-        let bytes = value::cut(pickle, place, len);
+        let bytes = raw_text(pickle, b);
         return bytes.len();
     }
     if kind == value::KIND_STRING {
-        return repaired_len(value::cut(pickle, place, len));
+        return repaired_len(raw_text(pickle, b));
     }
     if kind == value::KIND_GLOBAL {
         return global_text_len(pickle, a, b);
@@ -132,10 +128,10 @@ fn node_text_len(pickle: &[u8], nodes: &[u64], node: NodeId) -> usize
         return global_text_len(pickle, nodes[2 * class.0], nodes[2 * class.0 + 1]);
     }
     if kind == store::KIND_ESCAPED {
-        return string_text_len(value::cut(pickle, place, len));
+        return string_text_len(raw_text(pickle, b));
     }
     if kind == store::KIND_UNICODE {
-        return unicode_text_len(value::cut(pickle, place, len));
+        return unicode_text_len(raw_text(pickle, b));
     }
     0
 }

@@ -176,7 +176,7 @@ fn decoded_measure(at: usize, lead: usize, trail: usize) -> u64
 }
 
 // The module of a Global with this first word, as it stands in the pickle.
-fn module_text(pickle: &[u8], first: u64) -> &[u8]
+pub fn module_text(pickle: &[u8], first: u64) -> &[u8]
     ensures { λ r. ⌜ now r ≡ within 24 (first / 16) (now (pickle .entry)) ⌝ }
 {
     let word = first / store::KIND_RADIX;
@@ -188,7 +188,7 @@ fn module_text(pickle: &[u8], first: u64) -> &[u8]
 }
 
 // The text of a node with this second word, as it stands in the pickle.
-fn raw_text(pickle: &[u8], second: u64) -> &[u8]
+pub fn raw_text(pickle: &[u8], second: u64) -> &[u8]
     ensures { λ r. ⌜ now r ≡ within 32 second (now (pickle .entry)) ⌝ }
 {
     value::cut(pickle, second % store::HALF, second / store::HALF)

@@ -75,19 +75,19 @@ pub record Lengths (r : Rooms) : Type 0 where
   pub keys : memoLimit ≤ length (r .keys)
   pub held : memoLimit ≤ length (r .held)
 
--- behind its first n numbers a room is as it was lent
-pub record Behind (n : ℕ) (lent room : List ℕ) : Type 0 where
+-- a room is as it was lent but for its first n numbers
+pub record AsLentBehind (n : ℕ) (lent room : List ℕ) : Type 0 where
   pub same : drop n room ≡ drop n lent
 
--- nothing but what was used was written
+-- behind what the counts say each room is as it was lent
 pub record Clean (r : Rooms) (c : Counts) : Type 0 where
-  pub nodes : Behind (2 * c .nodes) (r .lent .nodes) (r .nodes)
-  pub owners : Behind (c .links) (r .lent .owners) (r .owners)
-  pub children : Behind (c .links) (r .lent .children) (r .children)
-  pub stack : Behind (c .deepest) (r .lent .stack) (r .stack)
-  pub marks : Behind (c .most) (r .lent .marks) (r .marks)
-  pub keys : Behind (c .memo) (r .lent .keys) (r .keys)
-  pub held : Behind (c .memo) (r .lent .held) (r .held)
+  pub nodes : AsLentBehind (2 * c .nodes) (r .lent .nodes) (r .nodes)
+  pub owners : AsLentBehind (c .links) (r .lent .owners) (r .owners)
+  pub children : AsLentBehind (c .links) (r .lent .children) (r .children)
+  pub stack : AsLentBehind (c .deepest) (r .lent .stack) (r .stack)
+  pub marks : AsLentBehind (c .most) (r .lent .marks) (r .marks)
+  pub keys : AsLentBehind (c .memo) (r .lent .keys) (r .keys)
+  pub held : AsLentBehind (c .memo) (r .lent .held) (r .held)
 
 pub record Firm (r : Rooms) (c : Counts) : Type 0 where
   pub lengths : Lengths r

@@ -12,7 +12,7 @@ use Rattle.value.specs.Shape.{kindIn, newIn, stateIn}
 use Rattle.steps.specs.State.{ok, kidless}
 use Rattle.steps.specs.Run.{run}
 use Rattle.steps.specs.Examples.{shared}
-use Rattle.store.specs.Rooms.{Lent, Rooms, Counts, tabulated, linkedItems, entries, stateOf}
+use Rattle.store.specs.Rooms.{LentAs, Rooms, Counts, tabulated, linkedItems, entries, stateOf}
 use Rattle.steps.specs.NodeWords.{first, second, within, classIn, moduleOf, nameOf, partsOf, nodeIs}
 
 -- opens what the examples compute with
@@ -21,7 +21,7 @@ unfolding utf8-evaluates text-evaluates bytesOf kindIn newIn stateIn tabulated l
 evaluates = tt
 
 -- how the rooms were lent does not count
-abbrev noRooms : Lent
+abbrev noRooms : LentAs
 noRooms = record { nodes = []; owners = []; children = []; stack = []; marks = []; keys = []; held = [] }
 
 -- the pickle of `shared`: a List of the 5, and a Tuple of it twice; what lies behind the counts does not count

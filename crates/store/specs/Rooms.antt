@@ -12,7 +12,7 @@ use Rattle.steps.specs.NodeWords.{first, second, classIn, nodeIs, HoldsLinks}
 pub use Rattle.store.specs.declared.Counts.{Counts}
 
 -- the rooms as a run was lent them
-pub record Lent : Type 0 where
+pub record LentAs : Type 0 where
   pub nodes : List ℕ
   pub owners : List ℕ
   pub children : List ℕ
@@ -23,7 +23,7 @@ pub record Lent : Type 0 where
 
 -- the rooms: the pickle, two words a node, the log of links (owner, child), stack, marks, the memo (number, node); and as they were lent
 pub record Rooms : Type 0 where
-  pub lent : Lent
+  pub lent : LentAs
   pub pickle : List ℕ
   pub nodes : List ℕ
   pub owners : List ℕ

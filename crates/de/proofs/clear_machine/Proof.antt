@@ -46,51 +46,17 @@ module _ (c : tie.After-slice-known14) where
   abbrev nodes : tie.After-zero-words
   nodes = owners .before .before .before .before
 
-zero-words-requires : tie.Need-zero-words-requires
-zero-words-requires c κs = c .before .before .before .before .before .before .before .before .pre .0
-
-zero-shorts-requires : tie.Need-zero-shorts-requires
-zero-shorts-requires c κs = from-nodes (c .before .before .before) .pre .1 .0
-
-zero-shorts-requires-2 : tie.Need-zero-shorts-requires-2
-zero-shorts-requires-2 c κs = from-owners (c .before .before .before) .pre .1 .1 .0
-
-zero-shorts-requires-3 : tie.Need-zero-shorts-requires-3
-zero-shorts-requires-3 c κs = from-children (c .before .before .before) .pre .1 .1 .1 .0
-
-zero-shorts-requires-4 : tie.Need-zero-shorts-requires-4
-zero-shorts-requires-4 c κs = from-stack (c .before .before .before) .pre .1 .1 .1 .1 .0
-
-zero-ints-requires : tie.Need-zero-ints-requires
-zero-ints-requires c κs = from-marks (c .before .before .before) .pre .1 .1 .1 .1 .1 .0
-
-zero-shorts-requires-5 : tie.Need-zero-shorts-requires-5
-zero-shorts-requires-5 c κs = from-keys (c .before .before .before) .pre .1 .1 .1 .1 .1 .1 .0
-
-same-length : tie.Need-same-length
-same-length c = nodes c .zero-words .kept .0
-
-same-length-2 : tie.Need-same-length-2
-same-length-2 c = owners c .zero-shorts .kept .0
-
-same-length-3 : tie.Need-same-length-3
-same-length-3 c = children c .zero-shorts2 .kept .0
-
-same-length-4 : tie.Need-same-length-4
-same-length-4 c = stack c .zero-shorts3 .kept .0
-
-same-length-5 : tie.Need-same-length-5
-same-length-5 c = marks c .zero-shorts4 .kept .0
-
-same-length-6 : tie.Need-same-length-6
-same-length-6 c = keys c .zero-ints .kept .0
-
-same-length-7 : tie.Need-same-length-7
-same-length-7 c = held c .zero-shorts5 .kept .0
-
 returns : tie.Need-returns
 unfolding blank
 returns c = same-slices (nodes c .zero-words .ensures) (same-slices (owners c .zero-shorts .ensures) (same-slices (children c .zero-shorts2 .ensures) (same-slices (stack c .zero-shorts3 .ensures) (same-slices (marks c .zero-shorts4 .ensures) (same-slices (keys c .zero-ints .ensures) (same-slices (held c .zero-shorts5 .ensures) refl))))))
 
 pub clear-machine-spec : {M : Type 1} → statement M
-clear-machine-spec = tie.close (tie.spec zero-words-requires zero-shorts-requires zero-shorts-requires-2 zero-shorts-requires-3 zero-shorts-requires-4 zero-ints-requires zero-shorts-requires-5 same-length same-length-2 same-length-3 same-length-4 same-length-5 same-length-6 same-length-7 returns)
+clear-machine-spec =
+    tie.close
+    (tie.spec
+    (λ c κs. c .before .before .before .before .before .before .before .before .pre .0) (λ c κs. from-nodes (c .before .before .before) .pre .1 .0)
+    (λ c κs. from-owners (c .before .before .before) .pre .1 .1 .0) (λ c κs. from-children (c .before .before .before) .pre .1 .1 .1 .0)
+    (λ c κs. from-stack (c .before .before .before) .pre .1 .1 .1 .1 .0) (λ c κs. from-marks (c .before .before .before) .pre .1 .1 .1 .1 .1 .0)
+    (λ c κs. from-keys (c .before .before .before) .pre .1 .1 .1 .1 .1 .1 .0) (λ c. nodes c .zero-words .kept .0)
+    (λ c. owners c .zero-shorts .kept .0) (λ c. children c .zero-shorts2 .kept .0) (λ c. stack c .zero-shorts3 .kept .0)
+    (λ c. marks c .zero-shorts4 .kept .0) (λ c. keys c .zero-ints .kept .0) (λ c. held c .zero-shorts5 .kept .0) returns)

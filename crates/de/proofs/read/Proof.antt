@@ -58,9 +58,6 @@ returns c =
 run-requires : tie.Need-run-requires
 run-requires c κs = let e = c .before .before .before .before .before .before .before in let s = begun e in begins _ _ _ _ _ _ _ _ (machine-zero _ _ _ _ _ _ _ _ _ _ _ _ _ (s .pre)) (e .if1 .left)
 
-clear-ints-requires : tie.Need-clear-ints-requires
-clear-ints-requires c κs = let k = c .before in back-fits (ran (run k) .keys-back) _ (ap (λ (x : Counts). x .memo) (counted k))
-
 -- ---- its answer
 
 answer-requires : tie.Need-answer-requires
@@ -108,8 +105,9 @@ pub read-spec : {M : Type 1} → statement M
 read-spec =
     tie.close
     (tie.spec
-    (λ c κs. tt) returns run-requires (λ c κs. tt) clear-ints-requires answer-requires mul-clear-words clear-words-requires
-    clear-shorts-requires clear-shorts-requires-2 clear-shorts-requires-3
+    (λ c κs. tt) returns run-requires (λ c κs. tt)
+    (λ c κs. let k = c .before in back-fits (ran (run k) .keys-back) _ (ap (λ (x : Counts). x .memo) (counted k))) answer-requires mul-clear-words
+    clear-words-requires clear-shorts-requires clear-shorts-requires-2 clear-shorts-requires-3
     (λ c. c .before .before .before .before .before .before .before .before .before .before .before .before .before .before .clear-words .kept .0 ∙ run (counts (listed (told c))) .run .kept .1 .1 .0)
     (λ c. told c .answer .kept .1 .1 .1 .1 .1 .1 .0 ∙ run (counts (listed (told c))) .run .kept .1 .1 .1 .0)
     (λ c. told c .answer .kept .1 .1 .1 .1 .1 .1 .1 .0 ∙ run (counts (listed (told c))) .run .kept .1 .1 .1 .1 .0)
@@ -117,6 +115,7 @@ read-spec =
     (λ c. c .before .before .before .before .before .before .clear-shorts2 .kept .0 ∙ run (counts (listed (told c))) .run .kept .1 .1 .1 .1 .1 .1 .0)
     (λ c. told c .answer .kept .1 .1 .1 .1 .1 .1 .1 .1 .0 ∙ listed (told c) .clear-ints .kept .0 ∙ run (counts (listed (told c))) .run .kept .1 .1 .1 .1 .1 .1 .1 .0)
     (λ c. c .before .before .clear-shorts3 .kept .0 ∙ run (counts (listed (told c))) .run .kept .1 .1 .1 .1 .1 .1 .1 .1 .0)
-    (λ c. told c .answer .kept .1 .1 .1 .1 .1 .1 .1 .1 .1 .0) (λ c. told c .answer .kept .1 .1 .1 .1 .1 .1 .1 .1 .1 .1 .0) (λ c. told c .answer .kept .1 .1 .1 .1 .1 .1 .1 .1 .1 .1 .1 .0)
-    (λ c. told c .answer .kept .1 .1 .1 .1 .1 .1 .1 .1 .1 .1 .1 .1 .0) (λ c. told c .answer .kept .1 .1 .1 .1 .1 .1 .1 .1 .1 .1 .1 .1 .1 .0) (λ c. told c .answer .kept .1 .1 .1 .1 .1 .1 .1 .1 .1 .1 .1 .1 .1 .1 .0)
+    (λ c. told c .answer .kept .1 .1 .1 .1 .1 .1 .1 .1 .1 .0) (λ c. told c .answer .kept .1 .1 .1 .1 .1 .1 .1 .1 .1 .1 .0)
+    (λ c. told c .answer .kept .1 .1 .1 .1 .1 .1 .1 .1 .1 .1 .1 .0) (λ c. told c .answer .kept .1 .1 .1 .1 .1 .1 .1 .1 .1 .1 .1 .1 .0)
+    (λ c. told c .answer .kept .1 .1 .1 .1 .1 .1 .1 .1 .1 .1 .1 .1 .1 .0) (λ c. told c .answer .kept .1 .1 .1 .1 .1 .1 .1 .1 .1 .1 .1 .1 .1 .1 .0)
     returns-2)

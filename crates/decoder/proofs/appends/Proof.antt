@@ -20,9 +20,6 @@ taken c = rw (c .m .given .1) at (c .before .before .above-mark .ensures)
 below : (c : tie.After-m) → let a = start c .args in (c .m .given .0 .0 ≤ a .c .stack) × (0 < a .c .marks)
 below c = took-below _ _ _ (taken c) (some-less (λ r q. q .2) (start c .pre))
 
-above-mark-requires : tie.Need-above-mark-requires
-above-mark-requires c κs = some-less (λ r q. q .2) (c .before .before .before .pre)
-
 grown-requires : tie.Need-grown-requires
 grown-requires c κs = (some-less (λ r q. (q .0, q .1)) (start (c .before .before) .pre), (below (c .before .before) .0, omega arith, lists refl))
 
@@ -35,4 +32,8 @@ unfolding Decides Adds TakesMark
 returns-2 c = λ r s q. rw (appends-adds r _ s _ (taken (c .before .before .before) r s (q .2))) at (c .grown .ensures r s (q .0) (q .1))
 
 pub appends-spec : {M : Type 1} → statement M
-appends-spec = tie.close (tie.spec above-mark-requires (λ c. search needs) (λ c. search needs) (λ c. let b = below (c .before .before) in omega arith) grown-requires returns returns-2)
+appends-spec =
+    tie.close
+    (tie.spec
+    (λ c κs. some-less (λ r q. q .2) (c .before .before .before .pre)) (λ c. search needs) (λ c. search needs)
+    (λ c. let b = below (c .before .before) in omega arith) grown-requires returns returns-2)

@@ -8,9 +8,6 @@ use Rattle.steps.specs.Opcodes.{binfloat}
 use Rattle.value.specs.Value.{F64L}
 use Rattle.input.specs.Bytes.{highFirst}
 
-sub-if1 : tie.Need-sub-if1
-sub-if1 c = let h = lent-at _ _ (c .before .pre) in omega arith
-
 returns : tie.Need-returns
 unfolding binfloat
 returns c = bytes-end _ _ 8 (λ b. F64L (highFirst b)) (c .if1 .taken)
@@ -20,4 +17,7 @@ unfolding binfloat
 returns-2 c = bytes-push _ _ 8 (λ b. F64L (highFirst b)) _ _ _ (lent-at _ _ (c .before .before .before .before .pre)) (omega arith) (makes-as _ _ _ _ _ (c .f64-at .ensures) (makes-f64 _ _)) (c .before .read-to .ensures)
 
 pub binfloat-spec : {M : Type 1} → statement M
-binfloat-spec = tie.close (tie.spec sub-if1 returns (λ c. search needs) (λ c κs. search needs) (λ c κs. search needs) returns-2)
+binfloat-spec =
+    tie.close
+    (tie.spec
+    (λ c. let h = lent-at _ _ (c .before .pre) in omega arith) returns (λ c. search needs) (λ c κs. search needs) (λ c κs. search needs) returns-2)

@@ -6,9 +6,6 @@ use native.Mathlib.Omega.{arith}
 use Rattle.decoder.specs.ReadsPickle.{lent-at, lent-size}
 use Rattle.decoder.proofs.LawsPickle.{binstring-ends, binstring-below, binstring-short, binstring-push}
 
-sub-if1 : tie.Need-sub-if1
-sub-if1 c = let h = lent-at _ _ (c .before .pre) in omega arith
-
 returns : tie.Need-returns
 returns c = binstring-ends _ _ (c .if1 .taken)
 
@@ -18,13 +15,15 @@ returns-2 c = binstring-below _ _ (λ i. omega (arith, c .before .before .before
 returns-3 : tie.Need-returns-3
 returns-3 c = binstring-short _ _ (λ i. omega (arith, c .before .before .before .before .shared-slice-known .given i)) (omega arith) _ (c .before .before .i32-at .ensures) (omega arith) (c .if3 .taken)
 
-text-word-requires : tie.Need-text-word-requires
-text-word-requires c κs = let z = lent-size _ _ (c .before .before .before .before .before .before .pre) in omega arith
-
 returns-4 : tie.Need-returns-4
 returns-4 c =
     let z = lent-size _ _ (c .before .before .before .before .before .before .before .pre) in
     binstring-push _ _ (λ i. omega (arith, c .before .before .before .before .before .before .shared-slice-known .given i)) (omega arith) _ (c .before .before .before .before .i32-at .ensures) (omega arith) _ _ (omega arith) (c .text-word .ensures) (omega arith) (c .before .read-to .ensures)
 
 pub binstring-spec : {M : Type 1} → statement M
-binstring-spec = tie.close (tie.spec sub-if1 returns (λ c κs. search needs) returns-2 (λ c. search needs) (λ c. search needs) returns-3 (λ c. search needs) (λ c. search needs) (λ c κs. search needs) (λ c. search needs) text-word-requires returns-4)
+binstring-spec =
+    tie.close
+    (tie.spec
+    (λ c. let h = lent-at _ _ (c .before .pre) in omega arith) returns (λ c κs. search needs) returns-2 (λ c. search needs) (λ c. search needs)
+    returns-3 (λ c. search needs) (λ c. search needs) (λ c κs. search needs) (λ c. search needs)
+    (λ c κs. let z = lent-size _ _ (c .before .before .before .before .before .before .pre) in omega arith) returns-4)

@@ -12,9 +12,6 @@ use Rattle.utf8.specs.Utf8.{repair}
 text : (c : tie.After-at) → let a = c .before .before .before .before .args in TextAt (a .pickle .now) 4 (a .c .at) (c .at .given .0 .0) (c .at .given .0 .1 .0)
 text c = text-found _ _ _ (c .before .before .prefixed .ensures) (c .before .before .before .before .pre) (c .at .given .1)
 
-prefixed-requires : tie.Need-prefixed-requires
-prefixed-requires c κs = (lent-at _ _ (c .before .pre), omega arith)
-
 returns : tie.Need-returns
 unfolding binunicode
 returns c = text-ends _ _ _ (c .before .before .prefixed .ensures) (λ b. StringL (repair b)) (c .enum-told .given .1)
@@ -24,4 +21,8 @@ unfolding binunicode
 returns-2 c = text-push _ _ _ (λ b. StringL (repair b)) (makes-string _) (text (c .before .before .before)) (c .text-word .ensures) (c .before .read-to .ensures)
 
 pub binunicode-spec : {M : Type 1} → statement M
-binunicode-spec = tie.close (tie.spec prefixed-requires (λ c. search needs) (λ c. search needs) (λ c. let t = text (c .before) in omega arith) (λ c κs. search needs) (λ c κs. let t = text (c .before .before) in omega arith) returns returns-2)
+binunicode-spec =
+    tie.close
+    (tie.spec
+    (λ c κs. (lent-at _ _ (c .before .pre), omega arith)) (λ c. search needs) (λ c. search needs) (λ c. let t = text (c .before) in omega arith)
+    (λ c κs. search needs) (λ c κs. let t = text (c .before .before) in omega arith) returns returns-2)

@@ -23,12 +23,6 @@ returns : tie.Need-returns
 unfolding Decides
 returns c = λ r s q. says-build-short r _ s _ _ (q .0) (q .1) (c .if1 .taken)
 
-shared-slice-read-t12 : tie.Need-shared-slice-read-t12
-shared-slice-read-t12 c = two (c .before .before .before) .lower
-
-shared-slice-read-t12-2 : tie.Need-shared-slice-read-t12-2
-shared-slice-read-t12-2 c = two (read c) .upper
-
 returns-2 : tie.Need-returns-2
 unfolding Decides
 returns-2 c = λ r s q. says-no-object r _ s _ _ (q .0) (q .1) (omega arith) (λ e. c .if2 .taken (c .before .kind .ensures ∙ e))
@@ -38,4 +32,10 @@ unfolding Decides
 returns-3 c = λ r s q. says-build r _ s _ _ (q .0) (q .1) (omega arith) _ _ _ refl refl (sym (c .before .before .kind .ensures) ∙ c .before .if2 .left) (c .cut-to .ensures)
 
 pub build-state-spec : {M : Type 1} → statement M
-build-state-spec = tie.close (tie.spec returns (λ c. search needs) (λ c. search needs) shared-slice-read-t12 (λ c. omega (arith, c .shared-slice-known3 .given (start (c .before .before .before) .args .c .stack - 2))) (λ c. search needs) shared-slice-read-t12-2 (λ c. omega (arith, c .shared-slice-known4 .given (start (read c) .args .c .stack - 1))) (λ c κs. let t = two (read c) in omega arith) returns-2 (λ c κs. search needs) returns-3)
+build-state-spec =
+    tie.close
+    (tie.spec
+    returns (λ c. search needs) (λ c. search needs) (λ c. two (c .before .before .before) .lower)
+    (λ c. omega (arith, c .shared-slice-known3 .given (start (c .before .before .before) .args .c .stack - 2))) (λ c. search needs)
+    (λ c. two (read c) .upper) (λ c. omega (arith, c .shared-slice-known4 .given (start (read c) .args .c .stack - 1)))
+    (λ c κs. let t = two (read c) in omega arith) returns-2 (λ c κs. search needs) returns-3)

@@ -21,12 +21,6 @@ read c = c .before .before .before .before
 returns : tie.Need-returns
 returns c = reads-short _ _ _ (c .if1 .taken)
 
-shared-slice-read-t12 : tie.Need-shared-slice-read-t12
-shared-slice-read-t12 c = two (c .before .before .before) .lower
-
-shared-slice-read-t12-2 : tie.Need-shared-slice-read-t12-2
-shared-slice-read-t12-2 c = two (read c) .upper
-
 returns-2 : tie.Need-returns-2
 returns-2 c = reads-no-class _ _ _ (omega arith) (λ e. c .if2 .taken (c .before .kind .ensures ∙ e))
 
@@ -37,4 +31,10 @@ returns-4 : tie.Need-returns-4
 returns-4 c = reads-both _ _ _ (omega arith) (sym (c .before .before .before .kind .ensures) ∙ c .before .before .if2 .left) _ _ refl refl (sym (c .before .kind2 .ensures) ∙ c .if3 .left)
 
 pub class-and-arguments-spec : {M : Type 1} → statement M
-class-and-arguments-spec = tie.close (tie.spec returns (λ c. search needs) (λ c. search needs) shared-slice-read-t12 (λ c. omega (arith, c .shared-slice-known3 .given (start (c .before .before .before) .args .c .stack - 2))) (λ c. search needs) shared-slice-read-t12-2 (λ c. omega (arith, c .shared-slice-known4 .given (start (read c) .args .c .stack - 1))) (λ c κs. let t = two (read c) in omega arith) returns-2 (λ c κs. let t = two (read (c .before .before)) in omega arith) returns-3 returns-4)
+class-and-arguments-spec =
+    tie.close
+    (tie.spec
+    returns (λ c. search needs) (λ c. search needs) (λ c. two (c .before .before .before) .lower)
+    (λ c. omega (arith, c .shared-slice-known3 .given (start (c .before .before .before) .args .c .stack - 2))) (λ c. search needs)
+    (λ c. two (read c) .upper) (λ c. omega (arith, c .shared-slice-known4 .given (start (read c) .args .c .stack - 1)))
+    (λ c κs. let t = two (read c) in omega arith) returns-2 (λ c κs. let t = two (read (c .before .before)) in omega arith) returns-3 returns-4)

@@ -19,9 +19,6 @@ sub-if1 c = let b = took-below _ _ _ (taken (c .before .before)) (c .before .bef
 abbrev mark : tie.After-struct-known2 → tie.After-m
 mark c = c .before .before .before .before
 
-sub-cut-to : tie.Need-sub-cut-to
-sub-cut-to c = let b = took-below _ _ _ (taken (mark c)) (mark c .before .before .before .before .pre) in omega arith
-
 returns : tie.Need-returns
 unfolding Decides TakesMark
 returns c = λ r s q. says-refused _ r _ _ (dict-underflow r _ s (rw (c .enum-told .given .1) at (c .before .before .above-mark .ensures) r s q))
@@ -35,4 +32,9 @@ unfolding Decides TakesMark
 returns-3 c = λ r s q. says-refused _ r _ _ (dict-odd r _ s _ (taken (c .before .before .before) r s q) (c .if1 .left))
 
 pub dict-spec : {M : Type 1} → statement M
-dict-spec = tie.close (tie.spec (λ c κs. search needs) (λ c. search needs) (λ c. search needs) sub-if1 sub-cut-to (λ c κs. search needs) returns returns-2 returns-3)
+dict-spec =
+    tie.close
+    (tie.spec
+    (λ c κs. search needs) (λ c. search needs) (λ c. search needs) sub-if1
+    (λ c. let b = took-below _ _ _ (taken (mark c)) (mark c .before .before .before .before .pre) in omega arith) (λ c κs. search needs) returns
+    returns-2 returns-3)

@@ -17,9 +17,6 @@ ends c = line-found _ _ (c .before .before .newline .ensures) (c .before .before
 abbrev end : tie.After-parse-f64 → tie.After-end
 end c = c .before .before .before
 
-line-requires : tie.Need-line-requires
-line-requires c κs = let e = ends (c .before) in (e .low, e .inside)
-
 returns : tie.Need-returns
 unfolding float
 returns c = line-ends _ _ parseF64 F64L (c .before .before .newline .ensures) (c .enum-told .given .1)
@@ -43,4 +40,9 @@ returns-4 c =
     line-bad _ _ parseF64 F64L (ends (end r)) (r .before .line .ensures) (float-outside _ _ (r .parse-f64 .ensures) (c .enum-told3 .given .1))
 
 pub float-spec : {M : Type 1} → statement M
-float-spec = tie.close (tie.spec (λ c κs. search needs) (λ c. search needs) (λ c. search needs) line-requires (λ c κs. search needs) (λ c. search needs) (λ c. let e = ends (end (c .before .before .before)) in omega arith) (λ c κs. search needs) (λ c. search needs) (λ c. search needs) returns returns-2 returns-3 returns-4)
+float-spec =
+    tie.close
+    (tie.spec
+    (λ c κs. search needs) (λ c. search needs) (λ c. search needs) (λ c κs. let e = ends (c .before) in (e .low, e .inside)) (λ c κs. search needs)
+    (λ c. search needs) (λ c. let e = ends (end (c .before .before .before)) in omega arith) (λ c κs. search needs) (λ c. search needs)
+    (λ c. search needs) returns returns-2 returns-3 returns-4)

@@ -8,9 +8,6 @@ use Rattle.decoder.specs.declared.Taken.the-variants.{From}
 use Rattle.decoder.specs.Items.{TakesMark}
 use Rattle.decoder.specs.StackSteps.{took-below, gathered-underflow, gathered-makes}
 
-above-mark-requires : tie.Need-above-mark-requires
-above-mark-requires c κs = c .before .pre .0
-
 -- the mark that was found
 taken : (c : tie.After-m) → let a = c .before .before .before .before .args in TakesMark (a .c) (a .marks .now) (From (c .m .given .0 .0))
 taken c = rw (c .m .given .1) at (c .before .before .above-mark .ensures)
@@ -27,4 +24,7 @@ unfolding Decides TakesMark
 returns-2 c = λ r s q. let m = c .before .before .before in rw (c .cut-to .ensures) (gathered-makes r _ s _ _ (m .before .before .before .before .pre .1) (taken m r s q))
 
 pub gather-spec : {M : Type 1} → statement M
-gather-spec = tie.close (tie.spec above-mark-requires (λ c. search needs) (λ c. search needs) sub-cut-to (λ c κs. search needs) returns returns-2)
+gather-spec =
+    tie.close
+    (tie.spec
+    (λ c κs. c .before .pre .0) (λ c. search needs) (λ c. search needs) sub-cut-to (λ c κs. search needs) returns returns-2)

@@ -31,12 +31,6 @@ small c =
     let f = last (to c) in
     (omega arith, omega arith, line-size e (c .before .line .ensures), line-size f (c .line2 .ensures))
 
-line-requires : tie.Need-line-requires
-line-requires c κs = let e = ends (first (c .before)) in (e .low, e .inside)
-
-line-requires-2 : tie.Need-line-requires-2
-line-requires-2 c κs = let e = last (c .before .before) in (e .low, e .inside)
-
 returns : tie.Need-returns
 returns c = global-ends _ _ (c .before .before .newline .ensures) (c .enum-told .given .1)
 
@@ -49,4 +43,11 @@ returns-3 c =
     global-push _ _ (ends (first (to l))) (last (to l)) (l .before .line .ensures) (l .line2 .ensures) refl (c .text-word .ensures) (c .before .read-to .ensures)
 
 pub global-spec : {M : Type 1} → statement M
-global-spec = tie.close (tie.spec (λ c κs. search needs) (λ c. search needs) (λ c. search needs) (λ c. let e = ends (c .before) in omega arith) (λ c κs. search needs) (λ c. search needs) (λ c. search needs) line-requires line-requires-2 (λ c. let e = last (to c) in omega arith) (λ c κs. search needs) (λ c. let s = small (c .before) in omega arith) (λ c. let s = small (c .before) in omega arith) (λ c. let s = small (c .before) in omega arith) (λ c. let s = small (c .before) in omega arith) (λ c κs. let s = small (c .before) in omega arith) returns returns-2 returns-3)
+global-spec =
+    tie.close
+    (tie.spec
+    (λ c κs. search needs) (λ c. search needs) (λ c. search needs) (λ c. let e = ends (c .before) in omega arith) (λ c κs. search needs)
+    (λ c. search needs) (λ c. search needs) (λ c κs. let e = ends (first (c .before)) in (e .low, e .inside))
+    (λ c κs. let e = last (c .before .before) in (e .low, e .inside)) (λ c. let e = last (to c) in omega arith) (λ c κs. search needs)
+    (λ c. let s = small (c .before) in omega arith) (λ c. let s = small (c .before) in omega arith) (λ c. let s = small (c .before) in omega arith)
+    (λ c. let s = small (c .before) in omega arith) (λ c κs. let s = small (c .before) in omega arith) returns returns-2 returns-3)

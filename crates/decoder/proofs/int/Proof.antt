@@ -16,9 +16,6 @@ ends c = line-found _ _ (c .before .before .newline .ensures) (c .before .before
 abbrev end : tie.After-int → tie.After-end
 end c = c .before .before .before
 
-line-requires : tie.Need-line-requires
-line-requires c κs = let e = ends (c .before) in (e .low, e .inside)
-
 returns : tie.Need-returns
 unfolding int
 returns c = line-ends _ _ intLiteral intLabel (c .before .before .newline .ensures) (c .enum-told .given .1)
@@ -42,4 +39,10 @@ returns-4 c =
     line-bad _ _ intLiteral intLabel (ends (end r)) (r .before .line .ensures) (int-bad _ _ (r .int .ensures) (c .enum-told2 .given .1))
 
 pub int-spec : {M : Type 1} → statement M
-int-spec = tie.close (tie.spec (λ c κs. search needs) (λ c. search needs) (λ c. search needs) line-requires (λ c κs. search needs) (λ c. search needs) (λ c. let e = ends (end (c .before .before .before)) in omega arith) (λ c κs. search needs) (λ c. search needs) (λ c. search needs) (λ c. let e = ends (end (c .before .before .before)) in omega arith) (λ c κs. search needs) (λ c. search needs) returns returns-2 returns-3 returns-4)
+int-spec =
+    tie.close
+    (tie.spec
+    (λ c κs. search needs) (λ c. search needs) (λ c. search needs) (λ c κs. let e = ends (c .before) in (e .low, e .inside)) (λ c κs. search needs)
+    (λ c. search needs) (λ c. let e = ends (end (c .before .before .before)) in omega arith) (λ c κs. search needs) (λ c. search needs)
+    (λ c. search needs) (λ c. let e = ends (end (c .before .before .before)) in omega arith) (λ c κs. search needs) (λ c. search needs) returns
+    returns-2 returns-3 returns-4)

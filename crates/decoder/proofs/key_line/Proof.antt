@@ -20,9 +20,6 @@ ends c = sym (rw (c .end .given .1) at (c .before .before .newline .ensures))
 abbrev end : tie.After-parse-u32 → tie.After-end
 end c = c .before .before .before
 
-line-requires : tie.Need-line-requires
-line-requires c κs = let f = newline-first _ _ _ (ends (c .before)) in (f .low, f .inside)
-
 add-t12 : tie.Need-add-t12
 add-t12 c = let f = newline-first _ _ _ (ends (end (c .before .before .before))) in omega (arith, end (c .before .before .before) .before .before .before .before .good)
 
@@ -39,4 +36,8 @@ unfolding ReadsKey u32Read invalid
 returns-3 c = λ r s q. let n = c .before .before in key-invalid r _ _ s q _ (ends (end n)) (ap parseU32 (sym (n .before .line .ensures)) ∙ sym (rw (c .enum-told2 .given .1) at (n .parse-u32 .ensures)))
 
 pub key-line-spec : {M : Type 1} → statement M
-key-line-spec = tie.close (tie.spec (λ c κs. search needs) (λ c. search needs) (λ c. search needs) line-requires (λ c κs. search needs) (λ c. search needs) add-t12 (λ c. search needs) returns returns-2 returns-3)
+key-line-spec =
+    tie.close
+    (tie.spec
+    (λ c κs. search needs) (λ c. search needs) (λ c. search needs) (λ c κs. let f = newline-first _ _ _ (ends (c .before)) in (f .low, f .inside))
+    (λ c κs. search needs) (λ c. search needs) add-t12 (λ c. search needs) returns returns-2 returns-3)

@@ -18,9 +18,6 @@ ends c = line-found _ _ (c .before .before .newline .ensures) (c .before .before
 abbrev end : tie.After-long-text → tie.After-end
 end c = c .before .before .before
 
-line-requires : tie.Need-line-requires
-line-requires c κs = let e = ends (c .before) in (e .low, e .inside)
-
 returns : tie.Need-returns
 unfolding long
 returns c = line-ends _ _ longLiteral (λ z. I64L (bits64 z)) (c .before .before .newline .ensures) (c .enum-told .given .1)
@@ -38,4 +35,9 @@ returns-3 c =
     line-bad _ _ longLiteral (λ z. I64L (bits64 z)) (ends (end r)) (r .before .line .ensures) (long-bad _ _ (r .long-text .ensures) (c .enum-told2 .given .1))
 
 pub long-spec : {M : Type 1} → statement M
-long-spec = tie.close (tie.spec (λ c κs. search needs) (λ c. search needs) (λ c. search needs) line-requires (λ c κs. search needs) (λ c. search needs) (λ c. let e = ends (end (c .before .before .before)) in omega arith) (λ c κs. search needs) (λ c. search needs) returns returns-2 returns-3)
+long-spec =
+    tie.close
+    (tie.spec
+    (λ c κs. search needs) (λ c. search needs) (λ c. search needs) (λ c κs. let e = ends (c .before) in (e .low, e .inside)) (λ c κs. search needs)
+    (λ c. search needs) (λ c. let e = ends (end (c .before .before .before)) in omega arith) (λ c κs. search needs) (λ c. search needs) returns
+    returns-2 returns-3)

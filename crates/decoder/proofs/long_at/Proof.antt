@@ -13,9 +13,6 @@ part c = c .before .before .before
 add-end : tie.Need-add-end
 add-end c = let x = part-inside _ _ _ _ (c .before .before .before .prefixed .ensures) _ _ (c .before .from .given .1) .1 in omega arith
 
-part-long-end : tie.Need-part-long-end
-part-long-end c = part-inside _ _ _ _ (c .before .before .before .prefixed .ensures) _ _ (c .before .from .given .1) .1
-
 returns : tie.Need-returns
 returns c = long-short _ _ _ _ (c .before .before .prefixed .ensures) (c .enum-told .given .1)
 
@@ -26,4 +23,9 @@ returns-3 : tie.Need-returns-3
 returns-3 c = let l = c .before .before in long-outside _ _ _ _ (part l .before .before .prefixed .ensures) _ _ (part l .from .given .1) _ (l .long .ensures) (c .enum-told2 .given .1)
 
 pub long-at-spec : {M : Type 1} → statement M
-long-at-spec = tie.close (tie.spec (λ c κs. search needs) (λ c. search needs) (λ c. search needs) add-end (λ c. search needs) (λ c. search needs) part-long-end (λ c κs. search needs) (λ c. search needs) (λ c. search needs) returns returns-2 returns-3)
+long-at-spec =
+    tie.close
+    (tie.spec
+    (λ c κs. search needs) (λ c. search needs) (λ c. search needs) add-end (λ c. search needs) (λ c. search needs)
+    (λ c. part-inside _ _ _ _ (c .before .before .before .prefixed .ensures) _ _ (c .before .from .given .1) .1) (λ c κs. search needs)
+    (λ c. search needs) (λ c. search needs) returns returns-2 returns-3)

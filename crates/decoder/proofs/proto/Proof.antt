@@ -6,9 +6,6 @@ use native.Mathlib.Omega.{arith}
 use Rattle.decoder.specs.ReadsPickle.{lent-at}
 use Rattle.decoder.proofs.LawsPickle.{proto-ends, proto-new, proto-known}
 
-sub-if1 : tie.Need-sub-if1
-sub-if1 c = let h = lent-at _ _ (c .before .pre) in omega arith
-
 returns : tie.Need-returns
 returns c = proto-ends _ _ _ (c .if1 .taken)
 
@@ -19,4 +16,8 @@ returns-3 : tie.Need-returns-3
 returns-3 c = proto-known _ _ _ (omega arith) _ (omega arith) (c .read-to .ensures)
 
 pub proto-spec : {M : Type 1} → statement M
-proto-spec = tie.close (tie.spec sub-if1 returns (λ c. search needs) returns-2 (λ c. search needs) (λ c κs. search needs) returns-3)
+proto-spec =
+    tie.close
+    (tie.spec
+    (λ c. let h = lent-at _ _ (c .before .pre) in omega arith) returns (λ c. search needs) returns-2 (λ c. search needs) (λ c κs. search needs)
+    returns-3)

@@ -18,12 +18,14 @@ returns c = λ r s q. put-none r _ s _ (c .if1 .taken)
 abbrev start : tie.After-shared-slice-known → tie.Start
 start c = c .before .before .before .before
 
-shared-slice-read-t9 : tie.Need-shared-slice-read-t9
-shared-slice-read-t9 c = let l = start c .pre in omega (arith, stack-room (start c .args .c) (l .rooms) (l .sound) _ (l .agrees))
-
 returns-2 : tie.Need-returns-2
 unfolding Decides
 returns-2 c = λ r s q. put-some r _ s _ _ (omega arith) (ap (λ l. getD l (start c .args .c .stack - 1) 0) (sym q))
 
 pub put-spec : {M : Type 1} → statement M
-put-spec = tie.close (tie.spec returns (λ c. search needs) (λ c. search needs) shared-slice-read-t9 (λ c. omega (arith, c .shared-slice-known .given (start c .args .c .stack - 1))) returns-2)
+put-spec =
+    tie.close
+    (tie.spec
+    returns (λ c. search needs) (λ c. search needs)
+    (λ c. let l = start c .pre in omega (arith, stack-room (start c .args .c) (l .rooms) (l .sound) _ (l .agrees)))
+    (λ c. omega (arith, c .shared-slice-known .given (start c .args .c .stack - 1))) returns-2)

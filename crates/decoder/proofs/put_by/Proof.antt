@@ -15,9 +15,6 @@ read c = c .before .before
 abbrev start : tie.After-at → tie.Start
 start c = read c .before .before .before
 
-key-by-requires : tie.Need-key-by-requires
-key-by-requires c κs = let l = c .before .before .pre in omega (arith, l .sound .firm .at, ap length (l .agrees .0))
-
 put-requires : tie.Need-put-requires
 put-requires c κs = let k = c .before .before in op-lent _ _ _ (put-keyed (start k .args .form)) _ _ _ _ (λ r q. q .0) (λ r q. q .1) _ (read k .key-by .ensures) _ _ _ (k .at .given .1) (c .read-to .ensures) (start k .pre)
 
@@ -28,4 +25,8 @@ returns-2 : tie.Need-returns-2
 returns-2 c = let k = c .before .before .before in op-went _ _ _ (put-keyed (start k .args .form)) _ _ _ _ (λ r q. q .0) (λ r q. q .1) _ (read k .key-by .ensures) _ _ _ _ (k .at .given .1) (c .before .read-to .ensures) (c .put .ensures)
 
 pub put-by-spec : {M : Type 1} → statement M
-put-by-spec = tie.close (tie.spec key-by-requires (λ c. search needs) (λ c. search needs) (λ c κs. search needs) put-requires returns returns-2)
+put-by-spec =
+    tie.close
+    (tie.spec
+    (λ c κs. let l = c .before .before .pre in omega (arith, l .sound .firm .at, ap length (l .agrees .0))) (λ c. search needs) (λ c. search needs)
+    (λ c κs. search needs) put-requires returns returns-2)

@@ -20,15 +20,9 @@ taken c = rw (c .m .given .1) at (c .before .before .above-mark .ensures)
 below : (c : tie.After-m) → let a = start c .args in (c .m .given .0 .0 ≤ a .c .stack) × (0 < a .c .marks)
 below c = took-below _ _ _ (taken c) (some-less (λ r q. q .2) (start c .pre))
 
-above-mark-requires : tie.Need-above-mark-requires
-above-mark-requires c κs = some-less (λ r q. q .2) (c .before .before .before .pre)
-
 -- what is above it comes in pairs
 abbrev mark : tie.After-struct-known2 → tie.After-m
 mark c = c .before .before .before .before
-
-grown-requires : tie.Need-grown-requires
-grown-requires c κs = (some-less (λ r q. (q .0, q .1)) (start (mark c) .pre), (below (mark c) .0, omega arith, dicts refl))
 
 returns : tie.Need-returns
 unfolding Decides TakesMark
@@ -43,4 +37,9 @@ unfolding Decides TakesMark
 returns-3 c = λ r s q. says-refused _ r _ _ (setitems-odd r _ s _ (taken (c .before .before .before) r s (q .2)) (λ e. omega (arith, e, c .if1 .left)))
 
 pub setitems-spec : {M : Type 1} → statement M
-setitems-spec = tie.close (tie.spec above-mark-requires (λ c. search needs) (λ c. search needs) (λ c. let b = below (c .before .before) in omega arith) (λ c. let b = below (mark c) in omega arith) grown-requires returns returns-2 returns-3)
+setitems-spec =
+    tie.close
+    (tie.spec
+    (λ c κs. some-less (λ r q. q .2) (c .before .before .before .pre)) (λ c. search needs) (λ c. search needs)
+    (λ c. let b = below (c .before .before) in omega arith) (λ c. let b = below (mark c) in omega arith)
+    (λ c κs. (some-less (λ r q. (q .0, q .1)) (start (mark c) .pre), (below (mark c) .0, omega arith, dicts refl))) returns returns-2 returns-3)

@@ -26,9 +26,6 @@ plain c = c .before .before
 abbrev escaped : tie.After-enum-told3 → tie.After-string-len
 escaped c = c .before .before
 
-line-requires : tie.Need-line-requires
-line-requires c κs = let e = ends (c .before) in (e .low, e .inside)
-
 sub-text-word : tie.Need-sub-text-word
 sub-text-word c =
     let t = c .before .before in
@@ -78,4 +75,10 @@ returns-4 c =
     line-bad _ _ unescapeString BytesL (ends (end r)) (r .before .line .ensures) (string-bad _ _ (r .string-len .ensures) _ (c .enum-told4 .given .1))
 
 pub string-spec : {M : Type 1} → statement M
-string-spec = tie.close (tie.spec (λ c κs. search needs) (λ c. search needs) (λ c. search needs) line-requires (λ c κs. search needs) (λ c. search needs) (λ c. let e = ends (end (plain c)) in omega arith) (λ c κs. search needs) (λ c. search needs) sub-text-word text-word-requires (λ c. search needs) (λ c. let e = ends (end (escaped c)) in omega arith) (λ c κs. search needs) text-word-requires-2 (λ c. search needs) returns returns-2 returns-3 returns-4)
+string-spec =
+    tie.close
+    (tie.spec
+    (λ c κs. search needs) (λ c. search needs) (λ c. search needs) (λ c κs. let e = ends (c .before) in (e .low, e .inside)) (λ c κs. search needs)
+    (λ c. search needs) (λ c. let e = ends (end (plain c)) in omega arith) (λ c κs. search needs) (λ c. search needs) sub-text-word text-word-requires
+    (λ c. search needs) (λ c. let e = ends (end (escaped c)) in omega arith) (λ c κs. search needs) text-word-requires-2 (λ c. search needs) returns
+    returns-2 returns-3 returns-4)

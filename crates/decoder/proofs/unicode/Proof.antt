@@ -20,9 +20,6 @@ line c = c .before .before .before
 abbrev end : tie.After-line → tie.After-end
 end c = c .before .before
 
-line-requires : tie.Need-line-requires
-line-requires c κs = let e = ends (c .before) in (e .low, e .inside)
-
 text-word-requires : tie.Need-text-word-requires
 text-word-requires c κs =
     let l = line (c .before) in
@@ -49,4 +46,9 @@ returns-3 c =
     line-bad _ _ unescapeUnicode StringL (ends (end (r .before))) (r .before .line .ensures) (unicode-bad _ _ (r .unicode-len .ensures) _ (c .enum-told3 .given .1))
 
 pub unicode-spec : {M : Type 1} → statement M
-unicode-spec = tie.close (tie.spec (λ c κs. search needs) (λ c. search needs) (λ c. search needs) line-requires (λ c κs. search needs) (λ c. search needs) (λ c. let e = ends (end (line c)) in omega arith) (λ c κs. search needs) text-word-requires (λ c. search needs) returns returns-2 returns-3)
+unicode-spec =
+    tie.close
+    (tie.spec
+    (λ c κs. search needs) (λ c. search needs) (λ c. search needs) (λ c κs. let e = ends (c .before) in (e .low, e .inside)) (λ c κs. search needs)
+    (λ c. search needs) (λ c. let e = ends (end (line c)) in omega arith) (λ c κs. search needs) text-word-requires (λ c. search needs) returns
+    returns-2 returns-3)

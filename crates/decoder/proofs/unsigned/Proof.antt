@@ -8,17 +8,15 @@ use Rattle.value.specs.Value.{I64L}
 use Rattle.input.specs.Bytes.{lowFirst}
 use Rattle.steps.specs.State.{push}
 
-sub-if1 : tie.Need-sub-if1
-sub-if1 c = let h = lent-at _ _ (c .before .pre .0) in omega arith
-
 returns : tie.Need-returns
 returns c = same-step _ _ (unsigned _) (fixed _ (λ b. I64L (lowFirst b))) _ (λ s. low-is _ s (λ q. push (I64L (q .0)) (q .1))) (bytes-end _ _ _ (λ b. I64L (lowFirst b)) (c .if1 .taken))
 
 returns-2 : tie.Need-returns-2
 returns-2 c = same-step _ _ (unsigned _) (fixed _ (λ b. I64L (lowFirst b))) _ (λ s. low-is _ s (λ q. push (I64L (q .0)) (q .1))) (bytes-push _ _ _ (λ b. I64L (lowFirst b)) _ _ _ (lent-at _ _ (c .before .before .before .before .pre .0)) (omega arith) (makes-as _ _ _ _ _ (c .low-at .ensures .0) (makes-i64 _ _)) (c .before .read-to .ensures))
 
-low-at-requires : tie.Need-low-at-requires
-low-at-requires c κs = let h = lent-at _ _ (c .before .before .before .pre .0) in (omega arith, c .before .before .before .pre .1)
-
 pub unsigned-spec : {M : Type 1} → statement M
-unsigned-spec = tie.close (tie.spec sub-if1 returns (λ c. search needs) (λ c κs. search needs) low-at-requires returns-2)
+unsigned-spec =
+    tie.close
+    (tie.spec
+    (λ c. let h = lent-at _ _ (c .before .pre .0) in omega arith) returns (λ c. search needs) (λ c κs. search needs)
+    (λ c κs. let h = lent-at _ _ (c .before .before .before .pre .0) in (omega arith, c .before .before .before .pre .1)) returns-2)

@@ -4,9 +4,6 @@ use borrow.Author.Needs.{needs}
 use Rattle.emit.proofs.write_again.Statement.{statement}
 use Rattle.emit.proofs.write_again.Tie as tie
 
-copy-records-requires : tie.Need-copy-records-requires
-copy-records-requires c κs = search needs
-
 returns : tie.Need-returns
 returns c = search needs
 
@@ -14,5 +11,5 @@ pub write-again-spec : {M : Type 1} → statement M
 write-again-spec =
     tie.close
     (tie.spec
-    copy-records-requires (λ c κs. search needs) (λ c. search needs) (λ c. search needs) (λ c. search needs) (λ c. search needs) (λ c. search needs)
+    (λ c κs. search needs) (λ c κs. search needs) (λ c. search needs) (λ c. search needs) (λ c. search needs) (λ c. search needs) (λ c. search needs)
     returns)

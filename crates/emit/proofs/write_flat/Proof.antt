@@ -2,14 +2,17 @@
 use borrow.Author.Needs.{needs}
 use Rattle.emit.proofs.write_flat.Statement.{statement}
 use Rattle.emit.proofs.write_flat.Tie as tie
-use Prim.Native.Nat.{_*_, _<_}
+use Prim.Native.Nat.{ℕ, _*_, _<_, _≤_}
 use mathlib.Core.Bool.{true, false}
+use mathlib.Core.List.{List}
 use mathlib.Core.Path.{_≡_, refl, sym, _∙_}
 use native.Mathlib.Omega.{arith}
 use lib.ListN.{length}
 use Rattle.steps.specs.NodeWords.{first}
 use Rattle.resolve.specs.Kinds.{kindOf, containerKind}
-use Rattle.emit.specs.Calls.{Flat, size-one, ready-most, ready-inside, flat-none, flat-copy, flat-copied, flat-leaf-ready, flat-made}
+use Rattle.resolve.specs.Shown.{nodeLabel}
+use Rattle.emit.specs.Leaves.{LeafReady, LeafPut, atom-ready, atom-leaf, named-kind, names-fit, names-leaf}
+use Rattle.emit.specs.Calls.{Flat, PutValue, size-one, ready-most, ready-inside, flat-none, flat-copy, flat-copied, flat-leaf-ready, flat-made}
 
 -- ---- the places: the node is one of the nodes, and whether it is a container
 
@@ -46,29 +49,63 @@ put-record-requires c κs = let r = c .before .before .before .before .before .b
 returns : tie.Need-returns
 returns c F = flat-none F _ _ _ (c .before .before .before .before .before .if1 .taken) (c .before .before .before .before .record-of .ensures) (c .before .before .put-record .ensures) refl
 
-shared-slice-read-value-kind : tie.Need-shared-slice-read-value-kind
-shared-slice-read-value-kind c = inside (c .before) .0
-
-shared-slice-read-write-again : tie.Need-shared-slice-read-write-again
-shared-slice-read-write-again c = inside (some (c .before .before)) .1
-
 write-again-requires : tie.Need-write-again-requires
 write-again-requires c κs = let b = c .before .before .before in let e = some (b .before) in flat-copy (start e .pre) (small e (start e .pre)) (container b)
 
 returns-2 : tie.Need-returns-2
 returns-2 c F = let w = c .before .before .before .before in let b = w .before .before .before .before in flat-copied F (small (some (b .before)) F) (container b) _ _ _ (w .write-again .ensures)
 
-write-leaf-requires : tie.Need-write-leaf-requires
-write-leaf-requires c κs = let b = c .before .before in let e = some (b .before) in (flat-leaf-ready (start e .pre) (small e (start e .pre)) (leaf b), leaf b)
+-- ---- a leaf, by its kind
+
+module _ (c : tie.Else2) where
+  abbrev args : tie.Start
+  args = start (some (c .before))
+
+  kind-is : c .before .before .value-kind .result ≡ kindOf (first (args .args .nodes .now) (args .args .node .0))
+  unfolding first
+  kind-is = c .before .before .value-kind .ensures
+
+  ready : let a = args .args in LeafReady (a .pickle .now) (a .decoded .now) (a .nodes .now) (a .measures .now) (a .node .0) (a .to) (a .table .now) (a .text .now)
+  ready = flat-leaf-ready (args .pre) (small (some (c .before)) (args .pre)) (leaf c)
+
+  -- and what it has put there is the value
+  made : (F : Flats args) (table′ bytes′ : List ℕ) (r : ℕ) → let a = args .args in LeafPut (nodeLabel (a .pickle .now) (a .nodes .now) (a .node .0)) (a .to) (a .table .now) (a .text .now) table′ bytes′ r
+      → PutValue (F .ready .t) (F .ready .h) (F .ready .v) (a .node .0) (a .to) (a .table .now) (a .text .now) table′ bytes′ r
+  made F = flat-made F (small (some (c .before)) F) (leaf c)
+
+-- a name's
+named : (c : tie.Else4) → let s = args (c .before .before) in 6 ≤ kindOf (first (s .args .nodes .now) (s .args .node .0))
+named c = omega (arith, kind-is (c .before .before), c .if4 .left)
 
 returns-3 : tie.Need-returns-3
-returns-3 c F = let w = c .before .before .before .before in let b = w .before .before .before in flat-made F (small (some (b .before)) F) (leaf b) _ _ _ (w .write-leaf .ensures)
+returns-3 c F =
+    let n = c .before .before .before .before in
+    made (n .before) F _ _ _ (atom-leaf (ready (n .before)) (omega (arith, kind-is (n .before), n .if3 .taken)) _ _ (c .before .before .write-atom .ensures))
+
+returns-4 : tie.Need-returns-4
+returns-4 c F = made (c .before .before .before .before .before .before .before .before .before) F _ _ _ (c .before .before .before .before .write-text .ensures)
+
+plain-word-requires : tie.Need-plain-word-requires
+plain-word-requires c κs = let n = c .before .before .before .before .before in let b = n .before .before in omega (arith, kind-is b, named-kind (ready b) (leaf b) (named n))
+
+returns-5 : tie.Need-returns-5
+returns-5 c F =
+    let w = c .before .before .before .before .before .before .before .before in
+    let n = w .before .before in
+    let b = n .before .before in
+    made b F _ _ _ (names-leaf (ready b) (leaf b) (named n) _ _ (w .put-names .ensures) _ _ (rw (c .before .before .before .before .plain-word .ensures ∙ kind-is b) at (c .before .before .before .put-record2 .ensures)) (c .behind .ensures))
 
 pub write-flat-spec : {M : Type 1} → statement M
 write-flat-spec =
     tie.close
     (tie.spec
-    (λ c κs. search needs) put-record-requires (λ c. search needs) (λ c. search needs) returns (λ c. omega (arith, inside c .0))
-    (λ c. omega (arith, inside c .0)) shared-slice-read-value-kind (λ c κs. search needs) (λ c κs. search needs)
-    (λ c. omega (arith, inside (some (c .before)) .1)) shared-slice-read-write-again write-again-requires (λ c. search needs) (λ c. search needs) returns-2
-    write-leaf-requires (λ c. search needs) (λ c. search needs) returns-3)
+    (λ c κs. search needs) put-record-requires (λ c. search needs) (λ c. search needs) returns (λ c. omega (arith, inside c .0)) (λ c. omega (arith, inside c .0))
+    (λ c. inside (c .before) .0) (λ c κs. search needs) (λ c κs. search needs) (λ c. omega (arith, inside (some (c .before)) .1))
+    (λ c. inside (some (c .before .before)) .1) write-again-requires (λ c. search needs) (λ c. search needs) returns-2
+    (λ c κs. atom-ready (ready (c .before .before))) (λ c. search needs) returns-3
+    (λ c κs. let n = c .before .before in let k = kind-is (n .before .before) in (ready (n .before .before), (omega (arith, n .before .if3 .left), omega (arith, n .if4 .taken))))
+    (λ c. search needs) (λ c. search needs) returns-4
+    (λ c κs. let n = c .before in let b = n .before .before in (ready b .text-ready, omega (arith, named-kind (ready b) (leaf b) (named n))))
+    plain-word-requires (λ c κs. omega (arith, ready (c .before .before .before .before .before .before .before .before) .records))
+    (λ c κs. let w = c .before .before .before .before .before .before .before in let n = w .before .before in names-fit (ready (n .before .before)) (leaf (n .before .before)) (named n) _ _ (w .put-names .ensures))
+    (λ c. search needs) (λ c. search needs) returns-5)

@@ -29,14 +29,8 @@ flat c = c .before .before .before .before
 is-open-requires : tie.Need-is-open-requires
 is-open-requires c κs = let R = root-ready (c .before .before .before .before .before .before .before .before .before .before .pre) in (ready-inside R, ready-most R)
 
-write-requires : tie.Need-write-requires
-write-requires c κs = let w = c .before .before .before in root-open (start (w .before) .pre) (walked w)
-
 returns : tie.Need-returns
 returns c G = let w = c .before .before .before .before .before .before in root-wrote G (walked (walk w)) _ _ _ _ (w .write .ensures (root-open G (walked (walk w))))
-
-write-flat-requires : tie.Need-write-flat-requires
-write-flat-requires c κs = let f = c .before .before .before in root-flat (start (f .before) .pre) (closed f)
 
 returns-2 : tie.Need-returns-2
 returns-2 c G = let f = c .before .before .before .before in root-made G (closed (flat f)) _ _ _ (f .write-flat .ensures (root-flat G (closed (flat f))))
@@ -45,5 +39,6 @@ pub write-root-spec : {M : Type 1} → statement M
 write-root-spec =
     tie.close
     (tie.spec
-    is-open-requires write-requires (λ c. search needs) (λ c. search needs) (λ c. search needs) returns write-flat-requires (λ c. search needs)
-    (λ c. search needs) (λ c. search needs) returns-2)
+    is-open-requires (λ c κs. let w = c .before .before .before in root-open (start (w .before) .pre) (walked w)) (λ c. search needs)
+    (λ c. search needs) (λ c. search needs) returns (λ c κs. let f = c .before .before .before in root-flat (start (f .before) .pre) (closed f))
+    (λ c. search needs) (λ c. search needs) (λ c. search needs) returns-2)

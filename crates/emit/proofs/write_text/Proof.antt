@@ -16,12 +16,6 @@ small r k e h = omega arith
 abbrev start : tie.After-lead-part → tie.Start
 start c = c .before .before .before .before .before .before .before
 
-put-bytes-requires : tie.Need-put-bytes-requires
-put-bytes-requires c κs = let l = c .before in text-room (start l .pre .0) (start l .pre .1) _ (l .lead-part .ensures)
-
-plain-word-requires : tie.Need-plain-word-requires
-plain-word-requires c κs = small _ _ (c .value-kind .ensures) (kind-small _)
-
 mul-result : tie.Need-mul-result
 mul-result c = let l = c .before .before .before .before .before .before .before .before .before .before .before in let f = text-fits (start l .pre .0) (start l .pre .1) _ (l .lead-part .ensures) in omega arith
 
@@ -36,4 +30,9 @@ returns c =
     text-leaf (start l .pre .0) (start l .pre .1) _ (l .lead-part .ensures) _ _ _ (c .before .before .before .before .before .before .before .before .before .put-bytes .ensures) (rw k at (c .before .before .put-record .ensures)) (omega arith)
 
 pub write-text-spec : {M : Type 1} → statement M
-write-text-spec = tie.close (tie.spec (λ c κs. search needs) put-bytes-requires (λ c. search needs) (λ c. search needs) (λ c. search needs) (λ c κs. search needs) plain-word-requires (λ c κs. search needs) (λ c. search needs) mul-result add-result-2 (λ c. search needs) (λ c. search needs) returns)
+write-text-spec =
+    tie.close
+    (tie.spec
+    (λ c κs. search needs) (λ c κs. let l = c .before in text-room (start l .pre .0) (start l .pre .1) _ (l .lead-part .ensures)) (λ c. search needs)
+    (λ c. search needs) (λ c. search needs) (λ c κs. search needs) (λ c κs. small _ _ (c .value-kind .ensures) (kind-small _)) (λ c κs. search needs)
+    (λ c. search needs) mul-result add-result-2 (λ c. search needs) (λ c. search needs) returns)

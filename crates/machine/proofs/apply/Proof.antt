@@ -67,27 +67,6 @@ remembered c = c .before .before .before .before
 abbrev built : tie.After-slice-known21 → tie.After-set-state
 built c = c .before .before
 
-push-node-requires : tie.Need-push-node-requires
-push-node-requires c κs = push-lengths _ _ _ _ _ (fits (push c .before .before) _ (push c .e .given .1))
-
-push-id-requires : tie.Need-push-id-requires
-push-id-requires c κs = share-lengths _ _ _ _ (fits (share c .before .before) _ (share c .e2 .given .1))
-
-put-mark-requires : tie.Need-put-mark-requires
-put-mark-requires c κs = mark-lengths _ _ _ (fits (mark c .before .before) _ (mark c .e3 .given .1))
-
-make-requires : tie.Need-make-requires
-make-requires c κs = makeable _ _ _ _ (fits (make c .before .before) _ (make c .e5 .given .1))
-
-extend-requires : tie.Need-extend-requires
-extend-requires c κs = extendable _ _ _ _ (fits (extend c .before .before) _ (extend c .e6 .given .1))
-
-remember-requires : tie.Need-remember-requires
-remember-requires c κs = rememberable _ _ _ _ _ _ (fits (remember c .before .before) _ (remember c .e7 .given .1))
-
-set-state-requires : tie.Need-set-state-requires
-set-state-requires c κs = buildable _ _ _ _ _ (fits (build c .before .before) _ (build c .e8 .given .1))
-
 returns : tie.Need-returns
 unfolding Applies PushNode
 returns c = λ l p f.
@@ -154,8 +133,15 @@ pub apply-spec : {M : Type 1} → statement M
 apply-spec =
     tie.close
     (tie.spec
-    (λ c. c .match .keys1) push-node-requires (λ c. c .match .keys2) push-id-requires (λ c. c .match .keys3) put-mark-requires (λ c. c .match .keys4)
-    (λ c. c .match .keys5) make-requires (λ c. c .match .keys6) extend-requires (λ c. c .match .keys7) remember-requires (λ c. c .match .keys8) set-state-requires
-    (λ c. c .match .keys9) (λ c. c .match .keys10) (λ c. pushed c .push-node .kept .0) (λ c. pushed c .push-node .kept .1 .0) returns (λ c. shared c .push-id .kept .0) returns-2 (λ c. marked c .put-mark .kept .0) returns-3
-    returns-4 (λ c. made c .make .kept .0) (λ c. made c .make .kept .1 .0) (λ c. made c .make .kept .1 .1 .0) (λ c. made c .make .kept .1 .1 .1 .0) returns-5 (λ c. extended c .extend .kept .0) (λ c. extended c .extend .kept .1 .0)
-    (λ c. extended c .extend .kept .1 .1 .0) (λ c. refl) returns-6 (λ c. remembered c .remember .kept .0) (λ c. remembered c .remember .kept .1 .0) returns-7 (λ c. built c .set-state .kept .0) returns-8 returns-9 returns-10)
+    (λ c. c .match .keys1) (λ c κs. push-lengths _ _ _ _ _ (fits (push c .before .before) _ (push c .e .given .1))) (λ c. c .match .keys2)
+    (λ c κs. share-lengths _ _ _ _ (fits (share c .before .before) _ (share c .e2 .given .1))) (λ c. c .match .keys3)
+    (λ c κs. mark-lengths _ _ _ (fits (mark c .before .before) _ (mark c .e3 .given .1))) (λ c. c .match .keys4) (λ c. c .match .keys5)
+    (λ c κs. makeable _ _ _ _ (fits (make c .before .before) _ (make c .e5 .given .1))) (λ c. c .match .keys6)
+    (λ c κs. extendable _ _ _ _ (fits (extend c .before .before) _ (extend c .e6 .given .1))) (λ c. c .match .keys7)
+    (λ c κs. rememberable _ _ _ _ _ _ (fits (remember c .before .before) _ (remember c .e7 .given .1))) (λ c. c .match .keys8)
+    (λ c κs. buildable _ _ _ _ _ (fits (build c .before .before) _ (build c .e8 .given .1))) (λ c. c .match .keys9) (λ c. c .match .keys10)
+    (λ c. pushed c .push-node .kept .0) (λ c. pushed c .push-node .kept .1 .0) returns (λ c. shared c .push-id .kept .0) returns-2
+    (λ c. marked c .put-mark .kept .0) returns-3 returns-4 (λ c. made c .make .kept .0) (λ c. made c .make .kept .1 .0)
+    (λ c. made c .make .kept .1 .1 .0) (λ c. made c .make .kept .1 .1 .1 .0) returns-5 (λ c. extended c .extend .kept .0)
+    (λ c. extended c .extend .kept .1 .0) (λ c. extended c .extend .kept .1 .1 .0) (λ c. refl) returns-6 (λ c. remembered c .remember .kept .0)
+    (λ c. remembered c .remember .kept .1 .0) returns-7 (λ c. built c .set-state .kept .0) returns-8 returns-9 returns-10)

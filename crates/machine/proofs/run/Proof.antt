@@ -5,10 +5,10 @@ use Rattle.machine.proofs.run.Tie as tie
 use Prim.Native.Nat.{_-_}
 use mathlib.Core.Path.{_≡_, refl, subst, _∙_}
 use lib.ListN.{length}
-use Rattle.store.specs.Rooms.{Lent, Rooms}
+use Rattle.store.specs.Rooms.{LentAs, Rooms}
 use Rattle.machine.specs.declared.effects.Step.{Step}
 use Rattle.machine.specs.RoomsOf.{roomsOf, lentOf, lentRooms}
-use Rattle.machine.specs.Ran.{Stepped, Takes, AsLong, Running, lent-sound, running-start, running-next, running-less, ran-stopped, ran-refused}
+use Rattle.machine.specs.Ran.{Stepped, StepTaken, AsLong, Running, lent-sound, running-start, running-next, running-less, ran-stopped, ran-refused}
 
 abbrev Inv-loop : tie.InvT-loop
 Inv-loop edition pickle nodes₀ owners₀ children₀ stack₀ marks₀ keys₀ held₀ c₀ nodes owners children stack marks keys held c =
@@ -23,7 +23,7 @@ abbrev start : tie.After-slice-known7 Inv-loop μ-loop → tie.Start Inv-loop μ
 start c = c .before .before .before .before .before .before .before .before
 
 -- how the rooms were lent
-abbrev lent : tie.Start Inv-loop μ-loop → Lent
+abbrev lent : tie.Start Inv-loop μ-loop → LentAs
 lent s = lentOf (s .args .nodes .now) (s .args .owners .now) (s .args .children .now) (s .args .stack .now) (s .args .marks .now) (s .args .keys .now) (s .args .held .now)
 
 abbrev rooms : tie.After-slice-known7 Inv-loop μ-loop → Rooms
@@ -51,11 +51,8 @@ module _ (s : tie.After-take-step Inv-loop μ-loop) where
       record { nodes = kept .1 .1 .0 ∙ were .nodes; owners = kept .1 .1 .1 .0 ∙ were .owners; children = kept .1 .1 .1 .1 .0 ∙ were .children; stack = kept .1 .1 .1 .1 .1 .0 ∙ were .stack; marks = kept .1 .1 .1 .1 .1 .1 .0 ∙ were .marks; keys = kept .1 .1 .1 .1 .1 .1 .1 .0 ∙ were .keys; held = kept .1 .1 .1 .1 .1 .1 .1 .1 .0 ∙ were .held }
 
   took : (t : Step) → s .take-step .result ≡ t → Stepped (start (head .before) .args .edition) t (head .loop .c) had left
-  unfolding Takes
+  unfolding StepTaken
   took t is = subst (λ (x : Step). Stepped (start (head .before) .args .edition) x (head .loop .c) had left) is (s .take-step .ensures _ (head .loop .inv .0 .sound))
-
-take-step-requires : tie.Need-take-step-requires Inv-loop μ-loop
-take-step-requires c κs = record { lent = _; sound = c .before .before .before .before .before .before .before .loop .inv .0 .sound }
 
 loop-less : tie.Need-loop-less Inv-loop μ-loop
 loop-less c = let s = stepped (c .before .before .before) in running-less _ _ _ _ _ (head s .loop .inv .0) refl _ (took s _ (c .before .t .given .1))
@@ -75,11 +72,14 @@ pub run-spec : {M : Type 1} → statement M
 run-spec =
     tie.close
     (tie.spec
-    Inv-loop μ-loop (λ c. (running-start _ (rooms c) (lent-sound _ _ _ _ _ _ _ _ (start c .pre)), record { nodes = refl; owners = refl; children = refl; stack = refl; marks = refl; keys = refl; held = refl })) take-step-requires (λ c. search needs) loop-less loop-again
-    (λ c. search needs) (λ c. lengths (stepped (c .before .before .before)) .nodes) (λ c. lengths (stepped (c .before .before .before)) .owners)
-    (λ c. lengths (stepped (c .before .before .before)) .children) (λ c. lengths (stepped (c .before .before .before)) .stack)
-    (λ c. lengths (stepped (c .before .before .before)) .marks) (λ c. lengths (stepped (c .before .before .before)) .keys)
-    (λ c. lengths (stepped (c .before .before .before)) .held) returns (λ c. search needs) (λ c. lengths (stepped (c .before .before .before)) .nodes)
+    Inv-loop μ-loop
+    (λ c. (running-start _ (rooms c) (lent-sound _ _ _ _ _ _ _ _ (start c .pre)), record { nodes = refl; owners = refl; children = refl; stack = refl; marks = refl; keys = refl; held = refl }))
+    (λ c κs. record { lent = _; sound = c .before .before .before .before .before .before .before .loop .inv .0 .sound }) (λ c. search needs)
+    loop-less loop-again (λ c. search needs) (λ c. lengths (stepped (c .before .before .before)) .nodes)
     (λ c. lengths (stepped (c .before .before .before)) .owners) (λ c. lengths (stepped (c .before .before .before)) .children)
     (λ c. lengths (stepped (c .before .before .before)) .stack) (λ c. lengths (stepped (c .before .before .before)) .marks)
-    (λ c. lengths (stepped (c .before .before .before)) .keys) (λ c. lengths (stepped (c .before .before .before)) .held) returns-2)
+    (λ c. lengths (stepped (c .before .before .before)) .keys) (λ c. lengths (stepped (c .before .before .before)) .held) returns (λ c. search needs)
+    (λ c. lengths (stepped (c .before .before .before)) .nodes) (λ c. lengths (stepped (c .before .before .before)) .owners)
+    (λ c. lengths (stepped (c .before .before .before)) .children) (λ c. lengths (stepped (c .before .before .before)) .stack)
+    (λ c. lengths (stepped (c .before .before .before)) .marks) (λ c. lengths (stepped (c .before .before .before)) .keys)
+    (λ c. lengths (stepped (c .before .before .before)) .held) returns-2)

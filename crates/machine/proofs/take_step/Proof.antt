@@ -2,10 +2,10 @@
 use Rattle.machine.proofs.take_step.Statement.{statement}
 use Rattle.machine.proofs.take_step.Tie as tie
 use mathlib.Core.Path.{refl}
-use Rattle.store.specs.Rooms.{Lent, Rooms}
+use Rattle.store.specs.Rooms.{LentAs, Rooms}
 use Rattle.store.specs.Effects.{Decides}
 use Rattle.machine.specs.RoomsOf.{roomsOf, Agrees}
-use Rattle.machine.specs.Ran.{Takes}
+use Rattle.machine.specs.Ran.{StepTaken}
 use Rattle.machine.specs.Applied.{Applies}
 
 agrees : (r : Rooms) → Agrees (r .pickle) (r .nodes) (r .children) (r .stack) (r .marks) (r .keys) (r .held) r
@@ -16,7 +16,7 @@ abbrev start : tie.After-decide-arg6 → tie.Start
 start c = c .before .before .before .before .before .before .before .before .before .before .before .before .before .before
 
 -- the rooms, had they been lent as l
-module _ (c : tie.After-decide-arg6) (l : Lent) where
+module _ (c : tie.After-decide-arg6) (l : LentAs) where
   abbrev rooms : Rooms
   rooms = roomsOf l (start c .args .pickle .now) (start c .args .nodes .now) (start c .args .owners .now) (start c .args .children .now) (start c .args .stack .now) (start c .args .marks .now) (start c .args .keys .now) (start c .args .held .now)
 
@@ -41,7 +41,7 @@ abbrev applied : tie.After-slice-known14 → tie.After-apply
 applied c = c .before .before .before .before .before .before .before .before .before .before .before .before .before .before
 
 returns : tie.Need-returns
-unfolding Decides Applies Takes
+unfolding Decides Applies StepTaken
 returns c = λ l sound.
     let done = applied c in
     let d = decided (done .before) in

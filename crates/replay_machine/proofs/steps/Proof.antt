@@ -6,11 +6,11 @@ use Prim.Native.Nat.{_-_}
 use mathlib.Core.Path.{_≡_, refl, subst, _∙_}
 use lib.ListN.{length}
 use Rattle.op.specs.declared.Edition.the-variants.{Full}
-use Rattle.store.specs.Rooms.{Lent, Rooms}
+use Rattle.store.specs.Rooms.{LentAs, Rooms}
 use Rattle.store.specs.Effects.{Sound}
 use Rattle.machine.specs.declared.effects.Step.{Step}
 use Rattle.machine.specs.RoomsOf.{roomsOf, lentOf}
-use Rattle.machine.specs.Ran.{Stepped, Takes, AsLong, lent-sound, step-sound, step-further}
+use Rattle.machine.specs.Ran.{Stepped, StepTaken, AsLong, lent-sound, step-sound, step-further}
 use Rattle.replay_machine.specs.Shown.{shown}
 
 abbrev Inv-loop : tie.InvT-loop
@@ -26,7 +26,7 @@ abbrev start : tie.After-slice-known7 Inv-loop μ-loop → tie.Start Inv-loop μ
 start c = c .before .before .before .before .before .before .before .before
 
 -- how the rooms were lent
-abbrev lent : tie.Start Inv-loop μ-loop → Lent
+abbrev lent : tie.Start Inv-loop μ-loop → LentAs
 lent s = lentOf (s .args .nodes .now) (s .args .owners .now) (s .args .children .now) (s .args .stack .now) (s .args .marks .now) (s .args .keys .now) (s .args .held .now)
 
 -- from the end of a step back to its call
@@ -51,7 +51,7 @@ module _ (s : tie.After-take-step Inv-loop μ-loop) where
       record { nodes = kept .1 .1 .0 ∙ were .nodes; owners = kept .1 .1 .1 .0 ∙ were .owners; children = kept .1 .1 .1 .1 .0 ∙ were .children; stack = kept .1 .1 .1 .1 .1 .0 ∙ were .stack; marks = kept .1 .1 .1 .1 .1 .1 .0 ∙ were .marks; keys = kept .1 .1 .1 .1 .1 .1 .1 .0 ∙ were .keys; held = kept .1 .1 .1 .1 .1 .1 .1 .1 .0 ∙ were .held }
 
   took : (t : Step) → s .take-step .result ≡ t → Stepped Full t (head .loop .c) had left
-  unfolding Takes
+  unfolding StepTaken
   took t is = subst (λ (x : Step). Stepped Full x (head .loop .c) had left) is (s .take-step .ensures _ (head .loop .inv .0))
 
 loop-holds : tie.Need-loop-holds Inv-loop μ-loop

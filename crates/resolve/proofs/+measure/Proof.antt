@@ -1,6 +1,6 @@
 -- `resolve::measure` meets its contract. Each call has a level less. The loop's invariant: whatever state of a walk the rooms held where the
 -- loop begins, they are in the midst of its turns now.
-use Prim.Native.Nat.{ℕ, _+_, _-_, _*_, _/_, _%_, _≤_, _<_, min, max}
+use Prim.Native.Nat.{ℕ, _+_, _-_, _*_, _/_, _%_, _≤_, _<_, max}
 use mir.Val.{Fits}
 use mir.Syntax.{w64}
 use borrow.Fn.Kinds.{In}

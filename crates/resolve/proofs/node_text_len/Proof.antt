@@ -1,10 +1,10 @@
 -- `resolve::node_text_len` meets its contract: one law for each kind.
 use Rattle.resolve.proofs.node_text_len.Statement.{statement}
 use Rattle.resolve.proofs.node_text_len.Tie as tie
-use Prim.Native.Nat.{_+_, _*_, _^_, _/_, _%_, _<_}
+use Prim.Native.Nat.{_+_, _*_, _^_, _/_, _<_}
 use lib.ListN.{length, getD}
 use mathlib.Core.Path.{refl}
-use Rattle.resolve.specs.Length.{cut-short, len-bytes, len-string, len-global, len-object, len-escaped, len-unicode, len-nothing, class-words}
+use Rattle.resolve.specs.Length.{within-short, len-bytes, len-string, len-global, len-object, len-escaped, len-unicode, len-nothing, class-words}
 use Rattle.store.specs.NodeFits.{fits-first, fits-first-at, first-in, fits-second, fits-second-at}
 
 -- ---- the places: the node's words are read, and the tests behind that
@@ -28,49 +28,25 @@ room s = s .good .1 .0 .1
 -- ---- the needs
 
 returns : tie.Need-returns
-returns c = len-bytes _ _ _ _ _ refl refl _ (c .before .if1 .taken) (c .cut .ensures)
-
-repaired-len-requires : tie.Need-repaired-len-requires
-repaired-len-requires c κs =
-    let s = start (c .before .before .before) in
-    let b = getD (s .args .nodes .now) (2 * s .args .node .0 + 1) 0 in
-    cut-short _ (b % 2 ^ 32) (b / 2 ^ 32) 65536 _ (s .pre .short) (c .cut2 .ensures)
+returns c = len-bytes _ _ _ _ _ refl refl _ (c .before .if1 .taken) (c .raw-text .ensures)
 
 returns-2 : tie.Need-returns-2
-returns-2 c = len-string _ _ _ _ _ refl refl _ _ (c .before .before .if2 .taken) (c .before .cut2 .ensures) (c .repaired-len .ensures)
+returns-2 c = len-string _ _ _ _ _ refl refl _ _ (c .before .before .if2 .taken) (c .before .raw-text2 .ensures) (c .repaired-len .ensures)
 
 returns-3 : tie.Need-returns-3
 returns-3 c = len-global _ _ _ _ _ refl refl _ (c .before .if3 .taken) (c .global-text-len .ensures)
 
-mul-global-text-len : tie.Need-mul-global-text-len
-mul-global-text-len c = let s = object c in fits-first _ (s .args .nodes .now) (class c) (room s)
-
-mul-global-text-len-2 : tie.Need-mul-global-text-len-2
-mul-global-text-len-2 c = let s = object c in fits-first-at _ (s .args .nodes .now) (class c) (room s)
-
-shared-slice-read-global-text-len : tie.Need-shared-slice-read-global-text-len
-shared-slice-read-global-text-len c = let s = object (c .before) in first-in _ (s .args .nodes .now) (class (c .before)) (room s)
-
-mul-global-text-len-3 : tie.Need-mul-global-text-len-3
-mul-global-text-len-3 c = let s = object (c .before .before) in fits-first _ (s .args .nodes .now) (class (c .before .before)) (room s)
-
-add-global-text-len : tie.Need-add-global-text-len
-add-global-text-len c = let s = object (c .before .before) in fits-second _ (s .args .nodes .now) (class (c .before .before)) (room s)
-
 mul-global-text-len-4 : tie.Need-mul-global-text-len-4
 mul-global-text-len-4 c = let s = object (c .before .before) in fits-second-at _ (s .args .nodes .now) (class (c .before .before)) (room s)
-
-shared-slice-read-global-text-len-2 : tie.Need-shared-slice-read-global-text-len-2
-shared-slice-read-global-text-len-2 c = class (c .before .before .before)
 
 returns-4 : tie.Need-returns-4
 returns-4 c = len-object _ _ _ _ _ refl refl _ (c .before .before .before .before .before .if4 .taken) (c .global-text-len2 .ensures)
 
 returns-5 : tie.Need-returns-5
-returns-5 c = len-escaped _ _ _ _ _ refl refl _ _ (c .before .before .if5 .taken) (c .before .cut3 .ensures) (c .string-text-len .ensures)
+returns-5 c = len-escaped _ _ _ _ _ refl refl _ _ (c .before .before .if5 .taken) (c .before .raw-text3 .ensures) (c .string-text-len .ensures)
 
 returns-6 : tie.Need-returns-6
-returns-6 c = len-unicode _ _ _ _ _ refl refl _ _ (c .before .before .if6 .taken) (c .before .cut4 .ensures) (c .unicode-text-len .ensures)
+returns-6 c = len-unicode _ _ _ _ _ refl refl _ _ (c .before .before .if6 .taken) (c .before .raw-text4 .ensures) (c .unicode-text-len .ensures)
 
 returns-7 : tie.Need-returns-7
 returns-7 c =
@@ -81,7 +57,18 @@ pub node-text-len-spec : {M : Type 1} → statement M
 node-text-len-spec =
     tie.close
     (tie.spec
-    (λ c. let s = c .before .before in fits-first (s .args .node .0) (s .args .nodes .now) (s .pre .words) (room s)) (λ c. let s = c .before .before in fits-first-at (s .args .node .0) (s .args .nodes .now) (s .pre .words) (room s)) (λ c. let s = c .before .before .before in first-in (s .args .node .0) (s .args .nodes .now) (s .pre .words) (room s)) (λ c. let s = c .before .before .before in fits-first (s .args .node .0) (s .args .nodes .now) (s .pre .words) (room s)) (λ c. let s = c .before .before .before in fits-second (s .args .node .0) (s .args .nodes .now) (s .pre .words) (room s)) (λ c. let s = c .before .before .before in fits-second-at (s .args .node .0) (s .args .nodes .now) (s .pre .words) (room s)) (λ c. start c .pre .words)
-    (λ c κs. tt) returns (λ c κs. tt) repaired-len-requires returns-2 (λ c κs. start (c .before .before .before) .pre .short) returns-3 mul-global-text-len mul-global-text-len-2
-    shared-slice-read-global-text-len mul-global-text-len-3 add-global-text-len mul-global-text-len-4 shared-slice-read-global-text-len-2 (λ c κs. object (c .before .before .before) .pre .short) returns-4
-    (λ c κs. tt) (λ c κs. tt) returns-5 (λ c κs. tt) (λ c κs. tt) returns-6 returns-7)
+    (λ c. let s = c .before .before in fits-first (s .args .node .0) (s .args .nodes .now) (s .pre .words) (room s))
+    (λ c. let s = c .before .before in fits-first-at (s .args .node .0) (s .args .nodes .now) (s .pre .words) (room s))
+    (λ c. let s = c .before .before .before in first-in (s .args .node .0) (s .args .nodes .now) (s .pre .words) (room s))
+    (λ c. let s = c .before .before .before in fits-first (s .args .node .0) (s .args .nodes .now) (s .pre .words) (room s))
+    (λ c. let s = c .before .before .before in fits-second (s .args .node .0) (s .args .nodes .now) (s .pre .words) (room s))
+    (λ c. let s = c .before .before .before in fits-second-at (s .args .node .0) (s .args .nodes .now) (s .pre .words) (room s))
+    (λ c. start c .pre .words) (λ c κs. tt) returns (λ c κs. tt)
+    (λ c κs. within-short _ _ 32 _ 65536 (start (c .before .before .before) .pre .short) (c .raw-text2 .ensures)) returns-2
+    (λ c κs. start (c .before .before .before) .pre .short) returns-3 (λ c. let s = object c in fits-first _ (s .args .nodes .now) (class c) (room s))
+    (λ c. let s = object c in fits-first-at _ (s .args .nodes .now) (class c) (room s))
+    (λ c. let s = object (c .before) in first-in _ (s .args .nodes .now) (class (c .before)) (room s))
+    (λ c. let s = object (c .before .before) in fits-first _ (s .args .nodes .now) (class (c .before .before)) (room s))
+    (λ c. let s = object (c .before .before) in fits-second _ (s .args .nodes .now) (class (c .before .before)) (room s)) mul-global-text-len-4
+    (λ c. class (c .before .before .before)) (λ c κs. object (c .before .before .before) .pre .short) returns-4 (λ c κs. tt) (λ c κs. tt) returns-5
+    (λ c κs. tt) (λ c κs. tt) returns-6 returns-7)

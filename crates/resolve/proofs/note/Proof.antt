@@ -6,13 +6,10 @@ use mathlib.Core.Path.{refl, sym, _∙_}
 use borrow.Author.Tests.{not-true, not-false}
 use native.Mathlib.Omega.{arith}
 use lib.ListN.{length-set}
-use Rattle.resolve.specs.Noting.{note-other, note-due}
+use Rattle.resolve.specs.DuesRoom.{note-other, note-due}
 
 returns : tie.Need-returns
 returns c = note-other _ _ _ (sym (c .before .is-sorted .ensures) ∙ not-true _ (c .if1 .taken))
-
-slice-write-dues-2 : tie.Need-slice-write-dues-2
-slice-write-dues-2 c = let s = c .before .before .before .before .before in simp length-set (omega (arith, s .pre))
 
 returns-2 : tie.Need-returns-2
 returns-2 c = note-due _ _ _ _ refl (sym (c .before .before .before .is-sorted .ensures) ∙ not-false _ (c .before .before .if1 .left))
@@ -22,4 +19,5 @@ note-spec =
     tie.close
     (tie.spec
     (λ c κs. tt) returns (λ c. search needs) (λ c. search needs) (λ c. search needs) (λ c. search needs) (λ c. search needs) (λ c. search needs)
-    (λ c. search needs) slice-write-dues-2 (λ c. search needs) returns-2)
+    (λ c. search needs) (λ c. let s = c .before .before .before .before .before in simp length-set (omega (arith, s .pre))) (λ c. search needs)
+    returns-2)

@@ -22,18 +22,9 @@ returns c = own-none _ _ _ _ _ (c .before .before .before .before .pre) (c .if1 
 returns-2 : tie.Need-returns-2
 returns-2 c = let e = c .before .before .before in own-kept _ _ _ _ _ (start e .pre) (e .if1 .left) (c .if2 .taken)
 
-leaf-word-requires : tie.Need-leaf-word-requires
-leaf-word-requires c κs = let e = object c in start e .pre .class-reads (e .if1 .left)
-
 add-measures : tie.Need-add-measures
 unfolding packW
 add-measures c = omega (arith, c .leaf-word .ensures)
-
-mul-measures-3 : tie.Need-mul-measures-3
-mul-measures-3 c = let e = object (c .before) in omega (arith, start e .pre .class-below (e .if1 .left))
-
-slice-write-measures : tie.Need-slice-write-measures
-slice-write-measures c = let e = object (c .before) in start e .pre .class-below (e .if1 .left)
 
 returns-3 : tie.Need-returns-3
 returns-3 c =
@@ -44,6 +35,9 @@ pub own-text-len-spec : {M : Type 1} → statement M
 own-text-len-spec =
     tie.close
     (tie.spec
-    returns (λ c. search needs) (λ c. search needs) (λ c. search needs) (λ c. omega (arith, start (c .before) .pre .class-below (c .before .if1 .left)))
-    (λ c. omega (arith, start (c .before .before) .pre .class-below (c .before .before .if1 .left))) returns-2 leaf-word-requires add-measures mul-measures-3
-    slice-write-measures (λ c. search needs) returns-3)
+    returns (λ c. search needs) (λ c. search needs) (λ c. search needs)
+    (λ c. omega (arith, start (c .before) .pre .class-below (c .before .if1 .left)))
+    (λ c. omega (arith, start (c .before .before) .pre .class-below (c .before .before .if1 .left))) returns-2
+    (λ c κs. let e = object c in start e .pre .class-reads (e .if1 .left)) add-measures
+    (λ c. let e = object (c .before) in omega (arith, start e .pre .class-below (e .if1 .left)))
+    (λ c. let e = object (c .before) in start e .pre .class-below (e .if1 .left)) (λ c. search needs) returns-3)

@@ -52,9 +52,6 @@ same c = c .settle .kept .1 .1 .1 .1 .1 .1 .1 .1 .0
 returns : tie.Need-returns
 returns c = (laid-refused _ _ _ _ _ _ _ _ _ _ _ (walked (refused c) .measure-root .ensures) _ _ (refused c .due-of .ensures) _ (c .before .why .given .1) _ _, record { decoded-same = refl; log-same = refl; list-same = refl })
 
-decode-all-requires : tie.Need-decode-all-requires
-decode-all-requires c κs = let e = c .before .before in decodable (measured e .are) _ (start (walked (due e)) .pre .1 .decoded-zero)
-
 settle-requires : tie.Need-settle-requires
 settle-requires c κs = let d = c .before .before .before .before .before .before .before .before .before .before in let e = free d in unsettled (measured e) (start (walked (due e)) .pre .1) (d .decode-all .ensures)
 
@@ -100,14 +97,15 @@ pub build-laid-spec : {M : Type 1} → statement M
 build-laid-spec =
     tie.close
     (tie.spec
-    (λ c κs. c .before .before .before .before .before .before .before .before .before .before .before .before .before .before .pre .0) (λ c κs. tt) (λ c. c .match .keys1)
-    (λ c. walked (refused c) .measure-root .kept .1 .1 .0) (λ c. walked (refused c) .measure-root .kept .1 .1 .1 .1 .1 .0) (λ c. walked (refused c) .measure-root .kept .1 .1 .1 .1 .1 .1 .0)
-    returns (λ c. c .match .keys2) decode-all-requires settle-requires write-root-requires sub-begin (λ c. search needs) sub-clear-ints sub-clear-ints (λ c. le-refl _)
-    clear-ints-requires clear-shorts-requires clear-bytes-requires
+    (λ c κs. c .before .before .before .before .before .before .before .before .before .before .before .before .before .before .pre .0) (λ c κs. tt)
+    (λ c. c .match .keys1) (λ c. walked (refused c) .measure-root .kept .1 .1 .0) (λ c. walked (refused c) .measure-root .kept .1 .1 .1 .1 .1 .0)
+    (λ c. walked (refused c) .measure-root .kept .1 .1 .1 .1 .1 .1 .0) returns (λ c. c .match .keys2)
+    (λ c κs. let e = c .before .before in decodable (measured e .are) _ (start (walked (due e)) .pre .1 .decoded-zero)) settle-requires
+    write-root-requires sub-begin (λ c. search needs) sub-clear-ints sub-clear-ints (λ c. le-refl _) clear-ints-requires clear-shorts-requires
+    clear-bytes-requires
     (λ c. settled (written c) .settle .kept .1 .1 .0 ∙ walked (due (free (decoded (settled (written c))))) .measure-root .kept .1 .1 .0)
     (λ c. written c .write-root .kept .1 .1 .1 .1 .1 .1 .1 .0 ∙ settled (written c) .settle .kept .1 .1 .1 .1 .1 .1 .1 .0 ∙ decoded (settled (written c)) .decode-all .kept .1 .1 .1 .1 .0 ∙ walked (due (free (decoded (settled (written c))))) .measure-root .kept .1 .1 .1 .1 .1 .0)
     (λ c. walked (due (free (decoded (settled (written c))))) .measure-root .kept .1 .1 .1 .1 .1 .1 .0)
     (λ c. c .before .before .before .before .before .before .clear-shorts .kept .0 ∙ settled (written c) .settle .kept .1 .1 .1 .0)
-    (λ c. search needs)
-    (λ c. c .before .before .clear-bytes .kept .0 ∙ decoded (settled (written c)) .decode-all .kept .1 .1 .1 .0)
+    (λ c. search needs) (λ c. c .before .before .clear-bytes .kept .0 ∙ decoded (settled (written c)) .decode-all .kept .1 .1 .1 .0)
     (λ c. written c .write-root .kept .1 .1 .1 .1 .1 .1 .1 .1 .0) (λ c. written c .write-root .kept .1 .1 .1 .1 .1 .1 .1 .1 .1 .0) returns-2)

@@ -17,11 +17,15 @@ abbrev μ-loop : tie.MeasureT-loop
 slice-write-children : tie.Need-slice-write-children Inv-loop μ-loop
 slice-write-children c = omega (arith, c .before .before .before .pre .0, c .before .loop-test .taken, filled-same _ _ _ _ _ (c .before .before .loop .inv .0))
 
-same-length : tie.Need-same-length Inv-loop μ-loop
-same-length c = filled-same _ _ _ _ _ (c .before .loop .inv .0)
-
 returns : tie.Need-returns Inv-loop μ-loop
 returns c = filled-end _ _ _ _ _ _ (c .before .loop .inv .0) (c .before .loop .inv .1) (c .loop-test .left)
 
 pub copy-children-spec : {M : Type 1} → statement M
-copy-children-spec = tie.close (tie.spec Inv-loop μ-loop (λ c. (filled-none _ _ _, omega arith)) (λ c. omega (arith, c .before .before .pre .0, c .loop-test .taken)) (λ c. omega (arith, c .before .before .pre .1, c .loop-test .taken)) (λ c. search needs) (λ c. omega (arith, c .before .before .before .pre .1, c .before .loop-test .taken)) (λ c. search needs) slice-write-children (λ c. search needs) (λ c. search needs) (λ c. (filled-more _ _ _ _ _ (c .before .before .loop .inv .0), omega (arith, c .before .loop-test .taken))) same-length returns)
+copy-children-spec =
+    tie.close
+    (tie.spec
+    Inv-loop μ-loop (λ c. (filled-none _ _ _, omega arith)) (λ c. omega (arith, c .before .before .pre .0, c .loop-test .taken))
+    (λ c. omega (arith, c .before .before .pre .1, c .loop-test .taken)) (λ c. search needs)
+    (λ c. omega (arith, c .before .before .before .pre .1, c .before .loop-test .taken)) (λ c. search needs) slice-write-children (λ c. search needs)
+    (λ c. search needs) (λ c. (filled-more _ _ _ _ _ (c .before .before .loop .inv .0), omega (arith, c .before .loop-test .taken)))
+    (λ c. filled-same _ _ _ _ _ (c .before .loop .inv .0)) returns)

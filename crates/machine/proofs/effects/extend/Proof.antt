@@ -16,9 +16,6 @@ linked c = c .before .before .before .before .before .before
 returns : tie.Need-returns
 returns c = extend-full-lent (c .before .before .before .before .before .before .before .pre) (c .if1 .taken)
 
-link-all-requires : tie.Need-link-all-requires
-link-all-requires c κs = let e = c .before .before .before in extend-linkable (start e .pre) (e .if1 .left)
-
 returns-2 : tie.Need-returns-2
 returns-2 c =
     let l = linked c in
@@ -26,4 +23,10 @@ returns-2 c =
     extended-lent (start e .pre) _ _ _ _ (e .if1 .left) (l .link-all .ensures .0) (l .link-all .ensures .1)
 
 pub extend-spec : {M : Type 1} → statement M
-extend-spec = tie.close (tie.spec (λ c. let v = extend-rooms (c .before .before .before .before .before .pre) in omega arith) (λ c. let v = extend-rooms (c .before .before .before .before .before .before .pre) in omega arith) returns link-all-requires (λ c. search needs) (λ c. search needs) (λ c. search needs) returns-2)
+extend-spec =
+    tie.close
+    (tie.spec
+    (λ c. let v = extend-rooms (c .before .before .before .before .before .pre) in omega arith)
+    (λ c. let v = extend-rooms (c .before .before .before .before .before .before .pre) in omega arith) returns
+    (λ c κs. let e = c .before .before .before in extend-linkable (start e .pre) (e .if1 .left)) (λ c. search needs) (λ c. search needs)
+    (λ c. search needs) returns-2)

@@ -13,11 +13,15 @@ Inv-loop owners₀ links n id i₀ owners i = (owners ≡ filledBy owners₀ lin
 abbrev μ-loop : tie.MeasureT-loop
 μ-loop owners₀ links n id i₀ owners i = n - i
 
-same-length : tie.Need-same-length Inv-loop μ-loop
-same-length c = filled-same _ _ _ _ _ (c .before .loop .inv .0)
-
 returns : tie.Need-returns Inv-loop μ-loop
 returns c = filled-end _ _ _ _ _ _ (c .before .loop .inv .0) (c .before .loop .inv .1) (c .loop-test .left)
 
 pub fill-owners-spec : {M : Type 1} → statement M
-fill-owners-spec = tie.close (tie.spec Inv-loop μ-loop (λ c. search needs) (λ c. (filled-none _ _ _, omega arith)) (λ c. omega (arith, c .before .before .before .pre .0, c .loop-test .taken)) (λ c. search needs) (λ c. omega (arith, c .before .before .before .pre .0, c .loop-test .taken, filled-same _ _ _ _ _ (c .before .loop .inv .0))) (λ c. search needs) (λ c. search needs) (λ c. (filled-more _ _ _ _ _ (c .before .loop .inv .0), omega (arith, c .loop-test .taken))) same-length returns)
+fill-owners-spec =
+    tie.close
+    (tie.spec
+    Inv-loop μ-loop (λ c. search needs) (λ c. (filled-none _ _ _, omega arith))
+    (λ c. omega (arith, c .before .before .before .pre .0, c .loop-test .taken)) (λ c. search needs)
+    (λ c. omega (arith, c .before .before .before .pre .0, c .loop-test .taken, filled-same _ _ _ _ _ (c .before .loop .inv .0))) (λ c. search needs)
+    (λ c. search needs) (λ c. (filled-more _ _ _ _ _ (c .before .loop .inv .0), omega (arith, c .loop-test .taken)))
+    (λ c. filled-same _ _ _ _ _ (c .before .loop .inv .0)) returns)

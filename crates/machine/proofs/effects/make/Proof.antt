@@ -83,17 +83,8 @@ returns-3 c =
     let l = e .before .before in
     make-high-lent (start l .pre) (l .if1 .left) (e .if2 .left) (c .if3 .taken)
 
-slice-write-nodes : tie.Need-slice-write-nodes
-slice-write-nodes c = first-in (id c) (few c) _ (make-rooms (start (links c) .pre) .0)
-
-slice-write-nodes-2 : tie.Need-slice-write-nodes-2
-slice-write-nodes-2 c = rw length-set (second-in (id c) (few c) _ (make-rooms (start (links c) .pre) .0))
-
 link-all-requires : tie.Need-link-all-requires
 link-all-requires c κs = let e = c .before .before .before .before in make-linkable (start (links e) .pre) (links e .if1 .left) (e .before .before .if2 .left)
-
-slice-write-stack : tie.Need-slice-write-stack
-slice-write-stack c = let e = room (linked c) in top-in _ (e .if3 .left) _ (make-rooms (start (links e) .pre) .1)
 
 same-length : tie.Need-same-length
 same-length c =
@@ -111,7 +102,13 @@ pub make-spec : {M : Type 1} → statement M
 make-spec =
     tie.close
     (tie.spec
-    (λ c. let v = make-rooms (c .before .before .before .before .before .pre) in omega arith) (λ c. let v = make-rooms (c .before .before .before .before .before .before .pre) in omega arith) returns returns-2 returns-3
-    (λ c. fits-first (id c) (few c)) (λ c. fits-second (id c) (few c)) (λ c. fits-first-at (id c) (few c)) slice-write-nodes (λ c. fits-links _ (make-rooms (start (links c) .pre) .2)) (λ c. fits-second-at (id c) (few c)) slice-write-nodes-2
-    link-all-requires (λ c. let e = room (linked c) in fits-id (id e) (few e)) (λ c. fits-top _ (room (linked c) .if3 .left)) slice-write-stack (λ c. let e = room (linked c) in fits-next (id e) (few e))
-    (λ c κs. room (linked c) .if3 .left) same-length (λ c. linked (c .before) .link-all .kept .1 .0) (λ c. linked (c .before) .link-all .kept .1 .1 .0) (λ c. let a = start (links (room (linked (c .before)))) .args in length-set (a .stack .now) (a .c .stack) (a .c .nodes)) returns-4)
+    (λ c. let v = make-rooms (c .before .before .before .before .before .pre) in omega arith)
+    (λ c. let v = make-rooms (c .before .before .before .before .before .before .pre) in omega arith) returns returns-2 returns-3
+    (λ c. fits-first (id c) (few c)) (λ c. fits-second (id c) (few c)) (λ c. fits-first-at (id c) (few c))
+    (λ c. first-in (id c) (few c) _ (make-rooms (start (links c) .pre) .0)) (λ c. fits-links _ (make-rooms (start (links c) .pre) .2))
+    (λ c. fits-second-at (id c) (few c)) (λ c. rw length-set (second-in (id c) (few c) _ (make-rooms (start (links c) .pre) .0))) link-all-requires
+    (λ c. let e = room (linked c) in fits-id (id e) (few e)) (λ c. fits-top _ (room (linked c) .if3 .left))
+    (λ c. let e = room (linked c) in top-in _ (e .if3 .left) _ (make-rooms (start (links e) .pre) .1))
+    (λ c. let e = room (linked c) in fits-next (id e) (few e)) (λ c κs. room (linked c) .if3 .left) same-length
+    (λ c. linked (c .before) .link-all .kept .1 .0) (λ c. linked (c .before) .link-all .kept .1 .1 .0)
+    (λ c. let a = start (links (room (linked (c .before)))) .args in length-set (a .stack .now) (a .c .stack) (a .c .nodes)) returns-4)

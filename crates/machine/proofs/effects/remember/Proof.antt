@@ -23,12 +23,6 @@ slot-requires c κs =
     let v = remember-room _ _ _ _ _ p in
     (omega arith, omega arith, remember-numbered _ _ _ _ _ p)
 
-mul-held : tie.Need-mul-held
-mul-held c = let v = remember-room _ _ _ _ _ (start (there c) .pre) in omega (arith, c .before .if1 .taken)
-
-slice-write-held : tie.Need-slice-write-held
-slice-write-held c = let v = remember-room _ _ _ _ _ (start (there c) .pre) in omega (arith, c .before .if1 .taken)
-
 returns : tie.Need-returns
 returns c =
     let s = there c .slot .ensures in
@@ -37,9 +31,6 @@ returns c =
 
 returns-2 : tie.Need-returns-2
 returns-2 c = let s = c .before .before .before .before .slot .ensures in full-lent _ _ _ _ _ _ (s .0) (c .before .before .if1 .left) (s .1) (c .if2 .taken)
-
-slice-write-keys : tie.Need-slice-write-keys
-slice-write-keys c = let v = remember-room _ _ _ _ _ (start (free c) .pre) in omega (arith, free c .slot .ensures .0, c .if2 .left)
 
 slice-write-held-2 : tie.Need-slice-write-held-2
 slice-write-held-2 c = let v = remember-room _ _ _ _ _ (start (free (c .before)) .pre) in omega (arith, free (c .before) .slot .ensures .0, c .before .if2 .left)
@@ -54,8 +45,11 @@ pub remember-spec : {M : Type 1} → statement M
 remember-spec =
     tie.close
     (tie.spec
-    slot-requires (λ c. let v = remember-room _ _ _ _ _ (start (there c) .pre) in omega arith) mul-held slice-write-held (λ c. search needs) (λ c. search needs)
-    returns (λ c. search needs) returns-2 (λ c. omega (arith, free c .slot .ensures .0, c .if2 .left)) slice-write-keys
+    slot-requires (λ c. let v = remember-room _ _ _ _ _ (start (there c) .pre) in omega arith)
+    (λ c. let v = remember-room _ _ _ _ _ (start (there c) .pre) in omega (arith, c .before .if1 .taken))
+    (λ c. let v = remember-room _ _ _ _ _ (start (there c) .pre) in omega (arith, c .before .if1 .taken)) (λ c. search needs) (λ c. search needs)
+    returns (λ c. search needs) returns-2 (λ c. omega (arith, free c .slot .ensures .0, c .if2 .left))
+    (λ c. let v = remember-room _ _ _ _ _ (start (free c) .pre) in omega (arith, free c .slot .ensures .0, c .if2 .left))
     (λ c. let v = remember-room _ _ _ _ _ (start (free (c .before)) .pre) in omega arith)
     (λ c. omega (arith, free (c .before) .slot .ensures .0, c .before .if2 .left)) slice-write-held-2 (λ c. search needs) (λ c. search needs)
     (λ c. search needs) (λ c κs. search needs) (λ c. search needs) (λ c. search needs) returns-3)

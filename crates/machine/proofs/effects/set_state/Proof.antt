@@ -7,18 +7,21 @@ use native.Mathlib.Omega.{arith}
 use borrow.Author.Needs.{needs}
 use Rattle.machine.specs.Words.{build-room, state-lent}
 
-with-state-requires : tie.Need-with-state-requires
-with-state-requires c κs = build-room _ _ _ _ (c .before .before .before .before .pre) .0
-
-slice-write-nodes-2 : tie.Need-slice-write-nodes-2
-slice-write-nodes-2 c = let v = build-room _ _ _ _ (c .before .before .before .before .before .pre) in rw length-set (omega arith)
-
 pub set-state-spec : {M : Type 1} → statement M
 set-state-spec =
     tie.close
     (tie.spec
-    (λ c. let v = build-room _ _ _ _ (c .before .before .pre) in omega arith) (λ c. let v = build-room _ _ _ _ (c .before .before .pre) in omega arith) (λ c. let v = build-room _ _ _ _ (c .before .before .pre) in omega arith)
-    (λ c. let v = build-room _ _ _ _ (c .before .before .before .pre) in omega arith) (λ c. let v = build-room _ _ _ _ (c .before .before .before .pre) in omega arith) (λ c. let v = build-room _ _ _ _ (c .before .before .before .before .pre) in omega arith) with-state-requires
-    (λ c. let v = build-room _ _ _ _ (c .before .before .before .before .before .pre) in omega arith) (λ c. let v = build-room _ _ _ _ (c .before .before .before .before .before .pre) in omega arith)
-    (λ c. let v = build-room _ _ _ _ (c .before .before .before .before .before .pre) in omega arith) (λ c. let v = build-room _ _ _ _ (c .before .before .before .before .before .pre) in omega arith)
-    (λ c. let v = build-room _ _ _ _ (c .before .before .before .before .before .pre) in omega arith) slice-write-nodes-2 (λ c. search needs) (λ c. rw (c .with-state .ensures) (state-lent _ _ _ _)))
+    (λ c. let v = build-room _ _ _ _ (c .before .before .pre) in omega arith)
+    (λ c. let v = build-room _ _ _ _ (c .before .before .pre) in omega arith)
+    (λ c. let v = build-room _ _ _ _ (c .before .before .pre) in omega arith)
+    (λ c. let v = build-room _ _ _ _ (c .before .before .before .pre) in omega arith)
+    (λ c. let v = build-room _ _ _ _ (c .before .before .before .pre) in omega arith)
+    (λ c. let v = build-room _ _ _ _ (c .before .before .before .before .pre) in omega arith)
+    (λ c κs. build-room _ _ _ _ (c .before .before .before .before .pre) .0)
+    (λ c. let v = build-room _ _ _ _ (c .before .before .before .before .before .pre) in omega arith)
+    (λ c. let v = build-room _ _ _ _ (c .before .before .before .before .before .pre) in omega arith)
+    (λ c. let v = build-room _ _ _ _ (c .before .before .before .before .before .pre) in omega arith)
+    (λ c. let v = build-room _ _ _ _ (c .before .before .before .before .before .pre) in omega arith)
+    (λ c. let v = build-room _ _ _ _ (c .before .before .before .before .before .pre) in omega arith)
+    (λ c. let v = build-room _ _ _ _ (c .before .before .before .before .before .pre) in rw length-set (omega arith)) (λ c. search needs)
+    (λ c. rw (c .with-state .ensures) (state-lent _ _ _ _)))

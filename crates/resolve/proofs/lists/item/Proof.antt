@@ -17,9 +17,6 @@ shared-slice-read-t9 c =
     let h : c .before .before .args .at < length (c .before .before .args .log .now) = rw e at (c .before .before .pre) in
     search needs
 
-cast-t10 : tie.Need-cast-t10
-cast-t10 c = search (needs, c .shared-slice-known .given (c .before .before .args .at))
-
 mul-t11 : tie.Need-mul-t11
 mul-t11 c =
     let e = c .if1 .left in
@@ -32,9 +29,6 @@ shared-slice-read-t13 c =
     let h : c .before .before .args .at < length (c .before .before .args .sorted .now) = rw e at (c .before .before .pre) in
     search needs
 
-cast-t14 : tie.Need-cast-t14
-cast-t14 c = search (needs, c .shared-slice-known2 .given (c .before .before .args .at))
-
 returns : tie.Need-returns
 returns c = simp (c .before .if1 .taken)
 
@@ -42,4 +36,8 @@ returns-2 : tie.Need-returns-2
 returns-2 c = simp (c .before .if1 .left)
 
 pub item-spec : {M : Type 1} → statement M
-item-spec = tie.close (tie.spec mul-t7 shared-slice-read-t9 cast-t10 mul-t11 shared-slice-read-t13 cast-t14 returns returns-2)
+item-spec =
+    tie.close
+    (tie.spec
+    mul-t7 shared-slice-read-t9 (λ c. search (needs, c .shared-slice-known .given (c .before .before .args .at))) mul-t11 shared-slice-read-t13
+    (λ c. search (needs, c .shared-slice-known2 .given (c .before .before .args .at))) returns returns-2)
