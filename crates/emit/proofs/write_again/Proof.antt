@@ -1,5 +1,5 @@
 -- `emit::write_again` meets its contract: the records copied, and their text behind what is written. The prover would find all of it by
--- itself; the file names the needs, so that an edit is refused at the one that fails.
+-- itself; the file names the return, so that the edit `empty_at_second_place` is refused there.
 use borrow.Author.Needs.{needs}
 use Rattle.emit.proofs.write_again.Statement.{statement}
 use Rattle.emit.proofs.write_again.Tie as tie
