@@ -43,7 +43,7 @@ pub enum Effect {
     Refused(Counts, u64, u64, Refusal),
 }
 
-// AsLentBehind the kinds of a table's record, two more of a node's first word, of which only the line is known before STOP, quotes and all: Bytes
+// Behind the kinds of a table's record, two more of a node's first word, of which only the line is known before STOP, quotes and all: Bytes
 // of a STRING with an escape, a String of UNICODE.
 pub const KIND_ESCAPED: u64 = 13;
 

@@ -1,4 +1,4 @@
--- `build::answer` meets its contract: the run's refusal, 6, or what building comes to; the parts that are lent links-in, and cleared the rooms are
+-- `build::answer` meets its contract: the run's refusal, 6, or what building comes to; the parts that are lent fit, and cleared the rooms are
 -- as they were. Assumes nothing.
 use Prim.Native.Nat.{_+_, _-_, _<_, _≤_, zero-le}
 use mathlib.Core.List.{_++_}
@@ -97,7 +97,7 @@ told c = c .before .before .before
 abbrev built : tie.After-told-of → tie.After-build-laid
 built c = from-owners (from-starts (from-sorted (from-measures (told c))))
 
--- the children's room stays as long as it was, and the parts links-in
+-- the children's room stays as long as it was, and the parts fit
 same : (c : tie.After-lay) → length (c .lay .last .1 .1 .1 .1 .1 .1 .0) ≡ length (start (value (laid c)) .args .sorted .now)
 same c = c .lay .kept .1 .1 .1 .1 .1 .1 .0
 
