@@ -3,18 +3,18 @@ use Rattle.std.specs.Prelude.{ℕ, ◌*◌, ◌≤◌, ◌<◌, Bool, List, [], 
 use Rattle.std.proofs.Common.{sym, ◌∙◌, arith}
 use Rattle.refusal.specs.declared.Answer.{Answer}
 use Rattle.refusal.specs.declared.Refusal.TheVariants.{TooLong}
-use Rattle.refusal.specs.Numbers.{refusedAnswer}
+use Rattle.refusal.specs.Numbers.{refused_answer}
 use Rattle.op.specs.declared.Edition.{Edition}
 use Rattle.rooms.specs.Cleared.{cleared}
-use Rattle.rooms.specs.Stated.{Slices, machineLengths, stated, AllZero, Ready, begun, filled, filled_none, long, rooms-zero}
+use Rattle.rooms.specs.Stated.{Slices, machine_lengths, stated, AllZero, Ready, begun, filled, filled_none, long, rooms_zero}
 use Rattle.store.specs.Effects.{Lengths, AsLentBehind}
-use Rattle.machine.specs.RoomsOf.{rooms_of, lent_of, lentRooms}
-use Rattle.machine.specs.Ran.{Ran, countsOf}
+use Rattle.machine.specs.RoomsOf.{rooms_of, lent_of, lent_rooms}
+use Rattle.machine.specs.Ran.{Ran, counts_of}
 use Rattle.machine.specs.declared.Outcome.{Outcome}
-use Rattle.reading.specs.Reading.{Reading, pickleLimit, stopped-long, prefix-refused}
-use Rattle.de.specs.Rooms.{zeros-long, front-cleared}
+use Rattle.reading.specs.Reading.{Reading, pickle_limit, stopped-long, prefix_refused}
+use Rattle.de.specs.Rooms.{zeros_long, front_cleared}
 use Rattle.de.specs.Building.{Working}
-use Rattle.de.specs.Given.{RanIn, due, due-refused}
+use Rattle.de.specs.Given.{RanIn, due, due_refused}
 
 -- the inner reading x in the slices l leaves l' and answers a
 pub record InnerReads (x : Reading) (l l' : Slices) (a : Answer) : Type 0 where
@@ -22,9 +22,9 @@ pub record InnerReads (x : Reading) (l l' : Slices) (a : Answer) : Type 0 where
   pub slices : l' ≡ filled x.words x.bytes l
 
 -- a pickle that is too long: 2, and every slice as it came
-pub reads-long : (ed : Edition) (all : Bool) (p : List ℕ) (l : Slices) (a : Answer) → pickleLimit < length p → a ≡ refusedAnswer TooLong → InnerReads (due ed all p) l l a
+pub reads-long : (ed : Edition) (all : Bool) (p : List ℕ) (l : Slices) (a : Answer) → pickle_limit < length p → a ≡ refused_answer TooLong → InnerReads (due ed all p) l l a
 reads-long ed all p l a h e =
-    rw (due-refused ed p all TooLong (prefix-refused ed p TooLong (stopped-long ed p h))) (record { answer = e; slices = sym (filled_none l) })
+    rw (due_refused ed p all TooLong (prefix_refused ed p TooLong (stopped-long ed p h))) (record { answer = e; slices = sym (filled_none l) })
 
 -- a room that has become s': its first k cleared, it is s again
 pub record ClearsTo (k : ℕ) (s s' : List ℕ) : Type 0 where
@@ -35,41 +35,41 @@ module _ {k : ℕ} {s s' : List ℕ} (b : ClearsTo k s s') (j : ℕ) (e : j ≡ 
   pub back_fits : j ≤ length s'
   back_fits = rw e b.fits
 
-  pub back-again : (t : List ℕ) → t ≡ cleared j s' → t ≡ s
-  back-again t q = q ∙ rw e b.again
+  pub back_again : (t : List ℕ) → t ≡ cleared j s' → t ≡ s
+  back_again t q = q ∙ rw e b.again
 
 -- what a run leaves of the machine's rooms: what the answer asks, and how each is as it came again
 pub record Runs (ed : Edition) (o : Outcome) (p nodes owners children stack marks keys held nodes' owners' children' stack' marks' keys' held' : List ℕ) : Type 0 where
   pub ran : RanIn ed o p nodes' owners' children' stack'
-  pub nodes-back : ClearsTo (2 * (countsOf o).nodes) nodes nodes'
-  pub owners-back : ClearsTo (countsOf o).links owners owners'
-  pub children-back : ClearsTo (countsOf o).links children children'
-  pub stack-back : ClearsTo (countsOf o).deepest stack stack'
-  pub marks-back : ClearsTo (countsOf o).most marks marks'
-  pub keys-back : ClearsTo (countsOf o).memo keys keys'
-  pub held_back : ClearsTo (countsOf o).memo held held'
+  pub nodes_back : ClearsTo (2 * (counts_of o).nodes) nodes nodes'
+  pub owners_back : ClearsTo (counts_of o).links owners owners'
+  pub children_back : ClearsTo (counts_of o).links children children'
+  pub stack_back : ClearsTo (counts_of o).deepest stack stack'
+  pub marks_back : ClearsTo (counts_of o).most marks marks'
+  pub keys_back : ClearsTo (counts_of o).memo keys keys'
+  pub held_back : ClearsTo (counts_of o).memo held held'
 
 -- ---- the run
 
 -- of a room whose first n are zero, k of them are used
 clears : {k : ℕ} {s s' : List ℕ} (n : ℕ) → take n s ≡ replicate n 0 → k ≤ n → k ≤ length s' → AsLentBehind k s s' → ClearsTo k s s'
-clears {k} {s} {s'} n z few fits b = record { fits = fits; again = front-cleared n k s s' (record { zero = z }) few b.same }
+clears {k} {s} {s'} n z few fits b = record { fits = fits; again = front_cleared n k s s' (record { zero = z }) few b.same }
 
-zero-long : (n : ℕ) (room : List ℕ) → take n room ≡ replicate n 0 → n ≤ length room
-zero-long n room e = zeros-long (record { zero = e })
+zero_long : (n : ℕ) (room : List ℕ) → take n room ≡ replicate n 0 → n ≤ length room
+zero_long n room e = zeros_long (record { zero = e })
 
-module _ (p nodes owners children stack marks keys held : List ℕ) (z : AllZero machineLengths (nodes ∷ owners ∷ children ∷ stack ∷ marks ∷ keys ∷ held ∷ [])) where
+module _ (p nodes owners children stack marks keys held : List ℕ) (z : AllZero machine_lengths (nodes ∷ owners ∷ children ∷ stack ∷ marks ∷ keys ∷ held ∷ [])) where
   -- what it asks
-  pub begins : length p ≤ 65536 → Lengths (lentRooms p nodes owners children stack marks keys held)
+  pub begins : length p ≤ 65536 → Lengths (lent_rooms p nodes owners children stack marks keys held)
   begins h = record {
     pickle = h;
-    nodes = zero-long 8192 nodes z.0;
-    owners = zero-long 8192 owners z.1.0;
-    children = zero-long 8192 children z.1.1.0;
-    stack = zero-long 2048 stack z.1.1.1.0;
-    marks = zero-long 256 marks z.1.1.1.1.0;
-    keys = omega (arith, zero-long 2048 keys z.1.1.1.1.1.0);
-    held = zero-long 1024 held z.1.1.1.1.1.1.0;
+    nodes = zero_long 8192 nodes z.0;
+    owners = zero_long 8192 owners z.1.0;
+    children = zero_long 8192 children z.1.1.0;
+    stack = zero_long 2048 stack z.1.1.1.0;
+    marks = zero_long 256 marks z.1.1.1.1.0;
+    keys = omega (arith, zero_long 2048 keys z.1.1.1.1.1.0);
+    held = zero_long 1024 held z.1.1.1.1.1.1.0;
   }
 
   -- what it leaves
@@ -79,13 +79,13 @@ module _ (p nodes owners children stack marks keys held : List ℕ) (z : AllZero
   runs ed o nodes' owners' children' stack' marks' keys' held' r =
       let f = r.sound.firm in
       record {
-        ran = record { before = _; marks = _; keys = _; held = _; ran = r; owners-zero = record { zero = z.1.0 }; children-zero = record { zero = z.1.1.0 } };
-        nodes-back = clears 8192 z.0 (omega (arith, f.nodes)) (omega (arith, f.nodes, f.lengths.nodes)) f.clean.nodes;
-        owners-back = clears 8192 z.1.0 f.links (omega (arith, f.links, f.lengths.owners)) f.clean.owners;
-        children-back = clears 8192 z.1.1.0 f.links (omega (arith, f.links, f.lengths.children)) f.clean.children;
-        stack-back = clears 2048 z.1.1.1.0 f.deepest (omega (arith, f.deepest, f.lengths.stack)) f.clean.stack;
-        marks-back = clears 256 z.1.1.1.1.0 f.most (omega (arith, f.most, f.lengths.marks)) f.clean.marks;
-        keys-back = clears 2048 z.1.1.1.1.1.0 (omega (arith, f.memo)) (omega (arith, f.memo, f.lengths.keys)) f.clean.keys;
+        ran = record { before = _; marks = _; keys = _; held = _; ran = r; owners_zero = record { zero = z.1.0 }; children_zero = record { zero = z.1.1.0 } };
+        nodes_back = clears 8192 z.0 (omega (arith, f.nodes)) (omega (arith, f.nodes, f.lengths.nodes)) f.clean.nodes;
+        owners_back = clears 8192 z.1.0 f.links (omega (arith, f.links, f.lengths.owners)) f.clean.owners;
+        children_back = clears 8192 z.1.1.0 f.links (omega (arith, f.links, f.lengths.children)) f.clean.children;
+        stack_back = clears 2048 z.1.1.1.0 f.deepest (omega (arith, f.deepest, f.lengths.stack)) f.clean.stack;
+        marks_back = clears 256 z.1.1.1.1.0 f.most (omega (arith, f.most, f.lengths.marks)) f.clean.marks;
+        keys_back = clears 2048 z.1.1.1.1.1.0 (omega (arith, f.memo)) (omega (arith, f.memo, f.lengths.keys)) f.clean.keys;
         held_back = clears 1024 z.1.1.1.1.1.1.0 f.memo (omega (arith, f.memo, f.lengths.held)) f.clean.held;
       }
 
@@ -93,25 +93,25 @@ module _ (p nodes owners children stack marks keys held : List ℕ) (z : AllZero
 
 module _ (nodes owners children stack marks keys held unescaped starts sorted measures table text : List ℕ) (r : Ready (nodes ∷ owners ∷ children ∷ stack ∷ marks ∷ keys ∷ held ∷ unescaped ∷ starts ∷ sorted ∷ measures ∷ table ∷ text ∷ [])) where
   -- the machine's rooms are zero up to their stated lengths
-  pub machine-zero : AllZero machineLengths (nodes ∷ owners ∷ children ∷ stack ∷ marks ∷ keys ∷ held ∷ [])
-  machine-zero =
-      let z = rooms-zero _ r in
+  pub machine_zero : AllZero machine_lengths (nodes ∷ owners ∷ children ∷ stack ∷ marks ∷ keys ∷ held ∷ [])
+  machine_zero =
+      let z = rooms_zero _ r in
       (z.0, (z.1.0, (z.1.1.0, (z.1.1.1.0, (z.1.1.1.1.0, (z.1.1.1.1.1.0, (z.1.1.1.1.1.1.0, tt)))))))
 
   -- and the answer of its own
   pub working : (list : List ℕ) → list ≡ keys → Working list unescaped starts sorted measures table text
   working list e =
-      let z = rooms-zero _ r in
+      let z = rooms_zero _ r in
       let b = z.1.1.1.1.1.1.1 in
       let o = (long stated _ r.long).1.1.1.1.1.1.1.1.1.1.1 in
       record {
-        list-zero = rw e (record { zero = z.1.1.1.1.1.0 });
-        decoded-zero = record { zero = b.0 };
-        starts-zero = record { zero = b.1.0 };
+        list_zero = rw e (record { zero = z.1.1.1.1.1.0 });
+        decoded_zero = record { zero = b.0 };
+        starts_zero = record { zero = b.1.0 };
         sorted_zero = record { zero = b.1.1.0 };
-        measures-zero = record { zero = b.1.1.1.0 };
-        table-room = o.0;
-        text-room = o.1.0;
+        measures_zero = record { zero = b.1.1.1.0 };
+        table_room = o.0;
+        text_room = o.1.0;
       }
 
 -- what is left, slice by slice: every room as it came, the outputs begun with the reading's

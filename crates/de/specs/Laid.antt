@@ -8,19 +8,19 @@ use borrow.Author.Tests.{eqb-true}
 use Rattle.refusal.specs.declared.Refusal.{Refusal}
 use Rattle.refusal.specs.declared.Refusal.TheVariants.{TrailingData}
 use Rattle.value.specs.Value.{Label, NoneL, BoolL, I64L, F64L, BytesL, StringL, ListL, TupleL, SetL, FrozenSetL, DictL, GlobalL, ObjectL, Forest, one, kind, size, depth, text}
-use Rattle.value.specs.Shape.{kindIn, stateIn}
+use Rattle.value.specs.Shape.{kind_in, state_in}
 use Rattle.steps.specs.State.{Res, ok, no, ◌>>=◌, need}
-use Rattle.steps.specs.Opcodes.{isObject}
-use Rattle.store.specs.Rooms.{kidsOf}
-use Rattle.steps.specs.NodeWords.{first, second, parts_of, nodeIs, classIn, node-kind}
+use Rattle.steps.specs.Opcodes.{is_object}
+use Rattle.store.specs.Rooms.{kids_of}
+use Rattle.steps.specs.NodeWords.{first, second, parts_of, node_is, class_in, node_kind}
 use Rattle.reading.specs.Build.{at, tree}
 use Rattle.reading.specs.Measure.{measured, measured-within}
 use Rattle.resolve.specs.Facts.{Facts}
-use Rattle.resolve.specs.Standing.{node-is, label_is, facts}
-use Rattle.resolve.specs.Rooted.{ReadyToResolve, RootEnds, r-deep, r-word, Roots}
+use Rattle.resolve.specs.Standing.{node_is_lem, label_is, facts}
+use Rattle.resolve.specs.Rooted.{ReadyToResolve, RootEnds, r_deep, r_word, Roots}
 use Rattle.resolve.specs.declared.WalkAnswer.{WalkAnswer}
 use Rattle.de.specs.Measured.{Worded, MeasuredAs, Measured, Produces}
-use Rattle.de.specs.Building.{dueOf, Comes, BuildsLaid}
+use Rattle.de.specs.Building.{due_of, Comes, BuildsLaid}
 use Rattle.de.specs.Limits.{said, Tells}
 use Rattle.de.specs.declared.build.Built.TheVariants as built
 use Rattle.de.specs.declared.build.Due.{Due}
@@ -29,101 +29,101 @@ use Rattle.de.specs.declared.build.Due.TheVariants as due
 -- ---- the nodes as their words say them
 
 -- an Object's arguments and any state
-object-few : (p ws ks : List ℕ) (a b : ℕ) → kindIn a ≡ 12 → length (nodeIs p ws ks a b).kids ≤ 2
+object_few : (p ws ks : List ℕ) (a b : ℕ) → kind_in a ≡ 12 → length (node_is p ws ks a b).kids ≤ 2
 unfolding parts_of
-object-few p ws ks a b e = rw (node-kind p ws ks a b 12 e) (go (stateIn a))
+object_few p ws ks a b e = rw (node_kind p ws ks a b 12 e) (go (state_in a))
   where
     go : (s : Bool) → length (b % 2 ^ 32 ∷ cond s (b / 2 ^ 32 ∷ []) []) ≤ 2
     go true = omega arith
     go false = omega arith
 
-is-object : (l : Label) → kind l ≡ 12 → isObject l ≡ true
-is-object NoneL e = absurd (omega arith)
-is-object (BoolL b) e = absurd (omega arith)
-is-object (I64L n) e = absurd (omega arith)
-is-object (F64L n) e = absurd (omega arith)
-is-object (BytesL s) e = absurd (omega arith)
-is-object (StringL s) e = absurd (omega arith)
-is-object ListL e = absurd (omega arith)
-is-object TupleL e = absurd (omega arith)
-is-object SetL e = absurd (omega arith)
-is-object FrozenSetL e = absurd (omega arith)
-is-object DictL e = absurd (omega arith)
-is-object (GlobalL m n) e = absurd (omega arith)
-is-object (ObjectL m n b) e = refl
+is_object_lem : (l : Label) → kind l ≡ 12 → is_object l ≡ true
+is_object_lem NoneL e = absurd (omega arith)
+is_object_lem (BoolL b) e = absurd (omega arith)
+is_object_lem (I64L n) e = absurd (omega arith)
+is_object_lem (F64L n) e = absurd (omega arith)
+is_object_lem (BytesL s) e = absurd (omega arith)
+is_object_lem (StringL s) e = absurd (omega arith)
+is_object_lem ListL e = absurd (omega arith)
+is_object_lem TupleL e = absurd (omega arith)
+is_object_lem SetL e = absurd (omega arith)
+is_object_lem FrozenSetL e = absurd (omega arith)
+is_object_lem DictL e = absurd (omega arith)
+is_object_lem (GlobalL m n) e = absurd (omega arith)
+is_object_lem (ObjectL m n b) e = refl
 
 module _ {p ws starts sorted measures dues : List ℕ} {root : ℕ} (k : ReadyToResolve p ws starts sorted measures dues root) where
-  facts-are : Facts p ws starts k.nodes
-  facts-are = facts p ws k.nodes starts sorted k.stands k.graph k.beyond
+  facts_are : Facts p ws starts k.nodes
+  facts_are = facts p ws k.nodes starts sorted k.stands k.graph k.beyond
 
-  classes-are : (i : ℕ) → i < length k.nodes → kindIn (first ws i) ≡ 12 → (classIn (first ws i) < length k.nodes) × (kindIn (first ws (classIn (first ws i))) ≡ 11)
-  unfolding kindIn first classIn
-  classes-are i l e = facts-are.classes i l e
+  classes_are : (i : ℕ) → i < length k.nodes → kind_in (first ws i) ≡ 12 → (class_in (first ws i) < length k.nodes) × (kind_in (first ws (class_in (first ws i))) ≡ 11)
+  unfolding kind_in first class_in
+  classes_are i l e = facts_are.classes i l e
 
-  objects-few : (i : ℕ) → i < length k.nodes → kind (at k.nodes i).label ≡ 12 → length (at k.nodes i).kids ≤ 2
-  unfolding kindIn first
-  objects-few i l e =
-      let o : kindIn (first ws i) ≡ 12 = eqb-true (get_or ws (2 * i) 0 % 16) 12 (sym (facts-are.objects i l) ∙ is-object (at k.nodes i).label e) in
-      let o' : kindIn (first k.stands.rooms.nodes i) ≡ 12 = ap (λ (x : List ℕ). kindIn (first x i)) k.stands.words ∙ o in
-      rw (node-is p ws k.nodes k.stands i l)
-      (object-few k.stands.rooms.pickle k.stands.rooms.nodes (kidsOf k.stands.rooms k.stands.counts i) (first k.stands.rooms.nodes i) (second k.stands.rooms.nodes i) o')
+  objects_few : (i : ℕ) → i < length k.nodes → kind (at k.nodes i).label ≡ 12 → length (at k.nodes i).kids ≤ 2
+  unfolding kind_in first
+  objects_few i l e =
+      let o : kind_in (first ws i) ≡ 12 = eqb-true (get_or ws (2 * i) 0 % 16) 12 (sym (facts_are.objects i l) ∙ is_object_lem (at k.nodes i).label e) in
+      let o' : kind_in (first k.stands.rooms.nodes i) ≡ 12 = ap (λ (x : List ℕ). kind_in (first x i)) k.stands.words ∙ o in
+      rw (node_is_lem p ws k.nodes k.stands i l)
+      (object_few k.stands.rooms.pickle k.stands.rooms.nodes (kids_of k.stands.rooms k.stands.counts i) (first k.stands.rooms.nodes i) (second k.stands.rooms.nodes i) o')
 
   abbrev worded : Worded p ws k.nodes
   worded =
       record {
         beyond = k.beyond;
         short = omega (arith, k.stands.sound.firm.lengths.pickle, ap length k.stands.pickle);
-        words_long = facts-are.words_long;
-        labels-are = label_is p ws k.nodes k.stands;
-        classes = classes-are;
-        leafless = facts-are.leafless;
-        few = objects-few;
+        words_long = facts_are.words_long;
+        labels_are = label_is p ws k.nodes k.stands;
+        classes = classes_are;
+        leafless = facts_are.leafless;
+        few = objects_few;
       }
 
 -- ---- what is due
 
-due-within : (left : Bool) (f : Forest) → dueOf left f ≡ ok tt → measured f ≡ ok tt
-unfolding dueOf ◌>>=◌
-due-within left f e = go (measured f) refl e
+due_within : (left : Bool) (f : Forest) → due_of left f ≡ ok tt → measured f ≡ ok tt
+unfolding due_of ◌>>=◌
+due_within left f e = go (measured f) refl e
   where
     go : (r : Res (Unit {0})) → measured f ≡ r → (r >>= λ x. need (not left) TrailingData) ≡ ok tt → measured f ≡ ok tt
     go (ok u) q e = q
     go (no why) q e = absurd (let z : ◌≡◌ {A = ℕ} 0 1 = cc in omega arith)
 
 module _ (p ws starts sorted measures dues sorted' measures' dues' : List ℕ) (root : ℕ) (a : WalkAnswer) (R : Roots p ws starts sorted measures dues sorted' measures' dues' root a) (left : Bool) (d : Due) (T : Tells a left d) where
-  due-is : (k : ReadyToResolve p ws starts sorted measures dues root) → dueOf left (one (tree k.nodes root)) ≡ said d
+  due_is : (k : ReadyToResolve p ws starts sorted measures dues root) → due_of left (one (tree k.nodes root)) ≡ said d
   unfolding Roots Tells
-  due-is k = T k.nodes k.beyond starts dues measures' sorted' dues' root (R k)
+  due_is k = T k.nodes k.beyond starts dues measures' sorted' dues' root (R k)
 
   -- a refusal
-  pub laid-refused : (why : Refusal) → d ≡ due.Refused why → (o q : List ℕ) → BuildsLaid p ws starts sorted measures dues root left (built.Refused why) o q o q
+  pub laid_refused : (why : Refusal) → d ≡ due.Refused why → (o q : List ℕ) → BuildsLaid p ws starts sorted measures dues root left (built.Refused why) o q o q
   unfolding BuildsLaid Comes said
-  laid-refused why e o q k = (due-is k ∙ ap said e, refl, refl)
+  laid_refused why e o q k = (due_is k ∙ ap said e, refl, refl)
 
   -- nothing
   module _ (e : d ≡ due.Nothing) where
-    free : (k : ReadyToResolve p ws starts sorted measures dues root) → dueOf left (one (tree k.nodes root)) ≡ ok tt
+    free : (k : ReadyToResolve p ws starts sorted measures dues root) → due_of left (one (tree k.nodes root)) ≡ ok tt
     unfolding said
-    free k = due-is k ∙ ap said e
+    free k = due_is k ∙ ap said e
 
-    measured-as : (k : ReadyToResolve p ws starts sorted measures dues root) → MeasuredAs p ws starts sorted' dues' measures' k.nodes root
+    measured_as : (k : ReadyToResolve p ws starts sorted measures dues root) → MeasuredAs p ws starts sorted' dues' measures' k.nodes root
     unfolding Roots
-    measured-as k = go a (R k)
+    measured_as k = go a (R k)
       where
         within : (depth (one (tree k.nodes root)) ≤ 64) × (size (one (tree k.nodes root)) ≤ 2048) × (length (text (one (tree k.nodes root))) ≤ 65536)
-        within = measured-within (one (tree k.nodes root)) (due-within left (one (tree k.nodes root)) (free k))
+        within = measured-within (one (tree k.nodes root)) (due_within left (one (tree k.nodes root)) (free k))
 
         go : (a : WalkAnswer) → RootEnds k.nodes k.beyond starts dues measures' sorted' dues' root a → MeasuredAs p ws starts sorted' dues' measures' k.nodes root
-        go _ (r-deep h) = absurd (omega (arith, within.0))
-        go _ (r-word w m x h) = record {
+        go _ (r_deep h) = absurd (omega (arith, within.0))
+        go _ (r_word w m x h) = record {
           limited = record { worded = worded k; before = sorted; graph = k.graph; below = k.below; deep = within.0; records = within.1; texts = within.2 };
           lent = dues;
           holds = h;
         }
 
-    pub laid-measured : ReadyToResolve p ws starts sorted measures dues root → Measured p ws starts sorted' dues' measures' root
-    laid-measured k = record { nodes = k.nodes; are = measured-as k }
+    pub laid_measured : ReadyToResolve p ws starts sorted measures dues root → Measured p ws starts sorted' dues' measures' root
+    laid_measured k = record { nodes = k.nodes; are = measured_as k }
 
-    pub laid-made : (o q o' q' : List ℕ) (n : ℕ) → Produces p ws starts sorted' dues' measures' root o q o' q' n → BuildsLaid p ws starts sorted measures dues root left (built.Made n) o q o' q'
+    pub laid_made : (o q o' q' : List ℕ) (n : ℕ) → Produces p ws starts sorted' dues' measures' root o q o' q' n → BuildsLaid p ws starts sorted measures dues root left (built.Made n) o q o' q'
     unfolding BuildsLaid Comes
-    laid-made o q o' q' n P k = let x = P k.nodes (measured-as k) in (free k, x.counted, x.table_is, x.text-is)
+    laid_made o q o' q' n P k = let x = P k.nodes (measured_as k) in (free k, x.counted, x.table_is, x.text_is)

@@ -6,15 +6,15 @@ use Rattle.value.specs.Value.{Label, Value, one, kind, size, depth, text, NoneL,
 use Rattle.steps.specs.State.{Node}
 use Rattle.reading.specs.Build.{at, tree}
 use Rattle.reading.specs.Settle.{arrange, settle}
-use Rattle.reading.specs.Smaller.{settle-smaller}
+use Rattle.reading.specs.Smaller.{settle_smaller}
 use Rattle.reading.specs.Unfold.{In}
 use Rattle.resolve.specs.Resolved.{StandsFor}
 use Rattle.resolve.specs.Ordered.{Final}
 use Rattle.resolve.specs.Walk.{WalkState}
-use Rattle.resolve.specs.Tree.{walked, root-final}
-use Rattle.resolve.specs.Dues.{isDue, dues}
-use Rattle.resolve.specs.Whole.{value-stands-64}
-use Rattle.emit.specs.Walked.{graph, dues_in, not-settled}
+use Rattle.resolve.specs.Tree.{walked, root_final}
+use Rattle.resolve.specs.Dues.{is_due, dues}
+use Rattle.resolve.specs.Whole.{value_stands_64}
+use Rattle.emit.specs.Walked.{graph, dues_in, not_settled}
 use Rattle.emit.specs.Settling.{SettledRooms}
 use Rattle.emit.specs.Roots.{Rooted, Emits}
 use Rattle.de.specs.Measured.{Produced}
@@ -22,24 +22,24 @@ use Rattle.de.specs.Spelt.{Spelt, inside}
 
 -- ---- the value that the root stands for
 
-abbrev settledValue : Value → Value
-settledValue v = record { label = v.label; contents = arrange v.label (settle v.contents) }
+abbrev settled_value : Value → Value
+settled_value v = record { label = v.label; contents = arrange v.label (settle v.contents) }
 
 -- Objects are not put in order
-object-kept : (l : Label) → kind l ≡ 12 → isDue l ≡ false
-object-kept NoneL e = refl
-object-kept (BoolL b) e = refl
-object-kept (I64L n) e = refl
-object-kept (F64L n) e = refl
-object-kept (BytesL s) e = refl
-object-kept (StringL s) e = refl
-object-kept ListL e = refl
-object-kept TupleL e = refl
-object-kept SetL e = absurd (omega arith)
-object-kept FrozenSetL e = absurd (omega arith)
-object-kept DictL e = absurd (omega arith)
-object-kept (GlobalL m n) e = refl
-object-kept (ObjectL m n b) e = refl
+object_kept : (l : Label) → kind l ≡ 12 → is_due l ≡ false
+object_kept NoneL e = refl
+object_kept (BoolL b) e = refl
+object_kept (I64L n) e = refl
+object_kept (F64L n) e = refl
+object_kept (BytesL s) e = refl
+object_kept (StringL s) e = refl
+object_kept ListL e = refl
+object_kept TupleL e = refl
+object_kept SetL e = absurd (omega arith)
+object_kept FrozenSetL e = absurd (omega arith)
+object_kept DictL e = absurd (omega arith)
+object_kept (GlobalL m n) e = refl
+object_kept (ObjectL m n b) e = refl
 
 module _ {p d ws starts sorted noted measures log list : List ℕ} {t : List Node} {root : ℕ} (x : Spelt p d ws starts sorted noted measures log list t root) {sorted' log' measures' list' : List ℕ} {used most : ℕ} (a : SettledRooms t (walked t 4096 64 root).after p d ws starts log measures list sorted' log' measures' list' used most) where
   abbrev after : WalkState
@@ -49,8 +49,8 @@ module _ {p d ws starts sorted noted measures log list : List ℕ} {t : List Nod
   few : (i : ℕ) → Final 4096 after.done i → kind (at t i).label ≡ 12 → length (graph t after (dues t after.done) i) ≤ 2
   few i (inl e) k = let z : length (graph t after (dues t after.done) i) ≡ 0 = ap (λ (j : ℕ). length (graph t after (dues t after.done) j)) e ∙ ap length a.shown.none in omega arith
   few i (inr m) k =
-      let n : ¬ In i (dues t after.done) = λ q. let u = (dues_in t after.done q).due in let v = object-kept (at t i).label k in let z : ◌≡◌ {A = ℕ} 0 1 = cc in omega arith in
-      let e : length (graph t after (dues t after.done) i) ≡ length (at t i).kids = ap length (not-settled t after (dues t after.done) i n) ∙ x.ready.walked.resolves.lengths i in
+      let n : ¬ In i (dues t after.done) = λ q. let u = (dues_in t after.done q).due in let v = object_kept (at t i).label k in let z : ◌≡◌ {A = ℕ} 0 1 = cc in omega arith in
+      let e : length (graph t after (dues t after.done) i) ≡ length (at t i).kids = ap length (not_settled t after (dues t after.done) i n) ∙ x.ready.walked.resolves.lengths i in
       let f = x.limited.worded.few i (x.ready.walked.within i m) k in
       omega arith
 
@@ -65,21 +65,21 @@ module _ {p d ws starts sorted noted measures log list : List ℕ} {t : List Nod
           let f = x.low j in
           absurd (omega arith)
 
-  stands : StandsFor t (graph t after (dues t after.done)) root (settledValue (tree t root))
+  stands : StandsFor t (graph t after (dues t after.done)) root (settled_value (tree t root))
   unfolding settle
-  stands = value-stands-64 t (inside x.limited) 4096 x.limited.worded.beyond root x.limited.below x.limited.deep
+  stands = value_stands_64 t (inside x.limited) 4096 x.limited.worded.beyond root x.limited.below x.limited.deep
 
-  deep : depth (one (settledValue (tree t root))) ≤ 64
+  deep : depth (one (settled_value (tree t root))) ≤ 64
   unfolding settle
-  deep = omega (arith, (settle-smaller (one (tree t root))).deep, x.limited.deep)
+  deep = omega (arith, (settle_smaller (one (tree t root))).deep, x.limited.deep)
 
-  records : size (one (settledValue (tree t root))) ≤ 2048
+  records : size (one (settled_value (tree t root))) ≤ 2048
   unfolding settle
-  records = omega (arith, (settle-smaller (one (tree t root))).values, x.limited.records)
+  records = omega (arith, (settle_smaller (one (tree t root))).values, x.limited.records)
 
-  texts : length (text (one (settledValue (tree t root)))) ≤ 65536
+  texts : length (text (one (settled_value (tree t root)))) ≤ 65536
   unfolding settle
-  texts = omega (arith, (settle-smaller (one (tree t root))).texts, x.limited.texts)
+  texts = omega (arith, (settle_smaller (one (tree t root))).texts, x.limited.texts)
 
   module _ {table bytes : List ℕ} (table-long : 8192 ≤ length table) (text-long : 65536 ≤ length bytes) where
     pub rooted : Rooted p d ws starts sorted' log' root measures' table bytes
@@ -87,9 +87,9 @@ module _ {p d ws starts sorted noted measures log list : List ℕ} {t : List Nod
       t = t;
       h = graph t after (dues t after.done);
       done = after.done;
-      v = settledValue (tree t root);
+      v = settled_value (tree t root);
       begun = record { shown = a.shown; few = few; unwritten = unwritten };
-      known = root-final t 4096 x.limited.worded.beyond 63 root;
+      known = root_final t 4096 x.limited.worded.beyond 63 root;
       stands = stands;
       deep = deep;
       records = records;
@@ -101,4 +101,4 @@ module _ {p d ws starts sorted noted measures log list : List ℕ} {t : List Nod
     pub produced : {table' bytes' : List ℕ} {r : ℕ} → Emits p d ws starts sorted' log' root measures' table bytes table' bytes' r
         → Produced (settle (one (tree t root))) table bytes table' bytes' (r % 4096)
     unfolding rooted settle
-    produced e = let y = e rooted in record { counted = omega (arith, y.lengths, records); table_is = y.table_is; text-is = y.text-is }
+    produced e = let y = e rooted in record { counted = omega (arith, y.lengths, records); table_is = y.table_is; text_is = y.text_is }

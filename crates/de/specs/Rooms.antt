@@ -12,71 +12,71 @@ use Rattle.rooms.specs.Cleared.{cleared}
 pub record Zeros (n : ℕ) (room : List ℕ) : Type 0 where
   pub zero : take n room ≡ replicate n 0
 
-pub zeros-long : {n : ℕ} {room : List ℕ} → Zeros n room → n ≤ length room
-zeros-long {n} {room} z = let e = ap length z.zero ∙ length-replicate n 0 in let f = length-take n room in omega arith
+pub zeros_long : {n : ℕ} {room : List ℕ} → Zeros n room → n ≤ length room
+zeros_long {n} {room} z = let e = ap length z.zero ∙ length-replicate n 0 in let f = length-take n room in omega arith
 
 -- of a room of zeros
-take-zeros : (n m : ℕ) → n ≤ m → ◌≡◌ {A = List ℕ} (take n (replicate m 0)) (replicate n 0)
-take-zeros zero m h = refl
-take-zeros (suc n) zero h = absurd (omega arith)
-take-zeros (suc n) (suc m) h = ap (λ (l : List ℕ). 0 ∷ l) (take-zeros n m (omega arith))
+take_zeros : (n m : ℕ) → n ≤ m → ◌≡◌ {A = List ℕ} (take n (replicate m 0)) (replicate n 0)
+take_zeros zero m h = refl
+take_zeros (suc n) zero h = absurd (omega arith)
+take_zeros (suc n) (suc m) h = ap (λ (l : List ℕ). 0 ∷ l) (take_zeros n m (omega arith))
 
-drop-zeros : (n m : ℕ) → n ≤ m → ◌≡◌ {A = List ℕ} (drop n (replicate m 0)) (replicate (m - n) 0)
-drop-zeros zero m h = let e : m - 0 ≡ m = omega arith in rw e
-drop-zeros (suc n) zero h = absurd (omega arith)
-drop-zeros (suc n) (suc m) h = let e : suc m - suc n ≡ m - n = omega arith in rw e (drop-zeros n m (omega arith))
+drop_zeros : (n m : ℕ) → n ≤ m → ◌≡◌ {A = List ℕ} (drop n (replicate m 0)) (replicate (m - n) 0)
+drop_zeros zero m h = let e : m - 0 ≡ m = omega arith in rw e
+drop_zeros (suc n) zero h = absurd (omega arith)
+drop_zeros (suc n) (suc m) h = let e : suc m - suc n ≡ m - n = omega arith in rw e (drop_zeros n m (omega arith))
 
 -- used from the start, up to `used`
-pub front-cleared : (n used : ℕ) (room room' : List ℕ) → Zeros n room → used ≤ n → drop used room' ≡ drop used room → cleared used room' ≡ room
+pub front_cleared : (n used : ℕ) (room room' : List ℕ) → Zeros n room → used ≤ n → drop used room' ≡ drop used room → cleared used room' ≡ room
 unfolding cleared
-front-cleared n used room room' z h e =
-    let a : take used room ≡ replicate used 0 = sym (take-take used n room h) ∙ ap (take used) z.zero ∙ take-zeros used n h in
+front_cleared n used room room' z h e =
+    let a : take used room ≡ replicate used 0 = sym (take-take used n room h) ∙ ap (take used) z.zero ∙ take_zeros used n h in
     ap (λ (l : List ℕ). replicate used 0 ++ l) e ∙ ap (λ (l : List ℕ). l ++ drop used room) (sym a) ∙ take-append-drop used room
 
 -- a part from the start that is as it was, put back
-pub part-again : (n : ℕ) (room part : List ℕ) → part ≡ take n room → part ++ drop n room ≡ room
-part-again n room part e = ap (λ (l : List ℕ). l ++ drop n room) e ∙ take-append-drop n room
+pub part_again : (n : ℕ) (room part : List ℕ) → part ≡ take n room → part ++ drop n room ≡ room
+part_again n room part e = ap (λ (l : List ℕ). l ++ drop n room) e ∙ take-append-drop n room
 
 -- used at the end, the last `most`: they are cleared as a part, and the part is put back
 module _ (m most : ℕ) (room room' : List ℕ) (z : room ≡ replicate m 0) (h : most ≤ m) (same : length room' ≡ length room) where
   all-long : length room ≡ m
   all-long = ap length z ∙ length-replicate m 0
 
-  pub end-begins : m - most ≤ length room'
-  end-begins = omega (arith, all-long)
+  pub end_begins : m - most ≤ length room'
+  end_begins = omega (arith, all-long)
 
   end_whole : length room' - (m - most) ≡ length (drop (m - most) room')
   end_whole = sym (length-drop (m - most) room')
 
-  end-long : most ≡ length (drop (m - most) room')
-  end-long = omega (arith, all-long, length-drop (m - most) room')
+  end_long : most ≡ length (drop (m - most) room')
+  end_long = omega (arith, all-long, length-drop (m - most) room')
 
-  end-part : take (length room' - (m - most)) (drop (m - most) room') ≡ drop (m - most) room'
-  end-part = ap (λ (i : ℕ). take i (drop (m - most) room')) end_whole ∙ take-length (drop (m - most) room')
+  end_part : take (length room' - (m - most)) (drop (m - most) room') ≡ drop (m - most) room'
+  end_part = ap (λ (i : ℕ). take i (drop (m - most) room')) end_whole ∙ take-length (drop (m - most) room')
 
   pub end_fits : most ≤ length (take (length room' - (m - most)) (drop (m - most) room'))
-  end_fits = let e = ap length end-part in omega (arith, end-long)
+  end_fits = let e = ap length end_part in omega (arith, end_long)
 
   -- nothing is behind the part
   end_empty : drop (length room' - (m - most)) (drop (m - most) room') ≡ []
   end_empty = ap (λ (i : ℕ). drop i (drop (m - most) room')) end_whole ∙ drop-length (drop (m - most) room')
 
   -- cleared, it is all zero
-  end-zero : cleared most (take (length room' - (m - most)) (drop (m - most) room')) ≡ replicate most 0
+  end_zero : cleared most (take (length room' - (m - most)) (drop (m - most) room')) ≡ replicate most 0
   unfolding cleared
-  end-zero =
-      let e : drop most (drop (m - most) room') ≡ [] = ap (λ (i : ℕ). drop i (drop (m - most) room')) end-long ∙ drop-length (drop (m - most) room') in
-      rw (end-part, e) (append-nil (replicate {A = ℕ} most 0))
+  end_zero =
+      let e : drop most (drop (m - most) room') ≡ [] = ap (λ (i : ℕ). drop i (drop (m - most) room')) end_long ∙ drop-length (drop (m - most) room') in
+      rw (end_part, e) (append-nil (replicate {A = ℕ} most 0))
 
-  end-was : drop (m - most) room ≡ replicate most 0
-  end-was = let j : m - (m - most) ≡ most = omega arith in ap (drop (m - most)) z ∙ (drop-zeros (m - most) m (omega arith) ∙ ap (λ (i : ℕ). replicate {A = ℕ} i 0) j)
+  end_was : drop (m - most) room ≡ replicate most 0
+  end_was = let j : m - (m - most) ≡ most = omega arith in ap (drop (m - most)) z ∙ (drop_zeros (m - most) m (omega arith) ∙ ap (λ (i : ℕ). replicate {A = ℕ} i 0) j)
 
-  pub end-cleared : (part : List ℕ) → take (length room - most) room' ≡ take (length room - most) room → part ≡ cleared most (take (length room' - (m - most)) (drop (m - most) room'))
+  pub end_cleared : (part : List ℕ) → take (length room - most) room' ≡ take (length room - most) room → part ≡ cleared most (take (length room' - (m - most)) (drop (m - most) room'))
       → take (m - most) room' ++ (part ++ drop (length room' - (m - most)) (drop (m - most) room')) ≡ room
-  end-cleared part f p =
+  end_cleared part f p =
       let k : length room - most ≡ m - most = omega (arith, all-long) in
       let g : take (m - most) room' ≡ take (m - most) room = rw k at f in
-      rw (p, end-zero, end_empty, append-nil, g, ← end-was) (take-append-drop (m - most) room)
+      rw (p, end_zero, end_empty, append-nil, g, ← end_was) (take-append-drop (m - most) room)
 
 -- ---- a part lent from the beginning of a room that is zero up to a stated length
 
@@ -88,13 +88,13 @@ pub part_length : (m : ℕ) (l : List ℕ) → m ≤ length l → length (take (
 part_length m l h = rw (minus-none m) (length-take-le m l h)
 
 -- behind a part, the room is as it was
-pub part-behind : (m : ℕ) (l d : List ℕ) → m ≤ length l → length d ≡ length (take (m - 0) l) → drop m (d ++ drop (m - 0) l) ≡ drop m l
-part-behind m l d h e = rw (minus-none m) (drop_at d (drop m l) m (e ∙ part_length m l h))
+pub part_behind : (m : ℕ) (l d : List ℕ) → m ≤ length l → length d ≡ length (take (m - 0) l) → drop m (d ++ drop (m - 0) l) ≡ drop m l
+part_behind m l d h e = rw (minus-none m) (drop_at d (drop m l) m (e ∙ part_length m l h))
 
 module _ {n : ℕ} {l : List ℕ} (z : Zeros n l) where
-  pub zeros-at : (i : ℕ) → i < n → get_or l i 0 ≡ 0
-  zeros-at i h = sym (get_or-take n l i 0 h) ∙ ap (λ (x : List ℕ). get_or x i 0) z.zero ∙ get_or-replicate n i 0 0 h
+  pub zeros_at : (i : ℕ) → i < n → get_or l i 0 ≡ 0
+  zeros_at i h = sym (get_or-take n l i 0 h) ∙ ap (λ (x : List ℕ). get_or x i 0) z.zero ∙ get_or-replicate n i 0 0 h
 
   -- whatever a part has come to: cleared, the room is as it was
-  pub part-back : (m : ℕ) → m ≤ n → (d : List ℕ) → length d ≡ length (take (m - 0) l) → cleared m (d ++ drop (m - 0) l) ≡ l
-  part-back m h d e = front-cleared n m l (d ++ drop (m - 0) l) z h (part-behind m l d (omega (arith, zeros-long z)) e)
+  pub part_back : (m : ℕ) → m ≤ n → (d : List ℕ) → length d ≡ length (take (m - 0) l) → cleared m (d ++ drop (m - 0) l) ≡ l
+  part_back m h d e = front_cleared n m l (d ++ drop (m - 0) l) z h (part_behind m l d (omega (arith, zeros_long z)) e)

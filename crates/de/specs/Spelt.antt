@@ -9,19 +9,19 @@ use Rattle.steps.specs.State.{Node}
 use Rattle.reading.specs.Build.{at, tree}
 use Rattle.reading.specs.Unfold.{In, outside-nodes}
 use Rattle.resolve.specs.Ordered.{Final}
-use Rattle.resolve.specs.Walk.{WalkState, walkStart, walk-build}
-use Rattle.resolve.specs.Resolves.{resolves-empty}
-use Rattle.resolve.specs.Tree.{walked, levels-enough}
-use Rattle.resolve.specs.Noted.{isContainer, isTextLeaf, ahead}
-use Rattle.resolve.specs.Ranges.{graph-inside}
-use Rattle.resolve.specs.Shown.{Shown, Spelled, labelHasText}
-use Rattle.resolve.specs.Rooted.{root-words, measures-low}
-use Rattle.resolve.specs.TextsDue.{textDue, Decodes}
+use Rattle.resolve.specs.Walk.{WalkState, walk_start, walk-build}
+use Rattle.resolve.specs.Resolves.{resolves_empty}
+use Rattle.resolve.specs.Tree.{walked, levels_enough}
+use Rattle.resolve.specs.Noted.{is_container, is_text_leaf, ahead}
+use Rattle.resolve.specs.Ranges.{graph_inside}
+use Rattle.resolve.specs.Shown.{Shown, Spelled, label_has_text}
+use Rattle.resolve.specs.Rooted.{root_words, measures_low}
+use Rattle.resolve.specs.TextsDue.{text_due, Decodes}
 use Rattle.emit.specs.Walked.{Walked}
 use Rattle.emit.specs.Settling.{ReadyToSettle}
-use Rattle.emit.specs.Enough.{walk-over, walk-fits}
+use Rattle.emit.specs.Enough.{walk-over, walk_fits}
 use Rattle.de.specs.Measured.{Worded, Limited, MeasuredAs}
-use Rattle.de.specs.Texts.{measures-many}
+use Rattle.de.specs.Texts.{measures_many}
 
 -- nodes and a root within the limits, the walk from it ready to be settled, and nothing written yet
 pub record Spelt (p d ws starts sorted noted measures log list : List ℕ) (t : List Node) (root : ℕ) : Type 0 where
@@ -32,7 +32,7 @@ pub record Spelt (p d ws starts sorted noted measures log list : List ℕ) (t : 
 
 -- ---- labels with text
 
-text-kinds : (l : Label) → labelHasText l ≡ true → (isContainer l || isTextLeaf l) ≡ true
+text-kinds : (l : Label) → label_has_text l ≡ true → (is_container l || is_text_leaf l) ≡ true
 text-kinds NoneL h = h
 text-kinds (BoolL b) h = h
 text-kinds (I64L n) h = h
@@ -48,8 +48,8 @@ text-kinds (GlobalL m n) h = refl
 text-kinds (ObjectL m n b) h = refl
 
 -- a word below `ahead` of a label with text: it is wanted
-word-wanted : (l : Label) (w : ℕ) → labelHasText l ≡ true → 128 ≤ w → w < ahead → (labelHasText l && (leb 128 w && ltb w (cond (isContainer l) (2 ^ 42) (2 ^ 41)))) ≡ true
-word-wanted l w h a b = rw (h, le-leb 128 w a) (low (isContainer l))
+word_wanted : (l : Label) (w : ℕ) → label_has_text l ≡ true → 128 ≤ w → w < ahead → (label_has_text l && (leb 128 w && ltb w (cond (is_container l) (2 ^ 42) (2 ^ 41)))) ≡ true
+word_wanted l w h a b = rw (h, le-leb 128 w a) (low (is_container l))
   where
     low : (c : Bool) → ltb w (cond c (2 ^ 42) (2 ^ 41)) ≡ true
     low true = lt-ltb w (2 ^ 42) (omega arith)
@@ -59,9 +59,9 @@ word-wanted l w h a b = rw (h, le-leb 128 w a) (low (isContainer l))
 
 module _ {p ws starts : List ℕ} {t : List Node} {root : ℕ} (x : Limited p ws starts t root) where
   pub inside : (i j : ℕ) → In j (at t i).kids → j < length t
-  inside = graph-inside t starts x.before x.graph
+  inside = graph_inside t starts x.before x.graph
 
-  leaves : (i : ℕ) → isContainer (at t i).label ≡ false → (at t i).kids ≡ []
+  leaves : (i : ℕ) → is_container (at t i).label ≡ false → (at t i).kids ≡ []
   leaves i c = go (dec_lt i (length t))
     where
       go : Dec (i < length t) → (at t i).kids ≡ []
@@ -71,11 +71,11 @@ module _ {p ws starts : List ℕ} {t : List Node} {root : ℕ} (x : Limited p ws
   over : Walked t (walked t 4096 64 root).after
   over = walk-over t inside x.worded.beyond root x.below x.deep leaves
 
-  is-tree : (walked t 4096 64 root).value ≡ tree t root
-  is-tree = (walk-build t 4096 64 root (walkStart t)).value ∙ levels-enough t 4096 x.worded.beyond 64 root x.deep
+  is_tree : (walked t 4096 64 root).value ≡ tree t root
+  is_tree = (walk-build t 4096 64 root (walk_start t)).value ∙ levels_enough t 4096 x.worded.beyond 64 root x.deep
 
-  few-records : size (one (walked t 4096 64 root).value) ≤ 2048
-  few-records = let e : size (one (walked t 4096 64 root).value) ≡ size (one (tree t root)) = ap (λ (v : Value). size (one v)) is-tree in omega (arith, x.records)
+  few_records : size (one (walked t 4096 64 root).value) ≤ 2048
+  few_records = let e : size (one (walked t 4096 64 root).value) ≡ size (one (tree t root)) = ap (λ (v : Value). size (one v)) is_tree in omega (arith, x.records)
 
 -- ---- decoded
 
@@ -84,25 +84,25 @@ module _ {p ws starts sorted noted measures₀ : List ℕ} {t : List Node} {root
   after = (walked t 4096 64 root).after
 
   -- a finished node's text was wanted
-  done-due : (i : ℕ) → i < length t → In i after.done → labelHasText (at t i).label ≡ true → textDue p ws i (get_or measures₀ i 0) ≡ true
-  unfolding textDue
-  done-due i l n h =
-      let e = m.limited.worded.labels-are i l in
-      let w = root-words m.holds i l n (text-kinds (at t i).label h) in
-      rw (← e) (word-wanted (at t i).label (get_or measures₀ i 0) h w.0 w.1)
+  done_due : (i : ℕ) → i < length t → In i after.done → label_has_text (at t i).label ≡ true → text_due p ws i (get_or measures₀ i 0) ≡ true
+  unfolding text_due
+  done_due i l n h =
+      let e = m.limited.worded.labels_are i l in
+      let w = root_words m.holds i l n (text-kinds (at t i).label h) in
+      rw (← e) (word_wanted (at t i).label (get_or measures₀ i 0) h w.0 w.1)
 
-  spelled : (i : ℕ) → In i after.done → i < length t → labelHasText (at t i).label ≡ true → Spelled p d ws measures i (at t i).label
+  spelled : (i : ℕ) → In i after.done → i < length t → label_has_text (at t i).label ≡ true → Spelled p d ws measures i (at t i).label
   spelled i n l h =
-      let e = m.limited.worded.labels-are i l in
-      let k : i < length measures₀ = omega (arith, measures-many m) in
-      rw e (D.texts i k (done-due i l n h)).spelled
+      let e = m.limited.worded.labels_are i l in
+      let k : i < length measures₀ = omega (arith, measures_many m) in
+      rw e (D.texts i k (done_due i l n h)).spelled
 
   low₀ : (j : ℕ) → get_or measures₀ j 0 < 2 ^ 63
   low₀ j = go (dec_lt j (length t))
     where
       go : Dec (j < length t) → get_or measures₀ j 0 < 2 ^ 63
-      go (yes l) = omega (arith, measures-low m.holds j l)
-      go (no l) = let k : length measures₀ ≤ j = omega (arith, measures-many m) in let e : get_or measures₀ j 0 ≡ 0 = get_or-eq_default measures₀ 0 k in omega arith
+      go (yes l) = omega (arith, measures_low m.holds j l)
+      go (no l) = let k : length measures₀ ≤ j = omega (arith, measures_many m) in let e : get_or measures₀ j 0 ≡ 0 = get_or-eq_default measures₀ 0 k in omega arith
 
   low : (j : ℕ) → get_or measures j 0 < 2 ^ 63
   low j = go (D.changed j)
@@ -118,10 +118,10 @@ module _ {p ws starts sorted noted measures₀ : List ℕ} {t : List Node} {root
         beyond = w.beyond;
         short = w.short;
         words_long = w.words_long;
-        starts-long = m.limited.graph.room;
-        measures-long = omega (arith, measures-many m, D.same-measures);
+        starts_long = m.limited.graph.room;
+        measures_long = omega (arith, measures_many m, D.same-measures);
         rising = λ i l. (m.limited.graph.bounds i l).0;
-        labels-are = w.labels-are;
+        labels_are = w.labels_are;
         classes = w.classes;
         nodes = nodes;
         closed = closed;
@@ -136,7 +136,7 @@ module _ {p ws starts sorted noted measures₀ : List ℕ} {t : List Node} {root
       w = m.limited.worded
 
       empty : after.kids 4096 ≡ []
-      empty = resolves-empty t 4096 m.limited.worded.beyond m.holds.fits.resolves
+      empty = resolves_empty t 4096 m.limited.worded.beyond m.holds.fits.resolves
 
       nodes : (i : ℕ) → Final 4096 [] i → (i ≡ 4096) ⊎ (i < length t)
       nodes i (inl e) = inl e
@@ -159,7 +159,7 @@ module _ {p ws starts sorted noted measures₀ : List ℕ} {t : List Node} {root
               bare = bare log;
               lies = m.holds.fits.lies;
               spelled = spelled;
-              roomy = let k = few-records m.limited in walk-fits t (inside m.limited) m.limited.worded.beyond root m.limited.below log list (omega arith) (omega arith) (omega arith);
+              roomy = let k = few_records m.limited in walk_fits t (inside m.limited) m.limited.worded.beyond root m.limited.below log list (omega arith) (omega arith) (omega arith);
             };
         low = low;
       }

@@ -7,32 +7,32 @@ use native.Mathlib.Omega.{arith}
 use Rattle.value.specs.Value.{Label, text_of, NoneL, BoolL, I64L, F64L, BytesL, StringL, ListL, TupleL, SetL, FrozenSetL, DictL, GlobalL, ObjectL}
 use Rattle.steps.specs.State.{Node}
 use Rattle.reading.specs.Build.{at}
-use Rattle.resolve.specs.Noted.{isContainer, ahead}
-use Rattle.resolve.specs.Shown.{leading, trailing, labelHasText}
-use Rattle.resolve.specs.Reached.{textIf}
+use Rattle.resolve.specs.Noted.{is_container, ahead}
+use Rattle.resolve.specs.Shown.{leading, trailing, label_has_text}
+use Rattle.resolve.specs.Reached.{text_if}
 use Rattle.resolve.specs.Sums.{up_to}
-use Rattle.resolve.specs.Rooted.{hasWord, worded-texts}
-use Rattle.resolve.specs.TextsDue.{textDue, nodeTextLength, dueText, Decodable}
-use Rattle.de.specs.Rooms.{Zeros, zeros-long}
+use Rattle.resolve.specs.Rooted.{has_word, worded-texts}
+use Rattle.resolve.specs.TextsDue.{text_due, node_text_length, due_text, Decodable}
+use Rattle.de.specs.Rooms.{Zeros, zeros_long}
 use Rattle.de.specs.Measured.{MeasuredAs}
 
 -- ---- one node
 
 -- what leads and what trails are a label's text
-text-parts : (l : Label) → length (leading l) + length (trailing l) ≡ length (text_of l)
-text-parts NoneL = refl
-text-parts (BoolL b) = refl
-text-parts (I64L n) = refl
-text-parts (F64L n) = refl
-text-parts (BytesL s) = omega arith
-text-parts (StringL s) = omega arith
-text-parts ListL = refl
-text-parts TupleL = refl
-text-parts SetL = refl
-text-parts FrozenSetL = refl
-text-parts DictL = refl
-text-parts (GlobalL m n) = sym (length-append m n)
-text-parts (ObjectL m n b) = sym (length-append m n)
+text_parts : (l : Label) → length (leading l) + length (trailing l) ≡ length (text_of l)
+text_parts NoneL = refl
+text_parts (BoolL b) = refl
+text_parts (I64L n) = refl
+text_parts (F64L n) = refl
+text_parts (BytesL s) = omega arith
+text_parts (StringL s) = omega arith
+text_parts ListL = refl
+text_parts TupleL = refl
+text_parts SetL = refl
+text_parts FrozenSetL = refl
+text_parts DictL = refl
+text_parts (GlobalL m n) = sym (length-append m n)
+text_parts (ObjectL m n b) = sym (length-append m n)
 
 part : (x : Bool) (n : ℕ) → cond x n 0 ≤ n
 part true n = omega arith
@@ -49,32 +49,32 @@ wanted true true false w n = omega arith
 
 module _ {p ws starts sorted noted measures : List ℕ} {t : List Node} {root : ℕ} (m : MeasuredAs p ws starts sorted noted measures t root) where
   -- a measure a node
-  pub measures-many : length measures ≡ length t
-  measures-many = m.holds.fits.noted.long
+  pub measures_many : length measures ≡ length t
+  measures_many = m.holds.fits.noted.long
 
-  node-fits : (i : ℕ) → i < length t → cond (textDue p ws i (get_or measures i 0)) (nodeTextLength p ws i) 0 ≤ textIf t (hasWord t measures) i
-  unfolding textDue
-  node-fits i l =
-      let e = m.limited.worded.labels-are i l in
-      let q = text-parts (at t i).label in
-      rw (← e, q) (wanted (labelHasText (at t i).label) (leb 128 (get_or measures i 0)) (isContainer (at t i).label) (get_or measures i 0) (length (text_of (at t i).label)))
+  node_fits : (i : ℕ) → i < length t → cond (text_due p ws i (get_or measures i 0)) (node_text_length p ws i) 0 ≤ text_if t (has_word t measures) i
+  unfolding text_due
+  node_fits i l =
+      let e = m.limited.worded.labels_are i l in
+      let q = text_parts (at t i).label in
+      rw (← e, q) (wanted (label_has_text (at t i).label) (leb 128 (get_or measures i 0)) (is_container (at t i).label) (get_or measures i 0) (length (text_of (at t i).label)))
 
-  nodes-fit : (n : ℕ) → n ≤ length t → dueText p ws measures n ≤ up_to (textIf t (hasWord t measures)) n
-  unfolding dueText up_to
-  nodes-fit zero h = omega arith
-  nodes-fit (suc n) h = omega (arith, nodes-fit n (omega arith), node-fits n (omega arith))
+  nodes_fit : (n : ℕ) → n ≤ length t → due_text p ws measures n ≤ up_to (text_if t (has_word t measures)) n
+  unfolding due_text up_to
+  nodes_fit zero h = omega arith
+  nodes_fit (suc n) h = omega (arith, nodes_fit n (omega arith), node_fits n (omega arith))
 
-  pub texts-fit : dueText p ws measures (length t) ≤ 65536
-  texts-fit = omega (arith, nodes-fit (length t) (omega arith), worded-texts root m.limited.deep m.holds, m.limited.texts)
+  pub texts_fit : due_text p ws measures (length t) ≤ 65536
+  texts_fit = omega (arith, nodes_fit (length t) (omega arith), worded-texts root m.limited.deep m.holds, m.limited.texts)
 
   pub decodable : (decoded : List ℕ) → Zeros 65536 decoded → Decodable p ws (length measures) decoded measures
   decodable decoded z =
-      let e = measures-many in
+      let e = measures_many in
       let w = m.limited.worded in
       rw e (record {
         words = w.words_long;
         classes = λ i l k. (w.classes i l k).0;
         measured = omega arith;
-        fits = texts-fit;
-        room = zeros-long z;
+        fits = texts_fit;
+        room = zeros_long z;
       })

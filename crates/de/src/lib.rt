@@ -5,8 +5,8 @@
 mod build;
 
 ghost use Rattle.std.specs.Prelude.{true, [], ◌∷◌, map, ◌≡◌, length};
-ghost use Rattle.rooms.specs.Stated.{Slices, machineLengths, builderLengths, stated, Long, Ready, short, blank};
-ghost use Rattle.machine.specs.Ran.{countsOf};
+ghost use Rattle.rooms.specs.Stated.{Slices, machine_lengths, builder_lengths, stated, Long, Ready, short, blank};
+ghost use Rattle.machine.specs.Ran.{counts_of};
 ghost use Rattle.de.specs.Given.{due};
 ghost use Rattle.de.specs.Inner.{InnerReads};
 ghost use Rattle.de.specs.Call.{ReadCall, OwnRoomsCall};
@@ -21,7 +21,7 @@ use rooms::{
 use store::Counts;
 
 fn counts(outcome: Outcome) -> Counts
-    ensures { result ≡ countsOf outcome }
+    ensures { result ≡ counts_of outcome }
 {
     match outcome {
         Outcome::Stopped(c) => c,
@@ -126,11 +126,11 @@ pub fn clear_machine(
     keys: &mut [u32],
     held: &mut [u16],
 )
-    requires { Long machineLengths
+    requires { Long machine_lengths
         (nodes.old ∷ owners.old ∷ children.old ∷ stack.old ∷ marks.old ∷ keys.old ∷ held.old ∷ []) }
     ensures { nodes.new ∷ owners.new ∷ children.new ∷ stack.new
         ∷ marks.new ∷ keys.new ∷ held.new ∷ []
-        ≡ blank machineLengths
+        ≡ blank machine_lengths
         (nodes.old ∷ owners.old ∷ children.old ∷ stack.old
         ∷ marks.old ∷ keys.old ∷ held.old ∷ []) }
 {
@@ -150,9 +150,9 @@ pub fn clear_builder(
     sorted: &mut [u16],
     measures: &mut [u64],
 )
-    requires { Long builderLengths (unescaped.old ∷ starts.old ∷ sorted.old ∷ measures.old ∷ []) }
+    requires { Long builder_lengths (unescaped.old ∷ starts.old ∷ sorted.old ∷ measures.old ∷ []) }
     ensures { unescaped.new ∷ starts.new ∷ sorted.new ∷ measures.new ∷ []
-        ≡ blank builderLengths
+        ≡ blank builder_lengths
         (unescaped.old ∷ starts.old ∷ sorted.old ∷ measures.old ∷ []) }
 {
     zero_bytes(unescaped, 65536);

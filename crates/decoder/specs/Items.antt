@@ -6,9 +6,9 @@ use Rattle.value.specs.Value.{Label}
 use Rattle.decoder.specs.declared.Taken.{Taken}
 use Rattle.decoder.specs.declared.Taken.TheVariants.{Short, From}
 use Rattle.store.specs.declared.Effect.{Effect}
-use Rattle.steps.specs.State.{State, Res, ok, no, ◌>>=◌, popMark}
-use Rattle.steps.specs.NodeWords.{labelIn}
-use Rattle.steps.specs.Opcodes.{isList, isDict, made, addItems}
+use Rattle.steps.specs.State.{State, Res, ok, no, ◌>>=◌, pop_mark}
+use Rattle.steps.specs.NodeWords.{label_in}
+use Rattle.steps.specs.Opcodes.{is_list, is_dict, made, add_items}
 use Rattle.steps.specs.Run.{going}
 use Rattle.store.specs.declared.Counts.{Counts}
 use Rattle.store.specs.Rooms.{Rooms, state_of}
@@ -17,8 +17,8 @@ use Rattle.decoder.specs.Reads.{cut_to}
 
 -- what was found above the last mark
 unfoldable pub Took : Taken → Rooms → Counts → Type 0
-Took Short r c = popMark (state_of r c) ≡ no StackUnderflow
-Took (From m) r c = (popMark (state_of r c) ≡ ok (above m c.stack r.stack, state_of r (cut_to c c.at m (c.marks - 1)))) × (m ≤ c.stack) × (0 < c.marks)
+Took Short r c = pop_mark (state_of r c) ≡ no StackUnderflow
+Took (From m) r c = (pop_mark (state_of r c) ≡ ok (above m c.stack r.stack, state_of r (cut_to c c.at m (c.marks - 1)))) × (m ≤ c.stack) × (0 < c.marks)
 
 -- in all rooms with these marks
 unfoldable pub TakesMark : Counts → List ℕ → Taken → Type 0
@@ -27,19 +27,19 @@ TakesMark c marks t = (r : Rooms) → Sound r c → r.marks ≡ marks → Took t
 -- what stands above the last mark, as a new container of the kind k
 unfoldable pub gathered : ℕ → State → Res State
 gathered k s = do
-  (is, s₁) ← popMark s
-  made (labelIn k) is s₁
+  (is, s₁) ← pop_mark s
+  made (label_in k) is s₁
 
 -- the containers that grow, by their kinds
 pub data GrowingKind (k : ℕ) : Type 0 where
   lists : k ≡ 6 → GrowingKind k
   dicts : k ≡ 10 → GrowingKind k
 
-unfoldable pub isGrown : ℕ → Label → Bool
-isGrown k l = cond (eqb k 6) (isList l) (isDict l)
+unfoldable pub is_grown : ℕ → Label → Bool
+is_grown k l = cond (eqb k 6) (is_list l) (is_dict l)
 
 -- in all rooms with these words and this stack, e adds what stands above `keep`
 unfoldable pub Adds : Counts → List ℕ → List ℕ → ℕ → ℕ → ℕ → Wanted → Effect → Type 0
 Adds c nodes stack keep marks k why e =
     (r : Rooms) → Sound r c → r.nodes ≡ nodes → r.stack ≡ stack
-    → IsStep e r c (going (addItems (isGrown k) (Invalid why) (above keep c.stack r.stack) (state_of r (cut_to c c.at keep marks))))
+    → IsStep e r c (going (add_items (is_grown k) (Invalid why) (above keep c.stack r.stack) (state_of r (cut_to c c.at keep marks))))

@@ -2,15 +2,15 @@
 // effect that its step has. specs/ has what each answers; steps has the state and the opcodes' definitions, store what the rooms and an effect mean.
 ghost use Rattle.std.specs.Prelude.{true, List, ◌≡◌, ℕ, ◌+◌, ◌-◌, ◌*◌, ◌^◌, ◌/◌, ◌<◌, ◌≤◌, length, get_or, take, drop};
 ghost use Rattle.steps.specs.State.{get, put};
-ghost use Rattle.steps.specs.Opcodes.{proto, popOne, popToMark, dup, int, binint, long, longN, float, binfloat, string, binstring, shortBinstring, unicode, binunicode, global, list, tuple, tupleN, dict, append, appends, setitem, setitems, low_bytes, reduce, newobj, buildState};
+ghost use Rattle.steps.specs.Opcodes.{proto, pop_one, pop_to_mark, dup, int, binint, long, long_n, float, binfloat, string, binstring, short_binstring, unicode, binunicode, global, list, tuple, tuple_n, dict, append, appends, setitem, setitems, low_bytes, reduce, newobj, build_state};
 ghost use Rattle.steps.specs.Run.{going};
 ghost use Rattle.store.specs.Effects.{SomeRooms, Decides};
 ghost use Rattle.decoder.specs.Reads.{cut_to};
 ghost use Rattle.decoder.specs.ReadsPickle.{ReadsPart, prefixed, unsigned, ReadsLong};
 ghost use Rattle.decoder.specs.Items.{TakesMark, GrowingKind, Adds, gathered};
 ghost use Rattle.steps.specs.NodeWords.{first, second, module_of, name_of, HoldsLinks};
-ghost use Rattle.decoder.specs.ReadsMemo.{keyLine, keyBy, getBy, putBy, ReadsKey};
-ghost use Rattle.decoder.specs.ReadsCalls.{CallOnTop, ReadsCall, madeKind};
+ghost use Rattle.decoder.specs.ReadsMemo.{key_line, key_by, get_by, put_by, ReadsKey};
+ghost use Rattle.decoder.specs.ReadsCalls.{CallOnTop, ReadsCall, made_kind};
 ghost use Rattle.number.specs.Space.{same};
 
 use float::{F64Literal, parse_f64};
@@ -178,7 +178,7 @@ pub fn long_at(pickle: &[u8], at: usize, width: usize) -> LongRead
 // LONG1, LONG4: what was read at the counts' place.
 pub fn long_n(c: Counts, read: LongRead) -> Effect
     ensures { (n : ℕ) (p : List ℕ) → ReadsLong n c.at p read
-        → Decides c (λ r. r.pickle ≡ p) (λ s. going (longN n s)) result }
+        → Decides c (λ r. r.pickle ≡ p) (λ s. going (long_n n s)) result }
 {
     match read {
         LongRead::None(why) => Effect::Refused(c, 0, 0, why),
@@ -271,7 +271,7 @@ pub fn binstring(pickle: &[u8], c: Counts) -> Effect
 // SHORT_BINSTRING: a length of one byte, and the text.
 pub fn short_binstring(pickle: &[u8], c: Counts) -> Effect
     requires { SomeRooms c (λ r. r.pickle ≡ pickle.now) }
-    ensures { Decides c (λ r. r.pickle ≡ pickle.now) (λ s. going (shortBinstring s)) result }
+    ensures { Decides c (λ r. r.pickle ≡ pickle.now) (λ s. going (short_binstring s)) result }
 {
     match prefixed(pickle, c.at, 1) {
         Part::Short => Effect::Refused(c, 0, 0, Refusal::EndOfInput),
@@ -375,7 +375,7 @@ fn above_mark(marks: &[u16], c: Counts) -> Taken
 
 // POP does not guard a mark.
 pub fn pop(c: Counts) -> Effect
-    ensures { Decides c (λ r. Unit {0}) (λ s. going (popOne s)) result }
+    ensures { Decides c (λ r. Unit {0}) (λ s. going (pop_one s)) result }
 {
     let values = c.stack;
     if values == 0 {
@@ -386,7 +386,7 @@ pub fn pop(c: Counts) -> Effect
 
 pub fn pop_mark(marks: &[u16], c: Counts) -> Effect
     requires { SomeRooms c (λ r. r.marks ≡ marks.now) }
-    ensures { Decides c (λ r. r.marks ≡ marks.now) (λ s. going (popToMark s)) result }
+    ensures { Decides c (λ r. r.marks ≡ marks.now) (λ s. going (pop_to_mark s)) result }
 {
     match above_mark(marks, c) {
         Taken::Short => Effect::Refused(c, 0, 0, Refusal::StackUnderflow),
@@ -436,7 +436,7 @@ pub fn tuple(marks: &[u16], c: Counts) -> Effect
 // TUPLE1 to TUPLE3 pay no heed to marks.
 pub fn small_tuple(c: Counts, code: u8) -> Effect
     requires { (0x85 ≤ code) × (code ≤ 0x87) }
-    ensures { Decides c (λ r. Unit {0}) (λ s. going (tupleN (code - 0x84) s)) result }
+    ensures { Decides c (λ r. Unit {0}) (λ s. going (tuple_n (code - 0x84) s)) result }
 {
     let n = (code - 0x84) as usize;
     if c.stack < n {
@@ -585,7 +585,7 @@ enum KeyRead {
 
 // GET's and PUT's.
 fn key_line(pickle: &[u8], c: Counts) -> KeyRead
-    ensures { ReadsKey keyLine c pickle.now result }
+    ensures { ReadsKey key_line c pickle.now result }
 {
     let at = c.at;
     match newline(pickle, at) {
@@ -611,7 +611,7 @@ fn key_low(pickle: &[u8], c: Counts, width: usize) -> KeyRead
 
 fn key_by(pickle: &[u8], c: Counts, form: KeyForm) -> KeyRead
     requires { c.at ≤ length pickle.now }
-    ensures { ReadsKey (keyBy form) c pickle.now result }
+    ensures { ReadsKey (key_by form) c pickle.now result }
 {
     match form {
         KeyForm::Line => key_line(pickle, c),
@@ -636,7 +636,7 @@ pub fn get_by(pickle: &[u8], keys: &[u32], held: &[u16], c: Counts, form: KeyFor
     requires { SomeRooms c (λ r. (r.pickle ≡ pickle.now) × (r.keys ≡ keys.now) × (r.held ≡ held.now)) }
     ensures { Decides c
         (λ r. (r.pickle ≡ pickle.now) × (r.keys ≡ keys.now) × (r.held ≡ held.now))
-        (λ s. going (getBy form s)) result }
+        (λ s. going (get_by form s)) result }
 {
     match key_by(pickle, c, form) {
         KeyRead::None(why) => Effect::Refused(c, 0, 0, why),
@@ -659,7 +659,7 @@ fn put(stack: &[u16], c: Counts, key: MemoKey) -> Effect
 pub fn put_by(pickle: &[u8], stack: &[u16], c: Counts, form: KeyForm) -> Effect
     requires { SomeRooms c (λ r. (r.pickle ≡ pickle.now) × (r.stack ≡ stack.now)) }
     ensures { Decides c (λ r. (r.pickle ≡ pickle.now) × (r.stack ≡ stack.now))
-        (λ s. going (putBy form s)) result }
+        (λ s. going (put_by form s)) result }
 {
     match key_by(pickle, c, form) {
         KeyRead::None(why) => Effect::Refused(c, 0, 0, why),
@@ -745,7 +745,7 @@ fn same_text(text: &[u8], word: &[u8]) -> bool
 
 // The kind of what REDUCE makes of a class with the words `a` and `b` and of `n` arguments.
 fn made_kind(pickle: &[u8], a: u64, b: u64, n: u64) -> u64
-    ensures { result ≡ madeKind (module_of pickle.now a) (name_of pickle.now b) n }
+    ensures { result ≡ made_kind (module_of pickle.now a) (name_of pickle.now b) n }
 {
     if 1 < n {
         return value::KIND_OBJECT;
@@ -852,7 +852,7 @@ pub fn newobj(nodes: &[u64], stack: &[u16], c: Counts) -> Effect
 // The top is the state of the Object below it.
 pub fn build_state(nodes: &[u64], stack: &[u16], c: Counts) -> Effect
     requires { SomeRooms c (λ r. (r.nodes ≡ nodes.now) × (r.stack ≡ stack.now)) }
-    ensures { Decides c (λ r. (r.nodes ≡ nodes.now) × (r.stack ≡ stack.now)) (λ s. going (buildState s)) result }
+    ensures { Decides c (λ r. (r.nodes ≡ nodes.now) × (r.stack ≡ stack.now)) (λ s. going (build_state s)) result }
 {
     if c.stack < 2 {
         return Effect::Refused(c, 0, 0, Refusal::StackUnderflow);

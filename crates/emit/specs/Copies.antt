@@ -9,8 +9,8 @@ use Rattle.std.proofs.lemmas.List.Edits.{sets}
 use Rattle.std.proofs.Math.Seq.{length-sets, drop-length}
 use Rattle.std.proofs.Math.Numerals.{add-one}
 use native.Mathlib.Omega.{arith}
-use Rattle.resolve.specs.Moved.{hasTextPlace, moves}
-use Rattle.emit.specs.Stores.{sets-before, early}
+use Rattle.resolve.specs.Moved.{has_text_place, moves}
+use Rattle.emit.specs.Stores.{sets_before, early}
 
 -- ---- a text
 
@@ -21,17 +21,17 @@ pub record Putting (s o₀ : List ℕ) (at i : ℕ) (o : List ℕ) : Type 0 wher
   pub rest : sets o (at + i) (drop i s) ≡ sets o₀ at s
 
 module _ (s o₀ : List ℕ) (at : ℕ) where
-  pub putting-none : Putting s o₀ at 0 o₀
-  putting-none = record { below = omega arith; long = refl; rest = rw add-zero }
+  pub putting_none : Putting s o₀ at 0 o₀
+  putting_none = record { below = omega arith; long = refl; rest = rw add-zero }
 
-  pub putting-next : (i : ℕ) (o : List ℕ) → Putting s o₀ at i o → i < length s → Putting s o₀ at (i + 1) (set o (at + i) (get_or s i 0))
-  putting-next i o h l =
+  pub putting_next : (i : ℕ) (o : List ℕ) → Putting s o₀ at i o → i < length s → Putting s o₀ at (i + 1) (set o (at + i) (get_or s i 0))
+  putting_next i o h l =
       let e : at + (i + 1) ≡ suc (at + i) = omega arith in
       let m = h.rest in
       record { below = omega arith; long = length-set o (at + i) (get_or s i 0) ∙ h.long; rest = rw (e, add-one i) (rw (drop-cons s i 0 l) at m) }
 
-  pub putting-all : (i : ℕ) (o : List ℕ) → Putting s o₀ at i o → length s ≤ i → o ≡ sets o₀ at s
-  putting-all i o h l = let e : i ≡ length s = omega (arith, h.below) in let m = h.rest in rw (e, drop-length s) at m
+  pub putting_all : (i : ℕ) (o : List ℕ) → Putting s o₀ at i o → length s ≤ i → o ≡ sets o₀ at s
+  putting_all i o h l = let e : i ≡ length s = omega (arith, h.below) in let m = h.rest in rw (e, drop-length s) at m
 
 -- ---- a part of a text once more, behind it: that part is put, and stands as it did
 
@@ -40,29 +40,29 @@ pub record Repeating (o₀ : List ℕ) (from n at k : ℕ) (o : List ℕ) : Type
   pub same : take at o ≡ take at o₀
 
 module _ (o₀ : List ℕ) (from n at : ℕ) (apart : from + n ≤ at) (room : at + n ≤ length o₀) where
-  long-part : length (take n (drop from o₀)) ≡ n
-  long-part = length-take-le n (drop from o₀) (simp length-drop (omega arith))
+  long_part : length (take n (drop from o₀)) ≡ n
+  long_part = length-take-le n (drop from o₀) (simp length-drop (omega arith))
 
-  pub repeating-none : Repeating o₀ from n at 0 o₀
-  repeating-none = record { putting = putting-none _ o₀ at; same = refl }
+  pub repeating_none : Repeating o₀ from n at 0 o₀
+  repeating_none = record { putting = putting_none _ o₀ at; same = refl }
 
-  pub repeating-next : (k : ℕ) (o : List ℕ) → Repeating o₀ from n at k o → k < n → Repeating o₀ from n at (k + 1) (set o (at + k) (get_or o (from + k) 0))
-  repeating-next k o h l =
+  pub repeating_next : (k : ℕ) (o : List ℕ) → Repeating o₀ from n at k o → k < n → Repeating o₀ from n at (k + 1) (set o (at + k) (get_or o (from + k) 0))
+  repeating_next k o h l =
       let x : get_or o (from + k) 0 ≡ get_or (take n (drop from o₀)) k 0 = early o₀ o at (from + k) h.same (omega arith) ∙ sym (get_or-take n (drop from o₀) k 0 l ∙ get_or-drop from o₀ k 0) in
       record {
-        putting = rw x (putting-next _ o₀ at k o h.putting (omega (arith, long-part)));
-        same = sets-before o (at + k) (get_or o (from + k) 0 ∷ []) at (omega arith) ∙ h.same;
+        putting = rw x (putting_next _ o₀ at k o h.putting (omega (arith, long_part)));
+        same = sets_before o (at + k) (get_or o (from + k) 0 ∷ []) at (omega arith) ∙ h.same;
       }
 
-  pub repeating-all : (k : ℕ) (o : List ℕ) → Repeating o₀ from n at k o → n ≤ k → o ≡ sets o₀ at (take n (drop from o₀))
-  repeating-all k o h l = putting-all _ o₀ at k o h.putting (omega (arith, long-part))
+  pub repeating_all : (k : ℕ) (o : List ℕ) → Repeating o₀ from n at k o → n ≤ k → o ≡ sets o₀ at (take n (drop from o₀))
+  repeating_all k o h l = putting_all _ o₀ at k o h.putting (omega (arith, long_part))
 
 -- ---- records once more, behind them, with texts from q on that were from p on
 
 pub record Copyable (r : List ℕ) (from size at p q : ℕ) : Type 0 where
   pub apart : from + size ≤ at
   pub room : 4 * (at + size) ≤ length r
-  pub places : (k : ℕ) → k < size → hasTextPlace (get_or r (4 * (from + k)) 0) ≡ true → (p ≤ get_or r (4 * (from + k) + 1) 0) × (get_or r (4 * (from + k) + 1) 0 - p + q < 2 ^ 64)
+  pub places : (k : ℕ) → k < size → has_text_place (get_or r (4 * (from + k)) 0) ≡ true → (p ≤ get_or r (4 * (from + k) + 1) 0) × (get_or r (4 * (from + k) + 1) 0 - p + q < 2 ^ 64)
 
 pub record Copying (r₀ : List ℕ) (from size at p q k : ℕ) (r : List ℕ) : Type 0 where
   pub below : k ≤ size
@@ -70,23 +70,23 @@ pub record Copying (r₀ : List ℕ) (from size at p q k : ℕ) (r : List ℕ) :
   pub same : take (4 * at) r ≡ take (4 * at) r₀
   pub rest : sets r (4 * (at + k)) (moves p q (take (4 * (size - k)) (drop (4 * (from + k)) r₀))) ≡ sets r₀ (4 * at) (moves p q (take (4 * size) (drop (4 * from) r₀)))
 
-four-of : (l : List ℕ) (j m : ℕ) → j + 4 ≤ length l → take (suc (suc (suc (suc m)))) (drop j l) ≡ get_or l j 0 ∷ get_or l (suc j) 0 ∷ get_or l (suc (suc j)) 0 ∷ get_or l (suc (suc (suc j))) 0 ∷ take m (drop (suc (suc (suc (suc j)))) l)
-four-of l j m h =
+four_of : (l : List ℕ) (j m : ℕ) → j + 4 ≤ length l → take (suc (suc (suc (suc m)))) (drop j l) ≡ get_or l j 0 ∷ get_or l (suc j) 0 ∷ get_or l (suc (suc j)) 0 ∷ get_or l (suc (suc (suc j))) 0 ∷ take m (drop (suc (suc (suc (suc j)))) l)
+four_of l j m h =
     rw (drop-cons l j 0 (omega arith), drop-cons l (suc j) 0 (omega arith), drop-cons l (suc (suc j)) 0 (omega arith), drop-cons l (suc (suc (suc j))) 0 (omega arith))
 
 module _ (r₀ : List ℕ) (from size at p q : ℕ) (f : Copyable r₀ from size at p q) where
-  pub copying-none : Copying r₀ from size at p q 0 r₀
-  copying-none = let e : size - 0 ≡ size = omega arith in record { below = omega arith; long = refl; same = refl; rest = rw (e, add-zero from, add-zero at) }
+  pub copying_none : Copying r₀ from size at p q 0 r₀
+  copying_none = let e : size - 0 ≡ size = omega arith in record { below = omega arith; long = refl; same = refl; rest = rw (e, add-zero from, add-zero at) }
 
   module _ (k : ℕ) (r : List ℕ) (h : Copying r₀ from size at p q k r) (l : k < size) where
     -- what is copied stands as it did
     pub source : (j : ℕ) → j < 4 → get_or r (4 * (from + k) + j) 0 ≡ get_or r₀ (4 * (from + k) + j) 0
     source j m = early r₀ r (4 * at) (4 * (from + k) + j) h.same (omega (arith, f.apart))
 
-    pub copying-next : (r' : List ℕ) (b : ℕ) → b ≡ cond (hasTextPlace (get_or r (4 * (from + k)) 0)) (get_or r (4 * (from + k) + 1) 0 - p + q) (get_or r (4 * (from + k) + 1) 0)
+    pub copying_next : (r' : List ℕ) (b : ℕ) → b ≡ cond (has_text_place (get_or r (4 * (from + k)) 0)) (get_or r (4 * (from + k) + 1) 0 - p + q) (get_or r (4 * (from + k) + 1) 0)
         → r' ≡ sets r (4 * (at + k)) (get_or r (4 * (from + k)) 0 ∷ b ∷ get_or r (4 * (from + k) + 2) 0 ∷ get_or r (4 * (from + k) + 3) 0 ∷ []) → Copying r₀ from size at p q (k + 1) r'
     unfolding moves
-    copying-next r' b e s =
+    copying_next r' b e s =
         let i = 4 * (from + k) in
         let vs : List ℕ = get_or r i 0 ∷ b ∷ get_or r (i + 2) 0 ∷ get_or r (i + 3) 0 ∷ [] in
         let x₀ : get_or r i 0 ≡ get_or r₀ i 0 = early r₀ r (4 * at) i h.same (omega (arith, f.apart)) in
@@ -96,11 +96,11 @@ module _ (r₀ : List ℕ) (from size at p q : ℕ) (f : Copyable r₀ from size
         let z : 4 * (size - k) ≡ suc (suc (suc (suc (4 * (size - (k + 1)))))) = omega arith in
         let y : 4 * (from + (k + 1)) ≡ suc (suc (suc (suc i))) = omega arith in
         let w : 4 * (at + (k + 1)) ≡ suc (suc (suc (suc (4 * (at + k))))) = omega arith in
-        let m = rw (z, four-of r₀ i (4 * (size - (k + 1))) (omega (arith, f.apart, f.room))) at h.rest in
+        let m = rw (z, four_of r₀ i (4 * (size - (k + 1))) (omega (arith, f.apart, f.room))) at h.rest in
         record {
           below = omega arith;
           long = ap length s ∙ length-sets r (4 * (at + k)) vs ∙ h.long;
-          same = ap (take (4 * at)) s ∙ sets-before r (4 * (at + k)) vs (4 * at) (omega arith) ∙ h.same;
+          same = ap (take (4 * at)) s ∙ sets_before r (4 * (at + k)) vs (4 * at) (omega arith) ∙ h.same;
           rest = rw (s, e, x₀, x₁, x₂, x₃, w, y) m;
         }
       where
@@ -111,11 +111,11 @@ module _ (r₀ : List ℕ) (from size at p q : ℕ) (f : Copyable r₀ from size
         three i = omega arith
 
     -- the moved place fits
-    pub moved-fits : hasTextPlace (get_or r (4 * (from + k)) 0) ≡ true → (p ≤ get_or r (4 * (from + k) + 1) 0) × (get_or r (4 * (from + k) + 1) 0 - p + q < 2 ^ 64)
-    moved-fits e =
+    pub moved_fits : has_text_place (get_or r (4 * (from + k)) 0) ≡ true → (p ≤ get_or r (4 * (from + k) + 1) 0) × (get_or r (4 * (from + k) + 1) 0 - p + q < 2 ^ 64)
+    moved_fits e =
         let x₀ : get_or r (4 * (from + k)) 0 ≡ get_or r₀ (4 * (from + k)) 0 = early r₀ r (4 * at) (4 * (from + k)) h.same (omega (arith, f.apart)) in
         rw (source 1 (omega arith)) (f.places k l (rw x₀ at e))
 
-  pub copying-all : (k : ℕ) (r : List ℕ) → Copying r₀ from size at p q k r → size ≤ k → r ≡ sets r₀ (4 * at) (moves p q (take (4 * size) (drop (4 * from) r₀)))
+  pub copying_all : (k : ℕ) (r : List ℕ) → Copying r₀ from size at p q k r → size ≤ k → r ≡ sets r₀ (4 * at) (moves p q (take (4 * size) (drop (4 * from) r₀)))
   unfolding moves
-  copying-all k r h l = let e : size - k ≡ 0 = omega arith in let m = h.rest in rw e at m
+  copying_all k r h l = let e : size - k ≡ 0 = omega arith in let m = h.rest in rw e at m

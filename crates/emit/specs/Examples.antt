@@ -4,15 +4,15 @@ use Rattle.std.specs.Prelude.{ℕ, suc, zero, ◌^◌, ◌<◌, ◌≤◌, true,
 use Rattle.std.proofs.Common.{sym, inl, inr, arith}
 use Rattle.std.proofs.lemmas.List.{length-replicate}
 use Rattle.value.specs.Value.{Value, one, nil, node, kind, ListL, text, size, count, depth, table}
-use Rattle.value.specs.Shape.{kindIn}
+use Rattle.value.specs.Shape.{kind_in}
 use Rattle.steps.specs.State.{Node}
 use Rattle.steps.specs.NodeWords.{first, second}
 use Rattle.reading.specs.Build.{at}
 use Rattle.reading.specs.Unfold.{In, here, there}
-use Rattle.resolve.specs.Resolved.{Kids, sNil, sNode}
+use Rattle.resolve.specs.Resolved.{Kids, s_nil, s_node}
 use Rattle.resolve.specs.Ordered.{Final}
-use Rattle.resolve.specs.Noted.{isContainer}
-use Rattle.resolve.specs.Shown.{Shown, nodeLabel, labelHasText, Spelled, isSorted, fromIn, manyIn, roomOf, list_of, Inside}
+use Rattle.resolve.specs.Noted.{is_container}
+use Rattle.resolve.specs.Shown.{Shown, node_label, label_has_text, Spelled, sorted_in, from_in, many_in, room_of, list_of, Inside}
 use Rattle.emit.specs.Roots.{Rooted}
 
 nodes : List Node
@@ -55,34 +55,34 @@ in_graph j zero (there here) = inr (there here)
 in_graph j zero (there (there m)) = elim m [ ]
 in_graph j (suc i) m = elim m [ ]
 
-is-node : (i : ℕ) → Final 4096 done i → (i ≡ 4096) ⊎ (i < 2)
+is_node : (i : ℕ) → Final 4096 done i → (i ≡ 4096) ⊎ (i < 2)
 unfolding done
-is-node i (inl e) = inl e
-is-node i (inr here) = inr (omega arith)
-is-node i (inr (there here)) = inr (omega arith)
-is-node i (inr (there (there m))) = elim m [ ]
+is_node i (inl e) = inl e
+is_node i (inr here) = inr (omega arith)
+is_node i (inr (there here)) = inr (omega arith)
+is_node i (inr (there (there m))) = elim m [ ]
 
 never : {A : Type 0} → true ≡ false → A
 never e = absurd (let z : ◌≡◌ {A = ℕ} 0 1 = cc in omega arith)
 
 shown : Shown nodes graph (Final 4096 done) [] [] words starts sorted [] measures
-unfolding nodes graph words starts sorted measures nodeLabel first second kindIn Inside fromIn manyIn roomOf list_of isSorted
+unfolding nodes graph words starts sorted measures node_label first second kind_in Inside from_in many_in room_of list_of sorted_in
 shown = record {
   beyond = omega arith;
   short = omega arith;
   words_long = omega arith;
-  starts-long = omega arith;
-  measures-long = omega arith;
+  starts_long = omega arith;
+  measures_long = omega arith;
   rising = two (λ i. get_or starts i 0 ≤ get_or starts (suc i) 0) (omega arith) (omega arith);
-  labels-are = two (λ i. (at nodes i).label ≡ nodeLabel [] words i) refl refl;
-  classes = two (λ i. kindIn (first words i) ≡ 12 → _) (λ e. absurd (omega arith)) (λ e. absurd (omega arith));
-  nodes = is-node;
+  labels_are = two (λ i. (at nodes i).label ≡ node_label [] words i) refl refl;
+  classes = two (λ i. kind_in (first words i) ≡ 12 → _) (λ e. absurd (omega arith)) (λ e. absurd (omega arith));
+  nodes = is_node;
   closed = λ i k j m. in_graph j i m;
   none = refl;
-  leaves = λ i k. two (λ i. isContainer (at nodes i).label ≡ false → graph i ≡ []) never never i;
-  inside = λ i k. two (λ i. isContainer (at nodes i).label ≡ true → Inside words starts sorted [] measures i) (λ e. omega arith) (λ e. omega arith) i;
-  lists = λ i k. two (λ i. isContainer (at nodes i).label ≡ true → list_of words starts sorted [] measures i ≡ graph i) (λ e. refl) (λ e. refl) i;
-  spelled = λ i k. two (λ i. labelHasText (at nodes i).label ≡ true → Spelled [] [] words measures i (at nodes i).label) (λ e. never (sym e)) (λ e. never (sym e)) i;
+  leaves = λ i k. two (λ i. is_container (at nodes i).label ≡ false → graph i ≡ []) never never i;
+  inside = λ i k. two (λ i. is_container (at nodes i).label ≡ true → Inside words starts sorted [] measures i) (λ e. omega arith) (λ e. omega arith) i;
+  lists = λ i k. two (λ i. is_container (at nodes i).label ≡ true → list_of words starts sorted [] measures i ≡ graph i) (λ e. refl) (λ e. refl) i;
+  spelled = λ i k. two (λ i. label_has_text (at nodes i).label ≡ true → Spelled [] [] words measures i (at nodes i).label) (λ e. never (sym e)) (λ e. never (sym e)) i;
 }
 
 few : (i : ℕ) → Final 4096 done i → kind (at nodes i).label ≡ 12 → length (graph i) ≤ 2
@@ -105,7 +105,7 @@ rooted = record {
   v = value;
   begun = record { shown = shown; few = few; unwritten = low };
   known = inr here;
-  stands = sNode (sNode sNil (sNode sNil sNil)) sNil;
+  stands = s_node (s_node s_nil (s_node s_nil s_nil)) s_nil;
   deep = omega arith;
   records = omega arith;
   texts = omega arith;
@@ -113,6 +113,6 @@ rooted = record {
   text-long = rw (length-replicate {A = ℕ} 65536 0) (omega arith);
 }
 
-shared-twice : table (one value) 0 ≡ 6 ∷ 2 ∷ 3 ∷ 0 ∷ 6 ∷ 0 ∷ 1 ∷ 0 ∷ 6 ∷ 0 ∷ 1 ∷ 0 ∷ []
+shared_twice : table (one value) 0 ≡ 6 ∷ 2 ∷ 3 ∷ 0 ∷ 6 ∷ 0 ∷ 1 ∷ 0 ∷ 6 ∷ 0 ∷ 1 ∷ 0 ∷ []
 unfolding table value text size count
-shared-twice = refl
+shared_twice = refl

@@ -28,14 +28,14 @@ pub record Rooted (p d ws starts sorted log : List ℕ) (root : ℕ) (measures t
 pub record Emitted (v : Value) (table bytes table' bytes' : List ℕ) (r : ℕ) : Type 0 where
   pub lengths : r ≡ size (one v) + 4096 * length (text (one v))
   pub table_is : table' ≡ table_of (one v) 0 ++ drop (4 * size (one v)) table
-  pub text-is : bytes' ≡ text (one v) ++ drop (length (text (one v))) bytes
+  pub text_is : bytes' ≡ text (one v) ++ drop (length (text (one v))) bytes
 
 abbrev pub Emits : (p d ws starts sorted log : List ℕ) (root : ℕ) (measures table bytes table' bytes' : List ℕ) (r : ℕ) → Type 0
 Emits p d ws starts sorted log root measures table bytes table' bytes' r = (G : Rooted p d ws starts sorted log root measures table bytes) → Emitted G.v table bytes table' bytes' r
 
 module _ {p d ws starts sorted log : List ℕ} {root : ℕ} {measures table bytes : List ℕ} (G : Rooted p d ws starts sorted log root measures table bytes) where
-  pub root-ready : ReadyNode p d ws starts sorted log root 0 measures table bytes
-  root-ready = record {
+  pub root_ready : ReadyNode p d ws starts sorted log root 0 measures table bytes
+  root_ready = record {
     t = G.t;
     h = G.h;
     done = G.done;
@@ -45,22 +45,22 @@ module _ {p d ws starts sorted log : List ℕ} {root : ℕ} {measures table byte
     known = G.known;
     stands = G.stands;
     fits = record { records = omega (arith, G.records); texts = omega (arith, G.texts); table-long = G.table-long; text-long = G.text-long };
-    measures-long = refl;
+    measures_long = refl;
     since = λ j. inl refl;
   }
 
-  pub root-open : opened ws measures root ≡ true → Open p d ws starts sorted log 64 root 0 measures table bytes
-  unfolding root-ready
-  root-open o = record { ready = root-ready; unclosed = o; deep = G.deep }
+  pub root_open : opened ws measures root ≡ true → Open p d ws starts sorted log 64 root 0 measures table bytes
+  unfolding root_ready
+  root_open o = record { ready = root_ready; unclosed = o; deep = G.deep }
 
-  pub root-flat : opened ws measures root ≡ false → Flat p d ws root 0 measures table bytes
-  root-flat o = record { starts = starts; sorted = sorted; log = log; ready = root-ready; closed = o }
+  pub root_flat : opened ws measures root ≡ false → Flat p d ws root 0 measures table bytes
+  root_flat o = record { starts = starts; sorted = sorted; log = log; ready = root_ready; closed = o }
 
   front : (x y l : List ℕ) (n : ℕ) → take (length l) x ≡ l → length l ≡ n → drop n x ≡ drop n y → x ≡ l ++ drop n y
   front x y l n a b c = sym (take-append-drop n x) ∙ (ap (λ (s : List ℕ). take n x ++ s) c ∙ ap (λ (s : List ℕ). s ++ drop n y) (rw b at a))
 
-  made-emitted : (table' bytes' : List ℕ) (r : ℕ) → PutValue G.t G.h G.v root 0 table bytes table' bytes' r → Emitted G.v table bytes table' bytes' r
-  made-emitted table' bytes' r M =
+  made_emitted : (table' bytes' : List ℕ) (r : ℕ) → PutValue G.t G.h G.v root 0 table bytes table' bytes' r → Emitted G.v table bytes table' bytes' r
+  made_emitted table' bytes' r M =
       let n = size (one G.v) in
       let m = length (text (one G.v)) in
       let z : 0 + n ≡ n = omega arith in
@@ -68,15 +68,15 @@ module _ {p d ws starts sorted log : List ℕ} {root : ℕ} {measures table byte
       record {
         lengths = M.next ∙ omega arith;
         table_is = front table' table (table_of (one G.v) 0) (4 * n) M.written.table_is (table-length (one G.v) 0) (rw z at M.table-behind);
-        text-is = front bytes' bytes (text (one G.v)) m M.written.text-is refl (rw y at M.text-behind);
+        text_is = front bytes' bytes (text (one G.v)) m M.written.text_is refl (rw y at M.text-behind);
       }
 
-  pub root-wrote : (o : opened ws measures root ≡ true) (measures' table' bytes' : List ℕ) (r : ℕ) → WroteNode (root-open o).ready.t (root-open o).ready.h (root-open o).ready.v root 0 measures table bytes measures' table' bytes' r
+  pub root_wrote : (o : opened ws measures root ≡ true) (measures' table' bytes' : List ℕ) (r : ℕ) → WroteNode (root_open o).ready.t (root_open o).ready.h (root_open o).ready.v root 0 measures table bytes measures' table' bytes' r
       → Emitted G.v table bytes table' bytes' r
-  unfolding root-open root-ready
-  root-wrote o measures' table' bytes' r W = made-emitted table' bytes' r W.made
+  unfolding root_open root_ready
+  root_wrote o measures' table' bytes' r W = made_emitted table' bytes' r W.made
 
-  pub root-made : (o : opened ws measures root ≡ false) (table' bytes' : List ℕ) (r : ℕ) → PutValue (root-flat o).ready.t (root-flat o).ready.h (root-flat o).ready.v root 0 table bytes table' bytes' r
+  pub root_made : (o : opened ws measures root ≡ false) (table' bytes' : List ℕ) (r : ℕ) → PutValue (root_flat o).ready.t (root_flat o).ready.h (root_flat o).ready.v root 0 table bytes table' bytes' r
       → Emitted G.v table bytes table' bytes' r
-  unfolding root-flat root-ready
-  root-made o table' bytes' r M = made-emitted table' bytes' r M
+  unfolding root_flat root_ready
+  root_made o table' bytes' r M = made_emitted table' bytes' r M

@@ -6,22 +6,22 @@ use Rattle.value.specs.Value.{Value, one, size, text, table}
 use Rattle.steps.specs.State.{Node}
 use Rattle.reading.specs.Build.{at}
 use Rattle.resolve.specs.Resolved.{Kids}
-use Rattle.resolve.specs.Noted.{isContainer}
-use Rattle.resolve.specs.Written.{Written, written-stays}
-use Rattle.emit.specs.Stores.{part-late}
-use Rattle.emit.specs.Words.{writtenW}
+use Rattle.resolve.specs.Noted.{is_container}
+use Rattle.resolve.specs.Written.{Written, written_stays}
+use Rattle.emit.specs.Stores.{part_late}
+use Rattle.emit.specs.Words.{written_w}
 
 -- the measure m of node j says where its value is written: from record e on, before record u and text place v
 pub record Stored (t : List Node) (h : Kids) (records bytes : List ℕ) (e u v j m : ℕ) : Type 0 where
-  pub container : isContainer (at t j).label ≡ true
+  pub container : is_container (at t j).label ≡ true
   pub value : Value
   pub a : ℕ
   pub p : ℕ
   pub written : Written t h records bytes (j ∷ []) (one value) a p
-  pub measure : m ≡ writtenW a (size (one value)) p (length (text (one value)))
+  pub measure : m ≡ written_w a (size (one value)) p (length (text (one value)))
   pub later : e ≤ a
-  pub records-end : a + size (one value) ≤ u
-  pub text-end : p + length (text (one value)) ≤ v
+  pub records_end : a + size (one value) ≤ u
+  pub text_end_lem : p + length (text (one value)) ≤ v
 
 -- the measures m, and now m'
 abbrev pub Since : List Node → Kids → List ℕ → List ℕ → ℕ → ℕ → ℕ → List ℕ → List ℕ → Type 0
@@ -37,17 +37,17 @@ module _ (t : List Node) (h : Kids) where
         value = s.value;
         a = s.a;
         p = s.p;
-        written = written-stays records' bytes' s.a s.p u v s.written r b s.records-end s.text-end;
+        written = written_stays records' bytes' s.a s.p u v s.written r b s.records_end s.text_end_lem;
         measure = s.measure;
         later = omega (arith, s.later);
-        records-end = omega (arith, s.records-end);
-        text-end = omega (arith, s.text-end);
+        records_end = omega (arith, s.records_end);
+        text_end_lem = omega (arith, s.text_end_lem);
       }
 
   -- one after the other
-  pub since-then : (r b r' b' : List ℕ) (e e' u v u' v' : ℕ) (m m' m'' : List ℕ) → take (4 * u) r' ≡ take (4 * u) r → take v b' ≡ take v b → e ≤ e' → u ≤ u' → v ≤ v'
+  pub since_then : (r b r' b' : List ℕ) (e e' u v u' v' : ℕ) (m m' m'' : List ℕ) → take (4 * u) r' ≡ take (4 * u) r → take v b' ≡ take v b → e ≤ e' → u ≤ u' → v ≤ v'
       → Since t h r b e u v m m' → Since t h r' b' e' u' v' m' m'' → Since t h r' b' e u' v' m m''
-  since-then r b r' b' e e' u v u' v' m m' m'' x y k l n f g j = go (f j) (g j)
+  since_then r b r' b' e e' u v u' v' m m' m'' x y k l n f g j = go (f j) (g j)
     where
       go : (get_or m' j 0 ≡ get_or m j 0) ⊎ Stored t h r b e u v j (get_or m' j 0) → (get_or m'' j 0 ≡ get_or m' j 0) ⊎ Stored t h r' b' e' u' v' j (get_or m'' j 0) → (get_or m'' j 0 ≡ get_or m j 0) ⊎ Stored t h r' b' e u' v' j (get_or m'' j 0)
       go w (inr s) = inr (stored_more r' b' e u' v' refl refl k (omega arith) (omega arith) s)
@@ -55,8 +55,8 @@ module _ (t : List Node) (h : Kids) where
       go (inr w) (inl s) = inr (rw s (stored_more r' b' e u' v' x y (omega arith) l n w))
 
   -- the record before e is written
-  pub since-late : (r b r' : List ℕ) (e u v : ℕ) (m m' : List ℕ) → drop (4 * suc e) r' ≡ drop (4 * suc e) r → Since t h r b (suc e) u v m m' → Since t h r' b e u v m m'
-  since-late r b r' e u v m m' x f j = go (f j)
+  pub since_late : (r b r' : List ℕ) (e u v : ℕ) (m m' : List ℕ) → drop (4 * suc e) r' ≡ drop (4 * suc e) r → Since t h r b (suc e) u v m m' → Since t h r' b e u v m m'
+  since_late r b r' e u v m m' x f j = go (f j)
     where
       go : (get_or m' j 0 ≡ get_or m j 0) ⊎ Stored t h r b (suc e) u v j (get_or m' j 0) → (get_or m' j 0 ≡ get_or m j 0) ⊎ Stored t h r' b e u v j (get_or m' j 0)
       go (inl w) = inl w
@@ -65,16 +65,16 @@ module _ (t : List Node) (h : Kids) where
         value = s.value;
         a = s.a;
         p = s.p;
-        written = record { stands = s.written.stands; table_is = part-late r r' (4 * suc e) (4 * s.a) (table (one s.value) s.p) x (omega (arith, s.later)) s.written.table_is; text-is = s.written.text-is };
+        written = record { stands = s.written.stands; table_is = part_late r r' (4 * suc e) (4 * s.a) (table (one s.value) s.p) x (omega (arith, s.later)) s.written.table_is; text_is = s.written.text_is };
         measure = s.measure;
         later = omega (arith, s.later);
-        records-end = s.records-end;
-        text-end = s.text-end;
+        records_end = s.records_end;
+        text_end_lem = s.text_end_lem;
       })
 
   -- a container gets its measure
-  pub since-measure : (r b : List ℕ) (e u v : ℕ) (m m' : List ℕ) (i w : ℕ) → i < length m' → Since t h r b e u v m m' → Stored t h r b e u v i w → Since t h r b e u v m (set m' i w)
-  since-measure r b e u v m m' i w l f s j = go (ℕ_discrete j i) (f j)
+  pub since_measure : (r b : List ℕ) (e u v : ℕ) (m m' : List ℕ) (i w : ℕ) → i < length m' → Since t h r b e u v m m' → Stored t h r b e u v i w → Since t h r b e u v m (set m' i w)
+  since_measure r b e u v m m' i w l f s j = go (ℕ_discrete j i) (f j)
     where
       go : Dec (j ≡ i) → (get_or m' j 0 ≡ get_or m j 0) ⊎ Stored t h r b e u v j (get_or m' j 0) → (get_or (set m' i w) j 0 ≡ get_or m j 0) ⊎ Stored t h r b e u v j (get_or (set m' i w) j 0)
       go (yes q) x = inr (rw (q, get_or-set_same m' i w 0 l) s)
@@ -82,22 +82,22 @@ module _ (t : List Node) (h : Kids) where
 
   module _ (r b : List ℕ) (e u v : ℕ) (m m' : List ℕ) (f : Since t h r b e u v m m') (j : ℕ) where
     -- what is not written is as it was
-    pub since-fresh : get_or m' j 0 < 2 ^ 63 → get_or m' j 0 ≡ get_or m j 0
-    since-fresh l = go (f j)
+    pub since_fresh : get_or m' j 0 < 2 ^ 63 → get_or m' j 0 ≡ get_or m j 0
+    since_fresh l = go (f j)
       where
         go : (get_or m' j 0 ≡ get_or m j 0) ⊎ Stored t h r b e u v j (get_or m' j 0) → get_or m' j 0 ≡ get_or m j 0
         go (inl x) = x
         go (inr s) = absurd (omega (arith, s.measure))
 
-    pub since-leaf : isContainer (at t j).label ≡ false → get_or m' j 0 ≡ get_or m j 0
-    since-leaf c = go (f j)
+    pub since_leaf : is_container (at t j).label ≡ false → get_or m' j 0 ≡ get_or m j 0
+    since_leaf c = go (f j)
       where
         go : (get_or m' j 0 ≡ get_or m j 0) ⊎ Stored t h r b e u v j (get_or m' j 0) → get_or m' j 0 ≡ get_or m j 0
         go (inl x) = x
         go (inr s) = let d = s.container in absurd (let z : ◌≡◌ {A = ℕ} 0 1 = cc in omega arith)
 
-    pub since-stored : get_or m j 0 < 2 ^ 63 → 2 ^ 63 ≤ get_or m' j 0 → Stored t h r b e u v j (get_or m' j 0)
-    since-stored l k = go (f j)
+    pub since_stored : get_or m j 0 < 2 ^ 63 → 2 ^ 63 ≤ get_or m' j 0 → Stored t h r b e u v j (get_or m' j 0)
+    since_stored l k = go (f j)
       where
         go : (get_or m' j 0 ≡ get_or m j 0) ⊎ Stored t h r b e u v j (get_or m' j 0) → Stored t h r b e u v j (get_or m' j 0)
         go (inl x) = absurd (omega arith)

@@ -6,16 +6,16 @@ use Rattle.std.proofs.lemmas.List.{take-set-le}
 use Rattle.std.proofs.Math.Seq.{take-append_seam}
 use Rattle.resolve.specs.Written.{HasAt}
 
-pub sets-before : (l : List ℕ) (i : ℕ) (vs : List ℕ) (n : ℕ) → n ≤ i → take n (sets l i vs) ≡ take n l
-sets-before l i [] n h = refl
-sets-before l i (a ∷ vs) n h = sets-before (set l i a) (suc i) vs n (omega arith) ∙ take-set-le n l i a h
+pub sets_before : (l : List ℕ) (i : ℕ) (vs : List ℕ) (n : ℕ) → n ≤ i → take n (sets l i vs) ≡ take n l
+sets_before l i [] n h = refl
+sets_before l i (a ∷ vs) n h = sets_before (set l i a) (suc i) vs n (omega arith) ∙ take-set-le n l i a h
 
 pub sets_behind : (l : List ℕ) (i : ℕ) (vs : List ℕ) (n : ℕ) → i + length vs ≤ n → drop n (sets l i vs) ≡ drop n l
 sets_behind l i [] n h = refl
 sets_behind l i (a ∷ vs) n h = sets_behind (set l i a) (suc i) vs n (omega arith) ∙ drop-set-lt n l i a (omega arith)
 
-pub sets-there : (l : List ℕ) (i : ℕ) (vs : List ℕ) → i + length vs ≤ length l → HasAt (sets l i vs) i vs
-sets-there l i vs h =
+pub sets_there : (l : List ℕ) (i : ℕ) (vs : List ℕ) → i + length vs ≤ length l → HasAt (sets l i vs) i vs
+sets_there l i vs h =
     let n : length (take i l) ≡ i = length-take-le i l (omega arith) in
     rw (sets-eq vs l i h, append_assoc, drop_at (take i l) (vs ++ drop (i + length vs) l) i n) (take-append_seam vs (drop (i + length vs) l))
 
@@ -33,5 +33,5 @@ later r s e n h l = from s ∙ (ap (drop (n - e)) h ∙ sym (from r))
     from : (x : List ℕ) → drop n x ≡ drop (n - e) (drop e x)
     from x = sym (let q : e + (n - e) ≡ n = omega arith in rw (drop-drop (n - e) e x, q))
 
-pub part-late : (r s : List ℕ) (e a : ℕ) (l : List ℕ) → drop e s ≡ drop e r → e ≤ a → HasAt r a l → HasAt s a l
-part-late r s e a l h k p = ap (take (length l)) (later r s e a h k) ∙ p
+pub part_late : (r s : List ℕ) (e a : ℕ) (l : List ℕ) → drop e s ≡ drop e r → e ≤ a → HasAt r a l → HasAt s a l
+part_late r s e a l h k p = ap (take (length l)) (later r s e a h k) ∙ p

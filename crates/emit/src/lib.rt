@@ -6,14 +6,14 @@ mod order;
 
 ghost use Rattle.std.specs.Prelude.{◌≡◌, true, false, cond, [], ◌∷◌, ◌+◌, ◌-◌, ◌*◌, ◌^◌, ◌/◌, ◌%◌, ◌≤◌, ◌<◌, length, take, drop};
 ghost use Rattle.std.proofs.lemmas.List.Edits.{sets};
-ghost use Rattle.value.specs.Shape.{newIn};
+ghost use Rattle.value.specs.Shape.{fresh_in};
 ghost use Rattle.steps.specs.NodeWords.{first};
-ghost use Rattle.resolve.specs.Moved.{hasTextPlace, moves};
+ghost use Rattle.resolve.specs.Moved.{has_text_place, moves};
 ghost use Rattle.emit.specs.Copies.{Copyable};
-ghost use Rattle.emit.specs.Words.{packedPlace, recordIn, textIn, writtenW, recordFrom};
-ghost use Rattle.resolve.specs.Kinds.{kind_of, containerKind};
-ghost use Rattle.resolve.specs.Shown.{nodeLabel};
-ghost use Rattle.emit.specs.Leaves.{TextReady, TextPut, kindBelow, AtomReady, AtomPut, LeafReady, LeafPut, CopyReady, CopyPut, FinishReady, FinishPut, opened};
+ghost use Rattle.emit.specs.Words.{packed_place, record_in, text_in, written_w, record_from};
+ghost use Rattle.resolve.specs.Kinds.{kind_of, container_kind};
+ghost use Rattle.resolve.specs.Shown.{node_label};
+ghost use Rattle.emit.specs.Leaves.{TextReady, TextPut, kind_below, AtomReady, AtomPut, LeafReady, LeafPut, CopyReady, CopyPut, FinishReady, FinishPut, opened};
 ghost use Rattle.emit.specs.Calls.{Flat, FlatWrites, Open};
 ghost use Rattle.emit.specs.Turns.{Writes};
 ghost use Rattle.emit.specs.Roots.{Rooted, Emits};
@@ -66,7 +66,7 @@ fn copy_bytes(text: &mut [u8], from: usize, n: usize, at: usize)
 
 // Has a record with this first word a text place?
 fn is_placed(first: u64) -> bool
-    ensures { result ≡ hasTextPlace first }
+    ensures { result ≡ has_text_place first }
 {
     let head = value::head_of(first);
     let kind = head.kind;
@@ -81,8 +81,8 @@ fn is_placed(first: u64) -> bool
 
 // The second word of a record whose text began at `from` and begins at `to`, if it has any text.
 fn moved_word(first: u64, second: u64, from: usize, to: usize) -> u64
-    requires { hasTextPlace first ≡ true → (from ≤ second) × (second - from + to < 2 ^ 64) }
-    ensures { result ≡ cond (hasTextPlace first) (second - from + to) second }
+    requires { has_text_place first ≡ true → (from ≤ second) × (second - from + to < 2 ^ 64) }
+    ensures { result ≡ cond (has_text_place first) (second - from + to) second }
 {
     if is_placed(first) {
         return second - from as u64 + to as u64;
@@ -131,7 +131,7 @@ fn plain_word(kind: u64) -> u64
 // The record of a node with these words: its text's lengths and place, the values directly in it, its records in all.
 fn record_of(first: u64, second: u64, lengths: u64, at: u64, values: u64, size: u64) -> Record
     requires { kind_of first ≡ 12 → values ≤ 2 }
-    ensures { result.0 ∷ result.1 ∷ result.2 ∷ result.3 ∷ [] ≡ recordFrom (kind_of first) (newIn first) second lengths at values size }
+    ensures { result.0 ∷ result.1 ∷ result.2 ∷ result.3 ∷ [] ≡ record_from (kind_of first) (fresh_in first) second lengths at values size }
 {
     let kind = resolve::lists::value_kind(first);
     if kind == value::KIND_OBJECT {
@@ -197,7 +197,7 @@ fn put_class<'a>(
     at: usize,
 ) -> u64
     requires text_ready { TextReady pickle.now decoded.now nodes.now measures.now node.0 text.old at }
-    requires node_value { containerKind (kind_of (first nodes.now node.0)) ≡ true }
+    requires node_value { container_kind (kind_of (first nodes.now node.0)) ≡ true }
     ensures { TextPut pickle.now nodes.now node.0 text.old at text.new result }
 {
     let i = node.0;
@@ -209,8 +209,8 @@ fn put_class<'a>(
 
 // The place behind one record with text of these lengths.
 fn behind(to: u64, lengths: u64) -> u64
-    requires { textIn to + (lengths / 2 ^ 32 + lengths % 2 ^ 32) ≤ 65536 }
-    ensures { result ≡ packedPlace (recordIn to + 1) (textIn to + (lengths / 2 ^ 32 + lengths % 2 ^ 32)) }
+    requires { text_in to + (lengths / 2 ^ 32 + lengths % 2 ^ 32) ≤ 65536 }
+    ensures { result ≡ packed_place (record_in to + 1) (text_in to + (lengths / 2 ^ 32 + lengths % 2 ^ 32)) }
 {
     to + 1 + 0x1000 * (lengths / 0x1_0000_0000 + lengths % 0x1_0000_0000)
 }
@@ -219,7 +219,7 @@ fn behind(to: u64, lengths: u64) -> u64
 fn is_below(node: NodeId, kind: u64, nodes: &[u64]) -> bool
     requires node_in_bounds { node.0 < 4096 → 2 * node.0 < length nodes.now }
     requires node_bound { node.0 ≤ 4096 }
-    ensures { result ≡ kindBelow kind nodes.now node.0 }
+    ensures { result ≡ kind_below kind nodes.now node.0 }
 {
     let i = node.0;
     if i == store::NOWHERE {
@@ -253,7 +253,7 @@ fn write_text<'a>(
     requires leaf_ready { LeafReady pickle.now decoded.now nodes.now measures.now node.0 to table.old text.old }
     requires bound { (4 ≤ kind_of (first nodes.now node.0)) × (kind_of (first nodes.now node.0) < 6) }
     ensures { LeafPut
-        (nodeLabel pickle.now nodes.now node.0) to table.old
+        (node_label pickle.now nodes.now node.0) to table.old
         text.old table.new text.new result }
 {
     let i = node.0;
@@ -352,8 +352,8 @@ fn write_flat<'a>(
 
 // The measure of a container that is written from `to` on and ends at `next`.
 fn written_measure(to: u64, next: u64) -> u64
-    requires { (recordIn to ≤ recordIn next) × (textIn to ≤ textIn next) × (textIn next ≤ 65536) }
-    ensures { result ≡ writtenW (recordIn to) (recordIn next - recordIn to) (textIn to) (textIn next - textIn to) }
+    requires { (record_in to ≤ record_in next) × (text_in to ≤ text_in next) × (text_in next ≤ 65536) }
+    ensures { result ≡ written_w (record_in to) (record_in next - record_in to) (text_in to) (text_in next - text_in to) }
 {
     let size = next % 0x1000 - to % 0x1000;
     let long = next / 0x1000 - to / 0x1000;

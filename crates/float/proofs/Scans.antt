@@ -17,21 +17,21 @@ use lib.Seq.{drop-cons, take_all, drop-drop, get_or-drop}
 use Rattle.number.specs.Number.{decimal}
 use Rattle.float.specs.Digits.{digit, lead, past, lead-length, drop-lead}
 use Rattle.number.specs.Space.{same}
-use Rattle.float.specs.Form.{minus, behindSign, fraction, beyond, mantissaDigits, small, inf, infinity, nan, isWord, unformed, signedPower, power, exponent}
-use Rattle.float.specs.Nearest.{ten-pos}
+use Rattle.float.specs.Form.{minus, behind_sign, fraction, beyond, mantissa_digits, small, inf, infinity, nan, is_word, unformed, signed_power, power, exponent}
+use Rattle.float.specs.Nearest.{ten_pos}
 use Rattle.float.specs.Scan.{cap, read_on, run_of, Scanned, capped}
 use Rattle.float.specs.declared.DigitRun.{DigitRun}
 use Rattle.float.specs.declared.Power.TheVariants.{Up, Down, Unformed}
 
 -- ---- lists
 
-pub empty-is : (s : List ℕ) → length s ≤ 0 → s ≡ []
-empty-is [] h = refl
-empty-is (b ∷ s) h = absurd (omega arith)
+pub empty_is : (s : List ℕ) → length s ≤ 0 → s ≡ []
+empty_is [] h = refl
+empty_is (b ∷ s) h = absurd (omega arith)
 
 -- what a part up to the end is
-pub part-is : (s : List ℕ) (k : ℕ) → take (length s - k) (drop k s) ≡ drop k s
-part-is s k = take_all (length s - k) (drop k s) (le_of_eq (length-drop k s))
+pub part_is : (s : List ℕ) (k : ℕ) → take (length s - k) (drop k s) ≡ drop k s
+part_is s k = take_all (length s - k) (drop k s) (le_of_eq (length-drop k s))
 
 -- ---- the sign
 
@@ -42,27 +42,27 @@ minus-first (b ∷ s) h = refl
 
 pub minus-none : (s : List ℕ) → length s ≤ 0 → false ≡ minus s
 unfolding minus
-minus-none s h = rw (empty-is s h)
+minus-none s h = rw (empty_is s h)
 
-pub sign-empty : (s : List ℕ) → length s ≤ 0 → s ≡ behindSign s
-unfolding behindSign
-sign-empty s h = rw (empty-is s h)
+pub sign_empty : (s : List ℕ) → length s ≤ 0 → s ≡ behind_sign s
+unfolding behind_sign
+sign_empty s h = rw (empty_is s h)
 
 module _ (s : List ℕ) (h : 0 < length s) where
-  pub sign-off : (get_or s 0 0 ≡ 0x2B) ⊎ (get_or s 0 0 ≡ 0x2D) → take (length s - 1) (drop 1 s) ≡ behindSign s
-  unfolding behindSign
-  sign-off k = part-is s 1 ∙ go s h k
+  pub sign_off : (get_or s 0 0 ≡ 0x2B) ⊎ (get_or s 0 0 ≡ 0x2D) → take (length s - 1) (drop 1 s) ≡ behind_sign s
+  unfolding behind_sign
+  sign_off k = part_is s 1 ∙ go s h k
     where
-      go : (t : List ℕ) → 0 < length t → (get_or t 0 0 ≡ 0x2B) ⊎ (get_or t 0 0 ≡ 0x2D) → drop 1 t ≡ behindSign t
+      go : (t : List ℕ) → 0 < length t → (get_or t 0 0 ≡ 0x2B) ⊎ (get_or t 0 0 ≡ 0x2D) → drop 1 t ≡ behind_sign t
       go [] l e = absurd (omega arith)
       go (b ∷ t) l (inl e) = rw e
       go (b ∷ t) l (inr e) = rw e
 
-  pub sign-none : ((get_or s 0 0 ≡ 0x2B) ⊎ (get_or s 0 0 ≡ 0x2D) → ⊥) → s ≡ behindSign s
-  unfolding behindSign
-  sign-none k = go s k
+  pub sign_none : ((get_or s 0 0 ≡ 0x2B) ⊎ (get_or s 0 0 ≡ 0x2D) → ⊥) → s ≡ behind_sign s
+  unfolding behind_sign
+  sign_none k = go s k
     where
-      go : (t : List ℕ) → ((get_or t 0 0 ≡ 0x2B) ⊎ (get_or t 0 0 ≡ 0x2D) → ⊥) → t ≡ behindSign t
+      go : (t : List ℕ) → ((get_or t 0 0 ≡ 0x2B) ⊎ (get_or t 0 0 ≡ 0x2D) → ⊥) → t ≡ behind_sign t
       go [] n = refl
       go (b ∷ t) n = rw (ne_eqb b 0x2B (λ e. n (inl e)), ne_eqb b 0x2D (λ e. n (inr e)))
 
@@ -76,8 +76,8 @@ pub digit-high : (b : ℕ) → digit b ≡ true → b ≤ 0x39
 unfolding digit
 digit-high b e = leb→le b 0x39 (and_r (leb 0x30 b) (leb b 0x39) (subst T (sym e) tt))
 
-cap-on : (x c t r : ℕ) → 0 < t → min (min x c * t + r) c ≡ min (x * t + r) c
-cap-on x c t r h = go (dec_le x c)
+cap_on : (x c t r : ℕ) → 0 < t → min (min x c * t + r) c ≡ min (x * t + r) c
+cap_on x c t r h = go (dec_le x c)
   where
     over : (y : ℕ) → c ≤ y → min (y * t + r) c ≡ c
     over y k =
@@ -107,7 +107,7 @@ onward v k s = record { value = read_on v s; count = k + length (lead s) }
 
 read-capped : (x : ℕ) (t : List ℕ) → read_on (min x cap) t ≡ min (x * 10 ^ length (lead t) + decimal (lead t)) cap
 unfolding read_on
-read-capped x t = cap-on x cap (10 ^ length (lead t)) (decimal (lead t)) (ten-pos (length (lead t)))
+read-capped x t = cap_on x cap (10 ^ length (lead t)) (decimal (lead t)) (ten_pos (length (lead t)))
 
 read-digit : (v b : ℕ) (t : List ℕ) → digit b ≡ true → read_on (min (v * 10 + (b - 0x30)) cap) t ≡ read_on v (b ∷ t)
 unfolding read_on lead decimal
@@ -122,9 +122,9 @@ count-digit : (k b : ℕ) (t : List ℕ) → digit b ≡ true → suc k + length
 unfolding lead
 count-digit k b t e = rw e (omega arith)
 
-pub run-start : (v : ℕ) (s : List ℕ) → onward v 0 s ≡ run_of v s
+pub run_start : (v : ℕ) (s : List ℕ) → onward v 0 s ≡ run_of v s
 unfolding run_of
-run-start v s = rw (zero-add (length (lead s)))
+run_start v s = rw (zero-add (length (lead s)))
 
 pub run_more : (s : List ℕ) (at v : ℕ) → at < length s → digit (get_or s at 0) ≡ true
     → onward (min (v * 10 + (get_or s at 0 - 0x30)) cap) (at + 1) (drop (at + 1) s) ≡ onward v at (drop at s)
@@ -138,9 +138,9 @@ unfolding read_on decimal
 run_end v at s h e = rw (e, mul-one, add-zero, add-zero, min-eq_left h)
 
 module _ (v : ℕ) (s : List ℕ) (r : DigitRun) (e : r ≡ run_of v s) where
-  pub run-count : r.count ≡ length (lead s)
+  pub run_count : r.count ≡ length (lead s)
   unfolding run_of
-  run-count = ap (λ (x : DigitRun). x.count) e
+  run_count = ap (λ (x : DigitRun). x.count) e
 
   pub run_value : r.value ≡ read_on v s
   unfolding run_of
@@ -148,7 +148,7 @@ module _ (v : ℕ) (s : List ℕ) (r : DigitRun) (e : r ≡ run_of v s) where
 
   pub run_room : r.count ≤ length s
   run_room =
-      let c = run-count in
+      let c = run_count in
       let l = lead-length s in
       omega arith
 
@@ -191,17 +191,17 @@ same_length (b ∷ s) (c ∷ w) h = go (eqb (small b) c) (same_length s w (λ e.
     go false e = refl
 
 module _ (s : List ℕ) where
-  pub word-inf : same (map small s) inf ≡ true → true ≡ isWord s
-  unfolding isWord
-  word-inf e = rw e
+  pub word_inf : same (map small s) inf ≡ true → true ≡ is_word s
+  unfolding is_word
+  word_inf e = rw e
 
-  pub word-infinity : same (map small s) inf ≡ false → same (map small s) infinity ≡ true → true ≡ isWord s
-  unfolding isWord
+  pub word-infinity : same (map small s) inf ≡ false → same (map small s) infinity ≡ true → true ≡ is_word s
+  unfolding is_word
   word-infinity e f = rw (e, f)
 
-  pub word-nan : same (map small s) inf ≡ false → same (map small s) infinity ≡ false → same (map small s) nan ≡ isWord s
-  unfolding isWord
-  word-nan e f = rw (e, f)
+  pub word_nan : same (map small s) inf ≡ false → same (map small s) infinity ≡ false → same (map small s) nan ≡ is_word s
+  unfolding is_word
+  word_nan e f = rw (e, f)
 
 -- ---- digits and a point
 
@@ -209,18 +209,18 @@ read_none : (s : List ℕ) → read_on 0 s ≡ min (decimal (lead s)) cap
 unfolding read_on
 read_none s = rw (zero-mul, zero-add)
 
-pub read-cap : (v : ℕ) (s : List ℕ) → read_on v s ≤ cap
+pub read_cap : (v : ℕ) (s : List ℕ) → read_on v s ≤ cap
 unfolding read_on
-read-cap v s = min-le_right (v * 10 ^ length (lead s) + decimal (lead s)) cap
+read_cap v s = min-le_right (v * 10 ^ length (lead s) + decimal (lead s)) cap
 
 read-both : (s t : List ℕ) → read_on (read_on 0 s) t ≡ min (decimal (lead s ++ lead t)) cap
 read-both s t = rw (read_none s, decimal-append (lead s) (lead t)) (read-capped (decimal (lead s)) t)
 
-pub scanned-point : (s t : List ℕ) (at v n u : ℕ) → at ≡ length (lead s) → v ≡ read_on 0 s → at < length s → get_or s at 0 ≡ 0x2E
+pub scanned_point : (s t : List ℕ) (at v n u : ℕ) → at ≡ length (lead s) → v ≡ read_on 0 s → at < length s → get_or s at 0 ≡ 0x2E
     → t ≡ drop (at + 1) s → n ≡ length (lead t) → u ≡ read_on v t
     → Scanned s (record { w = u; count = at + n; shift = n; end = at + 1 + n })
-unfolding fraction beyond mantissaDigits
-scanned-point s t at v n u ea ev h e ed en eu =
+unfolding fraction beyond mantissa_digits
+scanned_point s t at v n u ea ev h e ed en eu =
     let p : past s ≡ 0x2E ∷ t = sym (drop-lead s) ∙ rw (← ea, drop-cons s at 0 h, e, ed, add-one at) in
     let d : length t ≡ length s - (at + 1) = rw (ed, length-drop (at + 1) s) in
     let l = lead-length t in
@@ -232,18 +232,18 @@ scanned-point s t at v n u ea ev h e ed en eu =
       rest = rw p (sym (drop-drop n (at + 1) s) ∙ rw (← ed, en) (drop-lead t));
     }
 
-no-point : (p : List ℕ) → (0 < length p → get_or p 0 0 ≡ 0x2E → ⊥) → (fraction p ≡ []) × (beyond p ≡ p)
+no_point : (p : List ℕ) → (0 < length p → get_or p 0 0 ≡ 0x2E → ⊥) → (fraction p ≡ []) × (beyond p ≡ p)
 unfolding fraction beyond
-no-point [] h = (refl, refl)
-no-point (b ∷ p) h = (rw (ne_eqb b 0x2E (h (omega arith))), rw (ne_eqb b 0x2E (h (omega arith))))
+no_point [] h = (refl, refl)
+no_point (b ∷ p) h = (rw (ne_eqb b 0x2E (h (omega arith))), rw (ne_eqb b 0x2E (h (omega arith))))
 
-pub scanned-plain : (s : List ℕ) (at v : ℕ) → at ≡ length (lead s) → v ≡ read_on 0 s → (at < length s → get_or s at 0 ≡ 0x2E → ⊥)
+pub scanned_plain : (s : List ℕ) (at v : ℕ) → at ≡ length (lead s) → v ≡ read_on 0 s → (at < length s → get_or s at 0 ≡ 0x2E → ⊥)
     → Scanned s (record { w = v; count = at; shift = 0; end = at })
-unfolding mantissaDigits
-scanned-plain s at v ea ev h =
+unfolding mantissa_digits
+scanned_plain s at v ea ev h =
     let l = lead-length s in
     let g : get_or (past s) 0 0 ≡ get_or s at 0 = rw (← drop-lead s, get_or-drop (length (lead s)) s 0 0, add-zero, ea) in
-    let n = no-point (past s) (λ k e. h (omega arith) (sym g ∙ e)) in
+    let n = no_point (past s) (λ k e. h (omega arith) (sym g ∙ e)) in
     record {
       whole = rw (n.0, append-nil) (ev ∙ read_none s);
       all = rw (n.0, append-nil) ea;
@@ -259,17 +259,17 @@ module _ (m : Bool) (s : List ℕ) where
   unfolding power capped
   power-none h = rw h
 
-  pub power-more : length (lead s) < length s → Unformed ≡ capped (power m s)
+  pub power_more : length (lead s) < length s → Unformed ≡ capped (power m s)
   unfolding power capped
-  power-more h =
+  power_more h =
       let l = lead-length s in
       rw (ne_eqb (length (past s)) 0 (λ e. omega arith)) (go (ltb 0 (length (lead s))))
     where
-      go : (x : Bool) → Unformed ≡ capped (cond (x && false) (signedPower m (decimal (lead s))) unformed)
+      go : (x : Bool) → Unformed ≡ capped (cond (x && false) (signed_power m (decimal (lead s))) unformed)
       go true = refl
       go false = refl
 
-  pub power-whole : (length (lead s) ≡ 0 → ⊥) → length s ≤ length (lead s) → power m s ≡ signedPower m (decimal (lead s))
+  pub power-whole : (length (lead s) ≡ 0 → ⊥) → length s ≤ length (lead s) → power m s ≡ signed_power m (decimal (lead s))
   unfolding power
   power-whole n h =
       let l = lead-length s in
@@ -277,28 +277,28 @@ module _ (m : Bool) (s : List ℕ) where
 
 pub power-read : (m : Bool) (s : List ℕ) (r : DigitRun) → r ≡ run_of 0 s → (r.count ≡ 0 → ⊥) → length s ≤ r.count
     → cond m (Down r.value) (Up r.value) ≡ capped (power m s)
-unfolding capped signedPower
+unfolding capped signed_power
 power-read m s r e n h =
-    let c = run-count 0 s r e in
+    let c = run_count 0 s r e in
     rw (power-whole m s (λ z. n (c ∙ z)) (omega arith)) (go m)
   where
-    go : (x : Bool) → cond x (Down r.value) (Up r.value) ≡ capped (signedPower x (decimal (lead s)))
+    go : (x : Bool) → cond x (Down r.value) (Up r.value) ≡ capped (signed_power x (decimal (lead s)))
     go true = ap Down (run_value 0 s r e ∙ read_none s)
     go false = ap Up (run_value 0 s r e ∙ read_none s)
 
-pub exponent-empty : (s : List ℕ) → length s ≤ 0 → Up 0 ≡ capped (exponent s)
+pub exponent_empty : (s : List ℕ) → length s ≤ 0 → Up 0 ≡ capped (exponent s)
 unfolding exponent capped
-exponent-empty s h = rw (empty-is s h)
+exponent_empty s h = rw (empty_is s h)
 
 module _ (s : List ℕ) (h : 0 < length s) where
   pub exponent-read : (u : List ℕ) (m : Bool) → (get_or s 0 0 ≡ 0x45) ⊎ (get_or s 0 0 ≡ 0x65)
-      → m ≡ minus (take (length s - 1) (drop 1 s)) → u ≡ behindSign (take (length s - 1) (drop 1 s))
+      → m ≡ minus (take (length s - 1) (drop 1 s)) → u ≡ behind_sign (take (length s - 1) (drop 1 s))
       → capped (power m u) ≡ capped (exponent s)
   unfolding exponent
-  exponent-read u m k n f = rw (n, f, part-is s 1) (go s h k)
+  exponent-read u m k n f = rw (n, f, part_is s 1) (go s h k)
     where
       go : (t : List ℕ) → 0 < length t → (get_or t 0 0 ≡ 0x45) ⊎ (get_or t 0 0 ≡ 0x65)
-          → capped (power (minus (drop 1 t)) (behindSign (drop 1 t))) ≡ capped (exponent t)
+          → capped (power (minus (drop 1 t)) (behind_sign (drop 1 t))) ≡ capped (exponent t)
       go [] l e = absurd (omega arith)
       go (b ∷ t) l (inl e) = rw e
       go (b ∷ t) l (inr e) = rw e

@@ -14,27 +14,27 @@ use Rattle.refusal.specs.Read.{got, refused}
 use Rattle.refusal.specs.declared.Refusal.TheVariants.{InvalidLiteral, FloatOutside}
 use Rattle.number.specs.Number.{decimal}
 use Rattle.float.specs.Digits.{lead, past, lead-length}
-use Rattle.float.specs.Form.{minus, behindSign, isWord, fraction, beyond, mantissaDigits, Exponent, raised, lowered, unformed, exponent, number, scaled, numberWritten}
+use Rattle.float.specs.Form.{minus, behind_sign, is_word, fraction, beyond, mantissa_digits, Exponent, raised, lowered, unformed, exponent, number, scaled, number_written}
 use Rattle.float.specs.Scan.{cap, capped, Scanned}
-use Rattle.float.specs.Literal.{signed, insideBounds, bits_of, nearestWithin, valued, signedValue, floatLiteral, bits_below}
+use Rattle.float.specs.Literal.{signed, inside_bounds, bits_of, nearest_within, valued, signed_value, float_literal, bits_below}
 use Rattle.float.specs.declared.Mantissa.{Mantissa}
 use Rattle.float.specs.declared.Power.{Power}
 use Rattle.float.specs.declared.Power.TheVariants.{Up, Down, Unformed}
-use Rattle.float.proofs.Scans.{part-is}
+use Rattle.float.proofs.Scans.{part_is}
 
 -- past a bound of RULES A7.5
 abbrev pub Out : ℕ → ℕ → ℕ → Type 0
 Out w up down = (2 ^ 53 < w) ⊎ ((up + 22 < down) ⊎ (down + 22 < up))
 
-out-inside : (w up down : ℕ) → Out w up down → insideBounds w up down ≡ false
-unfolding insideBounds
-out-inside w up down (inl h) = rw (lt-leb w (2 ^ 53) h)
-out-inside w up down (inr (inl h)) = rw (lt-leb down (up + 22) h) (go (leb w (2 ^ 53)))
+out_inside : (w up down : ℕ) → Out w up down → inside_bounds w up down ≡ false
+unfolding inside_bounds
+out_inside w up down (inl h) = rw (lt-leb w (2 ^ 53) h)
+out_inside w up down (inr (inl h)) = rw (lt-leb down (up + 22) h) (go (leb w (2 ^ 53)))
   where
     go : (x : Bool) → (x && false) ≡ false
     go true = refl
     go false = refl
-out-inside w up down (inr (inr h)) = rw (lt-leb up (down + 22) h) (go (leb w (2 ^ 53)) (leb down (up + 22)))
+out_inside w up down (inr (inr h)) = rw (lt-leb up (down + 22) h) (go (leb w (2 ^ 53)) (leb down (up + 22)))
   where
     go : (x y : Bool) → (x && (y && false)) ≡ false
     go true true = refl
@@ -42,21 +42,21 @@ out-inside w up down (inr (inr h)) = rw (lt-leb up (down + 22) h) (go (leb w (2 
     go false y = refl
 
 module _ (m : Bool) (w up down : ℕ) where
-  pub value-zero : w ≡ 0 → signedValue m (number w up down) ≡ got (signed m 0)
-  unfolding signedValue valued
-  value-zero e = rw (eq-eqb w 0 e)
+  pub value_zero : w ≡ 0 → signed_value m (number w up down) ≡ got (signed m 0)
+  unfolding signed_value valued
+  value_zero e = rw (eq-eqb w 0 e)
 
-  pub value_out : 0 < w → Out w up down → signedValue m (number w up down) ≡ refused FloatOutside 0
-  unfolding signedValue valued nearestWithin
-  value_out p o = rw (ne_eqb w 0 (λ e. omega arith), out-inside w up down o)
+  pub value_out : 0 < w → Out w up down → signed_value m (number w up down) ≡ refused FloatOutside 0
+  unfolding signed_value valued nearest_within
+  value_out p o = rw (ne_eqb w 0 (λ e. omega arith), out_inside w up down o)
 
-  pub value_in : 0 < w → w ≤ 2 ^ 53 → down ≤ up + 22 → up ≤ down + 22 → signedValue m (number w up down) ≡ got (signed m (bits_of w up down))
-  unfolding signedValue valued nearestWithin insideBounds
+  pub value_in : 0 < w → w ≤ 2 ^ 53 → down ≤ up + 22 → up ≤ down + 22 → signed_value m (number w up down) ≡ got (signed m (bits_of w up down))
+  unfolding signed_value valued nearest_within inside_bounds
   value_in p h l u = rw (ne_eqb w 0 (λ e. omega arith), le-leb w (2 ^ 53) h, le-leb down (up + 22) l, le-leb up (down + 22) u)
 
 -- the bits of a product or a quotient
 module _ (m : Bool) (w up down b : ℕ) (p : 0 < w) (h : w ≤ 2 ^ 53) (l : down ≤ up + 22) (u : up ≤ down + 22) (e : b ≡ bits_of w up down) where
-  pub settled_is : got (signed m b) ≡ signedValue m (number w up down)
+  pub settled_is : got (signed m b) ≡ signed_value m (number w up down)
   settled_is = rw (value_in m w up down p h l u, e)
 
   pub settled-below : b < 2 ^ 63
@@ -64,28 +64,28 @@ module _ (m : Bool) (w up down b : ℕ) (p : 0 < w) (h : w ≤ 2 ^ 53) (l : down
 
 -- two numbers of one w that are both out
 both_out : (m : Bool) (w up down up' down' : ℕ) → Out w up down → Out w up' down'
-    → signedValue m (number w up down) ≡ signedValue m (number w up' down')
+    → signed_value m (number w up down) ≡ signed_value m (number w up' down')
 both_out m w up down up' down' o o' = go (eq-zero-or-pos w)
   where
-    go : (w ≡ 0) ⊎ (0 < w) → signedValue m (number w up down) ≡ signedValue m (number w up' down')
-    go (inl e) = value-zero m w up down e ∙ sym (value-zero m w up' down' e)
+    go : (w ≡ 0) ⊎ (0 < w) → signed_value m (number w up down) ≡ signed_value m (number w up' down')
+    go (inl e) = value_zero m w up down e ∙ sym (value_zero m w up' down' e)
     go (inr p) = value_out m w up down p o ∙ sym (value_out m w up' down' p o')
 
 -- ---- caps
 
-cap-w : (m : Bool) (w up down : ℕ) → signedValue m (number (min w cap) up down) ≡ signedValue m (number w up down)
-cap-w m w up down = go (dec_le w cap)
+cap_w : (m : Bool) (w up down : ℕ) → signed_value m (number (min w cap) up down) ≡ signed_value m (number w up down)
+cap_w m w up down = go (dec_le w cap)
   where
-    go : Dec (w ≤ cap) → signedValue m (number (min w cap) up down) ≡ signedValue m (number w up down)
+    go : Dec (w ≤ cap) → signed_value m (number (min w cap) up down) ≡ signed_value m (number w up down)
     go (yes h) = rw (min-eq_left h)
     go (no n) =
         let h : cap < w = lt_of_not-le n in
         rw (min-eq_right (le_of_lt h)) (value_out m cap up down (omega arith) (inl (omega arith)) ∙ sym (value_out m w up down (omega arith) (inl (omega arith))))
 
-cap-up : (m : Bool) (w up down : ℕ) → down + 22 < cap → signedValue m (number w (min up cap) down) ≡ signedValue m (number w up down)
-cap-up m w up down h = go (dec_le up cap)
+cap_up : (m : Bool) (w up down : ℕ) → down + 22 < cap → signed_value m (number w (min up cap) down) ≡ signed_value m (number w up down)
+cap_up m w up down h = go (dec_le up cap)
   where
-    go : Dec (up ≤ cap) → signedValue m (number w (min up cap) down) ≡ signedValue m (number w up down)
+    go : Dec (up ≤ cap) → signed_value m (number w (min up cap) down) ≡ signed_value m (number w up down)
     go (yes l) = rw (min-eq_left l)
     go (no n) =
         let l : cap < up = lt_of_not-le n in
@@ -109,49 +109,49 @@ far n k e h = go (dec_le k cap)
 -- ---- the exponent that was read, as the code has it
 
 module _ (m : Bool) (w shift : ℕ) where
-  pub scaled-up : (x : Exponent) (n : ℕ) → Up n ≡ capped x → shift + 22 < cap
-      → signedValue m (number (min w cap) n shift) ≡ signedValue m (scaled w shift x)
+  pub scaled_up : (x : Exponent) (n : ℕ) → Up n ≡ capped x → shift + 22 < cap
+      → signed_value m (number (min w cap) n shift) ≡ signed_value m (scaled w shift x)
   unfolding capped scaled
-  scaled-up (raised k) n e h =
+  scaled_up (raised k) n e h =
       let z : n ≡ min k cap = cc in
-      rw z (cap-w m w (min k cap) shift ∙ cap-up m w k shift h)
-  scaled-up (lowered k) n e h = let z : ◌≡◌ {A = ℕ} 0 1 = cc in absurd (omega arith)
-  scaled-up unformed n e h = let z : ◌≡◌ {A = ℕ} 0 1 = cc in absurd (omega arith)
+      rw z (cap_w m w (min k cap) shift ∙ cap_up m w k shift h)
+  scaled_up (lowered k) n e h = let z : ◌≡◌ {A = ℕ} 0 1 = cc in absurd (omega arith)
+  scaled_up unformed n e h = let z : ◌≡◌ {A = ℕ} 0 1 = cc in absurd (omega arith)
 
-  pub scaled-far : (x : Exponent) (n : ℕ) → Down n ≡ capped x → 22 < n → signedValue m (number (min w cap) 0 n) ≡ signedValue m (scaled w shift x)
+  pub scaled_far : (x : Exponent) (n : ℕ) → Down n ≡ capped x → 22 < n → signed_value m (number (min w cap) 0 n) ≡ signed_value m (scaled w shift x)
   unfolding capped scaled
-  scaled-far (raised k) n e h = let z : ◌≡◌ {A = ℕ} 0 1 = cc in absurd (omega arith)
-  scaled-far (lowered k) n e h =
+  scaled_far (raised k) n e h = let z : ◌≡◌ {A = ℕ} 0 1 = cc in absurd (omega arith)
+  scaled_far (lowered k) n e h =
       let z : n ≡ min k cap = cc in
       let g = far n k z h in
-      cap-w m w 0 n ∙ both_out m w 0 n 0 (k + shift) (inr (inl (omega arith))) (inr (inl (omega arith)))
-  scaled-far unformed n e h = let z : ◌≡◌ {A = ℕ} 0 1 = cc in absurd (omega arith)
+      cap_w m w 0 n ∙ both_out m w 0 n 0 (k + shift) (inr (inl (omega arith))) (inr (inl (omega arith)))
+  scaled_far unformed n e h = let z : ◌≡◌ {A = ℕ} 0 1 = cc in absurd (omega arith)
 
-  pub scaled-near : (x : Exponent) (n : ℕ) → Down n ≡ capped x → n ≤ 22
-      → signedValue m (number (min w cap) 0 (n + shift)) ≡ signedValue m (scaled w shift x)
+  pub scaled_near : (x : Exponent) (n : ℕ) → Down n ≡ capped x → n ≤ 22
+      → signed_value m (number (min w cap) 0 (n + shift)) ≡ signed_value m (scaled w shift x)
   unfolding capped scaled
-  scaled-near (raised k) n e h = let z : ◌≡◌ {A = ℕ} 0 1 = cc in absurd (omega arith)
-  scaled-near (lowered k) n e h =
+  scaled_near (raised k) n e h = let z : ◌≡◌ {A = ℕ} 0 1 = cc in absurd (omega arith)
+  scaled_near (lowered k) n e h =
       let z : n ≡ min k cap = cc in
-      rw (near n k z h) (cap-w m w 0 (k + shift))
-  scaled-near unformed n e h = let z : ◌≡◌ {A = ℕ} 0 1 = cc in absurd (omega arith)
+      rw (near n k z h) (cap_w m w 0 (k + shift))
+  scaled_near unformed n e h = let z : ◌≡◌ {A = ℕ} 0 1 = cc in absurd (omega arith)
 
-  pub scaled-unformed : (x : Exponent) → Unformed ≡ capped x → refused InvalidLiteral 0 ≡ signedValue m (scaled w shift x)
-  unfolding capped scaled signedValue
-  scaled-unformed (raised k) e = let z : ◌≡◌ {A = ℕ} 0 1 = cc in absurd (omega arith)
-  scaled-unformed (lowered k) e = let z : ◌≡◌ {A = ℕ} 0 1 = cc in absurd (omega arith)
-  scaled-unformed unformed e = refl
+  pub scaled_unformed : (x : Exponent) → Unformed ≡ capped x → refused InvalidLiteral 0 ≡ signed_value m (scaled w shift x)
+  unfolding capped scaled signed_value
+  scaled_unformed (raised k) e = let z : ◌≡◌ {A = ℕ} 0 1 = cc in absurd (omega arith)
+  scaled_unformed (lowered k) e = let z : ◌≡◌ {A = ℕ} 0 1 = cc in absurd (omega arith)
+  scaled_unformed unformed e = refl
 
 -- ---- the whole text
 
-pub written_none : (m : Bool) (s : List ℕ) → length (mantissaDigits s) ≡ 0 → refused InvalidLiteral 0 ≡ signedValue m (numberWritten s)
-unfolding numberWritten signedValue
+pub written_none : (m : Bool) (s : List ℕ) → length (mantissa_digits s) ≡ 0 → refused InvalidLiteral 0 ≡ signed_value m (number_written s)
+unfolding number_written signed_value
 written_none m s e = rw e
 
-pub written-some : (s : List ℕ) → (length (mantissaDigits s) ≡ 0 → ⊥)
-    → numberWritten s ≡ scaled (decimal (mantissaDigits s)) (length (fraction (past s))) (exponent (beyond (past s)))
-unfolding numberWritten
-written-some s n = rw (lt-ltb 0 (length (mantissaDigits s)) (omega arith))
+pub written-some : (s : List ℕ) → (length (mantissa_digits s) ≡ 0 → ⊥)
+    → number_written s ≡ scaled (decimal (mantissa_digits s)) (length (fraction (past s))) (exponent (beyond (past s)))
+unfolding number_written
+written-some s n = rw (lt-ltb 0 (length (mantissa_digits s)) (omega arith))
 
 fraction-short : (p : List ℕ) → length (fraction p) ≤ length p
 unfolding fraction
@@ -169,31 +169,31 @@ shift_short s =
     omega arith
 
 module _ (m : Bool) (s : List ℕ) (r : Mantissa) (p : Power) (k : Scanned s r) (n : r.count ≡ 0 → ⊥) (e : p ≡ capped (exponent (take (length s - r.end) (drop r.end s)))) where
-  exponent-is : p ≡ capped (exponent (beyond (past s)))
-  exponent-is = e ∙ ap (λ (t : List ℕ). capped (exponent t)) (part-is s r.end ∙ k.rest)
+  exponent_is : p ≡ capped (exponent (beyond (past s)))
+  exponent_is = e ∙ ap (λ (t : List ℕ). capped (exponent t)) (part_is s r.end ∙ k.rest)
 
-  written_is : numberWritten s ≡ scaled (decimal (mantissaDigits s)) r.shift (exponent (beyond (past s)))
+  written_is : number_written s ≡ scaled (decimal (mantissa_digits s)) r.shift (exponent (beyond (past s)))
   written_is = written-some s (λ z. n (k.all ∙ z)) ∙ rw k.after
 
-  pub number_up : (u : ℕ) → p ≡ Up u → r.shift + 22 < cap → signedValue m (number r.w u r.shift) ≡ signedValue m (numberWritten s)
-  number_up u q h = rw (written_is, k.whole) (scaled-up m (decimal (mantissaDigits s)) r.shift (exponent (beyond (past s))) u (sym q ∙ exponent-is) h)
+  pub number_up : (u : ℕ) → p ≡ Up u → r.shift + 22 < cap → signed_value m (number r.w u r.shift) ≡ signed_value m (number_written s)
+  number_up u q h = rw (written_is, k.whole) (scaled_up m (decimal (mantissa_digits s)) r.shift (exponent (beyond (past s))) u (sym q ∙ exponent_is) h)
 
-  pub number-far : (d : ℕ) → p ≡ Down d → 22 < d → signedValue m (number r.w 0 d) ≡ signedValue m (numberWritten s)
-  number-far d q h = rw (written_is, k.whole) (scaled-far m (decimal (mantissaDigits s)) r.shift (exponent (beyond (past s))) d (sym q ∙ exponent-is) h)
+  pub number_far : (d : ℕ) → p ≡ Down d → 22 < d → signed_value m (number r.w 0 d) ≡ signed_value m (number_written s)
+  number_far d q h = rw (written_is, k.whole) (scaled_far m (decimal (mantissa_digits s)) r.shift (exponent (beyond (past s))) d (sym q ∙ exponent_is) h)
 
-  pub number-near : (d : ℕ) → p ≡ Down d → d ≤ 22 → signedValue m (number r.w 0 (d + r.shift)) ≡ signedValue m (numberWritten s)
-  number-near d q h = rw (written_is, k.whole) (scaled-near m (decimal (mantissaDigits s)) r.shift (exponent (beyond (past s))) d (sym q ∙ exponent-is) h)
+  pub number_near : (d : ℕ) → p ≡ Down d → d ≤ 22 → signed_value m (number r.w 0 (d + r.shift)) ≡ signed_value m (number_written s)
+  number_near d q h = rw (written_is, k.whole) (scaled_near m (decimal (mantissa_digits s)) r.shift (exponent (beyond (past s))) d (sym q ∙ exponent_is) h)
 
-  pub number-unformed : p ≡ Unformed → refused InvalidLiteral 0 ≡ signedValue m (numberWritten s)
-  number-unformed q = rw written_is (scaled-unformed m (decimal (mantissaDigits s)) r.shift (exponent (beyond (past s))) (sym q ∙ exponent-is))
+  pub number_unformed : p ≡ Unformed → refused InvalidLiteral 0 ≡ signed_value m (number_written s)
+  number_unformed q = rw written_is (scaled_unformed m (decimal (mantissa_digits s)) r.shift (exponent (beyond (past s))) (sym q ∙ exponent_is))
 
-pub shift-room : (s : List ℕ) (r : Mantissa) → Scanned s r → r.shift ≤ length s
-shift-room s r k = rw k.after (shift_short s)
+pub shift_room : (s : List ℕ) (r : Mantissa) → Scanned s r → r.shift ≤ length s
+shift_room s r k = rw k.after (shift_short s)
 
-pub float-named : (s u : List ℕ) → u ≡ behindSign s → isWord u ≡ true → refused FloatOutside 0 ≡ floatLiteral s
-unfolding floatLiteral
-float-named s u e w = rw (← e, w)
+pub float_named : (s u : List ℕ) → u ≡ behind_sign s → is_word u ≡ true → refused FloatOutside 0 ≡ float_literal s
+unfolding float_literal
+float_named s u e w = rw (← e, w)
 
-pub float-number : (s u : List ℕ) (m : Bool) → u ≡ behindSign s → isWord u ≡ false → m ≡ minus s → signedValue m (numberWritten u) ≡ floatLiteral s
-unfolding floatLiteral
-float-number s u m e w n = rw (← e, w, n)
+pub float_number : (s u : List ℕ) (m : Bool) → u ≡ behind_sign s → is_word u ≡ false → m ≡ minus s → signed_value m (number_written u) ≡ float_literal s
+unfolding float_literal
+float_number s u m e w n = rw (← e, w, n)

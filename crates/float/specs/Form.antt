@@ -11,9 +11,9 @@ minus [] = false
 minus (b ∷ s) = eqb b 0x2D
 
 -- [+-]?: the text after it
-unfoldable pub behindSign : List ℕ → List ℕ
-behindSign [] = []
-behindSign (b ∷ s) = cond (eqb b 0x2B || eqb b 0x2D) s (b ∷ s)
+unfoldable pub behind_sign : List ℕ → List ℕ
+behind_sign [] = []
+behind_sign (b ∷ s) = cond (eqb b 0x2B || eqb b 0x2D) s (b ∷ s)
 
 -- [. digits*]: the digits after the point
 unfoldable pub fraction : List ℕ → List ℕ
@@ -32,18 +32,18 @@ pub data Exponent : Type 0 where
   unformed : Exponent
 
 -- an exponent's sign, true for minus
-unfoldable pub signedPower : Bool → ℕ → Exponent
-signedPower false n = raised n
-signedPower true n = lowered n
+unfoldable pub signed_power : Bool → ℕ → Exponent
+signed_power false n = raised n
+signed_power true n = lowered n
 
 -- digits, at least one of them and nothing after them
 unfoldable pub power : Bool → List ℕ → Exponent
-power m s = cond (ltb 0 (length (lead s)) && eqb (length (past s)) 0) (signedPower m (decimal (lead s))) unformed
+power m s = cond (ltb 0 (length (lead s)) && eqb (length (past s)) 0) (signed_power m (decimal (lead s))) unformed
 
 -- ([eE] [+-]? digits)?: none is 10 ^ 0
 unfoldable pub exponent : List ℕ → Exponent
 exponent [] = raised 0
-exponent (b ∷ s) = cond (eqb b 0x65 || eqb b 0x45) (power (minus s) (behindSign s)) unformed
+exponent (b ∷ s) = cond (eqb b 0x65 || eqb b 0x45) (power (minus s) (behind_sign s)) unformed
 
 -- A number as it is written, w * 10 ^ up / 10 ^ down. The e of RULES A7.5, the exponent less the digits after the point, is up - down.
 pub data Number : Type 0 where
@@ -51,8 +51,8 @@ pub data Number : Type 0 where
   formless : Number
 
 -- the digits before the exponent, the point left out
-unfoldable pub mantissaDigits : List ℕ → List ℕ
-mantissaDigits s = lead s ++ fraction (past s)
+unfoldable pub mantissa_digits : List ℕ → List ℕ
+mantissa_digits s = lead s ++ fraction (past s)
 
 -- the digits as a whole number w, with so many of them after the point, times the exponent's power
 unfoldable pub scaled : ℕ → ℕ → Exponent → Number
@@ -61,10 +61,10 @@ scaled w shift (lowered n) = number w 0 (n + shift)
 scaled w shift unformed = formless
 
 -- (digits [. digits*] | . digits) ([eE] [+-]? digits)?: w is over all digits written, zeros at either end included
-unfoldable pub numberWritten : List ℕ → Number
-numberWritten s =
-    cond (ltb 0 (length (mantissaDigits s)))
-    (scaled (decimal (mantissaDigits s)) (length (fraction (past s))) (exponent (beyond (past s))))
+unfoldable pub number_written : List ℕ → Number
+number_written s =
+    cond (ltb 0 (length (mantissa_digits s)))
+    (scaled (decimal (mantissa_digits s)) (length (fraction (past s))) (exponent (beyond (past s))))
     formless
 
 -- 'A' to 'Z' as small letters
@@ -82,5 +82,5 @@ abbrev pub nan : List ℕ
 nan = 0x6E ∷ 0x61 ∷ 0x6E ∷ []
 
 -- one of these words, in any letter case
-unfoldable pub isWord : List ℕ → Bool
-isWord s = same (map small s) inf || same (map small s) infinity || same (map small s) nan
+unfoldable pub is_word : List ℕ → Bool
+is_word s = same (map small s) inf || same (map small s) infinity || same (map small s) nan

@@ -10,18 +10,18 @@ use Rattle.refusal.specs.declared.Refusal.{Refusal}
 use Rattle.refusal.specs.declared.Refusal.TheVariants.{InvalidLiteral, FloatOutside}
 use Rattle.utf8.specs.Utf8.{valid}
 use Rattle.number.specs.Space.{trimmed}
-use Rattle.float.specs.Form.{minus, behindSign, Number, number, formless, numberWritten, isWord}
-use Rattle.float.specs.Nearest.{Nearest, middle-up, middle-down, round-nearest, round-below}
+use Rattle.float.specs.Form.{minus, behind_sign, Number, number, formless, number_written, is_word}
+use Rattle.float.specs.Nearest.{Nearest, middle_up, middle_down, round_nearest, round_below}
 use Rattle.float.specs.declared.F64Literal.{F64Literal}
 use Rattle.float.specs.declared.F64Literal.TheVariants.{Bits, Invalid, Outside}
 
 -- what an answer says: the bits, or a refusal of RULES A4
-unfoldable pub f64Read : F64Literal → Read ℕ
-f64Read (Bits bits) = got bits
-f64Read Invalid = refused InvalidLiteral 0
-f64Read Outside = refused FloatOutside 0
+unfoldable pub f64_read : F64Literal → Read ℕ
+f64_read (Bits bits) = got bits
+f64_read Invalid = refused InvalidLiteral 0
+f64_read Outside = refused FloatOutside 0
 
--- IEEE 754: the bits of the double nearest to a / c, ties to even (`literal-nearest` says it over whole numbers)
+-- IEEE 754: the bits of the double nearest to a / c, ties to even (`literal_nearest` says it over whole numbers)
 unfoldable pub double : ℕ → ℕ → ℕ
 double a c = to_bits binary64 (round binary64 false a c)
 
@@ -31,35 +31,35 @@ signed false bits = bits
 signed true bits = bits + 2 ^ 63
 
 -- w ≤ 2 ^ 53 and -22 ≤ e ≤ 22, for e = up - down
-unfoldable pub insideBounds : ℕ → ℕ → ℕ → Bool
-insideBounds w up down = leb w (2 ^ 53) && (leb down (up + 22) && leb up (down + 22))
+unfoldable pub inside_bounds : ℕ → ℕ → ℕ → Bool
+inside_bounds w up down = leb w (2 ^ 53) && (leb down (up + 22) && leb up (down + 22))
 
 -- w * 10 ^ e: over 1 where e is not negative, and w over 10 ^ -e where it is
 unfoldable pub bits_of : ℕ → ℕ → ℕ → ℕ
 bits_of w up down = double (w * 10 ^ (up - down)) (10 ^ (down - up))
 
 -- inside the bounds the nearest double with its sign, else FloatOutside
-unfoldable pub nearestWithin : Bool → Bool → ℕ → ℕ → ℕ → Read ℕ
-nearestWithin true m w up down = got (signed m (bits_of w up down))
-nearestWithin false m w up down = refused FloatOutside 0
+unfoldable pub nearest_within : Bool → Bool → ℕ → ℕ → ℕ → Read ℕ
+nearest_within true m w up down = got (signed m (bits_of w up down))
+nearest_within false m w up down = refused FloatOutside 0
 
 -- w = 0 is a zero with its sign, whatever e is
 unfoldable pub valued : Bool → Bool → ℕ → ℕ → ℕ → Read ℕ
 valued true m w up down = got (signed m 0)
-valued false m w up down = nearestWithin (insideBounds w up down) m w up down
+valued false m w up down = nearest_within (inside_bounds w up down) m w up down
 
 -- a number with its sign, m for minus; a bad form is InvalidLiteral
-unfoldable pub signedValue : Bool → Number → Read ℕ
-signedValue m (number w up down) = valued (eqb w 0) m w up down
-signedValue m formless = refused InvalidLiteral 0
+unfoldable pub signed_value : Bool → Number → Read ℕ
+signed_value m (number w up down) = valued (eqb w 0) m w up down
+signed_value m formless = refused InvalidLiteral 0
 
 -- FLOAT's text, white space trimmed. What is FloatOutside here Rust reads: its own `parse::<f64>` has no such bounds.
-unfoldable pub floatLiteral : List ℕ → Read ℕ
-floatLiteral s = cond (isWord (behindSign s)) (refused FloatOutside 0) (signedValue (minus s) (numberWritten (behindSign s)))
+unfoldable pub float_literal : List ℕ → Read ℕ
+float_literal s = cond (is_word (behind_sign s)) (refused FloatOutside 0) (signed_value (minus s) (number_written (behind_sign s)))
 
 -- de.rs, `parse::<f64>`: the line is UTF-8, and its text less White_Space is read
-unfoldable pub parseF64 : List ℕ → Read ℕ
-parseF64 line = cond (valid line) (floatLiteral (trimmed line)) (refused InvalidLiteral 0)
+unfoldable pub parse_f64 : List ℕ → Read ℕ
+parse_f64 line = cond (valid line) (float_literal (trimmed line)) (refused InvalidLiteral 0)
 
 -- ---- what the bits of an accepted literal are
 
@@ -83,9 +83,9 @@ bits_up w up down e q =
     let b : down - up ≡ 0 = omega arith in
     rw (a, b)
 
-pub bits-down : (w up down e : ℕ) → down ≡ up + e → bits_of w up down ≡ double w (10 ^ e)
+pub bits_down : (w up down e : ℕ) → down ≡ up + e → bits_of w up down ≡ double w (10 ^ e)
 unfolding bits_of
-bits-down w up down e q =
+bits_down w up down e q =
     let a : up - down ≡ 0 = omega arith in
     let b : down - up ≡ e = omega arith in
     rw (a, b, mul-one)
@@ -96,8 +96,8 @@ module _ (w up down : ℕ) (p : 0 < w) (h : w ≤ 2 ^ 53) (l : down ≤ up + 22)
   bits_below = go (dec_le down up)
     where
       go : Dec (down ≤ up) → bits_of w up down < 2 ^ 63
-      go (yes k) = rw (bits_up w up down (up - down) (omega arith)) (round-below (w * 10 ^ (up - down)) 1 (middle-up w (up - down) p h (omega arith)))
-      go (no k) = let g = lt_of_not-le k in rw (bits-down w up down (down - up) (omega arith)) (round-below w (10 ^ (down - up)) (middle-down w (down - up) p h (omega arith)))
+      go (yes k) = rw (bits_up w up down (up - down) (omega arith)) (round_below (w * 10 ^ (up - down)) 1 (middle_up w (up - down) p h (omega arith)))
+      go (no k) = let g = lt_of_not-le k in rw (bits_down w up down (down - up) (omega arith)) (round_below w (10 ^ (down - up)) (middle_down w (down - up) p h (omega arith)))
 
   pub bits-double : (m : Bool) → Double m w up down (signed m (bits_of w up down))
   unfolding double
@@ -105,17 +105,17 @@ module _ (w up down : ℕ) (p : 0 < w) (h : w ≤ 2 ^ 53) (l : down ≤ up + 22)
     size = bits_of w up down;
     below = bits_below;
     sign = refl;
-    raised = λ e q. rw (bits_up w up down e q) (round-nearest (w * 10 ^ e) 1 (middle-up w e p h (omega arith)));
-    lowered = λ e q. rw (bits-down w up down e q) (round-nearest w (10 ^ e) (middle-down w e p h (omega arith)));
+    raised = λ e q. rw (bits_up w up down e q) (round_nearest (w * 10 ^ e) 1 (middle_up w e p h (omega arith)));
+    lowered = λ e q. rw (bits_down w up down e q) (round_nearest w (10 ^ e) (middle_down w e p h (omega arith)));
   }
 
-value-nearest : (m : Bool) (w up down bits : ℕ) → 0 < w → signedValue m (number w up down) ≡ got bits → Double m w up down bits
-unfolding signedValue valued nearestWithin insideBounds
-value-nearest m w up down bits p a =
+value_nearest : (m : Bool) (w up down bits : ℕ) → 0 < w → signed_value m (number w up down) ≡ got bits → Double m w up down bits
+unfolding signed_value valued nearest_within inside_bounds
+value_nearest m w up down bits p a =
     go (leb w (2 ^ 53)) (leb down (up + 22)) (leb up (down + 22)) refl refl refl (rw (ne_eqb w 0 (λ e. omega arith)) at a)
   where
     go : (x y z : Bool) → x ≡ leb w (2 ^ 53) → y ≡ leb down (up + 22) → z ≡ leb up (down + 22)
-        → nearestWithin (x && (y && z)) m w up down ≡ got bits → Double m w up down bits
+        → nearest_within (x && (y && z)) m w up down ≡ got bits → Double m w up down bits
     go true true true ex ey ez q =
         let b : signed m (bits_of w up down) ≡ bits = cc in
         rw b at (bits-double w up down p (leb-true w (2 ^ 53) (sym ex)) (leb-true down (up + 22) (sym ey)) (leb-true up (down + 22) (sym ez)) m)
@@ -123,16 +123,16 @@ value-nearest m w up down bits p a =
     go true false z ex ey ez q = never q
     go false y z ex ey ez q = never q
 
-literal-value : (s : List ℕ) (bits : ℕ) → floatLiteral s ≡ got bits → signedValue (minus s) (numberWritten (behindSign s)) ≡ got bits
-unfolding floatLiteral
-literal-value s bits a = go (isWord (behindSign s)) a
+literal-value : (s : List ℕ) (bits : ℕ) → float_literal s ≡ got bits → signed_value (minus s) (number_written (behind_sign s)) ≡ got bits
+unfolding float_literal
+literal-value s bits a = go (is_word (behind_sign s)) a
   where
-    go : (x : Bool) → cond x (refused FloatOutside 0) (signedValue (minus s) (numberWritten (behindSign s))) ≡ got bits
-        → signedValue (minus s) (numberWritten (behindSign s)) ≡ got bits
+    go : (x : Bool) → cond x (refused FloatOutside 0) (signed_value (minus s) (number_written (behind_sign s))) ≡ got bits
+        → signed_value (minus s) (number_written (behind_sign s)) ≡ got bits
     go true q = never q
     go false q = q
 
 -- every literal that is accepted with w above 0 is its nearest double, with its sign
-pub literal-nearest : (s : List ℕ) (w up down bits : ℕ) → numberWritten (behindSign s) ≡ number w up down → 0 < w
-    → floatLiteral s ≡ got bits → Double (minus s) w up down bits
-literal-nearest s w up down bits n p a = value-nearest (minus s) w up down bits p (rw n at (literal-value s bits a))
+pub literal_nearest : (s : List ℕ) (w up down bits : ℕ) → number_written (behind_sign s) ≡ number w up down → 0 < w
+    → float_literal s ≡ got bits → Double (minus s) w up down bits
+literal_nearest s w up down bits n p a = value_nearest (minus s) w up down bits p (rw n at (literal-value s bits a))

@@ -57,8 +57,8 @@ record Closest (n u q : ℕ) : Type 0 where
   tie_up : 2 * n ≡ 2 * (q * u) + u → q % 2 ≡ 0
   tie_down : 2 * (q * u) ≡ 2 * n + u → q % 2 ≡ 0
 
-closest-is : (n u : ℕ) → 0 < u → Closest n u (closest n u)
-closest-is n u U = go (n / u) (n % u) (compare (n % u * 2) u) (div-add-mod' n u) (mod-lt n U) (cmp (n % u * 2) u)
+closest_is : (n u : ℕ) → 0 < u → Closest n u (closest n u)
+closest_is n u U = go (n / u) (n % u) (compare (n % u * 2) u) (div-add-mod' n u) (mod-lt n U) (cmp (n % u * 2) u)
   where
     even : (x r y : ℕ) → y ≡ x % 2 → x * u + r ≡ n → r * 2 ≡ u → Closest n u (x + y)
     even x r zero f e c = record { above = omega arith; below = omega arith; tie_up = λ h. omega arith; tie_down = λ h. omega arith }
@@ -72,11 +72,11 @@ closest-is n u U = go (n / u) (n % u) (compare (n % u * 2) u) (div-add-mod' n u)
         let s : suc x * u ≡ x * u + u = suc-mul x u in
         record { above = omega arith; below = omega arith; tie_up = λ h. absurd (omega arith); tie_down = λ h. absurd (omega arith) }
 
-closest-lo : (n u j : ℕ) → 0 < u → j * u ≤ n → j ≤ closest n u
-closest-lo n u j U h = le_trans ((le-div_iff_mul-le U).1 h) (nearest-ge (n / u) (compare (n % u * 2) u))
+closest_lo : (n u j : ℕ) → 0 < u → j * u ≤ n → j ≤ closest n u
+closest_lo n u j U h = le_trans ((le-div_iff_mul-le U).1 h) (nearest-ge (n / u) (compare (n % u * 2) u))
 
-closest-hi : (n u j : ℕ) → 0 < u → n < j * u → closest n u ≤ j
-closest-hi n u j U h = le_trans (nearest-le (n / u) (compare (n % u * 2) u)) ((div-lt_iff_lt-mul U).1 h)
+closest_hi : (n u j : ℕ) → 0 < u → n < j * u → closest n u ≤ j
+closest_hi n u j U h = le_trans (nearest-le (n / u) (compare (n % u * 2) u)) ((div-lt_iff_lt-mul U).1 h)
 
 -- ---- how many digits are dropped
 
@@ -88,8 +88,8 @@ digits_are p n c P C N =
     let k = drop p n c in
     le_trans (le_of_eq (power-over (p - 1) c k)) ((le-div_iff_mul-le C).0 (size_reaches (n / c) (p - 1 + k) (omega arith)))
 
-no-more-are : (p n c : ℕ) → 0 < c → p ≤ size (n / c) → n < 2 ^ p * (c * 2 ^ drop p n c)
-no-more-are p n c C N =
+no_more_are : (p n c : ℕ) → 0 < c → p ≤ size (n / c) → n < 2 ^ p * (c * 2 ^ drop p n c)
+no_more_are p n c C N =
     let k = drop p n c in
     let j : size (n / c) ≡ p + k = omega arith in
     lt_of_lt_of_le ((div-lt_iff_lt-mul C).0 (rw (← j) (size-lt (n / c)))) (le_of_eq (sym (power-over p c k)))
@@ -150,12 +150,12 @@ module _ (a c : ℕ) (h : Middle a c) where
   unit : 0 < c * 2 ^ drop 53 (a * 2 ^ 1074) c
   unit = mul-pos h.real (pow_pos (drop 53 (a * 2 ^ 1074) c))
 
-  kept-most : kept 53 (a * 2 ^ 1074) c ≤ 2 ^ 53
-  kept-most = closest-hi (a * 2 ^ 1074) (c * 2 ^ drop 53 (a * 2 ^ 1074) c) (2 ^ 53) unit (no-more-are 53 (a * 2 ^ 1074) c h.real normal)
+  kept_most : kept 53 (a * 2 ^ 1074) c ≤ 2 ^ 53
+  kept_most = closest_hi (a * 2 ^ 1074) (c * 2 ^ drop 53 (a * 2 ^ 1074) c) (2 ^ 53) unit (no_more_are 53 (a * 2 ^ 1074) c h.real normal)
 
   -- 1202 = 128 + 1074
-  drop-most : 53 + drop 53 (a * 2 ^ 1074) c ≤ 1202
-  drop-most =
+  drop_most : 53 + drop 53 (a * 2 ^ 1074) c ≤ 1202
+  drop_most =
       let l = 2 ^ 1074 in
       let m : a * l < 2 ^ 1202 * c = lt_of_lt_of_le (mul-lt-mul_of_pos_right h.most (pow_pos (low binary64))) (le_of_eq (mul_right_comm (2 ^ 128) c l ∙ ap (λ (z : ℕ). z * c) (sym (pow-add 2 128 (low binary64))))) in
       let z : size (a * l / c) ≤ 1202 = size-le (a * l / c) 1202 ((div-lt_iff_lt-mul h.real).1 m) in
@@ -165,39 +165,39 @@ module _ (a c : ℕ) (h : Middle a c) where
   no_overflow : grid binary64 a c < overflow binary64
   no_overflow =
       let k = drop 53 (a * 2 ^ 1074) c in
-      lt_of_le_of_lt (le_trans (mul-le-mul_right (2 ^ k) kept-most) (le_trans (le_of_eq (sym (pow-add 2 53 k))) (pow_mono drop-most)))
+      lt_of_le_of_lt (le_trans (mul-le-mul_right (2 ^ k) kept_most) (le_trans (le_of_eq (sym (pow-add 2 53 k))) (pow_mono drop_most)))
       (pow-lt {i = 1202} {j = low binary64 + suc (emax binary64)} (lit< tt))
 
-  pattern-is : to_bits binary64 (round binary64 false a c) ≡ drop 53 (a * 2 ^ 1074) c * 2 ^ 52 + kept 53 (a * 2 ^ 1074) c
-  pattern-is =
+  pattern_is : to_bits binary64 (round binary64 false a c) ≡ drop 53 (a * 2 ^ 1074) c * 2 ^ 52 + kept 53 (a * 2 ^ 1074) c
+  pattern_is =
       let n = a * 2 ^ 1074 in
       bits_are (round binary64 false a c) (kept 53 n c) (drop 53 n c) (round_val binary64 a c no_overflow)
-      (closest-lo n (c * 2 ^ drop 53 n c) (2 ^ 52) unit (digits_are 53 n c (lit< tt) h.real normal))
-      kept-most
+      (closest_lo n (c * 2 ^ drop 53 n c) (2 ^ 52) unit (digits_are 53 n c (lit< tt) h.real normal))
+      kept_most
 
-  pub round-nearest : Nearest 53 1074 a c (to_bits binary64 (round binary64 false a c))
-  round-nearest =
+  pub round_nearest : Nearest 53 1074 a c (to_bits binary64 (round binary64 false a c))
+  round_nearest =
       let n = a * 2 ^ 1074 in
       let k = drop 53 n c in
-      let z : Closest n (c * 2 ^ k) (kept 53 n c) = closest-is n (c * 2 ^ k) unit in
+      let z : Closest n (c * 2 ^ k) (kept 53 n c) = closest_is n (c * 2 ^ k) unit in
       record {
         m = kept 53 n c;
         k = k;
         digits = digits_are 53 n c (lit< tt) h.real normal;
-        no_more = no-more-are 53 n c h.real normal;
+        no_more = no_more_are 53 n c h.real normal;
         above = z.above;
         below = z.below;
         tie_up = z.tie_up;
         tie_down = z.tie_down;
-        pattern = pattern-is;
+        pattern = pattern_is;
       }
 
   -- its sign's bit is clear
-  pub round-below : to_bits binary64 (round binary64 false a c) < 2 ^ 63
-  round-below =
-      let d = drop-most in
-      let q = kept-most in
-      rw pattern-is (omega arith)
+  pub round_below : to_bits binary64 (round binary64 false a c) < 2 ^ 63
+  round_below =
+      let d = drop_most in
+      let q = kept_most in
+      rw pattern_is (omega arith)
 
   pub round_number : T (not (is_nan (round binary64 false a c)))
   unfolding is_nan
@@ -211,20 +211,20 @@ module _ (a c : ℕ) (h : Middle a c) where
 -- ---- there is one nearest double
 
 -- the next exponent's 2 ^ (p - 1) is this one's 2 ^ p
-power-next : (p c k j : ℕ) → 0 < p → k < j → 2 ^ p * (c * 2 ^ k) ≤ 2 ^ (p - 1) * (c * 2 ^ j)
-power-next p c k j P h =
+power_next : (p c k j : ℕ) → 0 < p → k < j → 2 ^ p * (c * 2 ^ k) ≤ 2 ^ (p - 1) * (c * 2 ^ j)
+power_next p c k j P h =
     le_trans (le_of_eq (power-over p c k))
     (le_trans (mul-le-mul_right c (pow_mono {i = p + k} {j = p - 1 + j} (omega arith))) (le_of_eq (sym (power-over (p - 1) c j))))
 
 module _ (p l a c : ℕ) (P : 0 < p) (C : 0 < c) where
-  exponent-most : {b b' : ℕ} (x : Nearest p l a c b) (y : Nearest p l a c b') → x.k ≤ y.k
-  exponent-most x y =
+  exponent_most : {b b' : ℕ} (x : Nearest p l a c b) (y : Nearest p l a c b') → x.k ≤ y.k
+  exponent_most x y =
       le_of_suc-le-suc (lt_of_not-le (λ (h : suc y.k ≤ x.k).
-      not-le_of_lt y.no_more (le_trans (power-next p c y.k x.k P h) x.digits)))
+      not-le_of_lt y.no_more (le_trans (power_next p c y.k x.k P h) x.digits)))
 
-  digits-most : (u m n : ℕ) → 0 < u → 2 * (m * u) ≤ 2 * (a * 2 ^ l) + u → 2 * (a * 2 ^ l) ≤ 2 * (n * u) + u
+  digits_most : (u m n : ℕ) → 0 < u → 2 * (m * u) ≤ 2 * (a * 2 ^ l) + u → 2 * (a * 2 ^ l) ≤ 2 * (n * u) + u
       → (2 * (m * u) ≡ 2 * (a * 2 ^ l) + u → m % 2 ≡ 0) → (2 * (a * 2 ^ l) ≡ 2 * (n * u) + u → n % 2 ≡ 0) → m ≤ n
-  digits-most u m n h b t e f =
+  digits_most u m n h b t e f =
       le_of_suc-le-suc (lt_of_not-le (λ (g : suc n ≤ m).
       let s : suc n * u ≡ n * u + u = suc-mul n u in
       let o : suc n * u ≤ m * u = mul-le-mul_right u g in
@@ -234,39 +234,39 @@ module _ (p l a c : ℕ) (P : 0 < p) (C : 0 < c) where
       let y : suc (suc n) ≤ m → ⊥ = λ k. z (mul-le-mul_right u k) in
       omega arith))
 
-  pub nearest-one : {b b' : ℕ} → Nearest p l a c b → Nearest p l a c b' → b ≡ b'
-  nearest-one x y =
-      let e : x.k ≡ y.k = le_antisymm (exponent-most x y) (exponent-most y x) in
+  pub nearest_one : {b b' : ℕ} → Nearest p l a c b → Nearest p l a c b' → b ≡ b'
+  nearest_one x y =
+      let e : x.k ≡ y.k = le_antisymm (exponent_most x y) (exponent_most y x) in
       let u = c * 2 ^ x.k in
       let h : 0 < u = mul-pos C (pow_pos x.k) in
-      let y-above : 2 * (a * 2 ^ l) ≤ 2 * (y.m * u) + u = rw e y.above in
-      let y-below : 2 * (y.m * u) ≤ 2 * (a * 2 ^ l) + u = rw e y.below in
+      let y_above : 2 * (a * 2 ^ l) ≤ 2 * (y.m * u) + u = rw e y.above in
+      let y_below : 2 * (y.m * u) ≤ 2 * (a * 2 ^ l) + u = rw e y.below in
       let f : x.m ≡ y.m = le_antisymm
-      (digits-most u x.m y.m h x.below y-above x.tie_down (rw e y.tie_up))
-      (digits-most u y.m x.m h y-below x.above (rw e y.tie_down) x.tie_up) in
+      (digits_most u x.m y.m h x.below y_above x.tie_down (rw e y.tie_up))
+      (digits_most u y.m x.m h y_below x.above (rw e y.tie_down) x.tie_up) in
       x.pattern ∙ rw (e, f) (sym y.pattern)
 
 -- ---- w * 10 ^ e for 1 ≤ w ≤ 2 ^ 53 and e ≤ 22, either way
 
-pub ten-pos : (e : ℕ) → 0 < 10 ^ e
-ten-pos e = one-le-pow e 10 (lit< tt)
+pub ten_pos : (e : ℕ) → 0 < 10 ^ e
+ten_pos e = one-le-pow e 10 (lit< tt)
 
 module _ (w e : ℕ) (W : 0 < w) (H : w ≤ 2 ^ 53) (E : e ≤ 22) where
-  ten-most : 10 ^ e ≤ 10 ^ 22
-  ten-most = pow-le-pow_right (lit< tt) E
+  ten_most : 10 ^ e ≤ 10 ^ 22
+  ten_most = pow-le-pow_right (lit< tt) E
 
-  pub middle-up : Middle (w * 10 ^ e) 1
-  middle-up = record {
+  pub middle_up : Middle (w * 10 ^ e) 1
+  middle_up = record {
     real = lit< tt;
-    least = le_trans (lit≤ tt) (le_trans (le_of_eq (sym (one-mul (2 ^ 1074)))) (mul-le-mul_right (2 ^ 1074) (mul-pos W (ten-pos e))));
-    most = lt_of_le_of_lt (le_trans (mul-le-mul_right (10 ^ e) H) (mul-le-mul_left (2 ^ 53) ten-most)) (lit< tt);
+    least = le_trans (lit≤ tt) (le_trans (le_of_eq (sym (one-mul (2 ^ 1074)))) (mul-le-mul_right (2 ^ 1074) (mul-pos W (ten_pos e))));
+    most = lt_of_le_of_lt (le_trans (mul-le-mul_right (10 ^ e) H) (mul-le-mul_left (2 ^ 53) ten_most)) (lit< tt);
   }
 
-  pub middle-down : Middle w (10 ^ e)
-  middle-down = record {
-    real = ten-pos e;
-    least = le_trans (mul-le-mul_left (2 ^ 52) ten-most) (le_trans (lit≤ tt) (le_trans (le_of_eq (sym (one-mul (2 ^ 1074)))) (mul-le-mul_right (2 ^ 1074) W)));
-    most = lt_of_le_of_lt H (lt_of_lt_of_le (lit< tt) (le_trans (le_of_eq (sym (mul-one (2 ^ 128)))) (mul-le-mul_left (2 ^ 128) (ten-pos e))));
+  pub middle_down : Middle w (10 ^ e)
+  middle_down = record {
+    real = ten_pos e;
+    least = le_trans (mul-le-mul_left (2 ^ 52) ten_most) (le_trans (lit≤ tt) (le_trans (le_of_eq (sym (one-mul (2 ^ 1074)))) (mul-le-mul_right (2 ^ 1074) W)));
+    most = lt_of_le_of_lt H (lt_of_lt_of_le (lit< tt) (le_trans (le_of_eq (sym (mul-one (2 ^ 128)))) (mul-le-mul_left (2 ^ 128) (ten_pos e))));
   }
 
 -- ---- a product and a quotient of two exact doubles
@@ -289,9 +289,9 @@ div_is (fin false m e) (fin false n d) p q =
     cond_no (eqb n 0) _ _ (not_T (eqb n 0) (λ t. let z : n ≡ 0 = eqb→eq n 0 t in let h = ltb→lt 0 n q in omega arith))
 
 -- x is a / c and y is b / d
-div-at : (x y : Float) (a c b d : ℕ) → T (positive x) → T (positive y) → 0 < b → 0 < c → HasValue x false a c
+div_at : (x y : Float) (a c b d : ℕ) → T (positive x) → T (positive y) → 0 < b → 0 < c → HasValue x false a c
     → HasValue y false b d → div binary64 x y ≡ round binary64 false (a * d) (b * c)
-div-at x y a c b d p q B C h k =
+div_at x y a c b d p q B C h k =
     div_is x y p q
     ∙ round_same binary64 false (num x * den y) (num y * den x) (a * d) (b * c) (mul-pos (num_pos y q) (den_pos x)) (mul-pos B C)
     (ap (λ (z : ℕ). num x * den y * z) (mul_comm b c)
@@ -307,21 +307,21 @@ pub record Ten (t : Float) (e : ℕ) : Type 0 where
   pub is : HasValue t false (10 ^ e) 1
 
 -- `w as f64` is defined
-pub whole-fits : (w : ℕ) → w ≤ 2 ^ 53 → T (in_float binary64 (pos w))
+pub whole_fits : (w : ℕ) → w ≤ 2 ^ 53 → T (in_float binary64 (pos w))
 unfolding in_float
-whole-fits w h = le→leb w (2 ^ 53) h
+whole_fits w h = le→leb w (2 ^ 53) h
 
 module _ (w e : ℕ) (t : Float) (W : 0 < w) (H : w ≤ 2 ^ 53) (ten : Ten t e) where
   whole-value : HasValue (of_int binary64 (pos w)) false w 1
   unfolding of_int
   whole-value = round_whole binary64 false w H
 
-  whole-positive : T (positive (of_int binary64 (pos w)))
-  whole-positive = positive_of_value (of_int binary64 (pos w)) w 1 whole-value W
+  whole_positive : T (positive (of_int binary64 (pos w)))
+  whole_positive = positive_of_value (of_int binary64 (pos w)) w 1 whole-value W
 
   -- `(w as f64) * t` and `(w as f64) / t`
   pub product : mul binary64 (of_int binary64 (pos w)) t ≡ round binary64 false (w * 10 ^ e) 1
-  product = mul_at binary64 (of_int binary64 (pos w)) t w 1 (10 ^ e) 1 whole-positive ten.more (lit< tt) (lit< tt) whole-value ten.is
+  product = mul_at binary64 (of_int binary64 (pos w)) t w 1 (10 ^ e) 1 whole_positive ten.more (lit< tt) (lit< tt) whole-value ten.is
 
   pub quotient : div binary64 (of_int binary64 (pos w)) t ≡ round binary64 false w (10 ^ e)
-  quotient = div-at (of_int binary64 (pos w)) t w 1 (10 ^ e) 1 whole-positive ten.more (ten-pos e) (lit< tt) whole-value ten.is ∙ rw (mul-one, mul-one)
+  quotient = div_at (of_int binary64 (pos w)) t w 1 (10 ^ e) 1 whole_positive ten.more (ten_pos e) (lit< tt) whole-value ten.is ∙ rw (mul-one, mul-one)

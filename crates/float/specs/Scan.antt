@@ -3,7 +3,7 @@
 use Rattle.std.specs.Prelude.{ℕ, ◌+◌, ◌*◌, ◌^◌, ◌≤◌, min, List, ◌≡◌, length, drop}
 use Rattle.number.specs.Number.{decimal}
 use Rattle.float.specs.Digits.{lead, past}
-use Rattle.float.specs.Form.{fraction, beyond, mantissaDigits, Exponent, raised, lowered, unformed}
+use Rattle.float.specs.Form.{fraction, beyond, mantissa_digits, Exponent, raised, lowered, unformed}
 use Rattle.float.specs.declared.DigitRun.{DigitRun}
 use Rattle.float.specs.declared.Mantissa.{Mantissa}
 use Rattle.float.specs.declared.Power.{Power}
@@ -23,8 +23,8 @@ run_of start s = record { value = read_on start s; count = length (lead s) }
 
 -- the digits before the exponent, how many they are, how many of them stand after the point, and where the text goes on
 pub record Scanned (s : List ℕ) (r : Mantissa) : Type 0 where
-  pub whole : r.w ≡ min (decimal (mantissaDigits s)) cap
-  pub all : r.count ≡ length (mantissaDigits s)
+  pub whole : r.w ≡ min (decimal (mantissa_digits s)) cap
+  pub all : r.count ≡ length (mantissa_digits s)
   pub after : r.shift ≡ length (fraction (past s))
   pub room : r.end ≤ length s
   pub rest : drop r.end s ≡ beyond (past s)

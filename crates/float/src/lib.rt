@@ -3,9 +3,9 @@
 ghost use Rattle.std.specs.Prelude.{◌≡◌, true, map, ◌+◌, ◌-◌, ◌*◌, ◌^◌, ◌<◌, ◌≤◌, min};
 ghost use Rattle.number.specs.Space.{same};
 ghost use Rattle.float.specs.Digits.{digit};
-ghost use Rattle.float.specs.Form.{minus, behindSign, power, exponent, numberWritten, isWord};
+ghost use Rattle.float.specs.Form.{minus, behind_sign, power, exponent, number_written, is_word};
 ghost use Rattle.float.specs.Scan.{cap, run_of, Scanned, capped};
-ghost use Rattle.float.specs.Literal.{f64Read, double, signed, signedValue, floatLiteral, parseF64};
+ghost use Rattle.float.specs.Literal.{f64_read, double, signed, signed_value, float_literal, parse_f64};
 ghost use Rattle.float.specs.Form as Form;
 
 // `Invalid`: no number's form. `Outside`: `inf`, `infinity` or `nan`, or a number past the bounds of RULES A7.5.
@@ -115,7 +115,7 @@ fn is_minus(text: &[u8]) -> bool
 }
 
 fn after_sign(text: &[u8]) -> &[u8]
-    ensures { result.now ≡ behindSign text.now }
+    ensures { result.now ≡ behind_sign text.now }
 {
     if 0 < text.len() {
         let b = text[0];
@@ -158,7 +158,7 @@ fn is_word(text: &[u8], word: &[u8]) -> bool
 }
 
 fn is_named(text: &[u8]) -> bool
-    ensures { result ≡ isWord text.now }
+    ensures { result ≡ is_word text.now }
 {
     if is_word(text, b"inf") {
         return true;
@@ -258,7 +258,7 @@ fn with_sign(negative: bool, bits: u64) -> F64Literal
 
 // w * 10 ^ up / 10 ^ down
 fn settled(negative: bool, w: u64, up: u64, down: u64) -> F64Literal
-    ensures { f64Read result ≡ signedValue negative (Form.number w up down) }
+    ensures { f64_read result ≡ signed_value negative (Form.number w up down) }
 {
     if w == 0 {
         return with_sign(negative, 0);
@@ -282,7 +282,7 @@ fn settled(negative: bool, w: u64, up: u64, down: u64) -> F64Literal
 
 // The text after its sign.
 fn number_of(negative: bool, text: &[u8]) -> F64Literal
-    ensures { f64Read result ≡ signedValue negative (numberWritten text.now) }
+    ensures { f64_read result ≡ signed_value negative (number_written text.now) }
 {
     let m = mantissa_of(text);
     let end = m.end;
@@ -308,7 +308,7 @@ fn number_of(negative: bool, text: &[u8]) -> F64Literal
 
 // The text of a line, its white space trimmed.
 fn float_text(text: &[u8]) -> F64Literal
-    ensures { f64Read result ≡ floatLiteral text.now }
+    ensures { f64_read result ≡ float_literal text.now }
 {
     let rest = after_sign(text);
     if is_named(rest) {
@@ -319,7 +319,7 @@ fn float_text(text: &[u8]) -> F64Literal
 
 // `parse::<f64>`, of any line.
 pub fn parse_f64(line: &[u8]) -> F64Literal
-    ensures { f64Read result ≡ parseF64 line.now }
+    ensures { f64_read result ≡ parse_f64 line.now }
 {
     if utf8::valid(line) {
         return float_text(number::trim(line));

@@ -13,36 +13,36 @@ use lib.Seq.{drop-cons, take-suc, take-take, get_or-take, get_or-drop}
 use borrow.Author.Tests.{eq-eqb, ne_eqb}
 use Rattle.refusal.specs.Read.{got, refused}
 use Rattle.refusal.specs.declared.Refusal.TheVariants.{EndOfInput, IntegerTooLarge}
-use Rattle.input.specs.Bytes.{lt-or-le, Bytes, bytes_take, bytes_drop, lowFirst, highFirst, lastByte, paddedTo, filled-same, filled-length, filled_at}
-use Rattle.input.specs.Line.{firstFrom, newlineOf, lessCr, line_of}
-use Rattle.input.specs.Long.{denotes, bits64, longOf}
-use Rattle.input.specs.Rule01.{allAre, fillOf, signFilled, rule01, longBy01, word-short, long-is-01}
+use Rattle.input.specs.Bytes.{lt_or_le, Bytes, bytes_take, bytes_drop, low_first, high_first, last_byte, padded_to, filled-same, filled-length, filled_at}
+use Rattle.input.specs.Line.{first_from, newline_of, less_cr, line_of}
+use Rattle.input.specs.Long.{denotes, bits64, long_of}
+use Rattle.input.specs.Rule01.{all_are, fill_of, sign_filled, rule01, long_by01, word-short, long_is_01}
 
 -- the loops of `newline` and `repeats`: at the end, at a byte that decides, at any other
 module _ (p : List ℕ) (i : ℕ) where
-  pub newline-end : length p ≤ i → newlineOf p i ≡ refused EndOfInput 0
-  unfolding firstFrom newlineOf
-  newline-end h = simp (drop_of_length-le p h)
+  pub newline_end : length p ≤ i → newline_of p i ≡ refused EndOfInput 0
+  unfolding first_from newline_of
+  newline_end h = simp (drop_of_length-le p h)
 
-  pub newline-hit : i < length p → get_or p i 0 ≡ 10 → newlineOf p i ≡ got i
-  unfolding firstFrom newlineOf
-  newline-hit h e = simp (drop-cons p i 0 h, eq-eqb _ _ e)
+  pub newline_hit : i < length p → get_or p i 0 ≡ 10 → newline_of p i ≡ got i
+  unfolding first_from newline_of
+  newline_hit h e = simp (drop-cons p i 0 h, eq-eqb _ _ e)
 
-  pub newline-more : i < length p → (get_or p i 0 ≡ 10 → ⊥) → newlineOf p (i + 1) ≡ newlineOf p i
-  unfolding firstFrom newlineOf
-  newline-more h e = simp (drop-cons p i 0 h, ne_eqb _ _ e, add-one)
+  pub newline_more : i < length p → (get_or p i 0 ≡ 10 → ⊥) → newline_of p (i + 1) ≡ newline_of p i
+  unfolding first_from newline_of
+  newline_more h e = simp (drop-cons p i 0 h, ne_eqb _ _ e, add-one)
 
   module _ (x : ℕ) where
-    pub all_end : length p ≤ i → allAre x (drop i p) ≡ true
-    unfolding allAre
+    pub all_end : length p ≤ i → all_are x (drop i p) ≡ true
+    unfolding all_are
     all_end h = simp (drop_of_length-le p h)
 
-    pub all-miss : i < length p → (get_or p i 0 ≡ x → ⊥) → allAre x (drop i p) ≡ false
-    unfolding allAre
-    all-miss h e = simp (drop-cons p i 0 h, ne_eqb _ _ e)
+    pub all_miss : i < length p → (get_or p i 0 ≡ x → ⊥) → all_are x (drop i p) ≡ false
+    unfolding all_are
+    all_miss h e = simp (drop-cons p i 0 h, ne_eqb _ _ e)
 
-    pub all_more : i < length p → get_or p i 0 ≡ x → allAre x (drop (i + 1) p) ≡ allAre x (drop i p)
-    unfolding allAre
+    pub all_more : i < length p → get_or p i 0 ≡ x → all_are x (drop (i + 1) p) ≡ all_are x (drop i p)
+    unfolding all_are
     all_more h e = simp (drop-cons p i 0 h, eq-eqb _ _ e, add-one)
 
 -- one more byte: the number stays below the next power, and in a u64
@@ -59,46 +59,46 @@ room k v h b =
 -- the loop of `low_first`, which goes down
 pub record Above (w x : ℕ) (l : List ℕ) (i v : ℕ) : Type 0 where
   pub left : i ≤ w
-  pub is : v ≡ lowFirst (drop i (paddedTo w x l))
+  pub is : v ≡ low_first (drop i (padded_to w x l))
   pub small : v < 256 ^ (w - i)
 
 module _ (w x : ℕ) (l : List ℕ) where
   pub above-none : Above w x l w 0
-  unfolding lowFirst
+  unfolding low_first
   above-none =
-      let n : length (paddedTo w x l) ≤ w = omega (arith, filled-length w x l) in
+      let n : length (padded_to w x l) ≤ w = omega (arith, filled-length w x l) in
       let z : w - w ≡ 0 = omega arith in
-      record { left = omega arith; is = rw (drop_of_length-le (paddedTo w x l) n); small = rw z (omega arith) }
+      record { left = omega arith; is = rw (drop_of_length-le (padded_to w x l) n); small = rw z (omega arith) }
 
   pub above_more : (i v b : ℕ) → 0 < i → b < 256 → b ≡ get_or l (i - 1) x → Above w x l i v → Above w x l (i - 1) (v * 256 + b)
-  unfolding lowFirst
+  unfolding low_first
   above_more i v b z s e a =
       let h = a.left in
       let f = a.is in
-      let k : i - 1 < length (paddedTo w x l) = omega (arith, filled-length w x l) in
+      let k : i - 1 < length (padded_to w x l) = omega (arith, filled-length w x l) in
       let j : suc (i - 1) ≡ i = omega arith in
-      let g : b ≡ get_or (paddedTo w x l) (i - 1) 0 = e ∙ sym (filled_at w x l (i - 1) (omega arith)) in
-      let d : lowFirst (drop (i - 1) (paddedTo w x l)) ≡ get_or (paddedTo w x l) (i - 1) 0 + 256 * lowFirst (drop i (paddedTo w x l)) = ap lowFirst (drop-cons (paddedTo w x l) (i - 1) 0 k ∙ ap (λ (n : ℕ). get_or (paddedTo w x l) (i - 1) 0 ∷ drop n (paddedTo w x l)) j) in
+      let g : b ≡ get_or (padded_to w x l) (i - 1) 0 = e ∙ sym (filled_at w x l (i - 1) (omega arith)) in
+      let d : low_first (drop (i - 1) (padded_to w x l)) ≡ get_or (padded_to w x l) (i - 1) 0 + 256 * low_first (drop i (padded_to w x l)) = ap low_first (drop-cons (padded_to w x l) (i - 1) 0 k ∙ ap (λ (n : ℕ). get_or (padded_to w x l) (i - 1) 0 ∷ drop n (padded_to w x l)) j) in
       let m : w - (i - 1) ≡ w - i + 1 = omega arith in
       record { left = omega arith; is = omega arith; small = rw m (grows (w - i) v b a.small s) }
 
-  pub above-all : (i v : ℕ) → i ≤ 0 → Above w x l i v → (v ≡ lowFirst (paddedTo w x l)) × (v < 256 ^ w)
+  pub above-all : (i v : ℕ) → i ≤ 0 → Above w x l i v → (v ≡ low_first (padded_to w x l)) × (v < 256 ^ w)
   above-all zero v h a = let z : w - 0 ≡ w = omega arith in (a.is, rw z at a.small)
   above-all (suc i) v h a = absurd (omega arith)
 
 -- the loop of `high_at`, which goes up
 pub record Below (w : ℕ) (p : List ℕ) (at i v : ℕ) : Type 0 where
   pub left : i ≤ w
-  pub is : v ≡ highFirst (take i (drop at p))
+  pub is : v ≡ high_first (take i (drop at p))
   pub small : v < 256 ^ i
 
 module _ (w : ℕ) (p : List ℕ) (at : ℕ) where
   pub below_none : Below w p at 0 0
-  unfolding lowFirst highFirst
+  unfolding low_first high_first
   below_none = record { left = omega arith; is = refl; small = omega arith }
 
   pub below_more : (i v : ℕ) → i < w → at + w ≤ length p → get_or p (at + i) 0 < 256 → Below w p at i v → Below w p at (i + 1) (v * 256 + get_or p (at + i) 0)
-  unfolding lowFirst highFirst
+  unfolding low_first high_first
   below_more i v l h s a =
       let f = a.is in
       let k : i < length (drop at p) = simp length-drop (omega arith) in
@@ -108,78 +108,78 @@ module _ (w : ℕ) (p : List ℕ) (at : ℕ) where
         small = grows i v _ a.small s;
       }
 
-  pub below_all : (i v : ℕ) → w ≤ i → Below w p at i v → (v ≡ highFirst (take w (drop at p))) × (v < 256 ^ w)
+  pub below_all : (i v : ℕ) → w ≤ i → Below w p at i v → (v ≡ high_first (take w (drop at p))) × (v < 256 ^ w)
   below_all i v h a =
       let l = a.left in
       let e : i ≡ w = omega arith in
       (rw e at a.is, rw e at a.small)
 
-pub fill_none : (l : List ℕ) → length l ≡ 0 → 0 ≡ fillOf l
-unfolding fillOf lastByte
+pub fill_none : (l : List ℕ) → length l ≡ 0 → 0 ≡ fill_of l
+unfolding fill_of last_byte
 fill_none [] h = refl
 fill_none (b ∷ t) h = absurd (omega arith)
 
 -- a width's bytes as a part
 module _ (w : ℕ) (p : List ℕ) (at : ℕ) where
-  pub part-is : take (at + w - at) (drop at p) ≡ take w (drop at p)
-  part-is = let e : at + w - at ≡ w = omega arith in rw e
+  pub part_is : take (at + w - at) (drop at p) ≡ take w (drop at p)
+  part_is = let e : at + w - at ≡ w = omega arith in rw e
 
-  pub part_filled : (x : ℕ) → at + w ≤ length p → paddedTo w x (take (at + w - at) (drop at p)) ≡ take w (drop at p)
-  part_filled x h = rw part-is (filled-same w x (take w (drop at p)) (simp (length-take, length-drop) (omega arith)))
+  pub part_filled : (x : ℕ) → at + w ≤ length p → padded_to w x (take (at + w - at) (drop at p)) ≡ take w (drop at p)
+  part_filled x h = rw part_is (filled-same w x (take w (drop at p)) (simp (length-take, length-drop) (omega arith)))
 
 -- the four bytes of an i32
-pub i32-is : (p : List ℕ) (at x v : ℕ) → at + 4 ≤ length p → Bytes p → x ≡ fillOf (take (at + 4 - at) (drop at p)) → v ≡ lowFirst (paddedTo 8 x (take (at + 4 - at) (drop at p))) → v ≡ bits64 (denotes (take 4 (drop at p)))
-unfolding signFilled
-i32-is p at x v h B e f =
+pub i32_is : (p : List ℕ) (at x v : ℕ) → at + 4 ≤ length p → Bytes p → x ≡ fill_of (take (at + 4 - at) (drop at p)) → v ≡ low_first (padded_to 8 x (take (at + 4 - at) (drop at p))) → v ≡ bits64 (denotes (take 4 (drop at p)))
+unfolding sign_filled
+i32_is p at x v h B e f =
     let q = take 4 (drop at p) in
-    let g : x ≡ fillOf q = e ∙ ap fillOf (part-is 4 p at) in
+    let g : x ≡ fill_of q = e ∙ ap fill_of (part_is 4 p at) in
     let n : length q ≤ 8 = simp (length-take, length-drop) (omega arith) in
-    f ∙ ap (λ (l : List ℕ). lowFirst (paddedTo 8 x l)) (part-is 4 p at) ∙ ap (λ (y : ℕ). lowFirst (paddedTo 8 y q)) g
+    f ∙ ap (λ (l : List ℕ). low_first (padded_to 8 x l)) (part_is 4 p at) ∙ ap (λ (y : ℕ). low_first (padded_to 8 y q)) g
     ∙ sym (word-short q (bytes_take 4 (drop at p) (bytes_drop at p B)) n)
 
 -- what `long` computes is the rule on the bytes of RULES A7.4, so PEP 307's integer
-fill-sign : (l : List ℕ) → eqb (fillOf l) 0 ≡ ltb (lastByte l) 128
-unfolding fillOf
-fill-sign l = go (ltb (lastByte l) 128)
+fill_sign : (l : List ℕ) → eqb (fill_of l) 0 ≡ ltb (last_byte l) 128
+unfolding fill_of
+fill_sign l = go (ltb (last_byte l) 128)
   where
     go : (s : Bool) → eqb (cond s 0 255) 0 ≡ s
     go true = refl
     go false = refl
 
-pub long-is : (l : List ℕ) → Bytes l → (x v : ℕ) (a t : Bool) → x ≡ fillOf l → a ≡ allAre x (drop 8 l) → v ≡ lowFirst (paddedTo 8 x l) → beq (ltb v (2 ^ 63)) (eqb x 0) ≡ t → cond (a && t) (got v) (refused IntegerTooLarge 0) ≡ longOf l
-unfolding longBy01 rule01 signFilled
-long-is l B x v a t e f g h =
-    let s = fill-sign l in
-    let y : v ≡ lowFirst (paddedTo 8 (fillOf l) l) = cc in
-    let z : a ≡ allAre (fillOf l) (drop 8 l) = cc in
-    let u : t ≡ beq (ltb (lowFirst (paddedTo 8 (fillOf l) l)) (2 ^ 63)) (ltb (lastByte l) 128) = sym h ∙ rw (y, e, s) in
-    rw (z, u, y) (sym (long-is-01 l B))
+pub long_is : (l : List ℕ) → Bytes l → (x v : ℕ) (a t : Bool) → x ≡ fill_of l → a ≡ all_are x (drop 8 l) → v ≡ low_first (padded_to 8 x l) → beq (ltb v (2 ^ 63)) (eqb x 0) ≡ t → cond (a && t) (got v) (refused IntegerTooLarge 0) ≡ long_of l
+unfolding long_by01 rule01 sign_filled
+long_is l B x v a t e f g h =
+    let s = fill_sign l in
+    let y : v ≡ low_first (padded_to 8 (fill_of l) l) = cc in
+    let z : a ≡ all_are (fill_of l) (drop 8 l) = cc in
+    let u : t ≡ beq (ltb (low_first (padded_to 8 (fill_of l) l)) (2 ^ 63)) (ltb (last_byte l) 128) = sym h ∙ rw (y, e, s) in
+    rw (z, u, y) (sym (long_is_01 l B))
 
 -- a line: with a CR before its newline it ends there, else it is whole
 module _ (p : List ℕ) (from at : ℕ) (h : at < length p) where
   part_length : length (take (at - from) (drop from p)) ≡ at - from
   part_length = simp (length-take, length-drop) (omega arith)
 
-  last-is : from < at → lastByte (take (at - from) (drop from p)) ≡ get_or p (at - 1) 0
-  unfolding lastByte
-  last-is l =
+  last_is : from < at → last_byte (take (at - from) (drop from p)) ≡ get_or p (at - 1) 0
+  unfolding last_byte
+  last_is l =
       let e : from + (at - from - 1) ≡ at - 1 = omega arith in
       let k : at - from - 1 < at - from = omega arith in
       rw (part_length, get_or-take (at - from) (drop from p) (at - from - 1) 0 k, get_or-drop from p (at - from - 1) 0, e)
 
-  pub line-cr : from < at → get_or p (at - 1) 0 ≡ 13 → take (at - 1 - from) (drop from p) ≡ line_of p from at
-  unfolding line_of lessCr
-  line-cr l e =
+  pub line_cr : from < at → get_or p (at - 1) 0 ≡ 13 → take (at - 1 - from) (drop from p) ≡ line_of p from at
+  unfolding line_of less_cr
+  line_cr l e =
       let k : at - from - 1 ≤ at - from = omega arith in
       let m : at - 1 - from ≡ at - from - 1 = omega arith in
-      simp (eq-eqb _ 13 (last-is l ∙ e), part_length, m, take-take (at - from - 1) (at - from) (drop from p) k)
+      simp (eq-eqb _ 13 (last_is l ∙ e), part_length, m, take-take (at - from - 1) (at - from) (drop from p) k)
 
   pub line-whole : (from < at → get_or p (at - 1) 0 ≡ 13 → ⊥) → take (at - from) (drop from p) ≡ line_of p from at
-  unfolding line_of lessCr lastByte
-  line-whole f = simp (ne_eqb _ 13 (λ q. ⊎_elim (λ l. f l (sym (last-is l) ∙ q)) (none q) (lt-or-le from at)))
+  unfolding line_of less_cr last_byte
+  line-whole f = simp (ne_eqb _ 13 (λ q. ⊎_elim (λ l. f l (sym (last_is l) ∙ q)) (none q) (lt_or_le from at)))
     where
-      none : lastByte (take (at - from) (drop from p)) ≡ 13 → at ≤ from → ⊥
+      none : last_byte (take (at - from) (drop from p)) ≡ 13 → at ≤ from → ⊥
       none q l =
           let z : at - from ≡ 0 = omega arith in
-          let y : lastByte [] ≡ 13 = rw z at q in
+          let y : last_byte [] ≡ 13 = rw z at q in
           omega arith

@@ -11,34 +11,34 @@ abbrev pub Bytes : List ℕ → Type 0
 Bytes l = (i : ℕ) → get_or l i 0 < 256
 
 -- the sum of b * 256 ^ i over the bytes b, i the place of b counted from 0
-unfoldable pub lowFirst : List ℕ → ℕ
-lowFirst [] = 0
-lowFirst (b ∷ t) = b + 256 * lowFirst t
+unfoldable pub low_first : List ℕ → ℕ
+low_first [] = 0
+low_first (b ∷ t) = b + 256 * low_first t
 
 -- the same with the high byte first
-unfoldable pub highFirst : List ℕ → ℕ
-highFirst l = lowFirst (reverse l)
+unfoldable pub high_first : List ℕ → ℕ
+high_first l = low_first (reverse l)
 
 -- the last byte; 0 where there is none
-unfoldable pub lastByte : List ℕ → ℕ
-lastByte l = get_or l (length l - 1) 0
+unfoldable pub last_byte : List ℕ → ℕ
+last_byte l = get_or l (length l - 1) 0
 
 -- the first w bytes, filled up to w by the byte x
-unfoldable pub paddedTo : ℕ → ℕ → List ℕ → List ℕ
-paddedTo w x l = take w (l ++ replicate (w - length l) x)
+unfoldable pub padded_to : ℕ → ℕ → List ℕ → List ℕ
+padded_to w x l = take w (l ++ replicate (w - length l) x)
 
-example-low : lowFirst (0x34 ∷ 0x12 ∷ []) ≡ 0x1234
-unfolding lowFirst
-example-low = refl
+example_low : low_first (0x34 ∷ 0x12 ∷ []) ≡ 0x1234
+unfolding low_first
+example_low = refl
 
-example-high : highFirst (0x3F ∷ 0xF0 ∷ 0 ∷ 0 ∷ 0 ∷ 0 ∷ 0 ∷ 0 ∷ []) ≡ 0x3FF0_0000_0000_0000
-unfolding lowFirst highFirst
-example-high = refl
+example_high : high_first (0x3F ∷ 0xF0 ∷ 0 ∷ 0 ∷ 0 ∷ 0 ∷ 0 ∷ 0 ∷ []) ≡ 0x3FF0_0000_0000_0000
+unfolding low_first high_first
+example_high = refl
 
 -- ---- laws
 
-pub lt-or-le : (a b : ℕ) → (a < b) ⊎ (b ≤ a)
-lt-or-le a b = go (ltb a b) refl
+pub lt_or_le : (a b : ℕ) → (a < b) ⊎ (b ≤ a)
+lt_or_le a b = go (ltb a b) refl
   where
     go : (t : Bool) → ltb a b ≡ t → (a < b) ⊎ (b ≤ a)
     go true e = inl (ltb-true a b e)
@@ -52,7 +52,7 @@ get_d_any (x ∷ t) (suc i) d e h = get_d_any t i d e (omega arith)
 
 -- inside a part, and past a part's end (where `get_or` says 0), a byte is a byte
 pub bytes_take : (n : ℕ) (l : List ℕ) → Bytes l → Bytes (take n l)
-bytes_take n l B i = ⊎_elim inside past (lt-or-le i n)
+bytes_take n l B i = ⊎_elim inside past (lt_or_le i n)
   where
     inside : i < n → get_or (take n l) i 0 < 256
     inside h = rw (get_or-take n l i 0 h) (B i)
@@ -73,40 +73,40 @@ bytes-replicate zero x h i = omega arith
 bytes-replicate (suc k) x h zero = h
 bytes-replicate (suc k) x h (suc i) = bytes-replicate k x h i
 
-pub low-append : (a b : List ℕ) → lowFirst (a ++ b) ≡ lowFirst a + 256 ^ length a * lowFirst b
-unfolding lowFirst
-low-append [] b = omega arith
-low-append (x ∷ t) b =
+pub low_append : (a b : List ℕ) → low_first (a ++ b) ≡ low_first a + 256 ^ length a * low_first b
+unfolding low_first
+low_append [] b = omega arith
+low_append (x ∷ t) b =
     let P = 256 ^ length t in
-    let e : P * 256 * lowFirst b ≡ P * lowFirst b * 256 = mul_right_comm P 256 (lowFirst b) in
-    rw (low-append t b, pow-suc 256 (length t)) (omega arith)
+    let e : P * 256 * low_first b ≡ P * low_first b * 256 = mul_right_comm P 256 (low_first b) in
+    rw (low_append t b, pow-suc 256 (length t)) (omega arith)
 
-pub low_below : (l : List ℕ) → Bytes l → lowFirst l < 256 ^ length l
-unfolding lowFirst
+pub low_below : (l : List ℕ) → Bytes l → low_first l < 256 ^ length l
+unfolding low_first
 low_below [] h = omega arith
 low_below (x ∷ t) h =
     let v = low_below t (λ i. h (suc i)) in
     let z = h 0 in
     rw (pow-suc 256 (length t)) (omega arith)
 
-pub low_zeros : (k : ℕ) → lowFirst (replicate k 0) ≡ 0
-unfolding lowFirst
+pub low_zeros : (k : ℕ) → low_first (replicate k 0) ≡ 0
+unfolding low_first
 low_zeros zero = refl
 low_zeros (suc k) = rw (low_zeros k)
 
-pub low_ones : (k : ℕ) → lowFirst (replicate k 255) + 1 ≡ 256 ^ k
-unfolding lowFirst
+pub low_ones : (k : ℕ) → low_first (replicate k 255) + 1 ≡ 256 ^ k
+unfolding low_first
 low_ones zero = refl
 low_ones (suc k) = let e = low_ones k in rw (pow-suc 256 k) (omega arith)
 
 module _ (w x : ℕ) (l : List ℕ) where
-  pub filled-length : length (paddedTo w x l) ≡ w
-  unfolding paddedTo
+  pub filled-length : length (padded_to w x l) ≡ w
+  unfolding padded_to
   filled-length = simp (length-take, length-append, length-replicate) (omega arith)
 
-  pub filled_at : (i : ℕ) → i < w → get_or (paddedTo w x l) i 0 ≡ get_or l i x
-  unfolding paddedTo
-  filled_at i h = rw (get_or-take w (l ++ replicate (w - length l) x) i 0 h) (⊎_elim inside past (lt-or-le i (length l)))
+  pub filled_at : (i : ℕ) → i < w → get_or (padded_to w x l) i 0 ≡ get_or l i x
+  unfolding padded_to
+  filled_at i h = rw (get_or-take w (l ++ replicate (w - length l) x) i 0 h) (⊎_elim inside past (lt_or_le i (length l)))
     where
       past : length l ≤ i → get_or (l ++ replicate (w - length l) x) i 0 ≡ get_or l i x
       past k =
@@ -117,6 +117,6 @@ module _ (w x : ℕ) (l : List ℕ) where
       inside : i < length l → get_or (l ++ replicate (w - length l) x) i 0 ≡ get_or l i x
       inside k = get_or-append l (replicate (w - length l) x) 0 i k ∙ get_d_any l i 0 x k
 
-  pub filled-same : length l ≡ w → paddedTo w x l ≡ l
-  unfolding paddedTo
+  pub filled-same : length l ≡ w → padded_to w x l ≡ l
+  unfolding padded_to
   filled-same h = let e : w - length l ≡ 0 = omega arith in rw e (simp append-nil (take_all w l (omega arith)))

@@ -14,15 +14,15 @@ use Rattle.refusal.specs.Read.{Read, got, refused}
 use Rattle.refusal.specs.declared.Refusal.TheVariants.{IntegerTooLarge}
 use Rattle.input.specs.declared.Integer.{Integer}
 use Rattle.input.specs.declared.Integer.TheVariants.{Value, TooLarge}
-use Rattle.input.specs.Bytes.{Bytes, lowFirst, lastByte, lt-or-le, low-append, low_below, bytes_take}
+use Rattle.input.specs.Bytes.{Bytes, low_first, last_byte, lt_or_le, low_append, low_below, bytes_take}
 
 -- PEP 307: the bytes as a whole number, less 256 ^ length where the last byte has its top bit set
 unfoldable pub denotes : List ℕ → ℤ
-denotes l = cond (ltb (lastByte l) 128) (pos (lowFirst l)) (pos (lowFirst l) -ℤ pos (256 ^ length l))
+denotes l = cond (ltb (last_byte l) 128) (pos (low_first l)) (pos (low_first l) -ℤ pos (256 ^ length l))
 
 -- i64: from -2^63 to 2^63 - 1
-unfoldable pub inI64 : ℤ → Bool
-inI64 z = le_z (neg_ℤ (pos (2 ^ 63))) z && lt_z z (pos (2 ^ 63))
+unfoldable pub in_i64 : ℤ → Bool
+in_i64 z = le_z (neg_ℤ (pos (2 ^ 63))) z && lt_z z (pos (2 ^ 63))
 
 -- the 64 bits of an i64
 unfoldable pub bits64 : ℤ → ℕ
@@ -30,56 +30,56 @@ bits64 (pos n) = n
 bits64 (negsuc n) = 2 ^ 64 - suc n
 
 -- an integer within i64 is its 64 bits, any other number 9
-unfoldable pub longOf : List ℕ → Read ℕ
-longOf l = cond (inI64 (denotes l)) (got (bits64 (denotes l))) (refused IntegerTooLarge 0)
+unfoldable pub long_of : List ℕ → Read ℕ
+long_of l = cond (in_i64 (denotes l)) (got (bits64 (denotes l))) (refused IntegerTooLarge 0)
 
 -- what the answer of `long` says
-unfoldable pub integerRead : Integer → Read ℕ
-integerRead (Value bits) = got bits
-integerRead TooLarge = refused IntegerTooLarge 0
+unfoldable pub integer_read : Integer → Read ℕ
+integer_read (Value bits) = got bits
+integer_read TooLarge = refused IntegerTooLarge 0
 
 -- opens the definitions for the examples
 unfoldable pub evaluates : Unit {0}
-unfolding lowFirst lastByte denotes inI64 bits64 longOf
+unfolding low_first last_byte denotes in_i64 bits64 long_of
 evaluates = tt
 
 -- the examples that Python's pickle.decode_long gives of this encoding
-pep-0 : denotes [] ≡ pos 0
+pep_0 : denotes [] ≡ pos 0
 unfolding evaluates
-pep-0 = refl
+pep_0 = refl
 
-pep-255 : denotes (0xFF ∷ 0x00 ∷ []) ≡ pos 255
+pep_255 : denotes (0xFF ∷ 0x00 ∷ []) ≡ pos 255
 unfolding evaluates
-pep-255 = refl
+pep_255 = refl
 
-pep-32767 : denotes (0xFF ∷ 0x7F ∷ []) ≡ pos 32767
+pep_32767 : denotes (0xFF ∷ 0x7F ∷ []) ≡ pos 32767
 unfolding evaluates
-pep-32767 = refl
+pep_32767 = refl
 
-pep-minus-256 : denotes (0x00 ∷ 0xFF ∷ []) ≡ neg_ℤ (pos 256)
+pep_minus_256 : denotes (0x00 ∷ 0xFF ∷ []) ≡ neg_ℤ (pos 256)
 unfolding evaluates
-pep-minus-256 = refl
+pep_minus_256 = refl
 
-pep-minus-32768 : denotes (0x00 ∷ 0x80 ∷ []) ≡ neg_ℤ (pos 32768)
+pep_minus_32768 : denotes (0x00 ∷ 0x80 ∷ []) ≡ neg_ℤ (pos 32768)
 unfolding evaluates
-pep-minus-32768 = refl
+pep_minus_32768 = refl
 
-pep-minus-128 : denotes (0x80 ∷ []) ≡ neg_ℤ (pos 128)
+pep_minus_128 : denotes (0x80 ∷ []) ≡ neg_ℤ (pos 128)
 unfolding evaluates
-pep-minus-128 = refl
+pep_minus_128 = refl
 
-pep-127 : denotes (0x7F ∷ []) ≡ pos 127
+pep_127 : denotes (0x7F ∷ []) ≡ pos 127
 unfolding evaluates
-pep-127 = refl
+pep_127 = refl
 
 -- the bench's 8A 09 00 00 00 00 00 00 00 80 00: 2^63 in nine bytes; the least i64 in nine; and the i32 -1
-bench-large : longOf (0 ∷ 0 ∷ 0 ∷ 0 ∷ 0 ∷ 0 ∷ 0 ∷ 0x80 ∷ 0 ∷ []) ≡ refused IntegerTooLarge 0
+bench_large : long_of (0 ∷ 0 ∷ 0 ∷ 0 ∷ 0 ∷ 0 ∷ 0 ∷ 0x80 ∷ 0 ∷ []) ≡ refused IntegerTooLarge 0
 unfolding evaluates
-bench-large = refl
+bench_large = refl
 
-least-nine : longOf (0 ∷ 0 ∷ 0 ∷ 0 ∷ 0 ∷ 0 ∷ 0 ∷ 0x80 ∷ 0xFF ∷ []) ≡ got (2 ^ 63)
+least_nine : long_of (0 ∷ 0 ∷ 0 ∷ 0 ∷ 0 ∷ 0 ∷ 0 ∷ 0x80 ∷ 0xFF ∷ []) ≡ got (2 ^ 63)
 unfolding evaluates
-least-nine = refl
+least_nine = refl
 
 minus_one : bits64 (denotes (0xFF ∷ 0xFF ∷ 0xFF ∷ 0xFF ∷ [])) ≡ 0xFFFF_FFFF_FFFF_FFFF
 unfolding evaluates
@@ -88,28 +88,28 @@ minus_one = refl
 -- ---- laws
 
 -- the top bit of an i64's bits is its sign
-pub bits-sign : (z : ℤ) → inI64 z ≡ true → ltb (bits64 z) (2 ^ 63) ≡ non_neg z
-unfolding inI64 bits64
-bits-sign (pos n) h = h
-bits-sign (negsuc n) h = let k = leb-true n (2 ^ 63 - 1) (rw and-true at h) in le-ltb (2 ^ 64 - suc n) (2 ^ 63) (omega arith)
+pub bits_sign : (z : ℤ) → in_i64 z ≡ true → ltb (bits64 z) (2 ^ 63) ≡ non_neg z
+unfolding in_i64 bits64
+bits_sign (pos n) h = h
+bits_sign (negsuc n) h = let k = leb-true n (2 ^ 63 - 1) (rw and-true at h) in le-ltb (2 ^ 64 - suc n) (2 ^ 63) (omega arith)
 
 -- a number less a greater one
-pub less-greater : (a b : ℕ) → a < b → pos a -ℤ pos b ≡ negsuc (b - suc a)
-less-greater a zero h = absurd (omega arith)
-less-greater a (suc b) h = simp (lt-ltb a (suc b) h)
+pub less_greater : (a b : ℕ) → a < b → pos a -ℤ pos b ≡ negsuc (b - suc a)
+less_greater a zero h = absurd (omega arith)
+less_greater a (suc b) h = simp (lt-ltb a (suc b) h)
 
 -- the last byte counts most
 module _ (l : List ℕ) (B : Bytes l) (n : ℕ) (h : length l ≡ suc n) where
   front : length (take n l) ≡ n
   front = simp length-take (omega arith)
 
-  top : lowFirst l ≡ lowFirst (take n l) + 256 ^ n * lastByte l
-  unfolding lowFirst lastByte
+  top : low_first l ≡ low_first (take n l) + 256 ^ n * last_byte l
+  unfolding low_first last_byte
   top =
       let k : n < length l = omega arith in
       let m : length l - 1 ≡ n = omega arith in
       let q : l ≡ take n l ++ (get_or l n 0 ∷ []) = sym (take-length l) ∙ ap (λ (k : ℕ). take k l) h ∙ take-suc l n 0 k in
-      ap lowFirst q ∙ low-append (take n l) (get_or l n 0 ∷ []) ∙ rw (front, m) (omega arith)
+      ap low_first q ∙ low_append (take n l) (get_or l n 0 ∷ []) ∙ rw (front, m) (omega arith)
 
   power : n < 8 → 256 ^ n ≤ 256 ^ 7
   power N =
@@ -117,30 +117,30 @@ module _ (l : List ℕ) (B : Bytes l) (n : ℕ) (h : length l ≡ suc n) where
       let k : n ≤ 7 = omega arith in
       pow-le-pow_right z k
 
-  some_in : n < 8 → inI64 (denotes l) ≡ true
-  unfolding inI64 denotes
-  some_in N = ⊎_elim not_negative negative (lt-or-le (lastByte l) 128)
+  some_in : n < 8 → in_i64 (denotes l) ≡ true
+  unfolding in_i64 denotes
+  some_in N = ⊎_elim not_negative negative (lt_or_le (last_byte l) 128)
     where
-      not_negative : lastByte l < 128 → inI64 (denotes l) ≡ true
+      not_negative : last_byte l < 128 → in_i64 (denotes l) ≡ true
       not_negative s =
           let p = power N in
           let t = top in
-          let u : lowFirst (take n l) < 256 ^ n = rw front at (low_below (take n l) (bytes_take n l B)) in
-          let s' : lastByte l ≤ 127 = omega arith in
+          let u : low_first (take n l) < 256 ^ n = rw front at (low_below (take n l) (bytes_take n l B)) in
+          let s' : last_byte l ≤ 127 = omega arith in
           let w = mul-le-mul_left (256 ^ n) s' in
-          simp (lt-ltb (lastByte l) 128 s, lt-ltb (lowFirst l) (2 ^ 63) (omega arith))
+          simp (lt-ltb (last_byte l) 128 s, lt-ltb (low_first l) (2 ^ 63) (omega arith))
 
-      negative : 128 ≤ lastByte l → inI64 (denotes l) ≡ true
+      negative : 128 ≤ last_byte l → in_i64 (denotes l) ≡ true
       negative s =
           let p = power N in
           let t = top in
           let e : 256 ^ length l ≡ 256 ^ n * 256 = ap (λ (m : ℕ). 256 ^ m) h ∙ pow-suc 256 n in
           let w = mul-le-mul_left (256 ^ n) s in
           let v = low_below l B in
-          rw (le-ltb (lastByte l) 128 s, less-greater (lowFirst l) (256 ^ length l) v, le-leb (256 ^ length l - suc (lowFirst l)) (2 ^ 63 - 1) (omega arith))
+          rw (le-ltb (last_byte l) 128 s, less_greater (low_first l) (256 ^ length l) v, le-leb (256 ^ length l - suc (low_first l)) (2 ^ 63 - 1) (omega arith))
 
 -- eight bytes and fewer are never too large
-pub short-in : (l : List ℕ) → Bytes l → length l ≤ 8 → inI64 (denotes l) ≡ true
+pub short_in : (l : List ℕ) → Bytes l → length l ≤ 8 → in_i64 (denotes l) ≡ true
 unfolding evaluates
-short-in [] B h = refl
-short-in (x ∷ t) B h = some_in (x ∷ t) B (length t) refl (omega arith)
+short_in [] B h = refl
+short_in (x ∷ t) B h = some_in (x ∷ t) B (length t) refl (omega arith)

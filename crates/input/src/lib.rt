@@ -1,9 +1,9 @@
 // The reading methods of de.rs's `Decoder`, over the pickle's slice and a place in it: `array` at each fixed width, `line`, `long`.
 ghost use Rattle.std.specs.Prelude.{◌≡◌, ◌≤◌, ◌<◌, ◌+◌, ◌^◌, length, get_or, take, drop};
-ghost use Rattle.input.specs.Bytes.{lowFirst, highFirst, paddedTo};
-ghost use Rattle.input.specs.Line.{lineEnd, newlineOf, line_of};
-ghost use Rattle.input.specs.Long.{integerRead, longOf, denotes, bits64};
-ghost use Rattle.input.specs.Rule01.{fillOf, allAre};
+ghost use Rattle.input.specs.Bytes.{low_first, high_first, padded_to};
+ghost use Rattle.input.specs.Line.{line_end, newline_of, line_of};
+ghost use Rattle.input.specs.Long.{integer_read, long_of, denotes, bits64};
+ghost use Rattle.input.specs.Rule01.{fill_of, all_are};
 
 #[derive(Drop)]
 pub enum LineEnd {
@@ -27,7 +27,7 @@ fn byte_or(bytes: &[u8], i: usize, fill: u8) -> u8
 // The number of the first `width` bytes, low byte first, with `fill` for those that are missing.
 fn low_first(bytes: &[u8], width: usize, fill: u8) -> u64
     requires { width ≤ 8 }
-    ensures { (result ≡ lowFirst (paddedTo width fill bytes.now)) × (result < 256 ^ width) }
+    ensures { (result ≡ low_first (padded_to width fill bytes.now)) × (result < 256 ^ width) }
 {
     let mut value: u64 = 0;
     let mut i = width;
@@ -41,7 +41,7 @@ fn low_first(bytes: &[u8], width: usize, fill: u8) -> u64
 // The number of the `width` bytes at `at`, low byte first.
 pub fn low_at(pickle: &[u8], at: usize, width: usize) -> u64
     requires { (at + width ≤ length pickle.now) × (width ≤ 8) }
-    ensures { (result ≡ lowFirst (take width (drop at pickle.now))) × (result < 256 ^ width) }
+    ensures { (result ≡ low_first (take width (drop at pickle.now))) × (result < 256 ^ width) }
 {
     let end = at + width;
     low_first(&pickle[at..end], width, 0)
@@ -50,7 +50,7 @@ pub fn low_at(pickle: &[u8], at: usize, width: usize) -> u64
 // The same with the high byte first.
 fn high_at(pickle: &[u8], at: usize, width: usize) -> u64
     requires { (at + width ≤ length pickle.now) × (width ≤ 8) }
-    ensures { (result ≡ highFirst (take width (drop at pickle.now))) × (result < 256 ^ width) }
+    ensures { (result ≡ high_first (take width (drop at pickle.now))) × (result < 256 ^ width) }
 {
     let mut value: u64 = 0;
     let mut i = 0;
@@ -63,21 +63,21 @@ fn high_at(pickle: &[u8], at: usize, width: usize) -> u64
 
 pub fn u16_at(pickle: &[u8], at: usize) -> u16
     requires { at + 2 ≤ length pickle.now }
-    ensures { result ≡ lowFirst (take 2 (drop at pickle.now)) }
+    ensures { result ≡ low_first (take 2 (drop at pickle.now)) }
 {
     low_at(pickle, at, 2) as u16
 }
 
 pub fn u32_at(pickle: &[u8], at: usize) -> u32
     requires { at + 4 ≤ length pickle.now }
-    ensures { result ≡ lowFirst (take 4 (drop at pickle.now)) }
+    ensures { result ≡ low_first (take 4 (drop at pickle.now)) }
 {
     low_at(pickle, at, 4) as u32
 }
 
 // The byte that repeats the sign of the last one.
 fn fill_of(bytes: &[u8]) -> u8
-    ensures { result ≡ fillOf bytes.now }
+    ensures { result ≡ fill_of bytes.now }
 {
     let len = bytes.len();
     if len == 0 {
@@ -99,14 +99,14 @@ pub fn i32_at(pickle: &[u8], at: usize) -> u64
 // As its 64 bits.
 pub fn f64_at(pickle: &[u8], at: usize) -> u64
     requires { at + 8 ≤ length pickle.now }
-    ensures { result ≡ highFirst (take 8 (drop at pickle.now)) }
+    ensures { result ≡ high_first (take 8 (drop at pickle.now)) }
 {
     high_at(pickle, at, 8)
 }
 
 // The place of the first newline at or after `from`, or the end of the input.
 pub fn newline(pickle: &[u8], from: usize) -> LineEnd
-    ensures { lineEnd result ≡ newlineOf pickle.now from }
+    ensures { line_end result ≡ newline_of pickle.now from }
 {
     let mut i = from;
     let at = loop {
@@ -139,7 +139,7 @@ pub fn line(pickle: &[u8], from: usize, at: usize) -> &[u8]
 
 // Whether every byte from `from` on is `fill`.
 fn repeats(bytes: &[u8], from: usize, fill: u8) -> bool
-    ensures { result ≡ allAre fill (drop from bytes.now) }
+    ensures { result ≡ all_are fill (drop from bytes.now) }
 {
     let mut i = from;
     while i < bytes.len() {
@@ -153,7 +153,7 @@ fn repeats(bytes: &[u8], from: usize, fill: u8) -> bool
 
 // A two's complement integer, low byte first, of any length.
 pub fn long(bytes: &[u8]) -> Integer
-    ensures { integerRead result ≡ longOf bytes.now }
+    ensures { integer_read result ≡ long_of bytes.now }
 {
     let fill = fill_of(bytes);
     if !repeats(bytes, 8, fill) {

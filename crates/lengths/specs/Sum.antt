@@ -7,17 +7,17 @@ use Rattle.std.proofs.Math.Dec.{eqb}
 use Rattle.std.proofs.lemmas.Bool.{eqb-false}
 
 -- number and detail of BadLengths (RULES, Ask 1.2)
-abbrev pub badLengths : ℕ × ℕ
-badLengths = (23, 0)
+abbrev pub bad_lengths : ℕ × ℕ
+bad_lengths = (23, 0)
 
 unfoldable pub sum : List ℕ → ℕ
 sum [] = 0
 sum (n ∷ ns) = n + sum ns
 
 -- 2^64 - 1 and 3 do not come to 2
-no-wrapping : eqb 2 (sum (18446744073709551615 ∷ 3 ∷ [])) ≡ false
+no_wrapping : eqb 2 (sum (18446744073709551615 ∷ 3 ∷ [])) ≡ false
 unfolding sum
-no-wrapping = refl
+no_wrapping = refl
 
 -- a length and those behind it
 pub sum_drop : (ns : List ℕ) (i : ℕ) → i < length ns → sum (drop i ns) ≡ get_or ns i 0 + sum (drop (i + 1) ns)
@@ -31,11 +31,11 @@ abbrev pub Adding : List ℕ → ℕ → ℕ → ℕ → Type 0
 Adding ns total left i = eqb left (sum (drop i ns)) ≡ eqb total (sum ns)
 
 module _ (ns : List ℕ) (total left i : ℕ) (a : Adding ns total left i) where
-  pub adding-over : i < length ns → left < get_or ns i 0 → false ≡ eqb total (sum ns)
-  adding-over h k = let e = sum_drop ns i h in sym (ne_eqb left (sum (drop i ns)) (λ q. omega arith)) ∙ a
+  pub adding_over : i < length ns → left < get_or ns i 0 → false ≡ eqb total (sum ns)
+  adding_over h k = let e = sum_drop ns i h in sym (ne_eqb left (sum (drop i ns)) (λ q. omega arith)) ∙ a
 
-  pub adding-more : i < length ns → get_or ns i 0 ≤ left → Adding ns total (left - get_or ns i 0) (i + 1)
-  adding-more h k = same (get_or ns i 0) (sum (drop (i + 1) ns)) (sum (drop i ns)) (sum_drop ns i h) k ∙ a
+  pub adding_more : i < length ns → get_or ns i 0 ≤ left → Adding ns total (left - get_or ns i 0) (i + 1)
+  adding_more h k = same (get_or ns i 0) (sum (drop (i + 1) ns)) (sum (drop i ns)) (sum_drop ns i h) k ∙ a
     where
       same : (n m r : ℕ) → r ≡ n + m → n ≤ left → eqb (left - n) m ≡ eqb left r
       same n m r e q = go (eqb (left - n) m) refl
@@ -44,6 +44,6 @@ module _ (ns : List ℕ) (total left i : ℕ) (a : Adding ns total left i) where
           go true t = let x = eqb-true (left - n) m t in sym (eq-eqb left r (omega arith))
           go false t = let x = eqb-false (left - n) m t in sym (ne_eqb left r (λ y. x (omega arith)))
 
-  pub adding-end : length ns ≤ i → eqb left 0 ≡ eqb total (sum ns)
+  pub adding_end : length ns ≤ i → eqb left 0 ≡ eqb total (sum ns)
   unfolding sum
-  adding-end h = ap (λ (r : List ℕ). eqb left (sum r)) (sym (drop_of_length-le ns h)) ∙ a
+  adding_end h = ap (λ (r : List ℕ). eqb left (sum r)) (sym (drop_of_length-le ns h)) ∙ a

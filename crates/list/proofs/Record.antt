@@ -8,16 +8,16 @@ use native.Mathlib.Omega.{arith}
 use lib.Dec.{eqb, lit≤}
 use lib.ListN.{length, length-append, get_or, take, drop}
 use lib.Seq.{drop-drop}
-use Rattle.utf8.specs.Encode.{by-lt}
+use Rattle.utf8.specs.Encode.{by_lt}
 use Rattle.value.specs.declared.Head.{Head}
 use Rattle.value.specs.Value.{bit, half}
-use Rattle.value.specs.Shape.{kindIn, newIn, stateIn, head_of, label_of, arityOf, namesEnd}
-use Rattle.value.specs.Stands.{word_at, label_at, arityAt, Reads}
+use Rattle.value.specs.Shape.{kind_in, fresh_in, state_in, head_of, label_of, arity_of, names_end}
+use Rattle.value.specs.Stands.{word_at, label_at, arity_at, Reads}
 use Rattle.value.specs.Left.{kind_at}
-use Rattle.value.specs.Labels.{text-inside, names-inside}
-use Rattle.output.specs.Decimal.{decimalText, signedText, figures}
-use Rattle.list.specs.Listing.{listedText, names, kindName, flag, listedNames, names_at, contentOf, recordLine, tabByte}
-use Rattle.output.specs.Put.{newlineByte, Room, room-first}
+use Rattle.value.specs.Labels.{text_inside, names_inside}
+use Rattle.output.specs.Decimal.{decimal_text, signed_text, figures}
+use Rattle.list.specs.Listing.{listed_text, names, kind_name, flag, listed_names, names_at, content_of, record_line, tab_byte}
+use Rattle.output.specs.Put.{newline_byte, Room, room_first}
 
 -- a fact of each number below a bound
 abbrev Below : (ℕ → Type 0) → ℕ → Type 0
@@ -26,7 +26,7 @@ Below P (suc n) = Below P n × P n
 
 below : (P : ℕ → Type 0) (n : ℕ) → Below P n → (k : ℕ) → k < n → P k
 below P zero b k h = absurd (omega arith)
-below P (suc n) b k h = by-lt k n (below P n b.0 k) (λ l. let e : n ≡ k = omega arith in subst P e b.1)
+below P (suc n) b k h = by_lt k n (below P n b.0 k) (λ l. let e : n ≡ k = omega arith in subst P e b.1)
 
 pub beyond : {n k : ℕ} → n ≤ k → (k ≡ n → ⊥) → n < k
 beyond h x = omega arith
@@ -35,9 +35,9 @@ half-double : (b : ℕ) → half (b + b) ≡ b
 half-double zero = refl
 half-double (suc b) = let e : suc b + suc b ≡ suc (suc (b + b)) = omega arith in rw e (ap suc (half-double b))
 
-half-state : (s : Bool) → half (suc (bit s)) ≡ bit s
-half-state true = refl
-half-state false = refl
+half_state : (s : Bool) → half (suc (bit s)) ≡ bit s
+half_state true = refl
+half_state false = refl
 
 -- ---- a record's content, by its kind
 
@@ -48,102 +48,102 @@ pub record Opened (w t : List ℕ) (i : ℕ) (h : Head) : Type 0 where
 
 module _ {w t : List ℕ} {i : ℕ} {h : Head} (x : Opened w t i h) where
   abbrev content : List ℕ
-  content = contentOf (label_at w t i) (arityAt w i)
+  content = content_of (label_at w t i) (arity_at w i)
 
-  kind₀ : kindIn (word_at w i 0) ≡ h.kind
+  kind₀ : kind_in (word_at w i 0) ≡ h.kind
   kind₀ = rw (add-zero, x.head)
 
   pub known : h.kind < 13
   known = rw kind₀ at x.reads.known
 
-  pub text-fits : 3 < h.kind → h.kind < 6 → word_at w i 1 + word_at w i 2 ≤ length t
-  text-fits = text-inside w t i h.kind x.reads (ap (λ (y : Head). y.kind) x.head)
+  pub text_fits : 3 < h.kind → h.kind < 6 → word_at w i 1 + word_at w i 2 ≤ length t
+  text_fits = text_inside w t i h.kind x.reads (ap (λ (y : Head). y.kind) x.head)
 
-  pub names-fit : 10 < h.kind → namesEnd (word_at w i 1) (word_at w i 2) ≤ length t
-  names-fit = names-inside w t i h.kind x.reads (ap (λ (y : Head). y.kind) x.head)
+  pub names_fit : 10 < h.kind → names_end (word_at w i 1) (word_at w i 2) ≤ length t
+  names_fit = names_inside w t i h.kind x.reads (ap (λ (y : Head). y.kind) x.head)
 
   pub content-none : h.kind ≡ 0 → content ≡ 0x2D ∷ []
-  unfolding contentOf label_at label_of
+  unfolding content_of label_at label_of
   content-none e = rw (kind₀, e)
 
-  pub content-bool : h.kind ≡ 1 → content ≡ flag (eqb (word_at w i 1) 1) ∷ []
-  unfolding contentOf label_at label_of
-  content-bool e = rw (kind₀, e)
+  pub content_bool : h.kind ≡ 1 → content ≡ flag (eqb (word_at w i 1) 1) ∷ []
+  unfolding content_of label_at label_of
+  content_bool e = rw (kind₀, e)
 
-  pub content-int : h.kind ≡ 2 → content ≡ signedText (word_at w i 1)
-  unfolding contentOf label_at label_of
-  content-int e = rw (kind₀, e)
+  pub content_int : h.kind ≡ 2 → content ≡ signed_text (word_at w i 1)
+  unfolding content_of label_at label_of
+  content_int e = rw (kind₀, e)
 
   pub content-float : h.kind ≡ 3 → content ≡ figures 16 16 (word_at w i 1)
-  unfolding contentOf label_at label_of
+  unfolding content_of label_at label_of
   content-float e = rw (kind₀, e)
 
-  pub content-text : 3 < h.kind → h.kind < 6 → content ≡ listedText (take (word_at w i 2) (drop (word_at w i 1) t))
-  unfolding contentOf label_at label_of
+  pub content-text : 3 < h.kind → h.kind < 6 → content ≡ listed_text (take (word_at w i 2) (drop (word_at w i 1) t))
+  unfolding content_of label_at label_of
   content-text g l =
-      below (λ k. h.kind ≡ 4 + k → content ≡ listedText (take (word_at w i 2) (drop (word_at w i 1) t))) 2
+      below (λ k. h.kind ≡ 4 + k → content ≡ listed_text (take (word_at w i 2) (drop (word_at w i 1) t))) 2
       ((tt, λ e. rw (kind₀, e)), λ e. rw (kind₀, e)) (h.kind - 4) (omega arith) (omega arith)
 
-  pub content-count : 5 < h.kind → h.kind < 11 → content ≡ decimalText (word_at w i 1)
-  unfolding contentOf label_at label_of arityAt arityOf
+  pub content-count : 5 < h.kind → h.kind < 11 → content ≡ decimal_text (word_at w i 1)
+  unfolding content_of label_at label_of arity_at arity_of
   content-count g l =
-      below (λ k. h.kind ≡ 6 + k → content ≡ decimalText (word_at w i 1)) 5
-      (((((tt, λ e. rw (kind₀, e)), λ e. rw (kind₀, e)), λ e. rw (kind₀, e)), λ e. rw (kind₀, e)), λ e. rw (kind₀, e) (ap decimalText (half-double (word_at w i 1))))
+      below (λ k. h.kind ≡ 6 + k → content ≡ decimal_text (word_at w i 1)) 5
+      (((((tt, λ e. rw (kind₀, e)), λ e. rw (kind₀, e)), λ e. rw (kind₀, e)), λ e. rw (kind₀, e)), λ e. rw (kind₀, e) (ap decimal_text (half-double (word_at w i 1))))
       (h.kind - 6) (omega arith) (omega arith)
 
   pub content-global : h.kind ≡ 11 → content ≡ names_at t (word_at w i 1) (word_at w i 2)
-  unfolding contentOf label_at label_of names_at
+  unfolding content_of label_at label_of names_at
   content-global e = rw (kind₀, e)
 
-  pub content-object : 11 < h.kind → content ≡ names_at t (word_at w i 1) (word_at w i 2) ++ (tabByte ∷ flag h.new ∷ tabByte ∷ flag h.state ∷ [])
-  unfolding contentOf label_at label_of arityAt arityOf names_at flag
+  pub content-object : 11 < h.kind → content ≡ names_at t (word_at w i 1) (word_at w i 2) ++ (tab_byte ∷ flag h.new ∷ tab_byte ∷ flag h.state ∷ [])
+  unfolding content_of label_at label_of arity_at arity_of names_at flag
   content-object g =
       let e : h.kind ≡ 12 = omega (arith, known) in
-      let n : newIn (word_at w i 0) ≡ h.new = rw (add-zero, x.head) in
-      let s : stateIn (word_at w i 0) ≡ h.state = rw (add-zero, x.head) in
-      rw (kind₀, e, n, s, half-state h.state)
+      let n : fresh_in (word_at w i 0) ≡ h.new = rw (add-zero, x.head) in
+      let s : state_in (word_at w i 0) ≡ h.state = rw (add-zero, x.head) in
+      rw (kind₀, e, n, s, half_state h.state)
 
   -- None and Bool have one byte
-  pub content-one : h.kind < 2 → 1 ≡ length content
-  content-one g =
-      by-lt h.kind 1 (λ l. sym (ap length (content-none (omega arith)))) (λ l. sym (ap length (content-bool (omega arith))))
+  pub content_one : h.kind < 2 → 1 ≡ length content
+  content_one g =
+      by_lt h.kind 1 (λ l. sym (ap length (content-none (omega arith)))) (λ l. sym (ap length (content_bool (omega arith))))
 
   pub content-flags : 11 < h.kind → length content ≡ length (names_at t (word_at w i 1) (word_at w i 2)) + 4
   content-flags g = ap length (content-object g) ∙ length-append (names_at t (word_at w i 1) (word_at w i 2)) _
 
   -- a module and a name take no more
-  pub names-few : 10 < h.kind → length (names_at t (word_at w i 1) (word_at w i 2)) ≤ length content
-  names-few g =
-      by-lt h.kind 12 (λ l. omega (arith, ap length (content-global (omega arith)))) (λ l. omega (arith, content-flags l))
+  pub names_few : 10 < h.kind → length (names_at t (word_at w i 1) (word_at w i 2)) ≤ length content
+  names_few g =
+      by_lt h.kind 12 (λ l. omega (arith, ap length (content-global (omega arith)))) (λ l. omega (arith, content-flags l))
 
   -- a module and a name stand first in both
-  pub names-room : {o : List ℕ} {at : ℕ} → 10 < h.kind → Room o at content → Room o at (names_at t (word_at w i 1) (word_at w i 2))
-  names-room g m =
-      by-lt h.kind 12 (λ l. rw (content-global (omega arith)) at m)
-      (λ l. room-first _ (rw (content-object l) at m))
+  pub names_room : {o : List ℕ} {at : ℕ} → 10 < h.kind → Room o at content → Room o at (names_at t (word_at w i 1) (word_at w i 2))
+  names_room g m =
+      by_lt h.kind 12 (λ l. rw (content-global (omega arith)) at m)
+      (λ l. room_first _ (rw (content-object l) at m))
 
   -- its line
-  pub line-parts : (d : ℕ) → recordLine d (label_at w t i) (arityAt w i) ≡ decimalText d ++ ((tabByte ∷ []) ++ (kindName h.kind ++ ((tabByte ∷ []) ++ (content ++ (newlineByte ∷ [])))))
-  unfolding recordLine
-  line-parts d = rw (kind_at w t i x.reads, kind₀)
+  pub line_parts : (d : ℕ) → record_line d (label_at w t i) (arity_at w i) ≡ decimal_text d ++ ((tab_byte ∷ []) ++ (kind_name h.kind ++ ((tab_byte ∷ []) ++ (content ++ (newline_byte ∷ [])))))
+  unfolding record_line
+  line_parts d = rw (kind_at w t i x.reads, kind₀)
 
-  pub line-length : (d : ℕ) → length (recordLine d (label_at w t i) (arityAt w i)) ≡ length (decimalText d) + length (kindName h.kind) + length content + 3
+  pub line-length : (d : ℕ) → length (record_line d (label_at w t i) (arity_at w i)) ≡ length (decimal_text d) + length (kind_name h.kind) + length content + 3
   line-length d =
-      ap length (line-parts d) ∙ length-append (decimalText d) _
-      ∙ omega (arith, length-append (kindName h.kind) ((tabByte ∷ []) ++ (content ++ (newlineByte ∷ []))), length-append content (newlineByte ∷ []))
+      ap length (line_parts d) ∙ length-append (decimal_text d) _
+      ∙ omega (arith, length-append (kind_name h.kind) ((tab_byte ∷ []) ++ (content ++ (newline_byte ∷ []))), length-append content (newline_byte ∷ []))
 
 -- a module and a name, one behind the other
-pub names-parts : (t : List ℕ) (b c : ℕ) → names_at t b c ≡ listedText (take (c / 2 ^ 32) (drop b t)) ++ ((tabByte ∷ []) ++ listedText (take (c % 2 ^ 32) (drop (b + c / 2 ^ 32) t)))
-unfolding names_at listedNames
-names-parts t b c = rw drop-drop
+pub names_parts : (t : List ℕ) (b c : ℕ) → names_at t b c ≡ listed_text (take (c / 2 ^ 32) (drop b t)) ++ ((tab_byte ∷ []) ++ listed_text (take (c % 2 ^ 32) (drop (b + c / 2 ^ 32) t)))
+unfolding names_at listed_names
+names_parts t b c = rw drop-drop
 
-pub names-length : (t : List ℕ) (b c : ℕ) → length (names_at t b c) ≡ length (listedText (take (c / 2 ^ 32) (drop b t))) + 1 + length (listedText (take (c % 2 ^ 32) (drop (b + c / 2 ^ 32) t)))
-names-length t b c = ap length (names-parts t b c) ∙ length-append (listedText (take (c / 2 ^ 32) (drop b t))) _ ∙ omega arith
+pub names-length : (t : List ℕ) (b c : ℕ) → length (names_at t b c) ≡ length (listed_text (take (c / 2 ^ 32) (drop b t))) + 1 + length (listed_text (take (c % 2 ^ 32) (drop (b + c / 2 ^ 32) t)))
+names-length t b c = ap length (names_parts t b c) ∙ length-append (listed_text (take (c / 2 ^ 32) (drop b t))) _ ∙ omega arith
 
 -- ---- the names side by side, and where each begins
 
-abbrev pub nameBytes : List ℕ
-nameBytes = 0x6E ∷ 0x6F ∷ 0x6E ∷ 0x65 ∷ 0x62 ∷ 0x6F ∷ 0x6F ∷ 0x6C ∷ 0x69 ∷ 0x6E ∷ 0x74 ∷ 0x66 ∷ 0x6C ∷ 0x6F ∷ 0x61 ∷ 0x74 ∷ 0x62 ∷ 0x79 ∷ 0x74 ∷ 0x65 ∷ 0x73 ∷ 0x73 ∷ 0x74 ∷ 0x72 ∷ 0x69 ∷ 0x6E ∷ 0x67 ∷ 0x6C ∷ 0x69 ∷ 0x73 ∷ 0x74 ∷ 0x74 ∷ 0x75 ∷ 0x70 ∷ 0x6C ∷ 0x65 ∷ 0x73 ∷ 0x65 ∷ 0x74 ∷ 0x66 ∷ 0x72 ∷ 0x6F ∷ 0x7A ∷ 0x65 ∷ 0x6E ∷ 0x73 ∷ 0x65 ∷ 0x74 ∷ 0x64 ∷ 0x69 ∷ 0x63 ∷ 0x74 ∷ 0x67 ∷ 0x6C ∷ 0x6F ∷ 0x62 ∷ 0x61 ∷ 0x6C ∷ 0x6F ∷ 0x62 ∷ 0x6A ∷ 0x65 ∷ 0x63 ∷ 0x74 ∷ []
+abbrev pub name_bytes : List ℕ
+name_bytes = 0x6E ∷ 0x6F ∷ 0x6E ∷ 0x65 ∷ 0x62 ∷ 0x6F ∷ 0x6F ∷ 0x6C ∷ 0x69 ∷ 0x6E ∷ 0x74 ∷ 0x66 ∷ 0x6C ∷ 0x6F ∷ 0x61 ∷ 0x74 ∷ 0x62 ∷ 0x79 ∷ 0x74 ∷ 0x65 ∷ 0x73 ∷ 0x73 ∷ 0x74 ∷ 0x72 ∷ 0x69 ∷ 0x6E ∷ 0x67 ∷ 0x6C ∷ 0x69 ∷ 0x73 ∷ 0x74 ∷ 0x74 ∷ 0x75 ∷ 0x70 ∷ 0x6C ∷ 0x65 ∷ 0x73 ∷ 0x65 ∷ 0x74 ∷ 0x66 ∷ 0x72 ∷ 0x6F ∷ 0x7A ∷ 0x65 ∷ 0x6E ∷ 0x73 ∷ 0x65 ∷ 0x74 ∷ 0x64 ∷ 0x69 ∷ 0x63 ∷ 0x74 ∷ 0x67 ∷ 0x6C ∷ 0x6F ∷ 0x62 ∷ 0x61 ∷ 0x6C ∷ 0x6F ∷ 0x62 ∷ 0x6A ∷ 0x65 ∷ 0x63 ∷ 0x74 ∷ []
 
 abbrev pub starts : List ℕ
 starts = 0 ∷ 4 ∷ 8 ∷ 11 ∷ 16 ∷ 21 ∷ 27 ∷ 31 ∷ 36 ∷ 39 ∷ 48 ∷ 52 ∷ 58 ∷ 64 ∷ []
@@ -152,13 +152,13 @@ abbrev pub Named : ℕ → Type 0
 Named k =
     let from = get_or starts k 0 in
     let end = get_or starts (k + 1) 0 in
-    (from ≤ end) × (from + (end - from) ≤ 64) × (take (end - from) (drop from nameBytes) ≡ kindName k) × (end - from ≡ length (kindName k))
+    (from ≤ end) × (from + (end - from) ≤ 64) × (take (end - from) (drop from name_bytes) ≡ kind_name k) × (end - from ≡ length (kind_name k))
 
 pub named : (k : ℕ) → k < 13 → Named k
-unfolding names kindName
+unfolding names kind_name
 named =
     below Named 13 (((((((((((((tt, (lit≤ tt, lit≤ tt, refl, refl)), (lit≤ tt, lit≤ tt, refl, refl)), (lit≤ tt, lit≤ tt, refl, refl)), (lit≤ tt, lit≤ tt, refl, refl)), (lit≤ tt, lit≤ tt, refl, refl)), (lit≤ tt, lit≤ tt, refl, refl)), (lit≤ tt, lit≤ tt, refl, refl)), (lit≤ tt, lit≤ tt, refl, refl)), (lit≤ tt, lit≤ tt, refl, refl)), (lit≤ tt, lit≤ tt, refl, refl)), (lit≤ tt, lit≤ tt, refl, refl)), (lit≤ tt, lit≤ tt, refl, refl)), (lit≤ tt, lit≤ tt, refl, refl))
 
 -- the bytes of a name's length from where it begins on
-pub name-part : (k : ℕ) → k < 13 → (n : ℕ) (s : List ℕ) → n ≡ length (kindName k) → s ≡ take n (drop (get_or starts k 0) nameBytes) → s ≡ kindName k
-name-part k h n s e q = let m = named k h in q ∙ rw (e, ← m.3) m.2
+pub name_part_lem : (k : ℕ) → k < 13 → (n : ℕ) (s : List ℕ) → n ≡ length (kind_name k) → s ≡ take n (drop (get_or starts k 0) name_bytes) → s ≡ kind_name k
+name_part_lem k h n s e q = let m = named k h in q ∙ rw (e, ← m.3) m.2

@@ -7,9 +7,9 @@ use native.Mathlib.Omega.{arith}
 use lib.ListN.{length}
 use lib.Seq.{sets}
 use Rattle.value.specs.Value.{Label, Forest, count, size, count-size, depth, nil, node}
-use Rattle.value.specs.Stands.{label_at, arityAt, Reads, Says, Stands, stands_one}
-use Rattle.output.specs.Put.{Put, Room, StillToPut, left-all, left-more, left-none, left-room, room-first, put-kept}
-use Rattle.list.specs.Listing.{recordLine, listing}
+use Rattle.value.specs.Stands.{label_at, arity_at, Reads, Says, Stands, stands_one}
+use Rattle.output.specs.Put.{Put, Room, StillToPut, left_all, left_more, left_none, left_room, room_first, put_kept}
+use Rattle.list.specs.Listing.{record_line, listing}
 use Rattle.list.specs.Walk.{ReadyToList, ListingPut, PutsListing, Countable, CountsListing}
 
 -- of the n values from record `from` on, `left` stand from record i on; the listing of those is left
@@ -37,7 +37,7 @@ pub record Turn (w t : List ℕ) (from n d : ℕ) (o₀ : List ℕ) (at : ℕ) (
   pub deeper : d + suc (depth c) ≤ 64
   pub shallow : d + depth r ≤ 64
   pub ends : i + 1 + size c + size r ≡ from + size whole.values
-  pub todo : StillToPut o₀ at (listing d whole.values) o next (recordLine d l (count c) ++ (listing (suc d) c ++ listing d r))
+  pub todo : StillToPut o₀ at (listing d whole.values) o next (record_line d l (count c) ++ (listing (suc d) c ++ listing d r))
 
 none_of : (f : Forest) → count f ≡ 0 → f ≡ nil
 unfolding count
@@ -55,15 +55,15 @@ module _ {w t : List ℕ} {from n d : ℕ} {o₀ : List ℕ} {at : ℕ} where
         few = y.few;
         shallow = y.shallow;
         ends = refl;
-        todo = left-all;
+        todo = left_all;
       }
 
   module _ {o : List ℕ} {i left next : ℕ} where
-    turn-of : (whole : ReadyToList w t from n d o₀ at) (rest : Forest) → Stands w t i rest → count rest ≡ left → size rest ≤ length w → d + depth rest ≤ 64 → i + size rest ≡ from + size whole.values
+    turn_of : (whole : ReadyToList w t from n d o₀ at) (rest : Forest) → Stands w t i rest → count rest ≡ left → size rest ≤ length w → d + depth rest ≤ 64 → i + size rest ≡ from + size whole.values
         → StillToPut o₀ at (listing d whole.values) o next (listing d rest) → 0 < left → Turn w t from n d o₀ at o i left next
     unfolding Stands count size depth listing
-    turn-of whole nil stands counted few shallow ends todo h = absurd (omega arith)
-    turn-of whole (node l c r) stands counted few shallow ends todo h =
+    turn_of whole nil stands counted few shallow ends todo h = absurd (omega arith)
+    turn_of whole (node l c r) stands counted few shallow ends todo h =
         record {
           whole = whole;
           c = c;
@@ -81,7 +81,7 @@ module _ {w t : List ℕ} {from n d : ℕ} {o₀ : List ℕ} {at : ℕ} where
         }
 
     pub turn : Going w t from n d o₀ at o i left next → 0 < left → Turn w t from n d o₀ at o i left next
-    turn g h = turn-of g.whole g.rest g.stands g.counted g.few g.shallow g.ends g.todo h
+    turn g h = turn_of g.whole g.rest g.stands g.counted g.few g.shallow g.ends g.todo h
 
     -- after the last one
     pub going-none : Going w t from n d o₀ at o i left next → left ≤ 0 → PutsListing w t from n d o₀ at o i next
@@ -92,26 +92,26 @@ module _ {w t : List ℕ} {from n d : ℕ} {o₀ : List ℕ} {at : ℕ} where
         let z : g.rest ≡ nil = none_of g.rest (omega (arith, g.counted)) in
         let ends : i + size nil ≡ from + size v = rw z at g.ends in
         let todo : StillToPut o₀ at (listing d v) o next [] = rw z at g.todo in
-        rw k (record { passed = omega arith; put = left-none todo })
+        rw k (record { passed = omega arith; put = left_none todo })
 
     module _ (u : Turn w t from n d o₀ at o i left next) where
-      line-room : Room o next (recordLine d (label_at w t i) (arityAt w i))
-      line-room = rw (u.says.label, u.says.arity) (room-first _ (left-room u.whole.room u.todo))
+      line_room : Room o next (record_line d (label_at w t i) (arity_at w i))
+      line_room = rw (u.says.label, u.says.arity) (room_first _ (left_room u.whole.room u.todo))
 
-      pub turn-counted : {m : ℕ} → m ≡ arityAt w i → count u.c ≡ m
-      turn-counted many = sym (many ∙ u.says.arity)
+      pub turn_counted : {m : ℕ} → m ≡ arity_at w i → count u.c ≡ m
+      turn_counted many = sym (many ∙ u.says.arity)
 
       -- its line
-      pub turn-line : Reads w t i × Room o next (recordLine d (label_at w t i) (arityAt w i))
-      turn-line = (u.says.reads, line-room)
+      pub turn_line : Reads w t i × Room o next (record_line d (label_at w t i) (arity_at w i))
+      turn_line = (u.says.reads, line_room)
 
       -- how many values stand directly in it
-      pub turn-arity : (4 * i + 4 ≤ length w) × (arityAt w i ≤ length w)
-      turn-arity = (u.says.reads.inside, omega (arith, u.says.arity, u.few, count-size u.c))
+      pub turn_arity : (4 * i + 4 ≤ length w) × (arity_at w i ≤ length w)
+      turn_arity = (u.says.reads.inside, omega (arith, u.says.arity, u.few, count-size u.c))
 
-      module _ {o₁ : List ℕ} {p m : ℕ} (lined : Put o next (recordLine d (label_at w t i) (arityAt w i)) o₁ p) (many : m ≡ arityAt w i) where
+      module _ {o₁ : List ℕ} {p m : ℕ} (lined : Put o next (record_line d (label_at w t i) (arity_at w i)) o₁ p) (many : m ≡ arity_at w i) where
         after_line : StillToPut o₀ at (listing d u.whole.values) o₁ p (listing (suc d) u.c ++ listing d u.r)
-        after_line = left-more _ u.todo (rw (u.says.label, u.says.arity) at lined)
+        after_line = left_more _ u.todo (rw (u.says.label, u.says.arity) at lined)
 
         -- its contents
         pub turn_inside : ReadyToList w t (i + 1) m (d + 1) o₁ p
@@ -122,12 +122,12 @@ module _ {w t : List ℕ} {from n d : ℕ} {o₀ : List ℕ} {at : ℕ} where
               counted = sym (many ∙ u.says.arity);
               few = omega (arith, u.few);
               shallow = omega (arith, u.deeper);
-              room = rw add-one (room-first (listing d u.r) (left-room u.whole.room after_line));
+              room = rw add-one (room_first (listing d u.r) (left_room u.whole.room after_line));
             }
 
         -- the values after it
-        pub turn-again : {o₂ : List ℕ} {j q : ℕ} → ListingPut u.c (i + 1) (d + 1) o₁ p o₂ j q → Going w t from n d o₀ at o₂ j (left - 1) q
-        turn-again {o₂} {j} {q} y =
+        pub turn_again : {o₂ : List ℕ} {j q : ℕ} → ListingPut u.c (i + 1) (d + 1) o₁ p o₂ j q → Going w t from n d o₀ at o₂ j (left - 1) q
+        turn_again {o₂} {j} {q} y =
             let put : Put o₁ p (listing (suc d) u.c) o₂ q = rw add-one at y.put in
             record {
               whole = u.whole;
@@ -137,7 +137,7 @@ module _ {w t : List ℕ} {from n d : ℕ} {o₀ : List ℕ} {at : ℕ} where
               few = omega (arith, u.few);
               shallow = u.shallow;
               ends = omega (arith, y.passed, u.ends);
-              todo = left-more (listing d u.r) after_line put;
+              todo = left_more (listing d u.r) after_line put;
             }
 
 -- ---- the same where only the places are counted
@@ -149,40 +149,40 @@ pub record Measuring (w t : List ℕ) (from n d at i left next : ℕ) : Type 0 w
   pub going : Going w t from n d start at out i left next
 
 module _ {w t : List ℕ} {from n d at : ℕ} where
-  pub measuring-all : Countable w t from n d at → Measuring w t from n d at from n at
-  measuring-all y = record { start = y.out; short = y.short; out = y.out; going = going-all y.ready }
+  pub measuring_all : Countable w t from n d at → Measuring w t from n d at from n at
+  measuring_all y = record { start = y.out; short = y.short; out = y.out; going = going-all y.ready }
 
   module _ {i left next : ℕ} (m : Measuring w t from n d at i left next) where
-    pub measuring-none : left ≤ 0 → CountsListing w t from n d at i next
-    measuring-none h f s e = let x = going-none m.going h f s e in (x.passed, x.put.ends)
+    pub measuring_none : left ≤ 0 → CountsListing w t from n d at i next
+    measuring_none h f s e = let x = going-none m.going h f s e in (x.passed, x.put.ends)
 
     module _ (h : 0 < left) where
-      pub measuring-line : Reads w t i × (next + length (recordLine d (label_at w t i) (arityAt w i)) < 2 ^ 64)
-      measuring-line = let x = turn-line (turn m.going h) in (x.0, omega (arith, x.1.fits, m.short, m.going.todo.kept))
+      pub measuring_line : Reads w t i × (next + length (record_line d (label_at w t i) (arity_at w i)) < 2 ^ 64)
+      measuring_line = let x = turn_line (turn m.going h) in (x.0, omega (arith, x.1.fits, m.short, m.going.todo.kept))
 
-      pub measuring-deeper : d < 64
-      measuring-deeper = omega (arith, (turn m.going h).deeper)
+      pub measuring_deeper : d < 64
+      measuring_deeper = omega (arith, (turn m.going h).deeper)
 
-      pub measuring-arity : (4 * i + 4 ≤ length w) × (arityAt w i ≤ length w)
-      measuring-arity = turn-arity (turn m.going h)
+      pub measuring_arity : (4 * i + 4 ≤ length w) × (arity_at w i ≤ length w)
+      measuring_arity = turn_arity (turn m.going h)
 
-      module _ {k a : ℕ} (long : k ≡ length (recordLine d (label_at w t i) (arityAt w i))) (many : a ≡ arityAt w i) where
+      module _ {k a : ℕ} (long : k ≡ length (record_line d (label_at w t i) (arity_at w i))) (many : a ≡ arity_at w i) where
         abbrev lined : List ℕ
-        lined = sets m.out next (recordLine d (label_at w t i) (arityAt w i))
+        lined = sets m.out next (record_line d (label_at w t i) (arity_at w i))
 
-        put : Put m.out next (recordLine d (label_at w t i) (arityAt w i)) lined (next + k)
+        put : Put m.out next (record_line d (label_at w t i) (arity_at w i)) lined (next + k)
         put = record { wrote = refl; ends = rw long }
 
-        pub measuring-inside : Countable w t (i + 1) a (d + 1) (next + k)
-        measuring-inside = record { out = lined; short = omega (arith, put-kept put, m.short, m.going.todo.kept); ready = turn_inside (turn m.going h) put many }
+        pub measuring_inside : Countable w t (i + 1) a (d + 1) (next + k)
+        measuring_inside = record { out = lined; short = omega (arith, put_kept put, m.short, m.going.todo.kept); ready = turn_inside (turn m.going h) put many }
 
-        pub measuring-again : {j q : ℕ} → CountsListing w t (i + 1) a (d + 1) (next + k) j q → Measuring w t from n d at j (left - 1) q
-        measuring-again {j} {q} x =
+        pub measuring_again : {j q : ℕ} → CountsListing w t (i + 1) a (d + 1) (next + k) j q → Measuring w t from n d at j (left - 1) q
+        measuring_again {j} {q} x =
             let u = turn m.going h in
             let y = x u.c u.inside (sym (many ∙ u.says.arity)) in
             record {
               start = m.start;
               short = m.short;
               out = sets lined (next + k) (listing (d + 1) u.c);
-              going = turn-again u put many (record { passed = y.0; put = record { wrote = refl; ends = y.1 } });
+              going = turn_again u put many (record { passed = y.0; put = record { wrote = refl; ends = y.1 } });
             }

@@ -1,13 +1,13 @@
--- RULES, Ask 2.2: two well-formed values with the same listing are the same value.
+-- RULES, Ask 2.2: two well_formed_lem values with the same listing are the same value.
 use Rattle.std.specs.Prelude.{ℕ, suc, ◌+◌, ◌*◌, ◌^◌, ◌<◌, List, [], ◌++◌, ◌≡◌, refl, T, length, drop}
 use Rattle.std.proofs.Common.{append_assoc, sym, ◌∙◌, ap, arith, take-append-drop}
 use Rattle.input.specs.Bytes.{Bytes}
-use Rattle.value.specs.Value.{Label, Forest, one, text_of, text, count, size, count-size, words, recordOf, table, nil, node}
+use Rattle.value.specs.Value.{Label, Forest, one, text_of, text, count, size, count-size, words, record_of, table, nil, node}
 use Rattle.value.specs.Shape.{Words, fitting, shaped, and_l, and_r}
 use Rattle.value.specs.WellFormed.{WellFormed}
 use Rattle.table.specs.CompareLaws.{Identical}
-use Rattle.list.specs.Listing.{recordLine, listing}
-use Rattle.list.specs.Back.{words_left, words_right, bytes_left, bytes-right, LineReadable, line-one}
+use Rattle.list.specs.Listing.{record_line, listing}
+use Rattle.list.specs.Back.{words_left, words_right, bytes_left, bytes_right, LineReadable, line_one}
 
 -- values whose table, with the texts from p on, is of words, and whose text is of bytes
 record InTable (f : Forest) (p : ℕ) : Type 0 where
@@ -24,7 +24,7 @@ module _ (l : Label) (c r : Forest) (p : ℕ) (a : InTable (node l c r) p) where
   u = q + length (text c)
 
   abbrev record₀ : List ℕ
-  record₀ = recordOf l p (count c) (suc (size c))
+  record₀ = record_of l p (count c) (suc (size c))
 
   all_words : Words (record₀ ++ (table c q ++ table r u))
   unfolding table
@@ -41,12 +41,12 @@ module _ (l : Label) (c r : Forest) (p : ℕ) (a : InTable (node l c r) p) where
       let cr = and_r (fitting l (count c)) _ h in
       (and_l (fitting l (count c)) _ h, and_l (shaped c) _ cr, and_r (shaped c) _ cr)
 
-  all-few : suc (size c + size r) < 10 ^ 20
+  all_few : suc (size c + size r) < 10 ^ 20
   unfolding size
-  all-few = a.few
+  all_few = a.few
 
-  first-readable : LineReadable l (count c)
-  first-readable =
+  first_readable : LineReadable l (count c)
+  first_readable =
       let w = words_left record₀ _ all_words in
       record {
         place = p;
@@ -54,46 +54,46 @@ module _ (l : Label) (c r : Forest) (p : ℕ) (a : InTable (node l c r) p) where
         words = λ i. w (suc i);
         bytes = bytes_left (text_of l) _ all-bytes;
         fits = all-shaped.0;
-        few = omega (arith, count-size c, all-few);
+        few = omega (arith, count-size c, all_few);
       }
 
-  contents-in : InTable c q
-  contents-in =
+  contents_in : InTable c q
+  contents_in =
       record {
         shape = all-shaped.1;
         words = words_left (table c q) _ (words_right record₀ _ all_words);
-        bytes = bytes_left (text c) _ (bytes-right (text_of l) _ all-bytes);
-        few = omega (arith, all-few);
+        bytes = bytes_left (text c) _ (bytes_right (text_of l) _ all-bytes);
+        few = omega (arith, all_few);
       }
 
-  after-in : InTable r u
-  after-in =
+  after_in : InTable r u
+  after_in =
       record {
         shape = all-shaped.2;
         words = words_right (table c q) _ (words_right record₀ _ all_words);
-        bytes = bytes-right (text c) _ (bytes-right (text_of l) _ all-bytes);
-        few = omega (arith, all-few);
+        bytes = bytes_right (text c) _ (bytes_right (text_of l) _ all-bytes);
+        few = omega (arith, all_few);
       }
 
-listing-apart : (d : ℕ) (l : Label) (c r : Forest) (x : List ℕ) → listing d (node l c r) ++ x ≡ recordLine d l (count c) ++ (listing (suc d) c ++ (listing d r ++ x))
+listing-apart : (d : ℕ) (l : Label) (c r : Forest) (x : List ℕ) → listing d (node l c r) ++ x ≡ record_line d l (count c) ++ (listing (suc d) c ++ (listing d r ++ x))
 unfolding listing
-listing-apart d l c r x = rw (append_assoc (recordLine d l (count c)), append_assoc (listing (suc d) c))
+listing-apart d l c r x = rw (append_assoc (record_line d l (count c)), append_assoc (listing (suc d) c))
 
 -- as many values, listed alike, are the same values, and what stands behind the listings is the same
-forest-one : (f g : Forest) (d p q : ℕ) (x y : List ℕ) → InTable f p → InTable g q → count f ≡ count g → listing d f ++ x ≡ listing d g ++ y → (f ≡ g) × (x ≡ y)
+forest_one : (f g : Forest) (d p q : ℕ) (x y : List ℕ) → InTable f p → InTable g q → count f ≡ count g → listing d f ++ x ≡ listing d g ++ y → (f ≡ g) × (x ≡ y)
 unfolding count listing
-forest-one nil nil d p q x y a b n e = (refl, e)
-forest-one nil (node m c' r') d p q x y a b n e = absurd (omega arith)
-forest-one (node l c r) nil d p q x y a b n e = absurd (omega arith)
-forest-one (node l c r) (node m c' r') d p q x y a b n e =
+forest_one nil nil d p q x y a b n e = (refl, e)
+forest_one nil (node m c' r') d p q x y a b n e = absurd (omega arith)
+forest_one (node l c r) nil d p q x y a b n e = absurd (omega arith)
+forest_one (node l c r) (node m c' r') d p q x y a b n e =
     let e₀ = sym (listing-apart d l c r x) ∙ e ∙ listing-apart d m c' r' y in
-    let h = line-one d l m (count c) (count c') _ _ (first-readable l c r p a) (first-readable m c' r' q b) e₀ in
-    let i = forest-one c c' (suc d) _ _ _ _ (contents-in l c r p a) (contents-in m c' r' q b) h.1 h.2 in
-    let j = forest-one r r' d _ _ x y (after-in l c r p a) (after-in m c' r' q b) (omega arith) i.1 in
+    let h = line_one d l m (count c) (count c') _ _ (first_readable l c r p a) (first_readable m c' r' q b) e₀ in
+    let i = forest_one c c' (suc d) _ _ _ _ (contents_in l c r p a) (contents_in m c' r' q b) h.1 h.2 in
+    let j = forest_one r r' d _ _ x y (after_in l c r p a) (after_in m c' r' q b) (omega arith) i.1 in
     (cc (h.0, i.0, j.0), j.1)
 
-well-formed-in : (w : List ℕ) (n : ℕ) (t : List ℕ) (f : WellFormed w n t) → Words w → Bytes t → InTable (one f.value) 0
-well-formed-in w n t f W B =
+well_formed_in : (w : List ℕ) (n : ℕ) (t : List ℕ) (f : WellFormed w n t) → Words w → Bytes t → InTable (one f.value) 0
+well_formed_in w n t f W B =
     let v = one f.value in
     let rest = drop (4 * n) w in
     let e : w ≡ table v 0 ++ rest = sym (take-append-drop (4 * n) w) ∙ ap (λ (x : List ℕ). x ++ rest) f.records in
@@ -105,14 +105,14 @@ well-formed-in w n t f W B =
     }
 
 -- Words and bytes are what the lent slices are of.
-pub listing-one : (w : List ℕ) (n : ℕ) (t w' : List ℕ) (n' : ℕ) (t' : List ℕ) (f : WellFormed w n t) (g : WellFormed w' n' t') → Words w → Bytes t → Words w' → Bytes t'
+pub listing_one : (w : List ℕ) (n : ℕ) (t w' : List ℕ) (n' : ℕ) (t' : List ℕ) (f : WellFormed w n t) (g : WellFormed w' n' t') → Words w → Bytes t → Words w' → Bytes t'
     → listing 0 (one f.value) ≡ listing 0 (one g.value) → (one f.value ≡ one g.value) × Identical w n t w' n' t'
 unfolding count
-listing-one w n t w' n' t' f g W B W' B' e =
+listing_one w n t w' n' t' f g W B W' B' e =
     let v = one f.value in
     let v' = one g.value in
     let e₀ : listing 0 v ++ [] ≡ listing 0 v' ++ [] = ap (λ (s : List ℕ). s ++ []) e in
-    let h : v ≡ v' = (forest-one v v' 0 0 0 [] [] (well-formed-in w n t f W B) (well-formed-in w' n' t' g W' B') refl e₀).0 in (
+    let h : v ≡ v' = (forest_one v v' 0 0 0 [] [] (well_formed_in w n t f W B) (well_formed_in w' n' t' g W' B') refl e₀).0 in (
       h,
       record {
         counts = sym f.counted ∙ ap size h ∙ g.counted;

@@ -1,10 +1,10 @@
 // The list call: one line a record of a table (RULES A9.1 to A9.3, Ask 2.1). The lines are measured first,
 // `.._len` by `.._len`; then every `put_` function writes one field from `at` on, and answers the next place.
 ghost use Rattle.std.specs.Prelude.{true, ◌≡◌, [], ◌∷◌, ◌+◌, ◌^◌, ◌≤◌, ◌<◌, length, take, drop};
-ghost use Rattle.value.specs.Shape.{namesEnd};
-ghost use Rattle.value.specs.Stands.{label_at, arityAt, Reads};
+ghost use Rattle.value.specs.Shape.{names_end};
+ghost use Rattle.value.specs.Stands.{label_at, arity_at, Reads};
 ghost use Rattle.output.specs.Put.{Put, Room};
-ghost use Rattle.list.specs.Listing.{tabByte, printable, listedByte, listedText, kindName, flag, names_at, contentOf, recordLine};
+ghost use Rattle.list.specs.Listing.{tab_byte, printable, listed_byte, listed_text, kind_name, flag, names_at, content_of, record_line};
 ghost use Rattle.list.specs.Verbatim.{Verbatim, VerbatimTo};
 ghost use Rattle.list.specs.Walk.{ReadyToList, PutsListing, Countable, CountsListing};
 ghost use Rattle.list.specs.Call.{ListCall};
@@ -20,8 +20,8 @@ fn stands(byte: u8) -> bool
 }
 
 fn put_listed(byte: u8, output: &mut [u8], at: usize) -> usize
-    requires { Room output.old at (listedByte byte) }
-    ensures { Put output.old at (listedByte byte) output.new result }
+    requires { Room output.old at (listed_byte byte) }
+    ensures { Put output.old at (listed_byte byte) output.new result }
 {
     if byte == b'\\' {
         let second = output::put_byte(byte, output, at);
@@ -37,7 +37,7 @@ fn put_listed(byte: u8, output: &mut [u8], at: usize) -> usize
 
 // How many bytes a byte is listed as.
 fn byte_len(byte: u8) -> usize
-    ensures { result ≡ length (listedByte byte) }
+    ensures { result ≡ length (listed_byte byte) }
 {
     if byte != b'\\' {
         if stands(byte) {
@@ -50,7 +50,7 @@ fn byte_len(byte: u8) -> usize
 
 // A byte that is listed as it is. The tests are joined by `&`, so that several bytes are tested in one vector and cost one branch.
 fn verbatim(byte: u8) -> bool
-    ensures { result ≡ true → listedByte byte ≡ byte ∷ [] }
+    ensures { result ≡ true → listed_byte byte ≡ byte ∷ [] }
 {
     stands(byte) & (byte != b'\\')
 }
@@ -72,8 +72,8 @@ fn eight_verbatim(text: &[u8], i: usize) -> bool
 // The text of `count` bytes at `from`, byte by byte: how long it is, and the text.
 fn each_len(text: &[u8], from: usize, count: usize) -> usize
     requires count_in_bounds { from + count ≤ length text.now }
-    requires text_len_bound { length (listedText (take count (drop from text.now))) < 2 ^ 64 }
-    ensures { result ≡ length (listedText (take count (drop from text.now))) }
+    requires text_len_bound { length (listed_text (take count (drop from text.now))) < 2 ^ 64 }
+    ensures { result ≡ length (listed_text (take count (drop from text.now))) }
 {
     let end = from + count;
     let mut i = from;
@@ -87,8 +87,8 @@ fn each_len(text: &[u8], from: usize, count: usize) -> usize
 
 fn put_each(text: &[u8], from: usize, count: usize, output: &mut [u8], at: usize) -> usize
     requires count_in_bounds { from + count ≤ length text.now }
-    requires room { Room output.old at (listedText (take count (drop from text.now))) }
-    ensures { Put output.old at (listedText (take count (drop from text.now))) output.new result }
+    requires room { Room output.old at (listed_text (take count (drop from text.now))) }
+    ensures { Put output.old at (listed_text (take count (drop from text.now))) output.new result }
 {
     let end = from + count;
     let mut i = from;
@@ -103,8 +103,8 @@ fn put_each(text: &[u8], from: usize, count: usize, output: &mut [u8], at: usize
 // Eight bytes of a text, at once where they are listed as they are.
 fn put_eight(text: &[u8], i: usize, output: &mut [u8], at: usize) -> usize
     requires i_in_bounds { i + 8 ≤ length text.now }
-    requires room { Room output.old at (listedText (take 8 (drop i text.now))) }
-    ensures { Put output.old at (listedText (take 8 (drop i text.now))) output.new result }
+    requires room { Room output.old at (listed_text (take 8 (drop i text.now))) }
+    ensures { Put output.old at (listed_text (take 8 (drop i text.now))) output.new result }
 {
     if eight_verbatim(text, i) {
         return output::put_run(value::part(text, i, 8), output, at);
@@ -131,8 +131,8 @@ fn run_by_eight(text: &[u8], from: usize, end: usize) -> usize
 // How long the text of `count` bytes at `from` is when listed. Most texts are one run; the bytes behind it are added with no branch for each.
 fn listed_len(text: &[u8], from: usize, count: usize) -> usize
     requires count_in_bounds { from + count ≤ length text.now }
-    requires text_len_bound { length (listedText (take count (drop from text.now))) < 2 ^ 64 }
-    ensures { result ≡ length (listedText (take count (drop from text.now))) }
+    requires text_len_bound { length (listed_text (take count (drop from text.now))) < 2 ^ 64 }
+    ensures { result ≡ length (listed_text (take count (drop from text.now))) }
 {
     let end = from + count;
     let stop = run_by_eight(text, from, end);
@@ -142,8 +142,8 @@ fn listed_len(text: &[u8], from: usize, count: usize) -> usize
 // The text, eight bytes at a time.
 fn put_text(text: &[u8], from: usize, count: usize, output: &mut [u8], at: usize) -> usize
     requires count_in_bounds { from + count ≤ length text.now }
-    requires room { Room output.old at (listedText (take count (drop from text.now))) }
-    ensures { Put output.old at (listedText (take count (drop from text.now))) output.new result }
+    requires room { Room output.old at (listed_text (take count (drop from text.now))) }
+    ensures { Put output.old at (listed_text (take count (drop from text.now))) output.new result }
 {
     let end = from + count;
     let mut i = from;
@@ -160,7 +160,7 @@ const NAMES: [usize; 14] = [0, 4, 8, 11, 16, 21, 27, 31, 36, 39, 48, 52, 58, 64]
 
 fn name_len(kind: u64) -> usize
     requires { kind < 13 }
-    ensures { result ≡ length (kindName kind) }
+    ensures { result ≡ length (kind_name kind) }
 {
     let k = kind as usize;
     NAMES[k + 1] - NAMES[k]
@@ -168,8 +168,8 @@ fn name_len(kind: u64) -> usize
 
 fn put_name(kind: u64, output: &mut [u8], at: usize) -> usize
     requires kind_bound { kind < 13 }
-    requires room { Room output.old at (kindName kind) }
-    ensures { Put output.old at (kindName kind) output.new result }
+    requires room { Room output.old at (kind_name kind) }
+    ensures { Put output.old at (kind_name kind) output.new result }
 {
     let k = kind as usize;
     let from = NAMES[k];
@@ -193,7 +193,7 @@ fn put_flag(value: bool, output: &mut [u8], at: usize) -> usize
 
 // A module and a name, whose texts stand side by side from `from` on; `lengths` has the module's in its upper half.
 fn listed_names_len(text: &[u8], from: u64, lengths: u64) -> usize
-    requires lengths_in_bounds { namesEnd from lengths ≤ length text.now }
+    requires lengths_in_bounds { names_end from lengths ≤ length text.now }
     requires lengths_len_bound { length (names_at text.now from lengths) < 2 ^ 64 }
     ensures { result ≡ length (names_at text.now from lengths) }
 {
@@ -204,7 +204,7 @@ fn listed_names_len(text: &[u8], from: u64, lengths: u64) -> usize
 }
 
 fn put_listed_names(text: &[u8], from: u64, lengths: u64, output: &mut [u8], at: usize) -> usize
-    requires lengths_in_bounds { namesEnd from lengths ≤ length text.now }
+    requires lengths_in_bounds { names_end from lengths ≤ length text.now }
     requires room { Room output.old at (names_at text.now from lengths) }
     ensures { Put output.old at (names_at text.now from lengths) output.new result }
 {
@@ -218,8 +218,8 @@ fn put_listed_names(text: &[u8], from: u64, lengths: u64, output: &mut [u8], at:
 
 // What an Object's content has behind its names.
 fn put_flags(new: bool, state: bool, output: &mut [u8], at: usize) -> usize
-    requires { Room output.old at (tabByte ∷ flag new ∷ tabByte ∷ flag state ∷ []) }
-    ensures { Put output.old at (tabByte ∷ flag new ∷ tabByte ∷ flag state ∷ []) output.new result }
+    requires { Room output.old at (tab_byte ∷ flag new ∷ tab_byte ∷ flag state ∷ []) }
+    ensures { Put output.old at (tab_byte ∷ flag new ∷ tab_byte ∷ flag state ∷ []) output.new result }
 {
     let first = output::put_byte(b'\t', output, at);
     let end = put_flag(new, output, first);
@@ -230,8 +230,8 @@ fn put_flags(new: bool, state: bool, output: &mut [u8], at: usize) -> usize
 // The content of record i.
 fn content_len(words: &[u64], text: &[u8], i: usize) -> usize
     requires reads { Reads words.now text.now i }
-    requires i_len_bound { length (contentOf (label_at words.now text.now i) (arityAt words.now i)) < 2 ^ 64 }
-    ensures { result ≡ length (contentOf (label_at words.now text.now i) (arityAt words.now i)) }
+    requires i_len_bound { length (content_of (label_at words.now text.now i) (arity_at words.now i)) < 2 ^ 64 }
+    ensures { result ≡ length (content_of (label_at words.now text.now i) (arity_at words.now i)) }
 {
     let kind = value::head_of(words[4 * i]).kind;
     let second = words[4 * i + 1];
@@ -260,9 +260,9 @@ fn content_len(words: &[u64], text: &[u8], i: usize) -> usize
 
 fn put_content(words: &[u64], text: &[u8], i: usize, output: &mut [u8], at: usize) -> usize
     requires reads { Reads words.now text.now i }
-    requires room { Room output.old at (contentOf (label_at words.now text.now i) (arityAt words.now i)) }
+    requires room { Room output.old at (content_of (label_at words.now text.now i) (arity_at words.now i)) }
     ensures { Put output.old at
-        (contentOf (label_at words.now text.now i) (arityAt words.now i))
+        (content_of (label_at words.now text.now i) (arity_at words.now i))
         output.new result }
 {
     let head = value::head_of(words[4 * i]);
@@ -297,8 +297,8 @@ fn put_content(words: &[u64], text: &[u8], i: usize, output: &mut [u8], at: usiz
 // The line of record i.
 fn line_len(words: &[u64], text: &[u8], i: usize, depth: u64) -> usize
     requires reads { Reads words.now text.now i }
-    requires i_len_bound { length (recordLine depth (label_at words.now text.now i) (arityAt words.now i)) < 2 ^ 64 }
-    ensures { result ≡ length (recordLine depth (label_at words.now text.now i) (arityAt words.now i)) }
+    requires i_len_bound { length (record_line depth (label_at words.now text.now i) (arity_at words.now i)) < 2 ^ 64 }
+    ensures { result ≡ length (record_line depth (label_at words.now text.now i) (arity_at words.now i)) }
 {
     let head = value::head_of(words[4 * i]);
     output::digits(depth) + name_len(head.kind) + content_len(words, text, i) + 3
@@ -306,9 +306,9 @@ fn line_len(words: &[u64], text: &[u8], i: usize, depth: u64) -> usize
 
 fn put_line(words: &[u64], text: &[u8], i: usize, depth: u64, output: &mut [u8], at: usize) -> usize
     requires reads { Reads words.now text.now i }
-    requires room { Room output.old at (recordLine depth (label_at words.now text.now i) (arityAt words.now i)) }
+    requires room { Room output.old at (record_line depth (label_at words.now text.now i) (arity_at words.now i)) }
     ensures { Put output.old at
-        (recordLine depth (label_at words.now text.now i) (arityAt words.now i))
+        (record_line depth (label_at words.now text.now i) (arity_at words.now i))
         output.new result }
 {
     let head = value::head_of(words[4 * i]);

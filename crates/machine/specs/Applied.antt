@@ -27,31 +27,31 @@ unfoldable pub Applies : Effect → ℕ → Step → (LentAs → List ℕ → Ro
 Applies e had t before after = (l : LentAs) (p : List ℕ) → Fits e (before l p) had → Done t (before l p) (after l p) (enacted e (before l p) had)
 
 module _ (r : Rooms) (h : ℕ) (c : Counts) where
-  pub push-lengths : (a b : ℕ) → Fits (Push c a b) r h → (8192 ≤ length r.nodes) × (2048 ≤ length r.stack)
+  pub push_lengths : (a b : ℕ) → Fits (Push c a b) r h → (8192 ≤ length r.nodes) × (2048 ≤ length r.stack)
   unfolding Fits
-  push-lengths a b f = (f.0.lengths.nodes, f.0.lengths.stack)
+  push_lengths a b f = (f.0.lengths.nodes, f.0.lengths.stack)
 
-  pub share-lengths : (i : NodeId) → Fits (Share c i) r h → (2048 ≤ length r.stack) × (i.0 < 65536)
+  pub share_lengths : (i : NodeId) → Fits (Share c i) r h → (2048 ≤ length r.stack) × (i.0 < 65536)
   unfolding Fits
-  share-lengths i f = let x = f.1 in let y = f.0.nodes in (f.0.lengths.stack, omega arith)
+  share_lengths i f = let x = f.1 in let y = f.0.nodes in (f.0.lengths.stack, omega arith)
 
-  pub mark-lengths : Fits (Mark c) r h → (256 ≤ length r.marks) × (c.stack ≤ 2048)
+  pub mark_lengths : Fits (Mark c) r h → (256 ≤ length r.marks) × (c.stack ≤ 2048)
   unfolding Fits
-  mark-lengths f = let x = f.stack in let y = f.deepest in (f.lengths.marks, omega arith)
+  mark_lengths f = let x = f.stack in let y = f.deepest in (f.lengths.marks, omega arith)
 
   pub makeable : (k : ℕ) → Fits (Make c k) r h → Makeable r.nodes r.owners r.children r.stack c k h
-  makeable k f = record { rooms = r; nodes-are = refl; owners-are = refl; children-are = refl; stack_is = refl; fits = f }
+  makeable k f = record { rooms = r; nodes_are = refl; owners_are = refl; children_are = refl; stack_is = refl; fits = f }
 
   pub extendable : (o : NodeId) → Fits (Extend c o) r h → Extendable r.nodes r.owners r.children r.stack c o.0 h
-  extendable o f = record { rooms = r; nodes-are = refl; owners-are = refl; children-are = refl; stack_is = refl; fits = f }
+  extendable o f = record { rooms = r; nodes_are = refl; owners_are = refl; children_are = refl; stack_is = refl; fits = f }
 
   pub rememberable : (i : NodeId) (w : ℕ) (k : MemoKey) → Fits (Remember c i w k) r h → Rememberable r.keys r.held c k.0 i.0
   unfolding Fits
-  rememberable i w k f = record { rooms = r; keys-are = refl; held-are = refl; fits = f }
+  rememberable i w k f = record { rooms = r; keys_are = refl; held_are = refl; fits = f }
 
   pub buildable : (o i : NodeId) → Fits (Build c o i) r h → Buildable r.nodes c o.0 i.0
   unfolding Fits
-  buildable o i f = record { rooms = r; nodes-are = refl; fits = f }
+  buildable o i f = record { rooms = r; nodes_are = refl; fits = f }
 
   -- effects that change no room
   pub goes_on : Fits (Go c) r h → Done (step.Next c) r r (enacted (Go c) r h)
@@ -62,6 +62,6 @@ module _ (r : Rooms) (h : ℕ) (c : Counts) where
   unfolding Fits enacted meant Stays
   stops f = record { means = refl; stays = f }
 
-pub refusal-applied : (r : Rooms) (h : ℕ) (c : Counts) (v w : ℕ) (why : Refusal) → Done (step.Refused c why) r r (enacted (Refused c v w why) r h)
+pub refusal_applied : (r : Rooms) (h : ℕ) (c : Counts) (v w : ℕ) (why : Refusal) → Done (step.Refused c why) r r (enacted (Refused c v w why) r h)
 unfolding enacted
-refusal-applied r h c v w why = done_refused why r (enacted (Refused c v w why) r h) refl
+refusal_applied r h c v w why = done_refused why r (enacted (Refused c v w why) r h) refl

@@ -6,7 +6,7 @@ use Rattle.store.specs.declared.Counts.{Counts}
 use Rattle.steps.specs.State.{Res, ok, no}
 use Rattle.steps.specs.Run.{Next, goes, stops}
 use Rattle.store.specs.Rooms.{Rooms, state_of}
-use Rattle.steps.specs.NodeWords.{wordsSet}
+use Rattle.steps.specs.NodeWords.{words_set}
 use Rattle.store.specs.Effects.{Firm, AsLentBehind}
 use Rattle.machine.specs.declared.effects.Step.{Step}
 use Rattle.machine.specs.declared.effects.Step.TheVariants as step
@@ -33,8 +33,8 @@ unfolding meant Stays
 done_refused why r n e = record { means = sym e; stays = refl }
 
 -- a value more on the stack
-abbrev pub pushedTo : Counts → ℕ → ℕ → Counts
-pushedTo c n l = record { at = c.at; nodes = n; links = l; stack = c.stack + 1; deepest = max c.deepest (c.stack + 1); marks = c.marks; most = c.most; memo = c.memo; greatest = c.greatest }
+abbrev pub pushed_to : Counts → ℕ → ℕ → Counts
+pushed_to c n l = record { at = c.at; nodes = n; links = l; stack = c.stack + 1; deepest = max c.deepest (c.stack + 1); marks = c.marks; most = c.most; memo = c.memo; greatest = c.greatest }
 
 -- ---- more of a room used
 
@@ -48,6 +48,6 @@ module _ {n m : ℕ} {lent room : List ℕ} (h : AsLentBehind n lent room) (k : 
   behind-set p x q = record { same = drop-set-lt m room p x q ∙ more }
 
 -- a node's two words, one after the other
-pub words-plus : (ws : List ℕ) (i a b : ℕ) → set (set ws (2 * i) a) (2 * i + 1) b ≡ wordsSet ws i a b
-unfolding wordsSet
+pub words-plus : (ws : List ℕ) (i a b : ℕ) → set (set ws (2 * i) a) (2 * i + 1) b ≡ words_set ws i a b
+unfolding words_set
 words-plus ws i a b = rw (add-one (2 * i))

@@ -9,26 +9,26 @@ use Rattle.op.specs.declared.Edition.{Edition}
 use Rattle.store.specs.declared.Counts.{Counts}
 use Rattle.steps.specs.State.{State, Res, ok, no, ◌>>=◌}
 use Rattle.steps.specs.Run.{Next, goes, stops, step, run, start as begin}
-use Rattle.steps.specs.Out.{of-out}
-use Rattle.steps.specs.Keeps.{stateAfter}
+use Rattle.steps.specs.Out.{of_out}
+use Rattle.steps.specs.Keeps.{state_after}
 use Rattle.steps.specs.Shrinks.{step_less}
-use Rattle.steps.specs.Fuel.{run_from, run-finish, finish-refused, finish-stops, finish-goes}
-use Rattle.steps.specs.Range.{InRange, step_range, start-range}
+use Rattle.steps.specs.Fuel.{run_from, run_finish, finish_refused, finish_stops, finish-goes}
+use Rattle.steps.specs.Range.{InRange, step_range, start_range}
 use Rattle.store.specs.Rooms.{LentAs, Rooms, state_of}
 use Rattle.store.specs.RoomReads.{start_of, input_of}
-use Rattle.store.specs.RoomKeeps.{kept-start}
+use Rattle.store.specs.RoomKeeps.{kept_start}
 use Rattle.store.specs.RoomMemo.{numbered-none}
 use Rattle.store.specs.Effects.{Lengths, AsLentBehind, Sound}
 use Rattle.machine.specs.declared.effects.Step.{Step}
 use Rattle.machine.specs.declared.effects.Step.TheVariants as step_of_lem
 use Rattle.machine.specs.Done.{meant, Stays, Done}
-use Rattle.machine.specs.RoomsOf.{lentRooms}
+use Rattle.machine.specs.RoomsOf.{lent_rooms}
 use Rattle.machine.specs.declared.Outcome.{Outcome}
 use Rattle.machine.specs.declared.Outcome.TheVariants as outcome
 
 -- nothing read or used
-abbrev pub startCounts : Counts
-startCounts = record { at = 0; nodes = 0; links = 0; stack = 0; deepest = 0; marks = 0; most = 0; memo = 0; greatest = 0 }
+abbrev pub start_counts : Counts
+start_counts = record { at = 0; nodes = 0; links = 0; stack = 0; deepest = 0; marks = 0; most = 0; memo = 0; greatest = 0 }
 
 -- a step in the rooms r with the counts c, which leaves the rooms r'
 abbrev pub Stepped : Edition → Step → Counts → Rooms → Rooms → Type 0
@@ -49,14 +49,14 @@ ended (outcome.Stopped c) r = ok (state_of r c)
 ended (outcome.Refused c why) r = no why
 
 -- the counts that it carries
-unfoldable pub countsOf : Outcome → Counts
-countsOf (outcome.Stopped c) = c
-countsOf (outcome.Refused c why) = c
+unfoldable pub counts_of : Outcome → Counts
+counts_of (outcome.Stopped c) = c
+counts_of (outcome.Refused c why) = c
 
 -- a run of the pickle p in an edition that leaves the rooms r
 pub record Ran (ed : Edition) (o : Outcome) (p : List ℕ) (r : Rooms) : Type 0 where
   pub means : ended o r ≡ run ed p
-  pub sound : Sound r (countsOf o)
+  pub sound : Sound r (counts_of o)
   pub same : r.pickle ≡ p
 
 -- rooms as long as they were lent
@@ -75,8 +75,8 @@ as_lent : {n : ℕ} {room : List ℕ} → AsLentBehind n room room
 as_lent = record { same = refl }
 
 -- rooms that are long enough are sound as they are lent
-pub lent-sound : (p nodes owners children stack marks keys held : List ℕ) → Lengths (lentRooms p nodes owners children stack marks keys held) → Sound (lentRooms p nodes owners children stack marks keys held) startCounts
-lent-sound p nodes owners children stack marks keys held l = record {
+pub lent_sound : (p nodes owners children stack marks keys held : List ℕ) → Lengths (lent_rooms p nodes owners children stack marks keys held) → Sound (lent_rooms p nodes owners children stack marks keys held) start_counts
+lent_sound p nodes owners children stack marks keys held l = record {
   firm = record {
     lengths = l;
     at = omega arith;
@@ -88,14 +88,14 @@ lent-sound p nodes owners children stack marks keys held l = record {
     most = omega arith;
     memo = omega arith;
     numbered = numbered-none keys 0;
-    kept = kept-start nodes owners children;
+    kept = kept_start nodes owners children;
     clean = record { nodes = as_lent; owners = as_lent; children = as_lent; stack = as_lent; marks = as_lent; keys = as_lent; held = as_lent };
   };
-  range = rw (start_of (lentRooms p nodes owners children stack marks keys held)) (start-range p);
+  range = rw (start_of (lent_rooms p nodes owners children stack marks keys held)) (start_range p);
 }
 
 -- as a program makes them
-pub made-long : (p : List ℕ) → length p ≤ 65536 → Lengths (lentRooms p (replicate 8192 0) (replicate 8192 0) (replicate 8192 0) (replicate 2048 0) (replicate 256 0) (replicate 1024 0) (replicate 1024 0))
+pub made-long : (p : List ℕ) → length p ≤ 65536 → Lengths (lent_rooms p (replicate 8192 0) (replicate 8192 0) (replicate 8192 0) (replicate 2048 0) (replicate 256 0) (replicate 1024 0) (replicate 1024 0))
 made-long p h = record { pickle = h; nodes = long 8192; owners = long 8192; children = long 8192; stack = long 2048; marks = long 256; keys = long 1024; held = long 1024 }
   where
     long : (n : ℕ) → n ≤ length (replicate {A = ℕ} n 0)
@@ -109,30 +109,30 @@ module _ (ed : Edition) (r r' : Rooms) (c : Counts) (s : Sound r c) where
     unfolding meant
     stepped = sym t.means
 
-    pub step-sound : Sound r' d
-    unfolding Stays stateAfter
-    step-sound = record { firm = t.stays; range = of-out (λ (n : Next). InRange (stateAfter n)) (step ed (state_of r c)) (goes (state_of r' d)) (step_range ed (state_of r c) s.range) stepped }
+    pub step_sound : Sound r' d
+    unfolding Stays state_after
+    step_sound = record { firm = t.stays; range = of_out (λ (n : Next). InRange (state_after n)) (step ed (state_of r c)) (goes (state_of r' d)) (step_range ed (state_of r c) s.range) stepped }
 
     less : length (state_of r' d).input < length (state_of r c).input
-    unfolding stateAfter
-    less = of-out (λ (n : Next). length (stateAfter n).input < length (state_of r c).input) (step ed (state_of r c)) (goes (state_of r' d)) (step_less ed (state_of r c)) stepped
+    unfolding state_after
+    less = of_out (λ (n : Next). length (state_after n).input < length (state_of r c).input) (step ed (state_of r c)) (goes (state_of r' d)) (step_less ed (state_of r c)) stepped
 
-    pub step-further : r'.pickle ≡ r.pickle → length r.pickle - d.at < length r.pickle - c.at
-    step-further e =
+    pub step_further : r'.pickle ≡ r.pickle → length r.pickle - d.at < length r.pickle - c.at
+    step_further e =
         let x : length r'.pickle - d.at < length r.pickle - c.at = rw (input_of r' d, input_of r c, length-drop, length-drop) at less in
         rw e at x
 
     pub step-goes : run_from ed (state_of r c) ≡ run_from ed (state_of r' d)
     step-goes = finish-goes ed (state_of r c) (state_of r' d) stepped
 
-  pub step-stops : (d : Counts) → Done (step_of_lem.Stop d) r r' (step ed (state_of r c)) → (run_from ed (state_of r c) ≡ ok (state_of r' d)) × Sound r' d
-  unfolding meant Stays stateAfter
-  step-stops d t =
-      (finish-stops ed (state_of r c) (state_of r' d) (sym t.means), record { firm = t.stays; range = of-out (λ (n : Next). InRange (stateAfter n)) (step ed (state_of r c)) (stops (state_of r' d)) (step_range ed (state_of r c) s.range) (sym t.means) })
+  pub step_stops : (d : Counts) → Done (step_of_lem.Stop d) r r' (step ed (state_of r c)) → (run_from ed (state_of r c) ≡ ok (state_of r' d)) × Sound r' d
+  unfolding meant Stays state_after
+  step_stops d t =
+      (finish_stops ed (state_of r c) (state_of r' d) (sym t.means), record { firm = t.stays; range = of_out (λ (n : Next). InRange (state_after n)) (step ed (state_of r c)) (stops (state_of r' d)) (step_range ed (state_of r c) s.range) (sym t.means) })
 
   pub step-refuses : (d : Counts) (why : Refusal) → Done (step_of_lem.Refused d why) r r' (step ed (state_of r c)) → (run_from ed (state_of r c) ≡ no why) × (r' ≡ r)
   unfolding meant Stays
-  step-refuses d why t = (finish-refused ed (state_of r c) (state_of r c) why (sym t.means), t.stays)
+  step-refuses d why t = (finish_refused ed (state_of r c) (state_of r c) why (sym t.means), t.stays)
 
 -- ---- the loop: what is left is what there was
 
@@ -141,23 +141,23 @@ pub record Running (ed : Edition) (p : List ℕ) (r : Rooms) (c : Counts) : Type
   pub sound : Sound r c
   pub same : r.pickle ≡ p
 
-pub running-start : (ed : Edition) (r : Rooms) → Sound r startCounts → Running ed r.pickle r startCounts
-running-start ed r s = record { left = rw (start_of r) (sym (run-finish ed r.pickle)); sound = s; same = refl }
+pub running-start : (ed : Edition) (r : Rooms) → Sound r start_counts → Running ed r.pickle r start_counts
+running-start ed r s = record { left = rw (start_of r) (sym (run_finish ed r.pickle)); sound = s; same = refl }
 
 module _ (ed : Edition) (p : List ℕ) (r r' : Rooms) (c : Counts) (h : Running ed p r c) (e : r'.pickle ≡ r.pickle) where
-  pub running-next : (d : Counts) → Done (step_of_lem.Next d) r r' (step ed (state_of r c)) → Running ed p r' d
-  running-next d t = record { left = sym (step-goes ed r r' c h.sound d t) ∙ h.left; sound = step-sound ed r r' c h.sound d t; same = e ∙ h.same }
+  pub running_next : (d : Counts) → Done (step_of_lem.Next d) r r' (step ed (state_of r c)) → Running ed p r' d
+  running_next d t = record { left = sym (step-goes ed r r' c h.sound d t) ∙ h.left; sound = step_sound ed r r' c h.sound d t; same = e ∙ h.same }
 
   pub running-less : (d : Counts) → Done (step_of_lem.Next d) r r' (step ed (state_of r c)) → length p - d.at < length p - c.at
-  running-less d t = rw h.same at (step-further ed r r' c h.sound d t e)
+  running-less d t = rw h.same at (step_further ed r r' c h.sound d t e)
 
-  pub ran-stopped : (d : Counts) → Done (step_of_lem.Stop d) r r' (step ed (state_of r c)) → Ran ed (outcome.Stopped d) p r'
-  unfolding ended countsOf
-  ran-stopped d t = let x = step-stops ed r r' c h.sound d t in record { means = sym x.0 ∙ h.left; sound = x.1; same = e ∙ h.same }
+  pub ran_stopped : (d : Counts) → Done (step_of_lem.Stop d) r r' (step ed (state_of r c)) → Ran ed (outcome.Stopped d) p r'
+  unfolding ended counts_of
+  ran_stopped d t = let x = step_stops ed r r' c h.sound d t in record { means = sym x.0 ∙ h.left; sound = x.1; same = e ∙ h.same }
 
-  pub ran-refused : (d : Counts) (why : Refusal) → Done (step_of_lem.Refused d why) r r' (step ed (state_of r c)) → Ran ed (outcome.Refused c why) p r'
-  unfolding ended countsOf
-  ran-refused d why t = let x = step-refuses ed r r' c h.sound d why t in record { means = sym x.0 ∙ h.left; sound = rw x.1 h.sound; same = e ∙ h.same }
+  pub ran_refused : (d : Counts) (why : Refusal) → Done (step_of_lem.Refused d why) r r' (step ed (state_of r c)) → Ran ed (outcome.Refused c why) p r'
+  unfolding ended counts_of
+  ran_refused d why t = let x = step-refuses ed r r' c h.sound d why t in record { means = sym x.0 ∙ h.left; sound = rw x.1 h.sound; same = e ∙ h.same }
 
 -- ---- after n steps
 
@@ -172,14 +172,14 @@ onward ed (goes s) = step ed s
 onward ed (stops s) = ok (stops s)
 
 -- the definition after n steps
-unfoldable pub afterSteps : Edition → ℕ → List ℕ → Res Next
-afterSteps ed zero p = ok (goes (begin p))
-afterSteps ed (suc n) p = afterSteps ed n p >>= onward ed
+unfoldable pub after_steps : Edition → ℕ → List ℕ → Res Next
+after_steps ed zero p = ok (goes (begin p))
+after_steps ed (suc n) p = after_steps ed n p >>= onward ed
 
 -- After n steps of the code that go on, its rooms and counts mean the definition's state after n.
-pub after-n-steps : (ed : Edition) (f : ℕ → Rooms) (g : ℕ → Counts) (n : ℕ) → Steps ed f g n → ok (goes (state_of (f n) (g n))) ≡ afterSteps ed n (f 0).pickle
-unfolding afterSteps meant onward ◌>>=◌
-after-n-steps ed f g zero s = ap (λ (t : State). ok (goes t)) s.first
-after-n-steps ed f g (suc n) s =
-    let e = after-n-steps ed f g n (record { first = s.first; each = λ i h. s.each i (omega arith) }) in
+pub after_n_steps : (ed : Edition) (f : ℕ → Rooms) (g : ℕ → Counts) (n : ℕ) → Steps ed f g n → ok (goes (state_of (f n) (g n))) ≡ after_steps ed n (f 0).pickle
+unfolding after_steps meant onward ◌>>=◌
+after_n_steps ed f g zero s = ap (λ (t : State). ok (goes t)) s.first
+after_n_steps ed f g (suc n) s =
+    let e = after_n_steps ed f g n (record { first = s.first; each = λ i h. s.each i (omega arith) }) in
     rw (← e) (s.each n (omega arith)).means

@@ -8,7 +8,7 @@ use Rattle.std.proofs.Math.Seq.{get_or-drop}
 use Rattle.std.proofs.Math.Decide.{ℕ_discrete}
 use native.Mathlib.Omega.{arith}
 use Rattle.refusal.specs.declared.Refusal.TheVariants.{EndOfInput, UnsupportedOpcode, OutsideProfile}
-use Rattle.op.specs.Table.{code_of, number_in, isNamed, place, opcode_of}
+use Rattle.op.specs.Table.{code_of, number_in, is_named, place, opcode_of}
 use Rattle.op.specs.Named.{named}
 use Rattle.op.specs.Edition.{against, highest}
 use Rattle.op.specs.declared.Edition.{Edition}
@@ -19,17 +19,17 @@ use Rattle.store.specs.declared.Counts.{Counts}
 use Rattle.store.specs.declared.Effect.{Effect}
 use Rattle.store.specs.declared.Effect.TheVariants.{Push, Mark, Stop}
 use Rattle.value.specs.Value.{Label, NoneL, BoolL, ListL, TupleL, DictL}
-use Rattle.value.specs.Shape.{kindIn}
+use Rattle.value.specs.Shape.{kind_in}
 use Rattle.steps.specs.State.{State, ◌>>=◌, byte, kidless, push}
-use Rattle.steps.specs.Opcodes.{tupleN}
+use Rattle.steps.specs.Opcodes.{tuple_n}
 use Rattle.steps.specs.Run.{going, does, decide, admit, step}
 use Rattle.store.specs.Rooms.{LentAs, Rooms, state_of}
-use Rattle.steps.specs.NodeWords.{nodeIs, HoldsLinks, aList, aTuple, aDict}
-use Rattle.store.specs.RoomKeeps.{class-none}
-use Rattle.steps.specs.Pickletools.{decided-own}
+use Rattle.steps.specs.NodeWords.{node_is, HoldsLinks, a_list, a_tuple, a_dict}
+use Rattle.store.specs.RoomKeeps.{class_none}
+use Rattle.steps.specs.Pickletools.{decided_own}
 use Rattle.store.specs.Effects.{Sound, SomeRooms, Decides, Fits, enacted, refusing}
-use Rattle.decoder.specs.Reads.{cut_to, bytes-short, bytes-got}
-use Rattle.decoder.specs.ReadsMemo.{sound-read}
+use Rattle.decoder.specs.Reads.{cut_to, bytes-short, bytes_got}
+use Rattle.decoder.specs.ReadsMemo.{sound_read}
 
 abbrev pub rooms_of : LentAs → List ℕ → List ℕ → List ℕ → List ℕ → List ℕ → List ℕ → List ℕ → List ℕ → Rooms
 rooms_of l p n w c s m k h = record { lent = l; pickle = p; nodes = n; owners = w; children = c; stack = s; marks = m; keys = k; held = h }
@@ -38,8 +38,8 @@ abbrev pub lent_of : List ℕ → List ℕ → List ℕ → List ℕ → List �
 lent_of n w c s m k h = record { nodes = n; owners = w; children = c; stack = s; marks = m; keys = k; held = h }
 
 -- before anything is written
-abbrev pub lentRooms : List ℕ → List ℕ → List ℕ → List ℕ → List ℕ → List ℕ → List ℕ → List ℕ → Rooms
-lentRooms p n w c s m k h = rooms_of (lent_of n w c s m k h) p n w c s m k h
+abbrev pub lent_rooms : List ℕ → List ℕ → List ℕ → List ℕ → List ℕ → List ℕ → List ℕ → List ℕ → Rooms
+lent_rooms p n w c s m k h = rooms_of (lent_of n w c s m k h) p n w c s m k h
 
 -- rooms with these lists
 pub record Agrees (p n d s m k h : List ℕ) (r : Rooms) : Type 0 where
@@ -57,7 +57,7 @@ unknown b h = go (opcode_of b) refl
   where
     go : (x : Option Opcode) → opcode_of b ≡ x → x ≡ none
     go none e = refl
-    go (some o) e = absurd (h o (sym (decided-own b o e)))
+    go (some o) e = absurd (h o (sym (decided_own b o e)))
 
 module _ (p n d s m k h : List ℕ) (c : Counts) where
   abbrev pub SameRooms : Rooms → Type 0
@@ -69,7 +69,7 @@ module _ (p n d s m k h : List ℕ) (c : Counts) where
   -- behind the opcode's byte
   module _ (l : c.at < length p) where
     next : (r : Rooms) → Sound r c → SameRooms r → Sound r c₁
-    next r z a = let e : length r.pickle ≡ length p = ap length a.pickle in sound-read r c (c.at + 1) z (omega arith) (omega arith)
+    next r z a = let e : length r.pickle ≡ length p = ap length a.pickle in sound_read r c (c.at + 1) z (omega arith) (omega arith)
 
     pub lent : (Q : Rooms → Type 0) → SomeRooms c SameRooms → ((r : Rooms) → SameRooms r → Q r) → SomeRooms c₁ Q
     lent Q t f = record { rooms = t.rooms; sound = next t.rooms t.sound t.agrees; agrees = f t.rooms t.agrees }
@@ -94,16 +94,16 @@ module _ (p n d s m k h : List ℕ) (c : Counts) where
           let e : length r.pickle ≡ length p = ap length a.pickle in
           let t = z.firm.at in
           let q : c.at + 0 ≡ c.at = omega arith in
-          rw (bytes-got r c 1 t (omega arith)) (ap (λ (b : ℕ). admit (against ed b) b (decide (highest ed) (opcode_of b) b (state_of r c₁))) (get_or-take 1 (drop c.at r.pickle) 0 0 (omega arith) ∙ get_or-drop c.at r.pickle 0 0 ∙ rw (q, a.pickle)))
+          rw (bytes_got r c 1 t (omega arith)) (ap (λ (b : ℕ). admit (against ed b) b (decide (highest ed) (opcode_of b) b (state_of r c₁))) (get_or-take 1 (drop c.at r.pickle) 0 0 (omega arith) ∙ get_or-drop c.at r.pickle 0 0 ∙ rw (q, a.pickle)))
 
       -- outside the edition, or unknown to it
-      pub outside-it : Outside ≡ against ed code → Decides c SameRooms (step ed) (refusing c (OutsideProfile code))
+      pub outside_it : Outside ≡ against ed code → Decides c SameRooms (step ed) (refusing c (OutsideProfile code))
       unfolding Decides admit enacted Fits
-      outside-it b r z a = record { enacts = sym (read r z a ∙ rw (← b)); fits = tt }
+      outside_it b r z a = record { enacts = sym (read r z a ∙ rw (← b)); fits = tt }
 
-      pub unknown-to-it : Unknown ≡ against ed code → Decides c SameRooms (step ed) (refusing c (UnsupportedOpcode code))
+      pub unknown_to_it : Unknown ≡ against ed code → Decides c SameRooms (step ed) (refusing c (UnsupportedOpcode code))
       unfolding Decides admit enacted Fits
-      unknown-to-it b r z a = record { enacts = sym (read r z a ∙ rw (← b)); fits = tt }
+      unknown_to_it b r z a = record { enacts = sym (read r z a ∙ rw (← b)); fits = tt }
 
       -- nothing against it
       module _ (free : Nothing ≡ against ed code) where
@@ -131,47 +131,47 @@ module _ (v : ℕ) (c : Counts) where
   stop r z a = record { enacts = refl; fits = z.firm }
 
   -- a value without contents, of the kind a
-  pushes : (o : Opcode) (l : Label) (a b : ℕ) → ((s : State) → does v o s ≡ going (push l s)) → ((p ws : List ℕ) → nodeIs p ws [] a b ≡ kidless l) → kindIn a < 11 → (HoldsLinks a → b ≡ 0) → Decides c (λ r. Unit {0}) (does v o) (Push c a b)
+  pushes : (o : Opcode) (l : Label) (a b : ℕ) → ((s : State) → does v o s ≡ going (push l s)) → ((p ws : List ℕ) → node_is p ws [] a b ≡ kidless l) → kind_in a < 11 → (HoldsLinks a → b ≡ 0) → Decides c (λ r. Unit {0}) (does v o) (Push c a b)
   unfolding Decides enacted Fits push
   pushes o l a b e n k t r z x = record {
     enacts = rw (e (state_of r c), n r.pickle r.nodes);
-    fits = (z.firm, class-none r.nodes c.nodes a (λ q. omega arith), t);
+    fits = (z.firm, class_none r.nodes c.nodes a (λ q. omega arith), t);
   }
 
-  pub none-pushed : Decides c (λ r. Unit {0}) (does v NONE) (Push c 0 0)
-  unfolding does nodeIs kindIn
-  none-pushed = pushes NONE NoneL 0 0 (λ s. refl) (λ p ws. refl) (omega arith) (λ t. refl)
+  pub none_pushed : Decides c (λ r. Unit {0}) (does v NONE) (Push c 0 0)
+  unfolding does node_is kind_in
+  none_pushed = pushes NONE NoneL 0 0 (λ s. refl) (λ p ws. refl) (omega arith) (λ t. refl)
 
-  pub true-pushed : Decides c (λ r. Unit {0}) (does v NEWTRUE) (Push c 1 1)
-  unfolding does nodeIs kindIn
-  true-pushed = pushes NEWTRUE (BoolL true) 1 1 (λ s. refl) (λ p ws. refl) (omega arith) bool
+  pub true_pushed : Decides c (λ r. Unit {0}) (does v NEWTRUE) (Push c 1 1)
+  unfolding does node_is kind_in
+  true_pushed = pushes NEWTRUE (BoolL true) 1 1 (λ s. refl) (λ p ws. refl) (omega arith) bool
     where
       bool : HoldsLinks 1 → ◌≡◌ {A = ℕ} 1 0
-      bool (aList e) = absurd (omega arith)
-      bool (aTuple e) = absurd (omega arith)
-      bool (aDict e) = absurd (omega arith)
+      bool (a_list e) = absurd (omega arith)
+      bool (a_tuple e) = absurd (omega arith)
+      bool (a_dict e) = absurd (omega arith)
 
-  pub false-pushed : Decides c (λ r. Unit {0}) (does v NEWFALSE) (Push c 1 0)
-  unfolding does nodeIs kindIn
-  false-pushed = pushes NEWFALSE (BoolL false) 1 0 (λ s. refl) (λ p ws. refl) (omega arith) (λ t. refl)
+  pub false_pushed : Decides c (λ r. Unit {0}) (does v NEWFALSE) (Push c 1 0)
+  unfolding does node_is kind_in
+  false_pushed = pushes NEWFALSE (BoolL false) 1 0 (λ s. refl) (λ p ws. refl) (omega arith) (λ t. refl)
 
   pub list_pushed : Decides c (λ r. Unit {0}) (does v EMPTY_LIST) (Push c 6 0)
-  unfolding does nodeIs kindIn
+  unfolding does node_is kind_in
   list_pushed = pushes EMPTY_LIST ListL 6 0 (λ s. refl) (λ p ws. refl) (omega arith) (λ t. refl)
 
-  pub tuple-pushed : Decides c (λ r. Unit {0}) (does v EMPTY_TUPLE) (Push c 7 0)
-  unfolding does nodeIs kindIn
-  tuple-pushed = pushes EMPTY_TUPLE TupleL 7 0 (λ s. refl) (λ p ws. refl) (omega arith) (λ t. refl)
+  pub tuple_pushed : Decides c (λ r. Unit {0}) (does v EMPTY_TUPLE) (Push c 7 0)
+  unfolding does node_is kind_in
+  tuple_pushed = pushes EMPTY_TUPLE TupleL 7 0 (λ s. refl) (λ p ws. refl) (omega arith) (λ t. refl)
 
-  pub dict-pushed : Decides c (λ r. Unit {0}) (does v EMPTY_DICT) (Push c 10 0)
-  unfolding does nodeIs kindIn
-  dict-pushed = pushes EMPTY_DICT DictL 10 0 (λ s. refl) (λ p ws. refl) (omega arith) (λ t. refl)
+  pub dict_pushed : Decides c (λ r. Unit {0}) (does v EMPTY_DICT) (Push c 10 0)
+  unfolding does node_is kind_in
+  dict_pushed = pushes EMPTY_DICT DictL 10 0 (λ s. refl) (λ p ws. refl) (omega arith) (λ t. refl)
 
 -- ---- TUPLE1 to TUPLE3, and what no arm takes
 
 module _ (p n d s m k h : List ℕ) (c : Counts) (ed : Edition) (l : c.at < length p) (free : Nothing ≡ against ed (get_or p c.at 0)) where
-  pub tuples : (e : Effect) → 133 ≤ get_or p c.at 0 → get_or p c.at 0 < 136 → Decides (c₁ p n d s m k h c) (λ r. Unit {0}) (λ t. going (tupleN (get_or p c.at 0 - 0x84) t)) e → Decides c (Agrees p n d s m k h) (step ed) e
-  unfolding does code_of number_in isNamed place
+  pub tuples : (e : Effect) → 133 ≤ get_or p c.at 0 → get_or p c.at 0 < 136 → Decides (c₁ p n d s m k h c) (λ r. Unit {0}) (λ t. going (tuple_n (get_or p c.at 0 - 0x84) t)) e → Decides c (Agrees p n d s m k h) (step ed) e
+  unfolding does code_of number_in is_named place
   tuples e a b t = go (get_or p c.at 0) refl
     where
       at : (o : Opcode) (i : ℕ) → get_or p c.at 0 ≡ i → i ≡ code_of o → Decides (c₁ p n d s m k h c) (λ r. Unit {0}) (does (highest ed) o) e → Decides c (Agrees p n d s m k h) (step ed) e
@@ -196,10 +196,10 @@ abbrev pub NoneOf : ℕ → Type 0 → List Opcode → Type 0
 NoneOf b A [] = A
 NoneOf b A (o ∷ t) = NoneOf b (A × (b ≡ code_of o → ⊥)) t
 
-none-at : (b : ℕ) (A : Type 0) (l : List Opcode) → NoneOf b A l → A × ((i : ℕ) → i < length l → b ≢ code_of (get_or l i MARK))
-none-at b A [] x = (x, λ i h. absurd (omega arith))
-none-at b A (o ∷ t) x =
-    let y = none-at b (A × (b ≡ code_of o → ⊥)) t x in
+none_at : (b : ℕ) (A : Type 0) (l : List Opcode) → NoneOf b A l → A × ((i : ℕ) → i < length l → b ≢ code_of (get_or l i MARK))
+none_at b A [] x = (x, λ i h. absurd (omega arith))
+none_at b A (o ∷ t) x =
+    let y = none_at b (A × (b ≡ code_of o → ⊥)) t x in
     (y.0.0, λ i h. go i h y.0.1 y.1)
   where
     go : (i : ℕ) → i < suc (length t) → (b ≡ code_of o → ⊥) → ((i : ℕ) → i < length t → b ≢ code_of (get_or t i MARK)) → b ≢ code_of (get_or (o ∷ t) i MARK)
@@ -208,10 +208,10 @@ none-at b A (o ∷ t) x =
 
 module _ (b : ℕ) (x : NoneOf b (Unit {0}) arms) (out : (133 ≤ b) → (b < 136) → ⊥) where
   nth : (i : ℕ) → i < 43 → b ≢ code_of (get_or arms i MARK)
-  nth i h = (none-at b (Unit {0}) arms x).1 i h
+  nth i h = (none_at b (Unit {0}) arms x).1 i h
 
   pub no_name : (o : Opcode) → b ≢ code_of o
-  unfolding code_of number_in isNamed place
+  unfolding code_of number_in is_named place
   no_name MARK = nth 0 (omega arith)
   no_name STOP = nth 1 (omega arith)
   no_name POP = nth 2 (omega arith)

@@ -1,10 +1,10 @@
 // The effects of the opcodes on the rooms (the second half of `Decoder`'s methods: push, push_id, put, extend): each tests the limits of
 // RULES A3.1, in the order of A4.4, and then writes only the rooms that it changes. On a refusal no room is changed.
 ghost use Rattle.std.specs.Prelude.{cond, ◌≡◌, ◌+◌, ◌-◌, ◌*◌, ◌^◌, ◌%◌, ◌<◌, ◌≤◌, length, get_or};
-ghost use Rattle.value.specs.Shape.{stateIn};
-ghost use Rattle.machine.specs.Done.{pushedTo};
+ghost use Rattle.value.specs.Shape.{state_in};
+ghost use Rattle.machine.specs.Done.{pushed_to};
 ghost use Rattle.machine.specs.Push.{PushNode, PushId, PutMark};
-ghost use Rattle.machine.specs.Links.{filledBy, Linkable, LinkAll};
+ghost use Rattle.machine.specs.Links.{filled_by, Linkable, LinkAll};
 ghost use Rattle.machine.specs.Containers.{Makeable, MakesNode, Extendable, Extends};
 ghost use Rattle.machine.specs.Memo.{Rememberable, Remembers};
 ghost use Rattle.machine.specs.Words.{Buildable, SetsState};
@@ -34,7 +34,7 @@ const MEMO: usize = 1024;
 // The counts with a value more on the stack.
 fn pushed(c: Counts, nodes: usize, links: usize) -> Counts
     requires { c.stack < 2048 }
-    ensures { result ≡ pushedTo c nodes links }
+    ensures { result ≡ pushed_to c nodes links }
 {
     let stack = c.stack + 1;
     Counts {
@@ -110,7 +110,7 @@ pub fn put_mark(marks: &mut [u16], c: Counts) -> Step
 // `owner` at the `n` places of the log from `links` on.
 fn fill_owners(owners: &mut [u16], links: usize, n: usize, owner: NodeId)
     requires { (links + n ≤ length owners.old) × (owner.0 < 65536) }
-    ensures { owners.new ≡ filledBy owners.old links (λ k. owner.0) n }
+    ensures { owners.new ≡ filled_by owners.old links (λ k. owner.0) n }
 {
     let id = owner.0 as u16;
     let mut i = 0;
@@ -124,7 +124,7 @@ fn fill_owners(owners: &mut [u16], links: usize, n: usize, owner: NodeId)
 // What stands on the stack from `from` on, at the `n` places of the log from `links` on.
 fn copy_children(children: &mut [u16], links: usize, n: usize, stack: &[u16], from: usize)
     requires { (links + n ≤ length children.old) × (from + n ≤ length stack.now) }
-    ensures { children.new ≡ filledBy children.old links (λ k. get_or stack.now (from + k) 0) n }
+    ensures { children.new ≡ filled_by children.old links (λ k. get_or stack.now (from + k) 0) n }
 {
     let mut i = 0;
     while i < n {
@@ -247,7 +247,7 @@ pub fn extend(
 // An Object's first word with the mark that it has a state.
 fn with_state(a: u64) -> u64
     requires { a < 0x100_0000 }
-    ensures { result ≡ cond (stateIn a) a (a + 32) }
+    ensures { result ≡ cond (state_in a) a (a + 32) }
 {
     if a / store::STATE % 2 == 1 {
         return a;

@@ -4,7 +4,7 @@ pub mod effects;
 
 ghost use Rattle.steps.specs.Run.{step};
 ghost use Rattle.store.specs.Effects.{SomeRooms, Decides, Lengths};
-ghost use Rattle.machine.specs.RoomsOf.{rooms_of, lent_of, lentRooms, Agrees};
+ghost use Rattle.machine.specs.RoomsOf.{rooms_of, lent_of, lent_rooms, Agrees};
 ghost use Rattle.machine.specs.Applied.{Fitting, Applies};
 ghost use Rattle.machine.specs.Ran.{SomeSound, StepTaken, Ran};
 
@@ -183,7 +183,7 @@ pub fn run(
     keys: &mut [u32],
     held: &mut [u16],
 ) -> Outcome
-    requires { Lengths (lentRooms pickle.now
+    requires { Lengths (lent_rooms pickle.now
         nodes.old owners.old children.old stack.old marks.old keys.old held.old) }
     ensures { Ran edition result pickle.now
         (rooms_of

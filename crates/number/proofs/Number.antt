@@ -13,8 +13,8 @@ use lib.ListN.{length, get_or, drop, drop_of_length-le}
 use lib.Seq.{drop-cons}
 use Rattle.refusal.specs.Read.{Read, got, refused}
 use Rattle.number.specs.Literal.{negated}
-use Rattle.number.specs.Number.{invalid, turned, only, digits, decimal, natural, plus, integer, inU32}
-use Rattle.input.specs.Long.{inI64, bits64}
+use Rattle.number.specs.Number.{invalid, turned, only, digits, decimal, natural, plus, integer, in_u32}
+use Rattle.input.specs.Long.{in_i64, bits64}
 
 -- what is read when digits that say n stand before s
 unfoldable pub after : ℕ → List ℕ → Read ℕ
@@ -33,9 +33,9 @@ module _ (n b : ℕ) (s : List ℕ) where
   unfolding after digits decimal
   after_more h l = simp (le-leb _ _ h, le-leb _ _ l, shift n (b - 0x30) (length s) (decimal s))
 
-  pub after-bad : (leb 0x30 b && leb b 0x39) ≡ false → after n (b ∷ s) ≡ invalid
+  pub after_bad : (leb 0x30 b && leb b 0x39) ≡ false → after n (b ∷ s) ≡ invalid
   unfolding after digits
-  after-bad h = rw h refl
+  after_bad h = rw h refl
 
 module _ (most n : ℕ) where
   -- digits only make a number larger
@@ -50,9 +50,9 @@ module _ (most n : ℕ) where
       go true = simp (lt-leb _ _ larger)
       go false = refl
 
-  pub after-end : n ≤ most → got n ≡ only (λ k. leb k most) (after n [])
+  pub after_end : n ≤ most → got n ≡ only (λ k. leb k most) (after n [])
   unfolding after only digits decimal
-  after-end h = simp (Nat.mul-one, Nat.add-zero, le-leb _ _ h)
+  after_end h = simp (Nat.mul-one, Nat.add-zero, le-leb _ _ h)
 
 pub only_same : {A : Type 0} (q p : A → Bool) → ((a : A) → q a ≡ p a) → (x : Read A) → only q x ≡ only p x
 unfolding only
@@ -73,18 +73,18 @@ only-turned f p q e (refused why at) = refl
 module _ (s : List ℕ) (i n most : ℕ) (h : i < length s) where
   pub turn_low : get_or s i 0 < 0x30 → invalid ≡ only (λ k. leb k most) (after n (drop i s))
   unfolding only invalid
-  turn_low l = rw (drop-cons s i 0 h, after-bad n (get_or s i 0) (drop (suc i) s) (simp (lt-leb _ _ l)))
+  turn_low l = rw (drop-cons s i 0 h, after_bad n (get_or s i 0) (drop (suc i) s) (simp (lt-leb _ _ l)))
 
-  pub turn-high : 0x39 < get_or s i 0 → invalid ≡ only (λ k. leb k most) (after n (drop i s))
+  pub turn_high : 0x39 < get_or s i 0 → invalid ≡ only (λ k. leb k most) (after n (drop i s))
   unfolding only invalid
-  turn-high l = rw (drop-cons s i 0 h, after-bad n (get_or s i 0) (drop (suc i) s) (simp (lt-leb _ _ l, and-false)))
+  turn_high l = rw (drop-cons s i 0 h, after_bad n (get_or s i 0) (drop (suc i) s) (simp (lt-leb _ _ l, and-false)))
 
   module _ (l : 0x30 ≤ get_or s i 0) (u : get_or s i 0 ≤ 0x39) where
     pub turn_more : only (λ k. leb k most) (after (n * 10 + (get_or s i 0 - 0x30)) (drop (i + 1) s)) ≡ only (λ k. leb k most) (after n (drop i s))
     turn_more = rw (add-one i, drop-cons s i 0 h, after_more n (get_or s i 0) (drop (suc i) s) l u)
 
-    pub turn-over : most < n * 10 + (get_or s i 0 - 0x30) → invalid ≡ only (λ k. leb k most) (after n (drop i s))
-    turn-over q = sym (after-over most _ q (drop (i + 1) s)) ∙ turn_more
+    pub turn_over : most < n * 10 + (get_or s i 0 - 0x30) → invalid ≡ only (λ k. leb k most) (after n (drop i s))
+    turn_over q = sym (after-over most _ q (drop (i + 1) s)) ∙ turn_more
 
 pub start_none : (s : List ℕ) (from most : ℕ) → length s ≤ from → invalid ≡ only (λ k. leb k most) (natural (drop from s))
 unfolding natural only invalid
@@ -93,62 +93,62 @@ start_none s from most h = rw (drop_of_length-le s h)
 pub start-some : (s : List ℕ) (from : ℕ) → from < length s → after 0 (drop from s) ≡ natural (drop from s)
 start-some s from h = rw (drop-cons s from 0 h) (natural-after _ _)
 
-pub end-some : (s : List ℕ) (i n most : ℕ) → length s ≤ i → n ≤ most → got n ≡ only (λ k. leb k most) (after n (drop i s))
-end-some s i n most h l = rw (drop_of_length-le s h) (after-end most n l)
+pub end_some : (s : List ℕ) (i n most : ℕ) → length s ≤ i → n ≤ most → got n ≡ only (λ k. leb k most) (after n (drop i s))
+end_some s i n most h l = rw (drop_of_length-le s h) (after_end most n l)
 
 -- the bounds as the code has them
-pub below-i64 : (n : ℕ) → leb n 0x7FFF_FFFF_FFFF_FFFF ≡ inI64 (pos n)
-unfolding inI64
-below-i64 n = sym (leb-suc-suc n 0x7FFF_FFFF_FFFF_FFFF)
+pub below_i64 : (n : ℕ) → leb n 0x7FFF_FFFF_FFFF_FFFF ≡ in_i64 (pos n)
+unfolding in_i64
+below_i64 n = sym (leb-suc-suc n 0x7FFF_FFFF_FFFF_FFFF)
 
-pub above-i64 : (n : ℕ) → leb n 0x8000_0000_0000_0000 ≡ inI64 (neg_ℤ (pos n))
-unfolding inI64
-above-i64 zero = refl
-above-i64 (suc n) = leb-suc-suc n 0x7FFF_FFFF_FFFF_FFFF ∙ sym (and-true _)
+pub above_i64 : (n : ℕ) → leb n 0x8000_0000_0000_0000 ≡ in_i64 (neg_ℤ (pos n))
+unfolding in_i64
+above_i64 zero = refl
+above_i64 (suc n) = leb-suc-suc n 0x7FFF_FFFF_FFFF_FFFF ∙ sym (and-true _)
 
-pub below-u32 : (n : ℕ) → leb n 0xFFFF_FFFF ≡ inU32 n
-unfolding inU32
-below-u32 n = sym (leb-suc-suc n 0xFFFF_FFFF)
+pub below_u32 : (n : ℕ) → leb n 0xFFFF_FFFF ≡ in_u32 n
+unfolding in_u32
+below_u32 n = sym (leb-suc-suc n 0xFFFF_FFFF)
 
-pub negated-zero : 0 ≡ negated 0
+pub negated_zero : 0 ≡ negated 0
 unfolding negated bits64
-negated-zero = refl
+negated_zero = refl
 
 pub negated-some : (n : ℕ) → (n ≡ 0 → ⊥) → 0xFFFF_FFFF_FFFF_FFFF - (n - 1) ≡ negated n
 unfolding negated bits64
 negated-some zero h = absurd (h refl)
 negated-some (suc n) h = omega arith
 
-pub plus-empty : (s : List ℕ) (p : ℕ → Bool) → length s ≡ 0 → invalid ≡ only p (plus s)
+pub plus_empty : (s : List ℕ) (p : ℕ → Bool) → length s ≡ 0 → invalid ≡ only p (plus s)
 unfolding plus only invalid
-plus-empty [] p e = refl
-plus-empty (b ∷ s) p e = absurd (Nat.suc-ne-zero _ e)
+plus_empty [] p e = refl
+plus_empty (b ∷ s) p e = absurd (Nat.suc-ne-zero _ e)
 
-pub integer_empty : (s : List ℕ) → length s ≡ 0 → invalid ≡ turned bits64 (only inI64 (integer s))
+pub integer_empty : (s : List ℕ) → length s ≡ 0 → invalid ≡ turned bits64 (only in_i64 (integer s))
 unfolding integer turned only invalid
 integer_empty [] e = refl
 integer_empty (b ∷ s) e = absurd (Nat.suc-ne-zero _ e)
 
 -- a text that is not empty, by its first byte
-pub plus-sign : (s : List ℕ) → (length s ≡ 0 → ⊥) → get_or s 0 0 ≡ 0x2B → natural (drop 1 s) ≡ plus s
+pub plus_sign : (s : List ℕ) → (length s ≡ 0 → ⊥) → get_or s 0 0 ≡ 0x2B → natural (drop 1 s) ≡ plus s
 unfolding plus
-plus-sign [] h e = absurd (h refl)
-plus-sign (b ∷ s) h e = simp (eq-eqb _ _ e)
+plus_sign [] h e = absurd (h refl)
+plus_sign (b ∷ s) h e = simp (eq-eqb _ _ e)
 
-pub plus-plain : (s : List ℕ) → (length s ≡ 0 → ⊥) → (get_or s 0 0 ≡ 0x2B → ⊥) → natural s ≡ plus s
+pub plus_plain : (s : List ℕ) → (length s ≡ 0 → ⊥) → (get_or s 0 0 ≡ 0x2B → ⊥) → natural s ≡ plus s
 unfolding plus
-plus-plain [] h e = absurd (h refl)
-plus-plain (b ∷ s) h e = simp (ne_eqb _ _ e)
+plus_plain [] h e = absurd (h refl)
+plus_plain (b ∷ s) h e = simp (ne_eqb _ _ e)
 
 pub integer-minus : (s : List ℕ) → (length s ≡ 0 → ⊥) → get_or s 0 0 ≡ 0x2D → turned (λ n. neg_ℤ (pos n)) (natural (drop 1 s)) ≡ integer s
 unfolding integer
 integer-minus [] h e = absurd (h refl)
 integer-minus (b ∷ s) h e = simp (eq-eqb _ _ e)
 
-pub integer-plain : (s : List ℕ) → (length s ≡ 0 → ⊥) → (get_or s 0 0 ≡ 0x2D → ⊥) → turned pos (plus s) ≡ integer s
+pub integer_plain : (s : List ℕ) → (length s ≡ 0 → ⊥) → (get_or s 0 0 ≡ 0x2D → ⊥) → turned pos (plus s) ≡ integer s
 unfolding integer
-integer-plain [] h e = absurd (h refl)
-integer-plain (b ∷ s) h e = simp (ne_eqb _ _ e)
+integer_plain [] h e = absurd (h refl)
+integer_plain (b ∷ s) h e = simp (ne_eqb _ _ e)
 
 turned-turned : {A B C : Type 0} (f : A → B) (g : B → C) (x : Read A) → turned g (turned f x) ≡ turned (λ a. g (f a)) x
 unfolding turned
@@ -156,6 +156,6 @@ turned-turned f g (got a) = refl
 turned-turned f g (refused why at) = refl
 
 -- the bits of a magnitude with its sign are those of the integer, within the same bounds
-pub signed-read : (f : ℕ → ℤ) (q : ℕ → Bool) → ((n : ℕ) → q n ≡ inI64 (f n)) → (x : Read ℕ) (m : Read ℕ) → m ≡ only q x
-    → (z : Read ℤ) → turned f x ≡ z → turned (λ n. bits64 (f n)) m ≡ turned bits64 (only inI64 z)
-signed-read f q e x m h z l = rw (h, ← l, ← only-turned f inI64 q e x, turned-turned f bits64 (only q x))
+pub signed-read : (f : ℕ → ℤ) (q : ℕ → Bool) → ((n : ℕ) → q n ≡ in_i64 (f n)) → (x : Read ℕ) (m : Read ℕ) → m ≡ only q x
+    → (z : Read ℤ) → turned f x ≡ z → turned (λ n. bits64 (f n)) m ≡ turned bits64 (only in_i64 z)
+signed-read f q e x m h z l = rw (h, ← l, ← only-turned f in_i64 q e x, turned-turned f bits64 (only q x))

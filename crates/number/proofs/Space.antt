@@ -11,9 +11,9 @@ use lib.Dec.{T, eqb, leb}
 use lib.ListN.{length, get_or, take, drop, length-drop, length-reverse, take-append-drop}
 use lib.Seq.{take-suc, take_all, drop-drop, get_or-drop, take-take, drop_at, length-take-le}
 use Rattle.utf8.specs.Utf8.{encode, trail}
-use Rattle.input.specs.Bytes.{lt-or-le}
-use Rattle.number.specs.Space.{whiteSpace, spaces, same, one_of, space, width, strip}
-use Rattle.number.specs.Trims.{and_parts, no-space, width-le, strip-more, strip-stop}
+use Rattle.input.specs.Bytes.{lt_or_le}
+use Rattle.number.specs.Space.{white_space, spaces, same, one_of, space, width, strip}
+use Rattle.number.specs.Trims.{and_parts, no_space, width_le, strip_more, strip-stop}
 
 -- a test at each number below n
 abbrev all : (ℕ → Bool) → ℕ → Bool
@@ -26,40 +26,40 @@ below p (suc n) t k h =
     let u : T (p n) × T (all p n) = and_parts (p n) (all p n) t in
     ⊎_elim (λ e. rw e u.0) (λ l. below p n u.1 k l) (eq-or-lt_of_le {n = k} {m = n} (omega arith))
 
-beq-eq : (x y : Bool) → T (beq x y) → x ≡ y
-beq-eq true true t = refl
-beq-eq true false t = absurd t
-beq-eq false true t = absurd t
-beq-eq false false t = refl
+beq_eq : (x y : Bool) → T (beq x y) → x ≡ y
+beq_eq true true t = refl
+beq_eq true false t = absurd t
+beq_eq false true t = absurd t
+beq_eq false false t = refl
 
 -- the table of White_Space at bytes that are not all known
 unfoldable spelt : Unit {0}
-unfolding whiteSpace spaces same one_of space encode trail
+unfolding white_space spaces same one_of space encode trail
 spelt = tt
 
-pub one-is : (a : ℕ) → a < 256 → space (a ∷ []) ≡ (eqb a 0x20 || (leb 0x09 a && leb a 0x0D))
+pub one_is : (a : ℕ) → a < 256 → space (a ∷ []) ≡ (eqb a 0x20 || (leb 0x09 a && leb a 0x0D))
 unfolding spelt
-one-is a h = beq-eq _ _ (below (λ a. beq (space (a ∷ [])) (eqb a 0x20 || (leb 0x09 a && leb a 0x0D))) 256 tt a h)
+one_is a h = beq_eq _ _ (below (λ a. beq (space (a ∷ [])) (eqb a 0x20 || (leb 0x09 a && leb a 0x0D))) 256 tt a h)
 
-pub general-is : (c : ℕ) → c < 256 → space (0xE2 ∷ 0x80 ∷ c ∷ []) ≡ ((leb 0x80 c && leb c 0x8A) || (eqb c 0xA8 || (eqb c 0xA9 || eqb c 0xAF)))
+pub general_is : (c : ℕ) → c < 256 → space (0xE2 ∷ 0x80 ∷ c ∷ []) ≡ ((leb 0x80 c && leb c 0x8A) || (eqb c 0xA8 || (eqb c 0xA9 || eqb c 0xAF)))
 unfolding spelt
-general-is c h =
-    beq-eq _ _
+general_is c h =
+    beq_eq _ _
     (below (λ c. beq (space (0xE2 ∷ 0x80 ∷ c ∷ [])) ((leb 0x80 c && leb c 0x8A) || (eqb c 0xA8 || (eqb c 0xA9 || eqb c 0xAF)))) 256 tt c h)
 
 module _ (a b : ℕ) where
-  pub two-lead : (a ≡ 0xC2 → ⊥) → false ≡ space (a ∷ b ∷ [])
+  pub two_lead : (a ≡ 0xC2 → ⊥) → false ≡ space (a ∷ b ∷ [])
   unfolding spelt
-  two-lead h = simp (ne_eqb a 0xC2 h, and-false)
+  two_lead h = simp (ne_eqb a 0xC2 h, and-false)
 
   pub two_is : a ≡ 0xC2 → space (a ∷ b ∷ []) ≡ (eqb b 0x85 || eqb b 0xA0)
   unfolding spelt
   two_is e = rw e (simp (and-true, or-false))
 
 module _ (a b c : ℕ) where
-  pub three-e2 : a ≡ 0xE2 → (b ≡ 0x80 → ⊥) → space (a ∷ b ∷ c ∷ []) ≡ (eqb b 0x81 && eqb c 0x9F)
+  pub three_e2 : a ≡ 0xE2 → (b ≡ 0x80 → ⊥) → space (a ∷ b ∷ c ∷ []) ≡ (eqb b 0x81 && eqb c 0x9F)
   unfolding spelt
-  three-e2 e h = rw e (simp (ne_eqb b 0x80 h, and-true, or-false))
+  three_e2 e h = rw e (simp (ne_eqb b 0x80 h, and-true, or-false))
 
   pub three-rest : (a ≡ 0xE2 → ⊥) → space (a ∷ b ∷ c ∷ []) ≡ ((eqb a 0xE1 && (eqb b 0x9A && eqb c 0x80)) || (eqb a 0xE3 && (eqb b 0x80 && eqb c 0x80)))
   unfolding spelt
@@ -70,12 +70,12 @@ abbrev pub firsts : (ℕ → ℕ) → ℕ → List ℕ
 firsts byte zero = []
 firsts byte (suc k) = byte 0 ∷ firsts (λ j. byte (suc j)) k
 
-firsts-is : (s : List ℕ) (byte : ℕ → ℕ) (k : ℕ) → k ≤ length s → ((j : ℕ) → j < k → get_or s j 0 ≡ byte j) → take k s ≡ firsts byte k
-firsts-is s byte zero h e = refl
-firsts-is [] byte (suc k) h e = absurd (not-suc-le-zero h)
-firsts-is (a ∷ s) byte (suc k) h e =
+firsts_is : (s : List ℕ) (byte : ℕ → ℕ) (k : ℕ) → k ≤ length s → ((j : ℕ) → j < k → get_or s j 0 ≡ byte j) → take k s ≡ firsts byte k
+firsts_is s byte zero h e = refl
+firsts_is [] byte (suc k) h e = absurd (not-suc-le-zero h)
+firsts_is (a ∷ s) byte (suc k) h e =
     let p : a ≡ byte 0 = e 0 (omega arith) in
-    let q : take k s ≡ firsts (λ j. byte (suc j)) k = firsts-is s (λ j. byte (suc j)) k (omega arith) (λ j l. e (suc j) (omega arith)) in
+    let q : take k s ≡ firsts (λ j. byte (suc j)) k = firsts_is s (λ j. byte (suc j)) k (omega arith) (λ j l. e (suc j) (omega arith)) in
     cc
 
 -- The n bytes of s, which `byte` numbers, are looked at one after the other: so far k, and none of these beginnings is a form.
@@ -92,32 +92,32 @@ pub record Tested (read : List ℕ → List ℕ) (s : List ℕ) (n : ℕ) (byte 
 module _ {read : List ℕ → List ℕ} {s : List ℕ} {n : ℕ} {byte : ℕ → ℕ} where
   module _ {k : ℕ} (l : NoSpaceSoFar read s n byte k) where
     pub tested : {r : Bool} → suc k ≤ n → r ≡ space (read (firsts byte (suc k))) → Tested read s n byte k r
-    tested h e = record { looked = l; is = rw (firsts-is s byte (suc k) (omega (arith, l.long)) (λ j g. l.is j (omega arith))) e }
+    tested h e = record { looked = l; is = rw (firsts_is s byte (suc k) (omega (arith, l.long)) (λ j g. l.is j (omega arith))) e }
 
     -- no byte is left
-    pub no-space-out : n < suc k → 0 ≡ width read s
+    pub no_space_out : n < suc k → 0 ≡ width read s
     unfolding width
-    no-space-out h = simp (no 1, no 2, no 3)
+    no_space_out h = simp (no 1, no 2, no 3)
       where
         no : (j : ℕ) → space (read (take j s)) ≡ false
-        no j = ⊎_elim (l.none j) (λ g. rw (take_all j s (omega (arith, l.long)), ← take_all k s (omega (arith, l.long))) (l.none k (omega arith))) (lt-or-le j (suc k))
+        no j = ⊎_elim (l.none j) (λ g. rw (take_all j s (omega (arith, l.long)), ← take_all k s (omega (arith, l.long))) (l.none k (omega arith))) (lt_or_le j (suc k))
 
   -- three bytes were looked at, and no form has more
-  pub no-space-all : NoSpaceSoFar read s n byte 3 → 0 ≡ width read s
+  pub no_space-all : NoSpaceSoFar read s n byte 3 → 0 ≡ width read s
   unfolding width
-  no-space-all l = simp (l.none 1 (omega arith), l.none 2 (omega arith), l.none 3 (omega arith))
+  no_space-all l = simp (l.none 1 (omega arith), l.none 2 (omega arith), l.none 3 (omega arith))
 
   module _ {k : ℕ} {r : Bool} (a : Tested read s n byte k r) where
-    pub tested-no : r ≡ false → NoSpaceSoFar read s n byte (suc k)
-    tested-no f = record {
+    pub tested_no : r ≡ false → NoSpaceSoFar read s n byte (suc k)
+    tested_no f = record {
       long = a.looked.long;
       is = a.looked.is;
-      none = λ j g. ⊎_elim (a.looked.none j) (λ m. let q : j ≡ suc k = omega arith in rw q (sym a.is ∙ f)) (lt-or-le j (suc k));
+      none = λ j g. ⊎_elim (a.looked.none j) (λ m. let q : j ≡ suc k = omega arith in rw q (sym a.is ∙ f)) (lt_or_le j (suc k));
     }
 
-    pub tested-yes : k < 3 → r ≡ true → suc k ≡ width read s
+    pub tested_yes : k < 3 → r ≡ true → suc k ≡ width read s
     unfolding width
-    tested-yes h t = go k h a.looked.none (sym a.is ∙ t)
+    tested_yes h t = go k h a.looked.none (sym a.is ∙ t)
       where
         go : (k : ℕ) → k < 3 → ((j : ℕ) → j < suc k → space (read (take j s)) ≡ false) → space (read (take (suc k) s)) ≡ true → suc k ≡ width read s
         go zero h f t = simp t
@@ -127,25 +127,25 @@ module _ {read : List ℕ → List ℕ} {s : List ℕ} {n : ℕ} {byte : ℕ →
 
 -- before the first byte: what is left of s from a place on, and a beginning of s from its end on
 no_byte : (read : List ℕ → List ℕ) (s : List ℕ) → read [] ≡ [] → (j : ℕ) → j < 1 → space (read (take j s)) ≡ false
-no_byte read s e j h = let z : j ≡ 0 = omega arith in rw (z, e) no-space
+no_byte read s e j h = let z : j ≡ 0 = omega arith in rw (z, e) no_space
 
 -- the place i + j as the code has it
-abbrev place-on : ℕ → ℕ → ℕ
-place-on i zero = i
-place-on i (suc j) = i + suc j
+abbrev place_on : ℕ → ℕ → ℕ
+place_on i zero = i
+place_on i (suc j) = i + suc j
 
-place-on-is : (i j : ℕ) → i + j ≡ place-on i j
-place-on-is i zero = omega arith
-place-on-is i (suc j) = refl
+place_on_is : (i j : ℕ) → i + j ≡ place_on i j
+place_on_is i zero = omega arith
+place_on_is i (suc j) = refl
 
 module _ (s : List ℕ) (i : ℕ) where
   abbrev pub Ahead : ℕ → Bool → Type 0
-  Ahead = Tested (λ p. p) (drop i s) (length s - i) (λ j. get_or s (place-on i j) 0)
+  Ahead = Tested (λ p. p) (drop i s) (length s - i) (λ j. get_or s (place_on i j) 0)
 
-  pub ahead : NoSpaceSoFar (λ p. p) (drop i s) (length s - i) (λ j. get_or s (place-on i j) 0) 0
+  pub ahead : NoSpaceSoFar (λ p. p) (drop i s) (length s - i) (λ j. get_or s (place_on i j) 0) 0
   ahead = record {
     long = length-drop i s;
-    is = λ j h. get_or-drop i s j 0 ∙ rw (place-on-is i j);
+    is = λ j h. get_or-drop i s j 0 ∙ rw (place_on_is i j);
     none = no_byte (λ p. p) (drop i s) refl;
   }
 
@@ -174,11 +174,11 @@ module _ (s : List ℕ) (e : ℕ) where
 
 -- a turn of `trim_start`'s loop
 module _ (s : List ℕ) (i k : ℕ) (w : k ≡ width (λ p. p) (drop i s)) where
-  pub start-in : i ≤ length s → i + k ≤ length s
-  start-in h = omega (arith, width-le (λ p. p) no-space (drop i s), length-drop i s)
+  pub start_in : i ≤ length s → i + k ≤ length s
+  start_in h = omega (arith, width_le (λ p. p) no_space (drop i s), length-drop i s)
 
-  pub start-more : 0 < k → strip (λ p. p) 0 (drop (i + k) s) ≡ strip (λ p. p) 0 (drop i s)
-  start-more h = rw (← drop-drop k i s) (strip-more (λ p. p) (drop i s) k w h)
+  pub start_more : 0 < k → strip (λ p. p) 0 (drop (i + k) s) ≡ strip (λ p. p) 0 (drop i s)
+  start_more h = rw (← drop-drop k i s) (strip_more (λ p. p) (drop i s) k w h)
 
   pub start-stop : k ≡ 0 → take (length s - i) (drop i s) ≡ strip (λ p. p) 0 (drop i s)
   start-stop z =
@@ -187,11 +187,11 @@ module _ (s : List ℕ) (i k : ℕ) (w : k ≡ width (λ p. p) (drop i s)) where
 
 -- a turn of `trim_end`'s loop
 module _ (s : List ℕ) (e k : ℕ) (w : k ≡ width reverse (reverse (take e s))) (h : e ≤ length s) where
-  pub end-in : k ≤ e
-  end-in = omega (arith, width-le reverse no-space (reverse (take e s)), length-reverse (take e s), length-take-le e s h)
+  pub end_in : k ≤ e
+  end_in = omega (arith, width_le reverse no_space (reverse (take e s)), length-reverse (take e s), length-take-le e s h)
 
   pub end_more : 0 < k → strip reverse 0 (reverse (take (e - k) s)) ≡ strip reverse 0 (reverse (take e s))
-  end_more p = rw (drop-reverse s e k h end-in) (strip-more reverse (reverse (take e s)) k w p)
+  end_more p = rw (drop-reverse s e k h end_in) (strip_more reverse (reverse (take e s)) k w p)
 
-  pub end-stop : k ≡ 0 → take e s ≡ reverse (strip reverse 0 (reverse (take e s)))
-  end-stop z = rw (strip-stop reverse (reverse (take e s)) (sym z ∙ w)) (sym (reverse-reverse (take e s)))
+  pub end_stop : k ≡ 0 → take e s ≡ reverse (strip reverse 0 (reverse (take e s)))
+  end_stop z = rw (strip-stop reverse (reverse (take e s)) (sym z ∙ w)) (sym (reverse-reverse (take e s)))

@@ -13,36 +13,36 @@ use Rattle.number.specs.Number.{Int, truth, whole, invalid}
 use Rattle.input.specs.Long.{bits64}
 
 -- a number without its sign
-unfoldable pub magnitudeRead : Magnitude → Read ℕ
-magnitudeRead (MAG.Value n) = got n
-magnitudeRead MAG.Invalid = invalid
+unfoldable pub magnitude_read : Magnitude → Read ℕ
+magnitude_read (MAG.Value n) = got n
+magnitude_read MAG.Invalid = invalid
 
 -- the bits of -n
 unfoldable pub negated : ℕ → ℕ
 negated n = bits64 (neg_ℤ (pos n))
 
 -- the bits of an i64
-unfoldable pub i64Read : I64Literal → Read ℕ
-i64Read (I64.Value bits) = got bits
-i64Read I64.Invalid = invalid
+unfoldable pub i64_read : I64Literal → Read ℕ
+i64_read (I64.Value bits) = got bits
+i64_read I64.Invalid = invalid
 
 -- a memo number
-unfoldable pub u32Read : U32Literal → Read ℕ
-u32Read (U32.Value n) = got n
-u32Read U32.Invalid = invalid
+unfoldable pub u32_read : U32Literal → Read ℕ
+u32_read (U32.Value n) = got n
+u32_read U32.Invalid = invalid
 
 -- what INT puts on the stack: a Bool, or the bits of an I64
 pub data IntBits : Type 0 where
-  truthBits : Bool → IntBits
-  wholeBits : ℕ → IntBits
+  truth_bits : Bool → IntBits
+  whole_bits : ℕ → IntBits
 
 -- an INT's value with its integer as bits
-unfoldable pub intBits : Int → IntBits
-intBits (truth b) = truthBits b
-intBits (whole z) = wholeBits (bits64 z)
+unfoldable pub int_bits : Int → IntBits
+int_bits (truth b) = truth_bits b
+int_bits (whole z) = whole_bits (bits64 z)
 
 -- INT's answer
-unfoldable pub intRead : IntLiteral → Read IntBits
-intRead (INT.Bool b) = got (truthBits b)
-intRead (INT.I64 bits) = got (wholeBits bits)
-intRead INT.Invalid = invalid
+unfoldable pub int_read : IntLiteral → Read IntBits
+int_read (INT.Bool b) = got (truth_bits b)
+int_read (INT.I64 bits) = got (whole_bits bits)
+int_read INT.Invalid = invalid

@@ -2,7 +2,7 @@
 -- RULES A7.2 and A7.3.
 use Rattle.std.specs.Prelude.{ℕ, ◌+◌, ◌-◌, ◌*◌, ◌^◌, Bool, true, false, cond, ◌&&◌, List, [], ◌∷◌, leb, ltb, eqb, ℤ, pos, neg_ℤ, length, get_or, take}
 use Rattle.refusal.specs.declared.Refusal.TheVariants.{InvalidLiteral}
-use Rattle.input.specs.Long.{inI64}
+use Rattle.input.specs.Long.{in_i64}
 use Rattle.refusal.specs.Read.{Read, got, refused}
 use Rattle.utf8.specs.Utf8.{valid}
 use Rattle.number.specs.Space.{same, trimmed}
@@ -47,16 +47,16 @@ integer [] = invalid
 integer (b ∷ s) = cond (eqb b 0x2D) (turned (λ n. neg_ℤ (pos n)) (natural s)) (turned pos (plus (b ∷ s)))
 
 -- a u32
-unfoldable pub inU32 : ℕ → Bool
-inU32 n = ltb n (2 ^ 32)
+unfoldable pub in_u32 : ℕ → Bool
+in_u32 n = ltb n (2 ^ 32)
 
 -- de.rs, `parse::<i64>`: the line is UTF-8, and its text without White_Space at the ends is an i64
-unfoldable pub parseI64 : List ℕ → Read ℤ
-parseI64 line = cond (valid line) (only inI64 (integer (trimmed line))) invalid
+unfoldable pub parse_i64 : List ℕ → Read ℤ
+parse_i64 line = cond (valid line) (only in_i64 (integer (trimmed line))) invalid
 
 -- `parse::<u32>`, a memo number: the same, with a u32
-unfoldable pub parseU32 : List ℕ → Read ℕ
-parseU32 line = cond (valid line) (only inU32 (plus (trimmed line))) invalid
+unfoldable pub parse_u32 : List ℕ → Read ℕ
+parse_u32 line = cond (valid line) (only in_u32 (plus (trimmed line))) invalid
 
 -- what INT makes
 pub data Int : Type 0 where
@@ -64,15 +64,15 @@ pub data Int : Type 0 where
   whole : ℤ → Int
 
 -- INT: the raw lines `00` and `01` are false and true, before anything is trimmed; any other is an integer
-unfoldable pub intLiteral : List ℕ → Read Int
-intLiteral line =
+unfoldable pub int_literal : List ℕ → Read Int
+int_literal line =
     cond (same line (0x30 ∷ 0x30 ∷ [])) (got (truth false))
-    (cond (same line (0x30 ∷ 0x31 ∷ [])) (got (truth true)) (turned whole (parseI64 line)))
+    (cond (same line (0x30 ∷ 0x31 ∷ [])) (got (truth true)) (turned whole (parse_i64 line)))
 
 -- the bytes less one `L` that ends them
-unfoldable pub lessL : List ℕ → List ℕ
-lessL s = cond (eqb (get_or s (length s - 1) 0) 0x4C) (take (length s - 1) s) s
+unfoldable pub less_l : List ℕ → List ℕ
+less_l s = cond (eqb (get_or s (length s - 1) 0) 0x4C) (take (length s - 1) s) s
 
 -- LONG: an integer, with or without an `L` as the line's last byte
-unfoldable pub longLiteral : List ℕ → Read ℤ
-longLiteral line = parseI64 (lessL line)
+unfoldable pub long_literal : List ℕ → Read ℤ
+long_literal line = parse_i64 (less_l line)

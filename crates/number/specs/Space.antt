@@ -3,15 +3,15 @@ use Rattle.std.specs.Prelude.{ℕ, zero, suc, Bool, true, false, cond, ◌&&◌,
 use Rattle.utf8.specs.Utf8.{encode}
 
 -- PropList.txt: the 25 code points with the property White_Space
-unfoldable pub whiteSpace : List ℕ
-whiteSpace =
+unfoldable pub white_space : List ℕ
+white_space =
     0x9 ∷ 0xA ∷ 0xB ∷ 0xC ∷ 0xD ∷ 0x20 ∷ 0x85 ∷ 0xA0 ∷ 0x1680
     ∷ 0x2000 ∷ 0x2001 ∷ 0x2002 ∷ 0x2003 ∷ 0x2004 ∷ 0x2005 ∷ 0x2006 ∷ 0x2007 ∷ 0x2008 ∷ 0x2009 ∷ 0x200A
     ∷ 0x2028 ∷ 0x2029 ∷ 0x202F ∷ 0x205F ∷ 0x3000 ∷ []
 
 -- their UTF-8 forms
 unfoldable pub spaces : List (List ℕ)
-spaces = map encode whiteSpace
+spaces = map encode white_space
 
 -- two strings of bytes are the same
 unfoldable pub same : List ℕ → List ℕ → Bool
@@ -30,8 +30,8 @@ unfoldable pub space : List ℕ → Bool
 space s = one_of spaces s
 
 -- How many bytes the White_Space character has that s begins with; 0 if it begins with none. No form has more than three.
--- `read` puts the bytes in the order of the text. Bytes that are a form are a whole character of well-formed text, from whichever
--- end they are found, since the first byte of a sequence stands inside no other: `trimmed-characters`.
+-- `read` puts the bytes in the order of the text. Bytes that are a form are a whole character of well_formed_lem text, from whichever
+-- end they are found, since the first byte of a sequence stands inside no other: `trimmed_characters_lem`.
 unfoldable pub width : (List ℕ → List ℕ) → List ℕ → ℕ
 width read s =
     cond (space (read (take 1 s))) 1 (cond (space (read (take 2 s))) 2 (cond (space (read (take 3 s))) 3 0))
@@ -43,13 +43,13 @@ strip read zero (b ∷ s) = elim (width read (b ∷ s)) [ zero ↦ b ∷ s | suc
 strip read (suc n) (b ∷ s) = strip read n s
 
 -- the text without the White_Space at its start
-unfoldable pub trimStart : List ℕ → List ℕ
-trimStart s = strip (λ p. p) 0 s
+unfoldable pub trim_start : List ℕ → List ℕ
+trim_start s = strip (λ p. p) 0 s
 
 -- the text without the White_Space at its end: the same on the text reversed, whose characters are read backwards
-unfoldable pub trimEnd : List ℕ → List ℕ
-trimEnd s = reverse (strip reverse 0 (reverse s))
+unfoldable pub trim_end : List ℕ → List ℕ
+trim_end s = reverse (strip reverse 0 (reverse s))
 
 -- `str::trim`
 unfoldable pub trimmed : List ℕ → List ℕ
-trimmed s = trimEnd (trimStart s)
+trimmed s = trim_end (trim_start s)

@@ -1,9 +1,9 @@
 // de.rs's `parse` for integers, with what INT and LONG do to the line before it. No line is refused beforehand: each gets an answer.
 ghost use Rattle.std.specs.Prelude.{◌≡◌, [], ◌∷◌, reverse, ◌≤◌, leb, length, take, drop};
-ghost use Rattle.number.specs.Space.{same, space, width, trimStart, trimEnd, trimmed};
-ghost use Rattle.input.specs.Long.{inI64, bits64};
-ghost use Rattle.number.specs.Number.{turned, only, natural, plus, integer, parseI64, parseU32, intLiteral, longLiteral};
-ghost use Rattle.number.specs.Literal.{magnitudeRead, i64Read, u32Read, intBits, intRead, negated};
+ghost use Rattle.number.specs.Space.{same, space, width, trim_start, trim_end, trimmed};
+ghost use Rattle.input.specs.Long.{in_i64, bits64};
+ghost use Rattle.number.specs.Number.{turned, only, natural, plus, integer, parse_i64, parse_u32, int_literal, long_literal};
+ghost use Rattle.number.specs.Literal.{magnitude_read, i64_read, u32_read, int_bits, int_read, negated};
 
 // A number without its sign.
 #[derive(Drop)]
@@ -163,7 +163,7 @@ fn space_before(line: &[u8], end: usize) -> usize
 }
 
 fn trim_start(line: &[u8]) -> &[u8]
-    ensures { result.now ≡ trimStart line.now }
+    ensures { result.now ≡ trim_start line.now }
 {
     let mut i = 0;
     loop {
@@ -176,7 +176,7 @@ fn trim_start(line: &[u8]) -> &[u8]
 }
 
 fn trim_end(line: &[u8]) -> &[u8]
-    ensures { result.now ≡ trimEnd line.now }
+    ensures { result.now ≡ trim_end line.now }
 {
     let mut end = line.len();
     loop {
@@ -197,7 +197,7 @@ pub fn trim(line: &[u8]) -> &[u8]
 
 // The number that the digits from `from` on write, if it is at most `most`. Past that nothing is read: the answer is the same.
 fn natural(text: &[u8], from: usize, most: u64) -> Magnitude
-    ensures { magnitudeRead result ≡ only (λ n. leb n most) (natural (drop from text.now)) }
+    ensures { magnitude_read result ≡ only (λ n. leb n most) (natural (drop from text.now)) }
 {
     if text.len() <= from {
         return Magnitude::Invalid;
@@ -229,7 +229,7 @@ fn natural(text: &[u8], from: usize, most: u64) -> Magnitude
 
 // The same after an optional `+`.
 fn plus(text: &[u8], most: u64) -> Magnitude
-    ensures { magnitudeRead result ≡ only (λ n. leb n most) (plus text.now) }
+    ensures { magnitude_read result ≡ only (λ n. leb n most) (plus text.now) }
 {
     if text.len() == 0 {
         return Magnitude::Invalid;
@@ -252,7 +252,7 @@ fn negative(n: u64) -> u64
 
 // The i64 that a trimmed text writes.
 fn integer(text: &[u8]) -> I64Literal
-    ensures { i64Read result ≡ turned bits64 (only inI64 (integer text.now)) }
+    ensures { i64_read result ≡ turned bits64 (only in_i64 (integer text.now)) }
 {
     if text.len() == 0 {
         return I64Literal::Invalid;
@@ -271,7 +271,7 @@ fn integer(text: &[u8]) -> I64Literal
 
 // `parse::<i64>`, of any line.
 fn parse_i64(line: &[u8]) -> I64Literal
-    ensures { i64Read result ≡ turned bits64 (parseI64 line.now) }
+    ensures { i64_read result ≡ turned bits64 (parse_i64 line.now) }
 {
     if utf8::valid(line) {
         return integer(trim(line));
@@ -281,7 +281,7 @@ fn parse_i64(line: &[u8]) -> I64Literal
 
 // `parse::<u32>`, of any line: a memo number.
 pub fn parse_u32(line: &[u8]) -> U32Literal
-    ensures { u32Read result ≡ parseU32 line.now }
+    ensures { u32_read result ≡ parse_u32 line.now }
 {
     if utf8::valid(line) {
         return match plus(trim(line), 0xFFFF_FFFF) {
@@ -307,7 +307,7 @@ fn is_zero_and(line: &[u8], b: u8) -> bool
 
 // INT's line, which has lost its one CR but is not trimmed yet.
 pub fn int(line: &[u8]) -> IntLiteral
-    ensures { intRead result ≡ turned intBits (intLiteral line.now) }
+    ensures { int_read result ≡ turned int_bits (int_literal line.now) }
 {
     if is_zero_and(line, 0x30) {
         return IntLiteral::Bool(false);
@@ -323,7 +323,7 @@ pub fn int(line: &[u8]) -> IntLiteral
 
 // LONG's line, which may end in an `L`.
 pub fn long_text(line: &[u8]) -> I64Literal
-    ensures { i64Read result ≡ turned bits64 (longLiteral line.now) }
+    ensures { i64_read result ≡ turned bits64 (long_literal line.now) }
 {
     if line.len() == 0 {
         return parse_i64(line);

@@ -1,7 +1,7 @@
 -- The editions of the reader: which opcodes of the table each accepts, how it refuses the others, and the highest protocol that PROTO
 -- accepts. `Full` is the reader of RULES, part A, `Plain` the profile for plain data of Ask 7.
 use Rattle.std.specs.Prelude.{ℕ, Bool, false, cond, ◌||◌, List, [], ◌∷◌, ◌≡◌, refl, eqb}
-use Rattle.op.specs.Table.{code_of, number_in, isNamed, place}
+use Rattle.op.specs.Table.{code_of, number_in, is_named, place}
 use Rattle.op.specs.declared.Opcode.{Opcode}
 use Rattle.op.specs.declared.Opcode.TheVariants.{REDUCE, BUILD, GLOBAL, GET, PUT, NEWOBJ}
 use Rattle.op.specs.declared.Edition.{Edition}
@@ -24,17 +24,17 @@ highest Full = 2
 highest Plain = 2
 
 -- a byte is the number of one of these
-unfoldable pub isOneOf : List Opcode → ℕ → Bool
-isOneOf [] b = false
-isOneOf (o ∷ t) b = eqb b (code_of o) || isOneOf t b
+unfoldable pub is_one_of : List Opcode → ℕ → Bool
+is_one_of [] b = false
+is_one_of (o ∷ t) b = eqb b (code_of o) || is_one_of t b
 
 -- what the edition has against an opcode's byte
 unfoldable pub against : Edition → ℕ → Objection
-against e b = cond (isOneOf (outside e) b) Outside (cond (isOneOf (unknown e) b) Unknown Nothing)
+against e b = cond (is_one_of (outside e) b) Outside (cond (is_one_of (unknown e) b) Unknown Nothing)
 
 -- opens what examples compute with
 unfoldable pub evaluates : Unit {0}
-unfolding against outside unknown highest isOneOf code_of number_in isNamed place
+unfolding against outside unknown highest is_one_of code_of number_in is_named place
 evaluates = tt
 
 -- `c` is GLOBAL, `g` GET, `h` BINGET, `q` BINPUT; 0x82, EXT1, is no opcode, and so no edition's affair

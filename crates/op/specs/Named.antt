@@ -1,12 +1,12 @@
 -- A name's own number decides to it.
 use Rattle.std.proofs.Math.Option.{some}
 use Rattle.std.specs.Prelude.{◌≡◌, refl}
-use Rattle.op.specs.Table.{code_of, number_in, isNamed, place, opcode_of, knownName, row_of, row_in}
+use Rattle.op.specs.Table.{code_of, number_in, is_named, place, opcode_of, known_name, row_of, row_in}
 use Rattle.op.specs.declared.Opcode.{Opcode}
 use Rattle.op.specs.declared.Opcode.TheVariants.{MARK, STOP, POP, POP_MARK, DUP, FLOAT, INT, BININT, BININT1, LONG, BININT2, NONE, REDUCE, STRING, BINSTRING, SHORT_BINSTRING, UNICODE, BINUNICODE, APPEND, BUILD, GLOBAL, DICT, EMPTY_DICT, APPENDS, GET, BINGET, LONG_BINGET, LIST, EMPTY_LIST, PUT, BINPUT, LONG_BINPUT, SETITEM, TUPLE, EMPTY_TUPLE, SETITEMS, BINFLOAT, PROTO, NEWOBJ, TUPLE1, TUPLE2, TUPLE3, NEWTRUE, NEWFALSE, LONG1, LONG4}
 
 pub named : (o : Opcode) → opcode_of (code_of o) ≡ some o
-unfolding opcode_of knownName row_of row_in code_of number_in isNamed place
+unfolding opcode_of known_name row_of row_in code_of number_in is_named place
 named MARK = refl
 named STOP = refl
 named POP = refl

@@ -21,8 +21,8 @@ pub data Form : Type 0 where
 -- mark, the mark, and a number of values below it; a mark
 pub data Stack : Type 0 where
   values : ℕ → Stack
-  toMark : ℕ → Stack
-  aMark : Stack
+  to_mark : ℕ → Stack
+  a_mark : Stack
 
 pub record Row : Type 0 where
   pub name : Name
@@ -35,8 +35,8 @@ pub record Row : Type 0 where
 abbrev row : Name → ℕ → ℕ → Form → Stack → Stack → Row
 row n c p f t l = record { name = n; number = c; proto = p; form = f; takes = t; leaves = l }
 
-abbrev pub opcodeTable : List Row
-opcodeTable =
+abbrev pub opcode_table : List Row
+opcode_table =
     row (known INT) 0x49 0 decimalnl_short (values 0) (values 1)
     ∷ row (known BININT) 0x4A 1 int4 (values 0) (values 1)
     ∷ row (known BININT1) 0x4B 1 uint1 (values 0) (values 1)
@@ -56,21 +56,21 @@ opcodeTable =
     ∷ row (known BINFLOAT) 0x47 1 float8 (values 0) (values 1)
     ∷ row (known EMPTY_LIST) 0x5D 1 nothing (values 0) (values 1)
     ∷ row (known APPEND) 0x61 0 nothing (values 2) (values 1)
-    ∷ row (known APPENDS) 0x65 1 nothing (toMark 1) (values 1)
-    ∷ row (known LIST) 0x6C 0 nothing (toMark 0) (values 1)
+    ∷ row (known APPENDS) 0x65 1 nothing (to_mark 1) (values 1)
+    ∷ row (known LIST) 0x6C 0 nothing (to_mark 0) (values 1)
     ∷ row (known EMPTY_TUPLE) 0x29 1 nothing (values 0) (values 1)
-    ∷ row (known TUPLE) 0x74 0 nothing (toMark 0) (values 1)
+    ∷ row (known TUPLE) 0x74 0 nothing (to_mark 0) (values 1)
     ∷ row (known TUPLE1) 0x85 2 nothing (values 1) (values 1)
     ∷ row (known TUPLE2) 0x86 2 nothing (values 2) (values 1)
     ∷ row (known TUPLE3) 0x87 2 nothing (values 3) (values 1)
     ∷ row (known EMPTY_DICT) 0x7D 1 nothing (values 0) (values 1)
-    ∷ row (known DICT) 0x64 0 nothing (toMark 0) (values 1)
+    ∷ row (known DICT) 0x64 0 nothing (to_mark 0) (values 1)
     ∷ row (known SETITEM) 0x73 0 nothing (values 3) (values 1)
-    ∷ row (known SETITEMS) 0x75 1 nothing (toMark 1) (values 1)
+    ∷ row (known SETITEMS) 0x75 1 nothing (to_mark 1) (values 1)
     ∷ row (known POP) 0x30 0 nothing (values 1) (values 0)
     ∷ row (known DUP) 0x32 0 nothing (values 1) (values 2)
-    ∷ row (known MARK) 0x28 0 nothing (values 0) aMark
-    ∷ row (known POP_MARK) 0x31 1 nothing (toMark 0) (values 0)
+    ∷ row (known MARK) 0x28 0 nothing (values 0) a_mark
+    ∷ row (known POP_MARK) 0x31 1 nothing (to_mark 0) (values 0)
     ∷ row (known GET) 0x67 0 decimalnl_short (values 0) (values 1)
     ∷ row (known BINGET) 0x68 1 uint1 (values 0) (values 1)
     ∷ row (known LONG_BINGET) 0x6A 1 uint4 (values 0) (values 1)
@@ -83,8 +83,8 @@ opcodeTable =
     ∷ row (known GLOBAL) 0x63 0 stringnl_noescape_pair (values 0) (values 1)
     ∷ row (known REDUCE) 0x52 0 nothing (values 2) (values 1)
     ∷ row (known BUILD) 0x62 0 nothing (values 2) (values 1)
-    ∷ row (refused INST) 0x69 0 stringnl_noescape_pair (toMark 0) (values 1)
-    ∷ row (refused OBJ) 0x6F 1 nothing (toMark 0) (values 1)
+    ∷ row (refused INST) 0x69 0 stringnl_noescape_pair (to_mark 0) (values 1)
+    ∷ row (refused OBJ) 0x6F 1 nothing (to_mark 0) (values 1)
     ∷ row (known NEWOBJ) 0x81 2 nothing (values 2) (values 1)
     ∷ row (known PROTO) 0x80 2 uint1 (values 0) (values 0)
     ∷ row (known STOP) 0x2E 0 nothing (values 1) (values 0)
@@ -141,17 +141,17 @@ place NEWFALSE = 43
 place LONG1 = 44
 place LONG4 = 45
 
-unfoldable pub isNamed : Opcode → Name → Bool
-isNamed o (known p) = eqb (place o) (place p)
-isNamed o (refused r) = false
+unfoldable pub is_named : Opcode → Name → Bool
+is_named o (known p) = eqb (place o) (place p)
+is_named o (refused r) = false
 
 -- the number in the row of a name
 unfoldable pub number_in : List Row → Opcode → ℕ
 number_in [] o = 0
-number_in (r ∷ t) o = cond (isNamed o r.name) r.number (number_in t o)
+number_in (r ∷ t) o = cond (is_named o r.name) r.number (number_in t o)
 
 unfoldable pub code_of : Opcode → ℕ
-code_of o = number_in opcodeTable o
+code_of o = number_in opcode_table o
 
 -- the row of a number
 unfoldable pub row_in : List Row → ℕ → Option Row
@@ -159,30 +159,30 @@ row_in [] n = none
 row_in (r ∷ t) n = cond (eqb n r.number) (some r) (row_in t n)
 
 unfoldable pub row_of : ℕ → Option Row
-row_of n = row_in opcodeTable n
+row_of n = row_in opcode_table n
 
 -- ---- no number stands twice
 
-unfoldable pub standsIn : List Row → ℕ → Bool
-standsIn [] n = false
-standsIn (r ∷ t) n = eqb n r.number || standsIn t n
+unfoldable pub stands_in : List Row → ℕ → Bool
+stands_in [] n = false
+stands_in (r ∷ t) n = eqb n r.number || stands_in t n
 
 unfoldable pub different : List Row → Bool
 different [] = true
-different (r ∷ t) = not (standsIn t r.number) && different t
+different (r ∷ t) = not (stands_in t r.number) && different t
 
-pub no-number-twice : T (different opcodeTable)
-unfolding different standsIn
-no-number-twice = tt
+pub no_number_twice : T (different opcode_table)
+unfolding different stands_in
+no_number_twice = tt
 
 -- ---- the decision over the opcode byte: the name, where the Rust knows the number
 
-unfoldable pub knownName : Option Row → Option Opcode
-knownName none = none
-knownName (some r) = elim r.name [ known o ↦ some o | refused x ↦ none ]
+unfoldable pub known_name : Option Row → Option Opcode
+known_name none = none
+known_name (some r) = elim r.name [ known o ↦ some o | refused x ↦ none ]
 
 unfoldable pub opcode_of : ℕ → Option Opcode
-opcode_of n = knownName (row_of n)
+opcode_of n = known_name (row_of n)
 
 -- ---- each row decides to its own name, a refused one to none, and a name has one row
 
@@ -200,6 +200,6 @@ unfoldable pub decides : List Row → Bool
 decides [] = true
 decides (r ∷ t) = agrees (opcode_of r.number) r.name && (numbered r.name r.number && decides t)
 
-pub each-row-decides : T (decides opcodeTable)
-unfolding decides agrees numbered opcode_of knownName row_of row_in code_of number_in isNamed place
-each-row-decides = tt
+pub each_row_decides : T (decides opcode_table)
+unfolding decides agrees numbered opcode_of known_name row_of row_in code_of number_in is_named place
+each_row_decides = tt

@@ -1,11 +1,11 @@
 -- Where the machine accepts an opcode, values of the kinds that its row of StackWords.antt names stand on the stack before it, and on it
--- behind it. How many are taken and left, and which nodes, is said by `does-fits` of steps: the two belong together.
+-- behind it. How many are taken and left, and which nodes, is said by `does_fits` of steps: the two belong together.
 use Rattle.std.specs.Prelude.{ℕ, suc, ◌+◌, ◌-◌, ◌<◌, ◌≤◌, Bool, true, false, cond, ◌&&◌, ◌||◌, List, [], ◌∷◌, ◌++◌, ◌≡◌, refl, length, get_or, take, drop, set, T, leb}
 use Rattle.std.proofs.Math.Option.{Option, none, some}
 use Rattle.std.proofs.Common.{ap, ◌∙◌, length-append, length-take, get_or-set_same, get_or-take, leb→le, ltb→lt, arith, eqb-true}
 use Rattle.std.proofs.Math.Seq.{get_or-append_seam}
 use Rattle.refusal.specs.declared.Refusal.{Refusal}
-use Rattle.op.specs.Table.{known, Form, uint1, uint4, values, place, isNamed, code_of, opcode_of}
+use Rattle.op.specs.Table.{known, Form, uint1, uint4, values, place, is_named, code_of, opcode_of}
 use Rattle.op.specs.Edition.{against, highest}
 use Rattle.op.specs.declared.Opcode.{Opcode}
 use Rattle.op.specs.declared.Opcode.TheVariants.{MARK, STOP, POP, POP_MARK, DUP, FLOAT, INT, BININT, BININT1, LONG, BININT2, NONE, REDUCE, STRING, BINSTRING, SHORT_BINSTRING, UNICODE, BINUNICODE, APPEND, BUILD, GLOBAL, DICT, EMPTY_DICT, APPENDS, GET, BINGET, LONG_BINGET, LIST, EMPTY_LIST, PUT, BINPUT, LONG_BINPUT, SETITEM, TUPLE, EMPTY_TUPLE, SETITEMS, BINFLOAT, PROTO, NEWOBJ, TUPLE1, TUPLE2, TUPLE3, NEWTRUE, NEWFALSE, LONG1, LONG4}
@@ -14,22 +14,22 @@ use Rattle.number.specs.Number.{Int, truth, whole}
 use Rattle.number.specs.Space.{same}
 use Rattle.value.specs.Value.{Label, NoneL, BoolL, I64L, F64L, BytesL, StringL, ListL, TupleL, SetL, FrozenSetL, DictL, GlobalL, ObjectL}
 use Rattle.value.specs.Shape.{and_l, and_r}
-use Rattle.steps.specs.State.{Node, State, Res, ok, no, ◌>>=◌, kidless, withInput, withStack, withMarks, last, butLast, pop, top, popMark, popMany, pushId, pushNode, push, link, nodeAt, extend, get, put}
-use Rattle.steps.specs.Opcodes.{class_of, proto, mark, popOne, popToMark, dup, intLabel, int, binint, binint1, binint2, long, longN, float, binfloat, string, binstring, shortBinstring, unicode, binunicode, global, made, list, tuple, tupleN, dict, addItems, append, appends, setitem, setitems, getLine, getBytes, putLine, putBytes, builtin, set_name, frozensetName, object, setOf, reduced, called, reduce, newobj, buildState}
+use Rattle.steps.specs.State.{Node, State, Res, ok, no, ◌>>=◌, kidless, with_input, with_stack, with_marks, last, but_last, pop, top, pop_mark, pop_many, push_id, push_node, push, link, node_by, extend, get, put}
+use Rattle.steps.specs.Opcodes.{class_of, proto, mark, pop_one, pop_to_mark, dup, int_label, int, binint, binint1, binint2, long, long_n, float, binfloat, string, binstring, short_binstring, unicode, binunicode, global, made, list, tuple, tuple_n, dict, add_items, append, appends, setitem, setitems, get_line, get_bytes, put_line, put_bytes, builtin, set_name, frozenset_name, object, set_of, reduced, called, reduce, newobj, build_state}
 use Rattle.steps.specs.Run.{Next, stops, going, does, decide, step}
-use Rattle.steps.specs.Out.{Out, out, weaken, both_out, bind, bind-any, bind-need, join-need}
-use Rattle.steps.specs.Effect.{labelled, values-count}
-use Rattle.steps.specs.Arguments.{argumentLength, byte-read, Claim, putLine-claim, putBytes-claim}
-use Rattle.steps.specs.Pickletools.{decided-own, byte-leads, admit-out}
-use Rattle.steps.specs.Keeps.{stateAfter}
-use Rattle.opcode_kinds.specs.StackWords.{Word, any, None, bool as aBool, int as an_int, int_or_bool, float as aFloat, bytes_or_str, str, list as aList, tuple as aTuple, dict as aDict, a_global, anObject, setOrObject, allows, Kinds, topmost, belowMark, markOnly, KindRow, pickletools, exceptions, kindsIn, kindsOf, isAny, allAny, says, saysRow, sayMore, exceptions-say-more}
+use Rattle.steps.specs.Out.{Out, out, weaken, both_out, bind, bind_any, bind_need, join-need}
+use Rattle.steps.specs.Effect.{labelled, values_count}
+use Rattle.steps.specs.Arguments.{argument_length, byte-read, Claim, put_line_claim, put_bytes_claim}
+use Rattle.steps.specs.Pickletools.{decided_own, byte-leads, admit_out}
+use Rattle.steps.specs.Keeps.{state_after}
+use Rattle.opcode_kinds.specs.StackWords.{Word, any, None, bool as aBool, int as an_int, int_or_bool, float as a_float, bytes_or_str, str, list as a_list, tuple as a_tuple, dict as a_dict, a_global, an_object, set_or_object, allows, Kinds, topmost, below_mark, mark_only, KindRow, pickletools, exceptions, kinds_in, kinds_of, is_any, all_any, says, says_row, say_more, exceptions-say_more}
 
 -- ---- values by their words
 
 -- the values from place k of the stack on
 unfoldable pub EachAllowed : List Word → ℕ → State → Type 0
 EachAllowed [] k s = Unit {0}
-EachAllowed (w ∷ ws) k s = T (allows w (nodeAt s (get_or s.stack k 0)).label) × EachAllowed ws (suc k) s
+EachAllowed (w ∷ ws) k s = T (allows w (node_by s (get_or s.stack k 0)).label) × EachAllowed ws (suc k) s
 
 -- the values that end at place e
 pub record EndAt (ws : List Word) (e : ℕ) (s : State) : Type 0 where
@@ -40,8 +40,8 @@ pub record EndAt (ws : List Word) (e : ℕ) (s : State) : Type 0 where
 
 unfoldable pub Stocked : Kinds → State → Type 0
 Stocked (topmost ws) s = EndAt ws (length s.stack) s
-Stocked (belowMark ws) s = (0 < length s.marks) × EndAt ws (last s.marks) s
-Stocked markOnly s = 0 < length s.marks
+Stocked (below_mark ws) s = (0 < length s.marks) × EndAt ws (last s.marks) s
+Stocked mark_only s = 0 < length s.marks
 
 -- from s to t: taken from s, left on t
 unfoldable pub TakenAndLeft : Kinds → Kinds → State → State → Type 0
@@ -53,26 +53,26 @@ nothing_ends : (e : ℕ) (s : State) → e ≤ length s.stack → EndAt [] e s
 unfolding EachAllowed
 nothing_ends e s h = record { start = e; reaches = omega arith; inside = h; each = tt }
 
-nothing-stands : (s : State) → Stocked (topmost []) s
+nothing_stands : (s : State) → Stocked (topmost []) s
 unfolding Stocked
-nothing-stands s = nothing_ends (length s.stack) s (omega arith)
+nothing_stands s = nothing_ends (length s.stack) s (omega arith)
 
 -- the top by itself
-top-stands : (w : Word) (s : State) → 0 < length s.stack → T (allows w (nodeAt s (last s.stack)).label) → Stocked (topmost (w ∷ [])) s
+top_stands : (w : Word) (s : State) → 0 < length s.stack → T (allows w (node_by s (last s.stack)).label) → Stocked (topmost (w ∷ [])) s
 unfolding Stocked EachAllowed
-top-stands w s h a = record { start = length s.stack - 1; reaches = omega arith; inside = omega arith; each = (a, tt) }
+top_stands w s h a = record { start = length s.stack - 1; reaches = omega arith; inside = omega arith; each = (a, tt) }
 
-any-stands : (s : State) → 0 < length s.stack → Stocked (topmost (any ∷ [])) s
+any_stands : (s : State) → 0 < length s.stack → Stocked (topmost (any ∷ [])) s
 unfolding allows
-any-stands s h = top-stands any s h tt
+any_stands s h = top_stands any s h tt
 
 -- one value more, above the others
-each_more : (ws : List Word) (w : Word) (k : ℕ) (s : State) → EachAllowed ws k s → T (allows w (nodeAt s (get_or s.stack (k + length ws) 0)).label) → EachAllowed (ws ++ (w ∷ [])) k s
+each_more : (ws : List Word) (w : Word) (k : ℕ) (s : State) → EachAllowed ws k s → T (allows w (node_by s (get_or s.stack (k + length ws) 0)).label) → EachAllowed (ws ++ (w ∷ [])) k s
 unfolding EachAllowed
 each_more [] w k s h a = let e : k + 0 ≡ k = omega arith in (rw e at a, tt)
 each_more (v ∷ ws) w k s h a = let e : k + suc (length ws) ≡ suc k + length ws = omega arith in (h.0, each_more ws w (suc k) s h.1 (rw e at a))
 
-ends_more : (ws : List Word) (w : Word) (e : ℕ) (s : State) → EndAt ws e s → e < length s.stack → T (allows w (nodeAt s (get_or s.stack e 0)).label) → EndAt (ws ++ (w ∷ [])) (suc e) s
+ends_more : (ws : List Word) (w : Word) (e : ℕ) (s : State) → EndAt ws e s → e < length s.stack → T (allows w (node_by s (get_or s.stack e 0)).label) → EndAt (ws ++ (w ∷ [])) (suc e) s
 ends_more ws w e s h u a =
     let r = h.reaches in
     record { start = h.start; reaches = rw length-append (omega arith); inside = u; each = each_more ws w h.start s h.each (rw r a) }
@@ -85,9 +85,9 @@ each-less (w ∷ ws) n k s t e f h a =
     let l : k < n = omega arith in
     (rw (e, f, get_or-take n s.stack k 0 l) at a.0, each-less ws n (suc k) s t e f (omega arith) a.1)
 
-ends-less : (ws : List Word) (n : ℕ) (s t : State) → t.nodes ≡ s.nodes → t.stack ≡ take n s.stack → n ≤ length s.stack → Stocked (topmost ws) t → EndAt ws n s
+ends_less : (ws : List Word) (n : ℕ) (s t : State) → t.nodes ≡ s.nodes → t.stack ≡ take n s.stack → n ≤ length s.stack → Stocked (topmost ws) t → EndAt ws n s
 unfolding Stocked
-ends-less ws n s t e f h a =
+ends_less ws n s t e f h a =
     let z : length t.stack ≡ n = rw f (simp length-take (omega arith)) in
     let r = a.reaches in
     record { start = a.start; reaches = omega arith; inside = h; each = each-less ws n a.start s t e f (omega arith) a.each }
@@ -95,437 +95,437 @@ ends-less ws n s t e f h a =
 -- ---- the parts of a step
 
 -- what is given where the stack has enough
-pop-gives : (s : State) → Out (λ (p : ℕ × State). (0 < length s.stack) × (p ≡ (last s.stack, withStack s (butLast s.stack)))) (pop s)
+pop_gives : (s : State) → Out (λ (p : ℕ × State). (0 < length s.stack) × (p ≡ (last s.stack, with_stack s (but_last s.stack)))) (pop s)
 unfolding pop
-pop-gives s = bind-need _ _ _ _ λ h. out _ _ (ltb→lt 0 (length s.stack) h, refl)
+pop_gives s = bind_need _ _ _ _ λ h. out _ _ (ltb→lt 0 (length s.stack) h, refl)
 
-top-gives : (s : State) → Out (λ (i : ℕ). (0 < length s.stack) × (i ≡ last s.stack)) (top s)
+top_gives : (s : State) → Out (λ (i : ℕ). (0 < length s.stack) × (i ≡ last s.stack)) (top s)
 unfolding top
-top-gives s = bind-need _ _ _ _ λ h. out _ _ (ltb→lt 0 (length s.stack) h, refl)
+top_gives s = bind_need _ _ _ _ λ h. out _ _ (ltb→lt 0 (length s.stack) h, refl)
 
-popMark-gives : (s : State) → Out (λ (p : List ℕ × State). (0 < length s.marks) × (last s.marks ≤ length s.stack) × (p.1 ≡ withMarks (withStack s (take (last s.marks) s.stack)) (butLast s.marks))) (popMark s)
-unfolding popMark
-popMark-gives s = bind-need _ _ _ _ λ h. bind-need _ _ _ _ λ u. out _ _ (ltb→lt 0 (length s.marks) h, leb→le (last s.marks) (length s.stack) u, refl)
+pop_mark-gives : (s : State) → Out (λ (p : List ℕ × State). (0 < length s.marks) × (last s.marks ≤ length s.stack) × (p.1 ≡ with_marks (with_stack s (take (last s.marks) s.stack)) (but_last s.marks))) (pop_mark s)
+unfolding pop_mark
+pop_mark-gives s = bind_need _ _ _ _ λ h. bind_need _ _ _ _ λ u. out _ _ (ltb→lt 0 (length s.marks) h, leb→le (last s.marks) (length s.stack) u, refl)
 
 -- a new node is on top
-pushNode-stands : (w : Word) (n : Node) (s : State) → T (allows w n.label) → Out (Stocked (topmost (w ∷ []))) (pushNode n s)
-unfolding pushNode pushId
-pushNode-stands w n s a =
+push_node_stands : (w : Word) (n : Node) (s : State) → T (allows w n.label) → Out (Stocked (topmost (w ∷ []))) (push_node n s)
+unfolding push_node push_id
+push_node_stands w n s a =
     let z : length (s.stack ++ (length s.nodes ∷ [])) ≡ suc (length s.stack) = rw length-append (omega arith) in
     let i : length (s.stack ++ (length s.nodes ∷ [])) - 1 ≡ length s.stack = omega arith in
-    bind-need _ _ _ _ λ h. bind-need _ _ _ _ λ u.
-    out _ _ (top-stands w _ (omega arith) (rw (i, get_or-append_seam s.stack (length s.nodes) [] 0, get_or-append_seam s.nodes n [] (kidless NoneL)) a))
+    bind_need _ _ _ _ λ h. bind_need _ _ _ _ λ u.
+    out _ _ (top_stands w _ (omega arith) (rw (i, get_or-append_seam s.stack (length s.nodes) [] 0, get_or-append_seam s.nodes n [] (kidless NoneL)) a))
 
-push-stands : (w : Word) (l : Label) (s : State) → T (allows w l) → Out (Stocked (topmost (w ∷ []))) (push l s)
+push_stands : (w : Word) (l : Label) (s : State) → T (allows w l) → Out (Stocked (topmost (w ∷ []))) (push l s)
 unfolding push
-push-stands w l s a = pushNode-stands w (kidless l) s a
+push_stands w l s a = push_node_stands w (kidless l) s a
 
 -- any number, once more
-pushId-stands : (i : ℕ) (s : State) → Out (Stocked (topmost (any ∷ []))) (pushId i s)
-unfolding pushId
-pushId-stands i s = bind-need _ _ _ _ λ h. out _ _ (any-stands _ (rw length-append (omega arith)))
+push_id_stands : (i : ℕ) (s : State) → Out (Stocked (topmost (any ∷ []))) (push_id i s)
+unfolding push_id
+push_id_stands i s = bind_need _ _ _ _ λ h. out _ _ (any_stands _ (rw length-append (omega arith)))
 
-made-stands : (w : Word) (l : Label) (is : List ℕ) (s : State) → T (allows w l) → Out (Stocked (topmost (w ∷ []))) (made l is s)
+made_stands : (w : Word) (l : Label) (is : List ℕ) (s : State) → T (allows w l) → Out (Stocked (topmost (w ∷ []))) (made l is s)
 unfolding made
-made-stands w l is s a = bind-any _ _ _ λ t e. pushNode-stands w _ t a
+made_stands w l is s a = bind_any _ _ _ λ t e. push_node_stands w _ t a
 
 -- what has a label that is not None's keeps it, whatever its contents become
-relabelled : (w : Word) (s : State) (i : ℕ) (ks : List ℕ) → (T (allows w NoneL) → ⊥) → T (allows w (nodeAt s i).label) → T (allows w (get_or (set s.nodes i (record { label = (nodeAt s i).label; kids = ks })) i (kidless NoneL)).label)
-relabelled w s i ks z a = rw (get_or-set_same s.nodes i (record { label = (nodeAt s i).label; kids = ks }) (kidless NoneL) (labelled (λ (l : Label). T (allows w l)) s.nodes i z a)) a
+relabelled : (w : Word) (s : State) (i : ℕ) (ks : List ℕ) → (T (allows w NoneL) → ⊥) → T (allows w (node_by s i).label) → T (allows w (get_or (set s.nodes i (record { label = (node_by s i).label; kids = ks })) i (kidless NoneL)).label)
+relabelled w s i ks z a = rw (get_or-set_same s.nodes i (record { label = (node_by s i).label; kids = ks }) (kidless NoneL) (labelled (λ (l : Label). T (allows w l)) s.nodes i z a)) a
 
 -- a container on top, which gets items
-added-kept : (w : Word) (why : Refusal) (is : List ℕ) (s : State) → (T (allows w NoneL) → ⊥) → Out (TakenAndLeft (topmost (w ∷ [])) (topmost (w ∷ [])) s) (addItems (allows w) why is s)
-unfolding addItems extend link TakenAndLeft ◌>>=◌
-added-kept w why is s z =
-    bind _ _ _ _ (top-gives s) λ i h. bind-need _ _ _ _ λ a. join-need _ _ _ _ _ λ u.
+added_kept : (w : Word) (why : Refusal) (is : List ℕ) (s : State) → (T (allows w NoneL) → ⊥) → Out (TakenAndLeft (topmost (w ∷ [])) (topmost (w ∷ [])) s) (add_items (allows w) why is s)
+unfolding add_items extend link TakenAndLeft ◌>>=◌
+added_kept w why is s z =
+    bind _ _ _ _ (top_gives s) λ i h. bind_need _ _ _ _ λ a. join-need _ _ _ _ _ λ u.
     let b = rw h.1 at a in
-    out _ _ (top-stands w s h.0 b, top-stands w _ h.0 (rw h.1 (relabelled w s (last s.stack) ((nodeAt s (last s.stack)).kids ++ is) z b)))
+    out _ _ (top_stands w s h.0 b, top_stands w _ h.0 (rw h.1 (relabelled w s (last s.stack) ((node_by s (last s.stack)).kids ++ is) z b)))
 
 -- ---- the opcodes
 
 -- nothing is taken
 only-leaves : (lv : Kinds) (s : State) (r : Res State) → Out (Stocked lv) r → Out (TakenAndLeft (topmost []) lv s) r
 unfolding TakenAndLeft
-only-leaves lv s r h = weaken _ _ _ h λ t u. (nothing-stands s, u)
+only-leaves lv s r h = weaken _ _ _ h λ t u. (nothing_stands s, u)
 
-mark-kept : (s : State) → Out (TakenAndLeft (topmost []) markOnly s) (mark s)
+mark_kept : (s : State) → Out (TakenAndLeft (topmost []) mark_only s) (mark s)
 unfolding mark TakenAndLeft Stocked
-mark-kept s = bind-need _ _ _ _ λ h. out _ _ (nothing-stands s, rw length-append (omega arith))
+mark_kept s = bind_need _ _ _ _ λ h. out _ _ (nothing_stands s, rw length-append (omega arith))
 
-popOne-kept : (s : State) → Out (TakenAndLeft (topmost (any ∷ [])) (topmost []) s) (popOne s)
-unfolding popOne TakenAndLeft
-popOne-kept s = bind _ _ _ _ (pop-gives s) λ p h. out _ _ (any-stands s h.0, nothing-stands p.1)
+pop_one_kept : (s : State) → Out (TakenAndLeft (topmost (any ∷ [])) (topmost []) s) (pop_one s)
+unfolding pop_one TakenAndLeft
+pop_one_kept s = bind _ _ _ _ (pop_gives s) λ p h. out _ _ (any_stands s h.0, nothing_stands p.1)
 
-popToMark-kept : (s : State) → Out (TakenAndLeft (belowMark []) (topmost []) s) (popToMark s)
-unfolding popToMark TakenAndLeft Stocked
-popToMark-kept s = bind _ _ _ _ (popMark-gives s) λ p h. out _ _ ((h.0, nothing_ends _ s h.1), nothing-stands p.1)
+pop_to_mark_kept : (s : State) → Out (TakenAndLeft (below_mark []) (topmost []) s) (pop_to_mark s)
+unfolding pop_to_mark TakenAndLeft Stocked
+pop_to_mark_kept s = bind _ _ _ _ (pop_mark-gives s) λ p h. out _ _ ((h.0, nothing_ends _ s h.1), nothing_stands p.1)
 
-dup-kept : (s : State) → Out (TakenAndLeft (topmost (any ∷ [])) (topmost (any ∷ any ∷ [])) s) (dup s)
-unfolding dup pushId TakenAndLeft Stocked EachAllowed allows
-dup-kept s = bind _ _ _ _ (top-gives s) λ i h. bind-need _ _ _ _ λ u.
+dup_kept : (s : State) → Out (TakenAndLeft (topmost (any ∷ [])) (topmost (any ∷ any ∷ [])) s) (dup s)
+unfolding dup push_id TakenAndLeft Stocked EachAllowed allows
+dup_kept s = bind _ _ _ _ (top_gives s) λ i h. bind_need _ _ _ _ λ u.
     let z = h.0 in
-    out _ _ (any-stands s z, record { start = length s.stack - 1; reaches = rw length-append (omega arith); inside = omega arith; each = (tt, (tt, tt)) })
+    out _ _ (any_stands s z, record { start = length s.stack - 1; reaches = rw length-append (omega arith); inside = omega arith; each = (tt, (tt, tt)) })
 
 -- LIST, TUPLE, DICT take whatever is above the mark
-gathered-kept : (w : Word) (s : State) (f : List ℕ × State → Res State) → ((p : List ℕ × State) → Out (Stocked (topmost (w ∷ []))) (f p)) → Out (TakenAndLeft (belowMark []) (topmost (w ∷ [])) s) (popMark s >>= f)
+gathered_kept : (w : Word) (s : State) (f : List ℕ × State → Res State) → ((p : List ℕ × State) → Out (Stocked (topmost (w ∷ []))) (f p)) → Out (TakenAndLeft (below_mark []) (topmost (w ∷ [])) s) (pop_mark s >>= f)
 unfolding TakenAndLeft Stocked
-gathered-kept w s f k = bind _ _ _ _ (popMark-gives s) λ p h. weaken _ _ _ (k p) λ t u. ((h.0, nothing_ends _ s h.1), u)
+gathered_kept w s f k = bind _ _ _ _ (pop_mark-gives s) λ p h. weaken _ _ _ (k p) λ t u. ((h.0, nothing_ends _ s h.1), u)
 
-list-kept : (s : State) → Out (TakenAndLeft (belowMark []) (topmost (aList ∷ [])) s) (list s)
+list_kept : (s : State) → Out (TakenAndLeft (below_mark []) (topmost (a_list ∷ [])) s) (list s)
 unfolding list allows
-list-kept s = gathered-kept aList s _ λ p. made-stands aList ListL p.0 p.1 tt
+list_kept s = gathered_kept a_list s _ λ p. made_stands a_list ListL p.0 p.1 tt
 
-tuple-kept : (s : State) → Out (TakenAndLeft (belowMark []) (topmost (aTuple ∷ [])) s) (tuple s)
+tuple_kept : (s : State) → Out (TakenAndLeft (below_mark []) (topmost (a_tuple ∷ [])) s) (tuple s)
 unfolding tuple allows
-tuple-kept s = gathered-kept aTuple s _ λ p. made-stands aTuple TupleL p.0 p.1 tt
+tuple_kept s = gathered_kept a_tuple s _ λ p. made_stands a_tuple TupleL p.0 p.1 tt
 
-dict-kept : (s : State) → Out (TakenAndLeft (belowMark []) (topmost (aDict ∷ [])) s) (dict s)
+dict_kept : (s : State) → Out (TakenAndLeft (below_mark []) (topmost (a_dict ∷ [])) s) (dict s)
 unfolding dict allows
-dict-kept s = gathered-kept aDict s _ λ p. bind-any _ _ _ λ x e. made-stands aDict DictL p.0 p.1 tt
+dict_kept s = gathered_kept a_dict s _ λ p. bind_any _ _ _ λ x e. made_stands a_dict DictL p.0 p.1 tt
 
-tupleN-kept : (ws : List Word) (s : State) → ((k : ℕ) → EachAllowed ws k s) → Out (TakenAndLeft (topmost ws) (topmost (aTuple ∷ [])) s) (tupleN (length ws) s)
-unfolding tupleN popMany TakenAndLeft Stocked allows
-tupleN-kept ws s a = join-need _ _ _ _ _ λ h.
+tuple_n_kept : (ws : List Word) (s : State) → ((k : ℕ) → EachAllowed ws k s) → Out (TakenAndLeft (topmost ws) (topmost (a_tuple ∷ [])) s) (tuple_n (length ws) s)
+unfolding tuple_n pop_many TakenAndLeft Stocked allows
+tuple_n_kept ws s a = join-need _ _ _ _ _ λ h.
     let n = leb→le (length ws) (length s.stack) h in
-    bind-any _ _ _ λ p e. weaken _ _ _ (made-stands aTuple TupleL p.0 p.1 tt) λ t u. (record { start = length s.stack - length ws; reaches = omega arith; inside = omega arith; each = a _ }, u)
+    bind_any _ _ _ λ p e. weaken _ _ _ (made_stands a_tuple TupleL p.0 p.1 tt) λ t u. (record { start = length s.stack - length ws; reaches = omega arith; inside = omega arith; each = a _ }, u)
 
 -- APPENDS and SETITEMS: the container is below the mark
-batch-kept : (w : Word) (s : State) (f : List ℕ × State → Res State) → ((p : List ℕ × State) → Out (TakenAndLeft (topmost (w ∷ [])) (topmost (w ∷ [])) p.1) (f p)) → Out (TakenAndLeft (belowMark (w ∷ [])) (topmost (w ∷ [])) s) (popMark s >>= f)
+batch_kept : (w : Word) (s : State) (f : List ℕ × State → Res State) → ((p : List ℕ × State) → Out (TakenAndLeft (topmost (w ∷ [])) (topmost (w ∷ [])) p.1) (f p)) → Out (TakenAndLeft (below_mark (w ∷ [])) (topmost (w ∷ [])) s) (pop_mark s >>= f)
 unfolding TakenAndLeft Stocked
-batch-kept w s f k = bind _ _ _ _ (popMark-gives s) λ p h. weaken _ _ _ (k p) λ t u.
-    ((h.0, ends-less (w ∷ []) (last s.marks) s p.1 (ap (λ (x : State). x.nodes) h.2) (ap (λ (x : State). x.stack) h.2) h.1 u.0), u.1)
+batch_kept w s f k = bind _ _ _ _ (pop_mark-gives s) λ p h. weaken _ _ _ (k p) λ t u.
+    ((h.0, ends_less (w ∷ []) (last s.marks) s p.1 (ap (λ (x : State). x.nodes) h.2) (ap (λ (x : State). x.stack) h.2) h.1 u.0), u.1)
 
-appends-kept : (s : State) → Out (TakenAndLeft (belowMark (aList ∷ [])) (topmost (aList ∷ [])) s) (appends s)
+appends_kept : (s : State) → Out (TakenAndLeft (below_mark (a_list ∷ [])) (topmost (a_list ∷ [])) s) (appends s)
 unfolding appends allows
-appends-kept s = batch-kept aList s _ λ p. added-kept aList _ p.0 p.1 (λ h. h)
+appends_kept s = batch_kept a_list s _ λ p. added_kept a_list _ p.0 p.1 (λ h. h)
 
-setitems-kept : (s : State) → Out (TakenAndLeft (belowMark (aDict ∷ [])) (topmost (aDict ∷ [])) s) (setitems s)
+setitems_kept : (s : State) → Out (TakenAndLeft (below_mark (a_dict ∷ [])) (topmost (a_dict ∷ [])) s) (setitems s)
 unfolding setitems allows
-setitems-kept s = batch-kept aDict s _ λ p. bind-any _ _ _ λ x e. added-kept aDict _ p.0 p.1 (λ h. h)
+setitems_kept s = batch_kept a_dict s _ λ p. bind_any _ _ _ λ x e. added_kept a_dict _ p.0 p.1 (λ h. h)
 
 -- a value popped, and what stood below it
 popped : (ws : List Word) (w : Word) (lv : Kinds) (s : State) (f : ℕ × State → Res State)
-    → ((p : ℕ × State) → 0 < length s.stack → p ≡ (last s.stack, withStack s (butLast s.stack)) → Out (λ (t : State). TakenAndLeft (topmost ws) lv p.1 t × T (allows w (nodeAt s p.0).label)) (f p))
+    → ((p : ℕ × State) → 0 < length s.stack → p ≡ (last s.stack, with_stack s (but_last s.stack)) → Out (λ (t : State). TakenAndLeft (topmost ws) lv p.1 t × T (allows w (node_by s p.0).label)) (f p))
     → Out (TakenAndLeft (topmost (ws ++ (w ∷ []))) lv s) (pop s >>= f)
 unfolding TakenAndLeft Stocked
-popped ws w lv s f k = bind _ _ _ _ (pop-gives s) λ p h. weaken _ _ _ (k p h.0 h.1) λ t u.
+popped ws w lv s f k = bind _ _ _ _ (pop_gives s) λ p h. weaken _ _ _ (k p h.0 h.1) λ t u.
     let z = h.0 in
     let n : suc (length s.stack - 1) ≡ length s.stack = omega arith in
-    let b : EndAt ws (length s.stack - 1) s = ends-less ws (length s.stack - 1) s p.1 (ap (λ (x : ℕ × State). x.1.nodes) h.1) (ap (λ (x : ℕ × State). x.1.stack) h.1) (omega arith) u.0.0 in
-    let a : T (allows w (nodeAt s (last s.stack)).label) = rw (ap (λ (x : ℕ × State). x.0) h.1) at u.1 in
+    let b : EndAt ws (length s.stack - 1) s = ends_less ws (length s.stack - 1) s p.1 (ap (λ (x : ℕ × State). x.1.nodes) h.1) (ap (λ (x : ℕ × State). x.1.stack) h.1) (omega arith) u.0.0 in
+    let a : T (allows w (node_by s (last s.stack)).label) = rw (ap (λ (x : ℕ × State). x.0) h.1) at u.1 in
     (rw n at (ends_more ws w (length s.stack - 1) s b (omega arith) a), u.0.1)
 
 -- a value of any kind
-popped-any : (ws : List Word) (lv : Kinds) (s : State) (f : ℕ × State → Res State) → ((p : ℕ × State) → Out (TakenAndLeft (topmost ws) lv p.1) (f p)) → Out (TakenAndLeft (topmost (ws ++ (any ∷ []))) lv s) (pop s >>= f)
+popped_any : (ws : List Word) (lv : Kinds) (s : State) (f : ℕ × State → Res State) → ((p : ℕ × State) → Out (TakenAndLeft (topmost ws) lv p.1) (f p)) → Out (TakenAndLeft (topmost (ws ++ (any ∷ []))) lv s) (pop s >>= f)
 unfolding allows
-popped-any ws lv s f k = popped ws any lv s f λ p h e. weaken _ _ _ (k p) λ t u. (u, tt)
+popped_any ws lv s f k = popped ws any lv s f λ p h e. weaken _ _ _ (k p) λ t u. (u, tt)
 
-append-kept : (s : State) → Out (TakenAndLeft (topmost (aList ∷ any ∷ [])) (topmost (aList ∷ [])) s) (append s)
+append_kept : (s : State) → Out (TakenAndLeft (topmost (a_list ∷ any ∷ [])) (topmost (a_list ∷ [])) s) (append s)
 unfolding append allows
-append-kept s = popped-any (aList ∷ []) _ s _ λ p. added-kept aList _ _ p.1 (λ h. h)
+append_kept s = popped_any (a_list ∷ []) _ s _ λ p. added_kept a_list _ _ p.1 (λ h. h)
 
-setitem-kept : (s : State) → Out (TakenAndLeft (topmost (aDict ∷ any ∷ any ∷ [])) (topmost (aDict ∷ [])) s) (setitem s)
+setitem_kept : (s : State) → Out (TakenAndLeft (topmost (a_dict ∷ any ∷ any ∷ [])) (topmost (a_dict ∷ [])) s) (setitem s)
 unfolding setitem allows
-setitem-kept s = popped-any (aDict ∷ any ∷ []) _ s _ λ p. popped-any (aDict ∷ []) _ p.1 _ λ q. added-kept aDict _ _ q.1 (λ h. h)
+setitem_kept s = popped_any (a_dict ∷ any ∷ []) _ s _ λ p. popped_any (a_dict ∷ []) _ p.1 _ λ q. added_kept a_dict _ _ q.1 (λ h. h)
 
-build-kept : (s : State) → Out (TakenAndLeft (topmost (anObject ∷ any ∷ [])) (topmost (anObject ∷ [])) s) (buildState s)
-unfolding buildState TakenAndLeft allows
-build-kept s = popped-any (anObject ∷ []) _ s _ λ p. bind _ _ _ _ (top-gives p.1) λ i h. bind-need _ _ _ _ λ a.
+build_kept : (s : State) → Out (TakenAndLeft (topmost (an_object ∷ any ∷ [])) (topmost (an_object ∷ [])) s) (build_state s)
+unfolding build_state TakenAndLeft allows
+build_kept s = popped_any (an_object ∷ []) _ s _ λ p. bind _ _ _ _ (top_gives p.1) λ i h. bind_need _ _ _ _ λ a.
     let b = rw h.1 at a in
-    out _ _ (top-stands anObject p.1 h.0 b, top-stands anObject _ h.0 (rw h.1 (relabelled anObject p.1 (last p.1.stack) _ (λ u. u) b)))
+    out _ _ (top_stands an_object p.1 h.0 b, top_stands an_object _ h.0 (rw h.1 (relabelled an_object p.1 (last p.1.stack) _ (λ u. u) b)))
 
 -- a class is a Global
 refuses : {A : Type 0} {why : Refusal} {c : List ℕ × List ℕ} → ◌≡◌ {A = Res (List ℕ × List ℕ)} (no why) (ok c) → A
 refuses e = let f : ◌≡◌ {A = ℕ} 0 1 = cc in absurd (omega arith)
 
-class-global : (l : Label) (c : List ℕ × List ℕ) → class_of l ≡ ok c → T (allows a_global l)
+class_global : (l : Label) (c : List ℕ × List ℕ) → class_of l ≡ ok c → T (allows a_global l)
 unfolding allows
-class-global NoneL c e = refuses e
-class-global (BoolL b) c e = refuses e
-class-global (I64L n) c e = refuses e
-class-global (F64L n) c e = refuses e
-class-global (BytesL t) c e = refuses e
-class-global (StringL t) c e = refuses e
-class-global ListL c e = refuses e
-class-global TupleL c e = refuses e
-class-global SetL c e = refuses e
-class-global FrozenSetL c e = refuses e
-class-global DictL c e = refuses e
-class-global (GlobalL m n) c e = tt
-class-global (ObjectL m n b) c e = refuses e
+class_global NoneL c e = refuses e
+class_global (BoolL b) c e = refuses e
+class_global (I64L n) c e = refuses e
+class_global (F64L n) c e = refuses e
+class_global (BytesL t) c e = refuses e
+class_global (StringL t) c e = refuses e
+class_global ListL c e = refuses e
+class_global TupleL c e = refuses e
+class_global SetL c e = refuses e
+class_global FrozenSetL c e = refuses e
+class_global DictL c e = refuses e
+class_global (GlobalL m n) c e = tt
+class_global (ObjectL m n b) c e = refuses e
 
 -- both pops, the class and the arguments, whatever is made of them
-called-kept : (w : Word) (makes : List ℕ × List ℕ → ℕ → List ℕ → Node) (s : State) → ((c : List ℕ × List ℕ) (args : ℕ) (items : List ℕ) → T (allows w (makes c args items).label)) → Out (TakenAndLeft (topmost (a_global ∷ aTuple ∷ [])) (topmost (w ∷ [])) s) (called makes s)
+called_kept : (w : Word) (makes : List ℕ × List ℕ → ℕ → List ℕ → Node) (s : State) → ((c : List ℕ × List ℕ) (args : ℕ) (items : List ℕ) → T (allows w (makes c args items).label)) → Out (TakenAndLeft (topmost (a_global ∷ a_tuple ∷ [])) (topmost (w ∷ [])) s) (called makes s)
 unfolding called TakenAndLeft allows
-called-kept w makes s k = popped (a_global ∷ []) aTuple _ s _ λ p h e.
-    bind _ _ _ _ (pop-gives p.1) λ q g. bind-any _ _ _ λ c r. bind-need _ _ _ _ λ a.
+called_kept w makes s k = popped (a_global ∷ []) a_tuple _ s _ λ p h e.
+    bind _ _ _ _ (pop_gives p.1) λ q g. bind_any _ _ _ λ c r. bind_need _ _ _ _ λ a.
     let n : q.1.nodes ≡ s.nodes = ap (λ (x : ℕ × State). x.1.nodes) g.1 ∙ ap (λ (x : ℕ × State). x.1.nodes) e in
     let m : q.1.nodes ≡ p.1.nodes = ap (λ (x : ℕ × State). x.1.nodes) g.1 in
     let i : q.0 ≡ last p.1.stack = ap (λ (x : ℕ × State). x.0) g.1 in
-    weaken _ _ _ (pushNode-stands w _ q.1 (k c p.0 (nodeAt q.1 p.0).kids)) λ t u.
-    ((top-stands a_global p.1 g.0 (rw (m, i) at (class-global (nodeAt q.1 q.0).label c r)), u), rw n at a)
+    weaken _ _ _ (push_node_stands w _ q.1 (k c p.0 (node_by q.1 p.0).kids)) λ t u.
+    ((top_stands a_global p.1 g.0 (rw (m, i) at (class_global (node_by q.1 q.0).label c r)), u), rw n at a)
 
-newobj-kept : (s : State) → Out (TakenAndLeft (topmost (a_global ∷ aTuple ∷ [])) (topmost (anObject ∷ [])) s) (newobj s)
+newobj_kept : (s : State) → Out (TakenAndLeft (topmost (a_global ∷ a_tuple ∷ [])) (topmost (an_object ∷ [])) s) (newobj s)
 unfolding newobj allows
-newobj-kept s = called-kept anObject _ s λ c args items. tt
+newobj_kept s = called_kept an_object _ s λ c args items. tt
 
-reduce-kept : (s : State) → Out (TakenAndLeft (topmost (a_global ∷ aTuple ∷ [])) (topmost (setOrObject ∷ [])) s) (reduce s)
+reduce_kept : (s : State) → Out (TakenAndLeft (topmost (a_global ∷ a_tuple ∷ [])) (topmost (set_or_object ∷ [])) s) (reduce s)
 unfolding reduce reduced allows
-reduce-kept s = called-kept setOrObject reduced s λ c args items. go c args items (same c.0 builtin && leb (length items) 1) (same c.1 set_name) (same c.1 frozensetName)
+reduce_kept s = called_kept set_or_object reduced s λ c args items. go c args items (same c.0 builtin && leb (length items) 1) (same c.1 set_name) (same c.1 frozenset_name)
   where
-    go : (c : List ℕ × List ℕ) (args : ℕ) (items : List ℕ) (a b d : Bool) → T (allows setOrObject (cond a (cond b (setOf SetL args items) (cond d (setOf FrozenSetL args items) (object c false args))) (object c false args)).label)
+    go : (c : List ℕ × List ℕ) (args : ℕ) (items : List ℕ) (a b d : Bool) → T (allows set_or_object (cond a (cond b (set_of SetL args items) (cond d (set_of FrozenSetL args items) (object c false args))) (object c false args)).label)
     go c args items true true d = tt
     go c args items true false true = tt
     go c args items true false false = tt
     go c args items false b d = tt
 
 -- the PUTs ask for a top, and leave it
-put-stands : (k : ℕ) (s : State) → Out (Stocked (topmost (any ∷ []))) (put k s)
+put_stands : (k : ℕ) (s : State) → Out (Stocked (topmost (any ∷ []))) (put k s)
 unfolding put
-put-stands k s = bind _ _ _ _ (top-gives s) λ i h. bind-need _ _ _ _ λ u. out _ _ (any-stands _ h.0)
+put_stands k s = bind _ _ _ _ (top_gives s) λ i h. bind_need _ _ _ _ λ u. out _ _ (any_stands _ h.0)
 
-put-kept : (f : Form) (s : State) (r : Res State) → Out (Claim f (values 0) (values 0) s) r → Out (Stocked (topmost (any ∷ []))) r → Out (TakenAndLeft (topmost (any ∷ [])) (topmost (any ∷ [])) s) r
+put_kept : (f : Form) (s : State) (r : Res State) → Out (Claim f (values 0) (values 0) s) r → Out (Stocked (topmost (any ∷ []))) r → Out (TakenAndLeft (topmost (any ∷ [])) (topmost (any ∷ [])) s) r
 unfolding TakenAndLeft Stocked
-put-kept f s r c h = weaken _ _ _ (both_out _ _ r c h) λ t u.
-    let n = values-count 0 0 u.0.then t u.0.did.stacks in
+put_kept f s r c h = weaken _ _ _ (both_out _ _ r c h) λ t u.
+    let n = values_count 0 0 u.0.then t u.0.did.stacks in
     let e : length u.0.then.stack ≡ length s.stack = ap (λ (x : State). length x.stack) u.0.reads.rest in
     let z = u.1.reaches in
-    (any-stands s (omega arith), u.1)
+    (any_stands s (omega arith), u.1)
 
-putLine-kept : (s : State) → Out (TakenAndLeft (topmost (any ∷ [])) (topmost (any ∷ [])) s) (putLine s)
-unfolding putLine
-putLine-kept s = put-kept _ s _ (putLine-claim s) (bind-any _ _ _ λ p e. bind-any _ _ _ λ k e. put-stands k p.1)
+put_line_kept : (s : State) → Out (TakenAndLeft (topmost (any ∷ [])) (topmost (any ∷ [])) s) (put_line s)
+unfolding put_line
+put_line_kept s = put_kept _ s _ (put_line_claim s) (bind_any _ _ _ λ p e. bind_any _ _ _ λ k e. put_stands k p.1)
 
-putBytes-kept : (n : ℕ) (f : Form) (s : State) → argumentLength f s.input ≡ n → Out (TakenAndLeft (topmost (any ∷ [])) (topmost (any ∷ [])) s) (putBytes n s)
-unfolding putBytes
-putBytes-kept n f s e = put-kept _ s _ (putBytes-claim s n f e) (bind-any _ _ _ λ p e. put-stands p.0 p.1)
+put_bytes_kept : (n : ℕ) (f : Form) (s : State) → argument_length f s.input ≡ n → Out (TakenAndLeft (topmost (any ∷ [])) (topmost (any ∷ [])) s) (put_bytes n s)
+unfolding put_bytes
+put_bytes_kept n f s e = put_kept _ s _ (put_bytes_claim s n f e) (bind_any _ _ _ λ p e. put_stands p.0 p.1)
 
 -- INT's word has two kinds
-int-allowed : (v : Int) → T (allows int_or_bool (intLabel v))
-unfolding allows intLabel
-int-allowed (truth b) = tt
-int-allowed (whole z) = tt
+int_allowed : (v : Int) → T (allows int_or_bool (int_label v))
+unfolding allows int_label
+int_allowed (truth b) = tt
+int_allowed (whole z) = tt
 
 -- the values: an argument read, and pushed
 module _ (s : State) where
-  int-kept : Out (TakenAndLeft (topmost []) (topmost (int_or_bool ∷ [])) s) (int s)
+  int_kept : Out (TakenAndLeft (topmost []) (topmost (int_or_bool ∷ [])) s) (int s)
   unfolding int
-  int-kept = only-leaves _ s _ (bind-any _ _ _ λ p e. bind-any _ _ _ λ v e. push-stands int_or_bool (intLabel v) p.1 (int-allowed v))
+  int_kept = only-leaves _ s _ (bind_any _ _ _ λ p e. bind_any _ _ _ λ v e. push_stands int_or_bool (int_label v) p.1 (int_allowed v))
 
-  binint-kept : Out (TakenAndLeft (topmost []) (topmost (an_int ∷ [])) s) (binint s)
+  binint_kept : Out (TakenAndLeft (topmost []) (topmost (an_int ∷ [])) s) (binint s)
   unfolding binint allows
-  binint-kept = only-leaves _ s _ (bind-any _ _ _ λ p e. push-stands an_int _ p.1 tt)
+  binint_kept = only-leaves _ s _ (bind_any _ _ _ λ p e. push_stands an_int _ p.1 tt)
 
-  binint1-kept : Out (TakenAndLeft (topmost []) (topmost (an_int ∷ [])) s) (binint1 s)
+  binint1_kept : Out (TakenAndLeft (topmost []) (topmost (an_int ∷ [])) s) (binint1 s)
   unfolding binint1 allows
-  binint1-kept = only-leaves _ s _ (bind-any _ _ _ λ p e. push-stands an_int _ p.1 tt)
+  binint1_kept = only-leaves _ s _ (bind_any _ _ _ λ p e. push_stands an_int _ p.1 tt)
 
-  binint2-kept : Out (TakenAndLeft (topmost []) (topmost (an_int ∷ [])) s) (binint2 s)
+  binint2_kept : Out (TakenAndLeft (topmost []) (topmost (an_int ∷ [])) s) (binint2 s)
   unfolding binint2 allows
-  binint2-kept = only-leaves _ s _ (bind-any _ _ _ λ p e. push-stands an_int _ p.1 tt)
+  binint2_kept = only-leaves _ s _ (bind_any _ _ _ λ p e. push_stands an_int _ p.1 tt)
 
   long_kept : Out (TakenAndLeft (topmost []) (topmost (an_int ∷ [])) s) (long s)
   unfolding long allows
-  long_kept = only-leaves _ s _ (bind-any _ _ _ λ p e. bind-any _ _ _ λ v e. push-stands an_int _ p.1 tt)
+  long_kept = only-leaves _ s _ (bind_any _ _ _ λ p e. bind_any _ _ _ λ v e. push_stands an_int _ p.1 tt)
 
-  longN-kept : (n : ℕ) → Out (TakenAndLeft (topmost []) (topmost (an_int ∷ [])) s) (longN n s)
-  unfolding longN allows
-  longN-kept n = only-leaves _ s _ (bind-any _ _ _ λ p e. bind-any _ _ _ λ q e. bind-any _ _ _ λ v e. push-stands an_int _ q.1 tt)
+  long_n_kept : (n : ℕ) → Out (TakenAndLeft (topmost []) (topmost (an_int ∷ [])) s) (long_n n s)
+  unfolding long_n allows
+  long_n_kept n = only-leaves _ s _ (bind_any _ _ _ λ p e. bind_any _ _ _ λ q e. bind_any _ _ _ λ v e. push_stands an_int _ q.1 tt)
 
-  float-kept : Out (TakenAndLeft (topmost []) (topmost (aFloat ∷ [])) s) (float s)
+  float_kept : Out (TakenAndLeft (topmost []) (topmost (a_float ∷ [])) s) (float s)
   unfolding float allows
-  float-kept = only-leaves _ s _ (bind-any _ _ _ λ p e. bind-any _ _ _ λ v e. push-stands aFloat _ p.1 tt)
+  float_kept = only-leaves _ s _ (bind_any _ _ _ λ p e. bind_any _ _ _ λ v e. push_stands a_float _ p.1 tt)
 
-  binfloat-kept : Out (TakenAndLeft (topmost []) (topmost (aFloat ∷ [])) s) (binfloat s)
+  binfloat_kept : Out (TakenAndLeft (topmost []) (topmost (a_float ∷ [])) s) (binfloat s)
   unfolding binfloat allows
-  binfloat-kept = only-leaves _ s _ (bind-any _ _ _ λ p e. push-stands aFloat _ p.1 tt)
+  binfloat_kept = only-leaves _ s _ (bind_any _ _ _ λ p e. push_stands a_float _ p.1 tt)
 
-  string-kept : Out (TakenAndLeft (topmost []) (topmost (bytes_or_str ∷ [])) s) (string s)
+  string_kept : Out (TakenAndLeft (topmost []) (topmost (bytes_or_str ∷ [])) s) (string s)
   unfolding string allows
-  string-kept = only-leaves _ s _ (bind-any _ _ _ λ p e. bind-any _ _ _ λ v e. push-stands bytes_or_str _ p.1 tt)
+  string_kept = only-leaves _ s _ (bind_any _ _ _ λ p e. bind_any _ _ _ λ v e. push_stands bytes_or_str _ p.1 tt)
 
-  binstring-kept : Out (TakenAndLeft (topmost []) (topmost (bytes_or_str ∷ [])) s) (binstring s)
+  binstring_kept : Out (TakenAndLeft (topmost []) (topmost (bytes_or_str ∷ [])) s) (binstring s)
   unfolding binstring allows
-  binstring-kept = only-leaves _ s _ (bind-any _ _ _ λ p e. bind-any _ _ _ λ n e. bind-any _ _ _ λ q e. push-stands bytes_or_str _ q.1 tt)
+  binstring_kept = only-leaves _ s _ (bind_any _ _ _ λ p e. bind_any _ _ _ λ n e. bind_any _ _ _ λ q e. push_stands bytes_or_str _ q.1 tt)
 
-  shortBinstring-kept : Out (TakenAndLeft (topmost []) (topmost (bytes_or_str ∷ [])) s) (shortBinstring s)
-  unfolding shortBinstring allows
-  shortBinstring-kept = only-leaves _ s _ (bind-any _ _ _ λ p e. bind-any _ _ _ λ q e. push-stands bytes_or_str _ q.1 tt)
+  short_binstring_kept : Out (TakenAndLeft (topmost []) (topmost (bytes_or_str ∷ [])) s) (short_binstring s)
+  unfolding short_binstring allows
+  short_binstring_kept = only-leaves _ s _ (bind_any _ _ _ λ p e. bind_any _ _ _ λ q e. push_stands bytes_or_str _ q.1 tt)
 
-  unicode-kept : Out (TakenAndLeft (topmost []) (topmost (str ∷ [])) s) (unicode s)
+  unicode_kept : Out (TakenAndLeft (topmost []) (topmost (str ∷ [])) s) (unicode s)
   unfolding unicode allows
-  unicode-kept = only-leaves _ s _ (bind-any _ _ _ λ p e. bind-any _ _ _ λ v e. push-stands str _ p.1 tt)
+  unicode_kept = only-leaves _ s _ (bind_any _ _ _ λ p e. bind_any _ _ _ λ v e. push_stands str _ p.1 tt)
 
-  binunicode-kept : Out (TakenAndLeft (topmost []) (topmost (str ∷ [])) s) (binunicode s)
+  binunicode_kept : Out (TakenAndLeft (topmost []) (topmost (str ∷ [])) s) (binunicode s)
   unfolding binunicode allows
-  binunicode-kept = only-leaves _ s _ (bind-any _ _ _ λ p e. bind-any _ _ _ λ q e. push-stands str _ q.1 tt)
+  binunicode_kept = only-leaves _ s _ (bind_any _ _ _ λ p e. bind_any _ _ _ λ q e. push_stands str _ q.1 tt)
 
-  global-kept : Out (TakenAndLeft (topmost []) (topmost (a_global ∷ [])) s) (global s)
+  global_kept : Out (TakenAndLeft (topmost []) (topmost (a_global ∷ [])) s) (global s)
   unfolding global allows
-  global-kept = only-leaves _ s _ (bind-any _ _ _ λ p e. bind-any _ _ _ λ q e. push-stands a_global _ q.1 tt)
+  global_kept = only-leaves _ s _ (bind_any _ _ _ λ p e. bind_any _ _ _ λ q e. push_stands a_global _ q.1 tt)
 
   push_kept : (w : Word) (l : Label) → T (allows w l) → Out (TakenAndLeft (topmost []) (topmost (w ∷ [])) s) (push l s)
-  push_kept w l a = only-leaves _ s _ (push-stands w l s a)
+  push_kept w l a = only-leaves _ s _ (push_stands w l s a)
 
-  getLine-kept : Out (TakenAndLeft (topmost []) (topmost (any ∷ [])) s) (getLine s)
-  unfolding getLine get
-  getLine-kept = only-leaves _ s _ (bind-any _ _ _ λ p e. bind-any _ _ _ λ k e. bind-any _ _ _ λ i e. pushId-stands i p.1)
+  get_line_kept : Out (TakenAndLeft (topmost []) (topmost (any ∷ [])) s) (get_line s)
+  unfolding get_line get
+  get_line_kept = only-leaves _ s _ (bind_any _ _ _ λ p e. bind_any _ _ _ λ k e. bind_any _ _ _ λ i e. push_id_stands i p.1)
 
-  getBytes-kept : (n : ℕ) → Out (TakenAndLeft (topmost []) (topmost (any ∷ [])) s) (getBytes n s)
-  unfolding getBytes get
-  getBytes-kept n = only-leaves _ s _ (bind-any _ _ _ λ p e. bind-any _ _ _ λ i e. pushId-stands i p.1)
+  get_bytes_kept : (n : ℕ) → Out (TakenAndLeft (topmost []) (topmost (any ∷ [])) s) (get_bytes n s)
+  unfolding get_bytes get
+  get_bytes_kept n = only-leaves _ s _ (bind_any _ _ _ λ p e. bind_any _ _ _ λ i e. push_id_stands i p.1)
 
-  proto-kept : (v : ℕ) → Out (TakenAndLeft (topmost []) (topmost []) s) (proto v s)
+  proto_kept : (v : ℕ) → Out (TakenAndLeft (topmost []) (topmost []) s) (proto v s)
   unfolding proto
-  proto-kept v = only-leaves _ s _ (bind-any _ _ _ λ p e. bind-any _ _ _ λ x e. out _ _ (nothing-stands p.1))
+  proto_kept v = only-leaves _ s _ (bind_any _ _ _ λ p e. bind_any _ _ _ λ x e. out _ _ (nothing_stands p.1))
 
 -- ---- every opcode, and a step
 
 unfoldable pub FitsKinds : Option KindRow → State → Next → Type 0
 FitsKinds none s n = ⊥
-FitsKinds (some r) s n = TakenAndLeft r.takes r.leaves s (stateAfter n)
+FitsKinds (some r) s n = TakenAndLeft r.takes r.leaves s (state_after n)
 
 goes_kept : (r : KindRow) (s : State) (x : Res State) → Out (TakenAndLeft r.takes r.leaves s) x → Out (FitsKinds (some r) s) (going x)
-unfolding Out FitsKinds going stateAfter
+unfolding Out FitsKinds going state_after
 goes_kept r s (ok t) h = h
 goes_kept r s (no why) h = tt
 
-stop-kept : (r : KindRow) (s : State) → TakenAndLeft r.takes r.leaves s s → Out (FitsKinds (some r) s) (ok (stops s))
-unfolding Out FitsKinds stateAfter
-stop-kept r s h = h
+stop_kept : (r : KindRow) (s : State) → TakenAndLeft r.takes r.leaves s s → Out (FitsKinds (some r) s) (ok (stops s))
+unfolding Out FitsKinds state_after
+stop_kept r s h = h
 
-pub does-kinds : (v : ℕ) (o : Opcode) (s : State) → Out (FitsKinds (kindsOf o) s) (does v o s)
-unfolding does argumentLength kindsOf kindsIn isNamed place allows EachAllowed TakenAndLeft
-does-kinds v MARK s = goes_kept _ s _ (mark-kept s)
-does-kinds v STOP s = stop-kept _ s (nothing-stands s, nothing-stands s)
-does-kinds v POP s = goes_kept _ s _ (popOne-kept s)
-does-kinds v POP_MARK s = goes_kept _ s _ (popToMark-kept s)
-does-kinds v DUP s = goes_kept _ s _ (dup-kept s)
-does-kinds v FLOAT s = goes_kept _ s _ (float-kept s)
-does-kinds v INT s = goes_kept _ s _ (int-kept s)
-does-kinds v BININT s = goes_kept _ s _ (binint-kept s)
-does-kinds v BININT1 s = goes_kept _ s _ (binint1-kept s)
+pub does-kinds : (v : ℕ) (o : Opcode) (s : State) → Out (FitsKinds (kinds_of o) s) (does v o s)
+unfolding does argument_length kinds_of kinds_in is_named place allows EachAllowed TakenAndLeft
+does-kinds v MARK s = goes_kept _ s _ (mark_kept s)
+does-kinds v STOP s = stop_kept _ s (nothing_stands s, nothing_stands s)
+does-kinds v POP s = goes_kept _ s _ (pop_one_kept s)
+does-kinds v POP_MARK s = goes_kept _ s _ (pop_to_mark_kept s)
+does-kinds v DUP s = goes_kept _ s _ (dup_kept s)
+does-kinds v FLOAT s = goes_kept _ s _ (float_kept s)
+does-kinds v INT s = goes_kept _ s _ (int_kept s)
+does-kinds v BININT s = goes_kept _ s _ (binint_kept s)
+does-kinds v BININT1 s = goes_kept _ s _ (binint1_kept s)
 does-kinds v LONG s = goes_kept _ s _ (long_kept s)
-does-kinds v BININT2 s = goes_kept _ s _ (binint2-kept s)
+does-kinds v BININT2 s = goes_kept _ s _ (binint2_kept s)
 does-kinds v NONE s = goes_kept _ s _ (push_kept s None NoneL tt)
-does-kinds v REDUCE s = goes_kept _ s _ (reduce-kept s)
-does-kinds v STRING s = goes_kept _ s _ (string-kept s)
-does-kinds v BINSTRING s = goes_kept _ s _ (binstring-kept s)
-does-kinds v SHORT_BINSTRING s = goes_kept _ s _ (shortBinstring-kept s)
-does-kinds v UNICODE s = goes_kept _ s _ (unicode-kept s)
-does-kinds v BINUNICODE s = goes_kept _ s _ (binunicode-kept s)
-does-kinds v APPEND s = goes_kept _ s _ (append-kept s)
-does-kinds v BUILD s = goes_kept _ s _ (build-kept s)
-does-kinds v GLOBAL s = goes_kept _ s _ (global-kept s)
-does-kinds v DICT s = goes_kept _ s _ (dict-kept s)
-does-kinds v EMPTY_DICT s = goes_kept _ s _ (push_kept s aDict DictL tt)
-does-kinds v APPENDS s = goes_kept _ s _ (appends-kept s)
-does-kinds v GET s = goes_kept _ s _ (getLine-kept s)
-does-kinds v BINGET s = goes_kept _ s _ (getBytes-kept s 1)
-does-kinds v LONG_BINGET s = goes_kept _ s _ (getBytes-kept s 4)
-does-kinds v LIST s = goes_kept _ s _ (list-kept s)
-does-kinds v EMPTY_LIST s = goes_kept _ s _ (push_kept s aList ListL tt)
-does-kinds v PUT s = goes_kept _ s _ (putLine-kept s)
-does-kinds v BINPUT s = goes_kept _ s _ (putBytes-kept 1 uint1 s refl)
-does-kinds v LONG_BINPUT s = goes_kept _ s _ (putBytes-kept 4 uint4 s refl)
-does-kinds v SETITEM s = goes_kept _ s _ (setitem-kept s)
-does-kinds v TUPLE s = goes_kept _ s _ (tuple-kept s)
-does-kinds v EMPTY_TUPLE s = goes_kept _ s _ (push_kept s aTuple TupleL tt)
-does-kinds v SETITEMS s = goes_kept _ s _ (setitems-kept s)
-does-kinds v BINFLOAT s = goes_kept _ s _ (binfloat-kept s)
-does-kinds v PROTO s = goes_kept _ s _ (proto-kept s v)
-does-kinds v NEWOBJ s = goes_kept _ s _ (newobj-kept s)
-does-kinds v TUPLE1 s = goes_kept _ s _ (tupleN-kept (any ∷ []) s λ k. (tt, tt))
-does-kinds v TUPLE2 s = goes_kept _ s _ (tupleN-kept (any ∷ any ∷ []) s λ k. (tt, (tt, tt)))
-does-kinds v TUPLE3 s = goes_kept _ s _ (tupleN-kept (any ∷ any ∷ any ∷ []) s λ k. (tt, (tt, (tt, tt))))
+does-kinds v REDUCE s = goes_kept _ s _ (reduce_kept s)
+does-kinds v STRING s = goes_kept _ s _ (string_kept s)
+does-kinds v BINSTRING s = goes_kept _ s _ (binstring_kept s)
+does-kinds v SHORT_BINSTRING s = goes_kept _ s _ (short_binstring_kept s)
+does-kinds v UNICODE s = goes_kept _ s _ (unicode_kept s)
+does-kinds v BINUNICODE s = goes_kept _ s _ (binunicode_kept s)
+does-kinds v APPEND s = goes_kept _ s _ (append_kept s)
+does-kinds v BUILD s = goes_kept _ s _ (build_kept s)
+does-kinds v GLOBAL s = goes_kept _ s _ (global_kept s)
+does-kinds v DICT s = goes_kept _ s _ (dict_kept s)
+does-kinds v EMPTY_DICT s = goes_kept _ s _ (push_kept s a_dict DictL tt)
+does-kinds v APPENDS s = goes_kept _ s _ (appends_kept s)
+does-kinds v GET s = goes_kept _ s _ (get_line_kept s)
+does-kinds v BINGET s = goes_kept _ s _ (get_bytes_kept s 1)
+does-kinds v LONG_BINGET s = goes_kept _ s _ (get_bytes_kept s 4)
+does-kinds v LIST s = goes_kept _ s _ (list_kept s)
+does-kinds v EMPTY_LIST s = goes_kept _ s _ (push_kept s a_list ListL tt)
+does-kinds v PUT s = goes_kept _ s _ (put_line_kept s)
+does-kinds v BINPUT s = goes_kept _ s _ (put_bytes_kept 1 uint1 s refl)
+does-kinds v LONG_BINPUT s = goes_kept _ s _ (put_bytes_kept 4 uint4 s refl)
+does-kinds v SETITEM s = goes_kept _ s _ (setitem_kept s)
+does-kinds v TUPLE s = goes_kept _ s _ (tuple_kept s)
+does-kinds v EMPTY_TUPLE s = goes_kept _ s _ (push_kept s a_tuple TupleL tt)
+does-kinds v SETITEMS s = goes_kept _ s _ (setitems_kept s)
+does-kinds v BINFLOAT s = goes_kept _ s _ (binfloat_kept s)
+does-kinds v PROTO s = goes_kept _ s _ (proto_kept s v)
+does-kinds v NEWOBJ s = goes_kept _ s _ (newobj_kept s)
+does-kinds v TUPLE1 s = goes_kept _ s _ (tuple_n_kept (any ∷ []) s λ k. (tt, tt))
+does-kinds v TUPLE2 s = goes_kept _ s _ (tuple_n_kept (any ∷ any ∷ []) s λ k. (tt, (tt, tt)))
+does-kinds v TUPLE3 s = goes_kept _ s _ (tuple_n_kept (any ∷ any ∷ any ∷ []) s λ k. (tt, (tt, (tt, tt))))
 does-kinds v NEWTRUE s = goes_kept _ s _ (push_kept s aBool (BoolL true) tt)
 does-kinds v NEWFALSE s = goes_kept _ s _ (push_kept s aBool (BoolL false) tt)
-does-kinds v LONG1 s = goes_kept _ s _ (longN-kept s 1)
-does-kinds v LONG4 s = goes_kept _ s _ (longN-kept s 4)
+does-kinds v LONG1 s = goes_kept _ s _ (long_n_kept s 1)
+does-kinds v LONG4 s = goes_kept _ s _ (long_n_kept s 4)
 
 -- a step reads an opcode's byte, and takes and leaves what its row names
 pub record KindStepped (s : State) (n : Next) : Type 0 where
   pub opcode : Opcode
   pub rest : List ℕ
-  pub input-is : s.input ≡ code_of opcode ∷ rest
-  pub fits : FitsKinds (kindsOf opcode) (withInput s rest) n
+  pub input_is : s.input ≡ code_of opcode ∷ rest
+  pub fits : FitsKinds (kinds_of opcode) (with_input s rest) n
 
 pub step-kinds : (ed : Edition) (s : State) → Out (KindStepped s) (step ed s)
 unfolding step decide Out
-step-kinds ed s = bind _ _ _ _ (byte-read s) λ p h. admit-out _ (against ed p.0) p.0 _ (go p.0 p.1 (opcode_of p.0) refl h.1.rest (byte-leads s p h))
+step-kinds ed s = bind _ _ _ _ (byte-read s) λ p h. admit_out _ (against ed p.0) p.0 _ (go p.0 p.1 (opcode_of p.0) refl h.1.rest (byte-leads s p h))
   where
-    go : (b : ℕ) (t : State) (o : Option Opcode) → opcode_of b ≡ o → t ≡ withInput s (drop 1 s.input) → s.input ≡ b ∷ drop 1 s.input → Out (KindStepped s) (decide (highest ed) o b t)
+    go : (b : ℕ) (t : State) (o : Option Opcode) → opcode_of b ≡ o → t ≡ with_input s (drop 1 s.input) → s.input ≡ b ∷ drop 1 s.input → Out (KindStepped s) (decide (highest ed) o b t)
     go b t none q r c = tt
-    go b t (some o) q r c = weaken (FitsKinds (kindsOf o) t) (KindStepped s) (does (highest ed) o t) (does-kinds (highest ed) o t) λ n f. record { opcode = o; rest = drop 1 s.input; input-is = rw (decided-own b o q) c; fits = rw (← r) f }
+    go b t (some o) q r c = weaken (FitsKinds (kinds_of o) t) (KindStepped s) (does (highest ed) o t) (does-kinds (highest ed) o t) λ n f. record { opcode = o; rest = drop 1 s.input; input_is = rw (decided_own b o q) c; fits = rw (← r) f }
 
 -- ---- pickletools' own row, of every opcode but STOP
 
-any-allowed : (w : Word) (l : Label) → T (isAny w) → T (allows w l)
-unfolding isAny allows
-any-allowed any l h = tt
-any-allowed None l h = absurd h
-any-allowed aBool l h = absurd h
-any-allowed an_int l h = absurd h
-any-allowed int_or_bool l h = absurd h
-any-allowed aFloat l h = absurd h
-any-allowed bytes_or_str l h = absurd h
-any-allowed str l h = absurd h
-any-allowed aList l h = absurd h
-any-allowed aTuple l h = absurd h
-any-allowed aDict l h = absurd h
-any-allowed a_global l h = absurd h
-any-allowed anObject l h = absurd h
-any-allowed setOrObject l h = absurd h
+any_allowed : (w : Word) (l : Label) → T (is_any w) → T (allows w l)
+unfolding is_any allows
+any_allowed any l h = tt
+any_allowed None l h = absurd h
+any_allowed aBool l h = absurd h
+any_allowed an_int l h = absurd h
+any_allowed int_or_bool l h = absurd h
+any_allowed a_float l h = absurd h
+any_allowed bytes_or_str l h = absurd h
+any_allowed str l h = absurd h
+any_allowed a_list l h = absurd h
+any_allowed a_tuple l h = absurd h
+any_allowed a_dict l h = absurd h
+any_allowed a_global l h = absurd h
+any_allowed an_object l h = absurd h
+any_allowed set_or_object l h = absurd h
 
-each-any : (ws : List Word) (k : ℕ) (s : State) → T (allAny ws) → EachAllowed ws k s
-unfolding allAny EachAllowed
+each-any : (ws : List Word) (k : ℕ) (s : State) → T (all_any ws) → EachAllowed ws k s
+unfolding all_any EachAllowed
 each-any [] k s h = tt
-each-any (w ∷ ws) k s h = (any-allowed w _ (and_l (isAny w) (allAny ws) h), each-any ws (suc k) s (and_r (isAny w) (allAny ws) h))
+each-any (w ∷ ws) k s h = (any_allowed w _ (and_l (is_any w) (all_any ws) h), each-any ws (suc k) s (and_r (is_any w) (all_any ws) h))
 
 said : (k j : Kinds) (s : State) → T (says k j) → Stocked k s → Stocked j s
 unfolding says Stocked
 said (topmost ws) (topmost vs) s h a =
-    let n = leb→le (length vs) (length ws) (and_r (allAny vs) _ h) in
+    let n = leb→le (length vs) (length ws) (and_r (all_any vs) _ h) in
     let r = a.reaches in
-    record { start = length s.stack - length vs; reaches = omega arith; inside = omega arith; each = each-any vs _ s (and_l (allAny vs) _ h) }
-said (topmost ws) (belowMark vs) s h a = absurd h
-said (topmost ws) markOnly s h a = absurd h
-said (belowMark ws) j s h a = absurd h
-said markOnly j s h a = absurd h
+    record { start = length s.stack - length vs; reaches = omega arith; inside = omega arith; each = each-any vs _ s (and_l (all_any vs) _ h) }
+said (topmost ws) (below_mark vs) s h a = absurd h
+said (topmost ws) mark_only s h a = absurd h
+said (below_mark ws) j s h a = absurd h
+said mark_only j s h a = absurd h
 
-said_row : (k : KindRow) (r : Option KindRow) (s : State) (n : Next) → T (saysRow k r) → FitsKinds (some k) s n → FitsKinds r s n
-unfolding saysRow FitsKinds TakenAndLeft
+said_row : (k : KindRow) (r : Option KindRow) (s : State) (n : Next) → T (says_row k r) → FitsKinds (some k) s n → FitsKinds r s n
+unfolding says_row FitsKinds TakenAndLeft
 said_row k none s n h f = absurd h
 said_row k (some r) s n h f =
-    (said k.takes r.takes s (and_l (says k.takes r.takes) _ h) f.0, said k.leaves r.leaves (stateAfter n) (and_r (says k.takes r.takes) _ h) f.1)
+    (said k.takes r.takes s (and_l (says k.takes r.takes) _ h) f.0, said k.leaves r.leaves (state_after n) (and_r (says k.takes r.takes) _ h) f.1)
 
 -- a row is found by the place of a name
-row-by-place : (l : List KindRow) (o p : Opcode) → place o ≡ place p → kindsIn l o ≡ kindsIn l p
-unfolding kindsIn isNamed
-row-by-place [] o p e = refl
-row-by-place (r ∷ l) o p e = rw (e, row-by-place l o p e)
+row_by_place : (l : List KindRow) (o p : Opcode) → place o ≡ place p → kinds_in l o ≡ kinds_in l p
+unfolding kinds_in is_named
+row_by_place [] o p e = refl
+row_by_place (r ∷ l) o p e = rw (e, row_by_place l o p e)
 
 or_right : (a b : Bool) → a ≡ false → T (a || b) → T b
 or_right a b e h = rw e at h
 
-said_all : (l m : List KindRow) (o : Opcode) (s : State) (n : Next) → isNamed o (known STOP) ≡ false → T (sayMore l m) → FitsKinds (kindsIn (l ++ m) o) s n → FitsKinds (kindsIn m o) s n
-unfolding sayMore kindsIn isNamed
+said_all : (l m : List KindRow) (o : Opcode) (s : State) (n : Next) → is_named o (known STOP) ≡ false → T (say_more l m) → FitsKinds (kinds_in (l ++ m) o) s n → FitsKinds (kinds_in m o) s n
+unfolding say_more kinds_in is_named
 said_all [] m o s n z h f = f
-said_all (k ∷ l) m o s n z h f = go (isNamed o (known k.opcode)) refl f (said_all l m o s n z (and_r (isNamed k.opcode (known STOP) || saysRow k (kindsIn m k.opcode)) (sayMore l m) h))
+said_all (k ∷ l) m o s n z h f = go (is_named o (known k.opcode)) refl f (said_all l m o s n z (and_r (is_named k.opcode (known STOP) || says_row k (kinds_in m k.opcode)) (say_more l m) h))
   where
-    go : (b : Bool) → isNamed o (known k.opcode) ≡ b → FitsKinds (cond b (some k) (kindsIn (l ++ m) o)) s n → (FitsKinds (kindsIn (l ++ m) o) s n → FitsKinds (kindsIn m o) s n) → FitsKinds (kindsIn m o) s n
+    go : (b : Bool) → is_named o (known k.opcode) ≡ b → FitsKinds (cond b (some k) (kinds_in (l ++ m) o)) s n → (FitsKinds (kinds_in (l ++ m) o) s n → FitsKinds (kinds_in m o) s n) → FitsKinds (kinds_in m o) s n
     go true q f more =
         let e : place o ≡ place k.opcode = eqb-true (place o) (place k.opcode) q in
-        let d : isNamed k.opcode (known STOP) ≡ false = rw e at z in
-        let c : T (saysRow k (kindsIn m k.opcode)) = or_right (isNamed k.opcode (known STOP)) _ d (and_l (isNamed k.opcode (known STOP) || saysRow k (kindsIn m k.opcode)) (sayMore l m) h) in
-        rw (row-by-place m o k.opcode e) (said_row k (kindsIn m k.opcode) s n c f)
+        let d : is_named k.opcode (known STOP) ≡ false = rw e at z in
+        let c : T (says_row k (kinds_in m k.opcode)) = or_right (is_named k.opcode (known STOP)) _ d (and_l (is_named k.opcode (known STOP) || says_row k (kinds_in m k.opcode)) (say_more l m) h) in
+        rw (row_by_place m o k.opcode e) (said_row k (kinds_in m k.opcode) s n c f)
     go false q f more = more f
 
-pub does-pickletools : (v : ℕ) (o : Opcode) (s : State) → isNamed o (known STOP) ≡ false → Out (FitsKinds (kindsIn pickletools o) s) (does v o s)
-unfolding kindsOf
-does-pickletools v o s z = weaken _ _ _ (does-kinds v o s) λ n f. said_all exceptions pickletools o s n z exceptions-say-more f
+pub does-pickletools : (v : ℕ) (o : Opcode) (s : State) → is_named o (known STOP) ≡ false → Out (FitsKinds (kinds_in pickletools o) s) (does v o s)
+unfolding kinds_of
+does-pickletools v o s z = weaken _ _ _ (does-kinds v o s) λ n f. said_all exceptions pickletools o s n z exceptions-say_more f
 
 -- STOP takes nothing, also where nothing stands
-pub stop-takes-nothing : (v : ℕ) (s : State) → does v STOP s ≡ ok (stops s)
+pub stop_takes_nothing : (v : ℕ) (s : State) → does v STOP s ≡ ok (stops s)
 unfolding does
-stop-takes-nothing v s = refl
+stop_takes_nothing v s = refl

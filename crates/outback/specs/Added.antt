@@ -6,5 +6,5 @@ use Rattle.refusal.specs.Numbers.{number_of}
 abbrev pub added : ℕ → Bool
 added n = eqb n 1 || (eqb n 2 || (leb 12 n && leb n 20))
 
-abbrev pub addedRefusal : Refusal → Bool
-addedRefusal why = added (number_of why).0
+abbrev pub added_refusal : Refusal → Bool
+added_refusal why = added (number_of why).0

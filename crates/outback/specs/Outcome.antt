@@ -11,25 +11,25 @@ use Rattle.value.specs.Stands.{◌⊕◌}
 use Rattle.steps.specs.State.{Node, State, no, kidless}
 use Rattle.steps.specs.Fuel.{run_from}
 use Rattle.reading.specs.Build.{at}
-use Rattle.outback.specs.Added.{addedRefusal}
-use Rattle.outback.specs.WriteOut.{WritesIn, none, more, writes-moved, writes-append}
+use Rattle.outback.specs.Added.{added_refusal}
+use Rattle.outback.specs.WriteOut.{WritesIn, none, more, writes_moved, writes_append}
 
 -- the run from s on is an added refusal, or it is that from t on, and R holds of t
 pub data LeadsTo (s : State) (R : State → Type 0) : Type 0 where
-  stops : (why : Refusal) → T (addedRefusal why) → run_from Full s ≡ no why → LeadsTo s R
+  stops : (why : Refusal) → T (added_refusal why) → run_from Full s ≡ no why → LeadsTo s R
   comes : (t : State) → run_from Full s ≡ run_from Full t → R t → LeadsTo s R
 
-pub leads-on : {s : State} {R Q : State → Type 0} → LeadsTo s R → ((t : State) → R t → LeadsTo t Q) → LeadsTo s Q
-leads-on (stops why a e) k = stops why a e
-leads-on {s} {R} {Q} (comes t e r) k = go (k t r)
+pub leads_on : {s : State} {R Q : State → Type 0} → LeadsTo s R → ((t : State) → R t → LeadsTo t Q) → LeadsTo s Q
+leads_on (stops why a e) k = stops why a e
+leads_on {s} {R} {Q} (comes t e r) k = go (k t r)
   where
     go : LeadsTo t Q → LeadsTo s Q
     go (stops why a f) = stops why a (e ∙ f)
     go (comes u f q) = comes u (e ∙ f) q
 
-pub leads-weaken : {s : State} {R Q : State → Type 0} → ((t : State) → R t → Q t) → LeadsTo s R → LeadsTo s Q
-leads-weaken h (stops why a e) = stops why a e
-leads-weaken h (comes t e r) = comes t e (h t r)
+pub leads_weaken : {s : State} {R Q : State → Type 0} → ((t : State) → R t → Q t) → LeadsTo s R → LeadsTo s Q
+leads_weaken h (stops why a e) = stops why a e
+leads_weaken h (comes t e r) = comes t e (h t r)
 
 -- ---- values more on the stack
 
@@ -44,7 +44,7 @@ pub record BetweenOthers (lo hi i j : ℕ) : Type 0 where
   pub high : j < hi
   pub other : j ≢ i
 
--- From s to t: `rest` is left to read, the stack has one value more, and old nodes are as they were. The value is in new nodes; its write-out
+-- From s to t: `rest` is left to read, the stack has one value more, and old nodes are as they were. The value is in new nodes; its write_out
 -- has label l and contents c, and its contents keep off its own node, so that an opcode may still add to it.
 pub record OneMore (s : State) (rest : List ℕ) (l : Label) (c : Forest) (t : State) : Type 0 where
   pub input : t.input ≡ rest
@@ -82,21 +82,21 @@ many_more {s} {t} {u} {mid} {rest} {l} {c} {g} x y =
       old = λ i h. y.old i (omega (arith, x.low, x.high)) ∙ x.old i h;
       values =
           more (record { low = x.low; high = omega (arith, x.high, y.more) }) (y.old x.id x.high ∙ x.here)
-          (writes-moved (λ j a. record { low = a.low; high = omega (arith, a.high, y.more) }) (λ j a. y.old j a.high) x.inside)
-          (writes-moved (λ j a. record { low = omega (arith, x.low, x.high, a.low); high = a.high }) (λ j a. refl) y.values);
+          (writes_moved (λ j a. record { low = a.low; high = omega (arith, a.high, y.more) }) (λ j a. y.old j a.high) x.inside)
+          (writes_moved (λ j a. record { low = omega (arith, x.low, x.high, a.low); high = a.high }) (λ j a. refl) y.values);
     }
 
-pub many-one : {s t : State} {rest : List ℕ} {l : Label} {c : Forest} → OneMore s rest l c t → ManyMore s rest (node l c nil) t
-many-one {s} {t} {rest} x = many_more x (many-none t rest x.input)
+pub many_one : {s t : State} {rest : List ℕ} {l : Label} {c : Forest} → OneMore s rest l c t → ManyMore s rest (node l c nil) t
+many_one {s} {t} {rest} x = many_more x (many-none t rest x.input)
 
 -- ---- a new node over values that were read
 
-abbrev pub stateWithNode : State → List ℕ → Node → State → ℕ → List ℕ → State
-stateWithNode s i n t k m = record { input = i; nodes = t.nodes ++ (n ∷ []); stack = s.stack ++ (length t.nodes ∷ []); marks = m; memo = t.memo; links = k }
+abbrev pub state_with_node : State → List ℕ → Node → State → ℕ → List ℕ → State
+state_with_node s i n t k m = record { input = i; nodes = t.nodes ++ (n ∷ []); stack = s.stack ++ (length t.nodes ∷ []); marks = m; memo = t.memo; links = k }
 
-pub node-more : (s t : State) (rest : List ℕ) (l : Label) (f : Forest) (k : ℕ) (m ks : List ℕ) → m ≡ s.marks → length s.nodes ≤ length t.nodes → ((i : ℕ) → i < length s.nodes → at t.nodes i ≡ at s.nodes i)
-    → WritesIn t.nodes (Between (length s.nodes) (length t.nodes)) ks f → OneMore s rest l f (stateWithNode s rest (record { label = l; kids = ks }) t k m)
-node-more s t rest l f k ms ks w m o v =
+pub node_more : (s t : State) (rest : List ℕ) (l : Label) (f : Forest) (k : ℕ) (m ks : List ℕ) → m ≡ s.marks → length s.nodes ≤ length t.nodes → ((i : ℕ) → i < length s.nodes → at t.nodes i ≡ at s.nodes i)
+    → WritesIn t.nodes (Between (length s.nodes) (length t.nodes)) ks f → OneMore s rest l f (state_with_node s rest (record { label = l; kids = ks }) t k m)
+node_more s t rest l f k ms ks w m o v =
     let n : Node = record { label = l; kids = ks } in
     let z : length (t.nodes ++ (n ∷ [])) ≡ length t.nodes + 1 = length-append t.nodes (n ∷ []) in
     record {
@@ -109,20 +109,20 @@ node-more s t rest l f k ms ks w m o v =
       old = λ i h. get_or-append t.nodes (n ∷ []) (kidless NoneL) i (omega arith) ∙ o i h;
       kids = ks;
       here = get_or-append_seam t.nodes n [] (kidless NoneL);
-      inside = writes-moved (λ j a. record { low = a.low; high = omega (arith, a.high); other = λ e. omega (arith, a.high) }) (λ j a. get_or-append t.nodes (n ∷ []) (kidless NoneL) j a.high) v;
+      inside = writes_moved (λ j a. record { low = a.low; high = omega (arith, a.high); other = λ e. omega (arith, a.high) }) (λ j a. get_or-append t.nodes (n ∷ []) (kidless NoneL) j a.high) v;
     }
 
-pub leaf-more : (s : State) (rest : List ℕ) (l : Label) → OneMore s rest l nil (stateWithNode s rest (kidless l) s s.links s.marks)
-leaf-more s rest l = node-more s s rest l nil s.links s.marks [] refl (omega arith) (λ i h. refl) none
+pub leaf_more : (s : State) (rest : List ℕ) (l : Label) → OneMore s rest l nil (state_with_node s rest (kidless l) s s.links s.marks)
+leaf_more s rest l = node_more s s rest l nil s.links s.marks [] refl (omega arith) (λ i h. refl) none
 
 -- ---- values added to the node on top
 
-abbrev pub withItems : State → List ℕ → ℕ → Node → State → ℕ → List ℕ → State
-withItems s i id n t k m = record { input = i; nodes = set t.nodes id n; stack = s.stack ++ (id ∷ []); marks = m; memo = t.memo; links = k }
+abbrev pub with_items : State → List ℕ → ℕ → Node → State → ℕ → List ℕ → State
+with_items s i id n t k m = record { input = i; nodes = set t.nodes id n; stack = s.stack ++ (id ∷ []); marks = m; memo = t.memo; links = k }
 
 module _ {s t u : State} {mid mid' : List ℕ} {l : Label} {c g : Forest} (rest : List ℕ) (x : OneMore s mid l c t) (marked : State)
     (same : marked.nodes ≡ t.nodes) (y : ManyMore marked mid' g u) (k : ℕ) (ms : List ℕ) (w : ms ≡ s.marks) where
-  pub many-added : OneMore s rest l (c ⊕ g) (withItems s rest x.id (record { label = l; kids = x.kids ++ y.ids }) u k ms)
+  pub many-added : OneMore s rest l (c ⊕ g) (with_items s rest x.id (record { label = l; kids = x.kids ++ y.ids }) u k ms)
   many-added =
       let n : Node = record { label = l; kids = x.kids ++ y.ids } in
       let z : length (set u.nodes x.id n) ≡ length u.nodes = length-set u.nodes x.id n in
@@ -140,7 +140,7 @@ module _ {s t u : State} {mid mid' : List ℕ} {l : Label} {c g : Forest} (rest 
         kids = x.kids ++ y.ids;
         here = get_or-set_same u.nodes x.id n (kidless NoneL) (omega (arith, x.high));
         inside =
-            writes-append (writes-moved (λ j a. record { low = a.low; high = omega (arith, a.high); other = a.other }) (λ j a. other j a.other ∙ old j a.high) x.inside)
-            (writes-moved (λ j a. let q : length t.nodes ≤ j = rw same at a.low in record { low = omega (arith, x.low, x.high); high = omega (arith, a.high); other = λ e. omega (arith, x.high) })
+            writes_append (writes_moved (λ j a. record { low = a.low; high = omega (arith, a.high); other = a.other }) (λ j a. other j a.other ∙ old j a.high) x.inside)
+            (writes_moved (λ j a. let q : length t.nodes ≤ j = rw same at a.low in record { low = omega (arith, x.low, x.high); high = omega (arith, a.high); other = λ e. omega (arith, x.high) })
             (λ j a. let q : length t.nodes ≤ j = rw same at a.low in other j (λ e. omega (arith, x.high))) y.values);
       }

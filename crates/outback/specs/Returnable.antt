@@ -4,18 +4,18 @@ use Rattle.std.specs.Prelude.{ℕ, ◌%◌, ◌^◌, ◌≤◌, ◌<◌, Bool, t
 use Rattle.utf8.specs.Utf8.{valid}
 use Rattle.value.specs.Value.{Label, Forest, count, NoneL, BoolL, I64L, F64L, BytesL, StringL, ListL, TupleL, SetL, FrozenSetL, DictL, GlobalL, ObjectL, nil, node}
 use Rattle.ser.specs.Writable.{writable}
-use Rattle.outback.specs.SetCalls.{setClass, enoughArguments}
+use Rattle.outback.specs.SetCalls.{set_class, enough_arguments}
 
 -- a class, whose module and name are written a line each
 pub record Named (m k : List ℕ) : Type 0 where
-  pub module-line : T (writable m)
+  pub module_line : T (writable m)
   pub name-line : T (writable k)
   pub module_valid : valid m ≡ true
   pub name-valid : valid k ≡ true
 
 -- an Object's contents: the Tuple of its arguments, two at least where one would make a set; then its state, if any
 pub data Arguments (m k : List ℕ) (new : Bool) : Forest → Type 0 where
-  arguments : {a r : Forest} → count r ≤ 1 → T (new || enoughArguments (setClass m k) (count a)) → Arguments m k new (node TupleL a r)
+  arguments : {a r : Forest} → count r ≤ 1 → T (new || enough_arguments (set_class m k) (count a)) → Arguments m k new (node TupleL a r)
 
 unfoldable pub Returnable : Label → Forest → Type 0
 Returnable NoneL c = c ≡ nil

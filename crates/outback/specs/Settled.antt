@@ -8,29 +8,29 @@ use Rattle.value.specs.Order.{order}
 use Rattle.value.specs.Shape.{and_l, and_r}
 use Rattle.value.specs.WellFormed.{less, ascending, ascending-rest, keys, proper, settled}
 use Rattle.reading.specs.Build.{before}
-use Rattle.reading.specs.Settle.{by, insert, asSet, enter, asDict, items, arrange, settle}
+use Rattle.reading.specs.Settle.{by, insert, as_set, enter, as_dict, items, arrange, settle}
 use Rattle.outback.specs.Returnable.{Returnable, AllReturnable}
 
 -- ---- a set holds its argument, a List of its items
 
-unfoldable pub inNode : Label → Forest → Forest
-inNode NoneL c = c
-inNode (BoolL b) c = c
-inNode (I64L n) c = c
-inNode (F64L n) c = c
-inNode (BytesL t) c = c
-inNode (StringL t) c = c
-inNode ListL c = c
-inNode TupleL c = c
-inNode SetL c = node ListL c nil
-inNode FrozenSetL c = node ListL c nil
-inNode DictL c = c
-inNode (GlobalL m n) c = c
-inNode (ObjectL m n b) c = c
+unfoldable pub in_node : Label → Forest → Forest
+in_node NoneL c = c
+in_node (BoolL b) c = c
+in_node (I64L n) c = c
+in_node (F64L n) c = c
+in_node (BytesL t) c = c
+in_node (StringL t) c = c
+in_node ListL c = c
+in_node TupleL c = c
+in_node SetL c = node ListL c nil
+in_node FrozenSetL c = node ListL c nil
+in_node DictL c = c
+in_node (GlobalL m n) c = c
+in_node (ObjectL m n b) c = c
 
 unfoldable pub unsettled : Forest → Forest
 unsettled nil = nil
-unsettled (node l c r) = node l (inNode l (unsettled c)) (unsettled r)
+unsettled (node l c r) = node l (in_node l (unsettled c)) (unsettled r)
 
 pub unsettled-count : (f : Forest) → count (unsettled f) ≡ count f
 unfolding unsettled count
@@ -65,15 +65,15 @@ enter-first v w nil h p = refl
 enter-first v w (node l c nil) h p = absurd (omega arith)
 enter-first v w (node l c (node m d r)) h p = rw (below (order v (record { label = l; contents = c })) h)
 
-set_same : (f : Forest) → T (ascending f) → asSet f ≡ f
-unfolding asSet
+set_same : (f : Forest) → T (ascending f) → as_set f ≡ f
+unfolding as_set
 set_same nil h = refl
 set_same (node l c r) h =
     let v : Value = record { label = l; contents = c } in
     ap (insert v) (set_same r (ascending-rest l c r h)) ∙ insert-first v r (ascending-first l c r h)
 
-dict-same : (f : Forest) → T (ascending (keys f)) → count f % 2 ≡ 0 → asDict f ≡ f
-unfolding asDict keys count
+dict-same : (f : Forest) → T (ascending (keys f)) → count f % 2 ≡ 0 → as_dict f ≡ f
+unfolding as_dict keys count
 dict-same nil h p = refl
 dict-same (node l c nil) h p = absurd (omega arith)
 dict-same (node l c (node m d r)) h p =
@@ -82,8 +82,8 @@ dict-same (node l c (node m d r)) h p =
     let e : count r % 2 ≡ 0 = omega arith in
     ap (enter v w) (dict-same r (ascending-rest l c (keys r) h) e) ∙ enter-first v w r (ascending-first l c (keys r) h) e
 
-arranged : (l : Label) (c : Forest) → T (proper l c) → Returnable l c → settle (unsettled c) ≡ c → arrange l (settle (inNode l (unsettled c))) ≡ c
-unfolding arrange inNode settle items Returnable
+arranged : (l : Label) (c : Forest) → T (proper l c) → Returnable l c → settle (unsettled c) ≡ c → arrange l (settle (in_node l (unsettled c))) ≡ c
+unfolding arrange in_node settle items Returnable
 arranged NoneL c p q e = e
 arranged (BoolL b) c p q e = e
 arranged (I64L i) c p q e = e
@@ -92,9 +92,9 @@ arranged (BytesL t) c p q e = e
 arranged (StringL t) c p q e = e
 arranged ListL c p q e = e
 arranged TupleL c p q e = e
-arranged SetL c p q e = ap asSet e ∙ set_same c p
-arranged FrozenSetL c p q e = ap asSet e ∙ set_same c p
-arranged DictL c p q e = ap asDict e ∙ dict-same c p q
+arranged SetL c p q e = ap as_set e ∙ set_same c p
+arranged FrozenSetL c p q e = ap as_set e ∙ set_same c p
+arranged DictL c p q e = ap as_dict e ∙ dict-same c p q
 arranged (GlobalL m k) c p q e = e
 arranged (ObjectL m k b) c p q e = e
 

@@ -1,7 +1,7 @@
 // Bytes put into a lent output that has room for them: a byte, a run of bytes, the text of a number. Each function writes from `at`
 // on and answers the next place. The calls that write a table's value (crates list and ser) rest on this one; they measure first.
 ghost use Rattle.std.specs.Prelude.{◌≡◌, [], ◌∷◌, ◌≤◌, ◌<◌, length};
-ghost use Rattle.output.specs.Decimal.{figure, figures, decimalText, signedText};
+ghost use Rattle.output.specs.Decimal.{figure, figures, decimal_text, signed_text};
 ghost use Rattle.output.specs.Put.{Put, Room};
 
 // The next record of the table that is written and the next place of the output.
@@ -57,7 +57,7 @@ pub fn put_figures(n: u64, base: u64, count: usize, output: &mut [u8], at: usize
 
 // How many digits the decimal text has.
 pub fn digits(n: u64) -> usize
-    ensures { result ≡ length (decimalText n) }
+    ensures { result ≡ length (decimal_text n) }
 {
     let mut rest = n;
     let mut count = 1;
@@ -69,15 +69,15 @@ pub fn digits(n: u64) -> usize
 }
 
 pub fn put_decimal(n: u64, output: &mut [u8], at: usize) -> usize
-    requires { Room output.old at (decimalText n) }
-    ensures { Put output.old at (decimalText n) output.new result }
+    requires { Room output.old at (decimal_text n) }
+    ensures { Put output.old at (decimal_text n) output.new result }
 {
     put_figures(n, 10, digits(n), output, at)
 }
 
 // An i64, from its 64 bits: how long its text is, and the text.
 pub fn signed_len(bits: u64) -> usize
-    ensures { result ≡ length (signedText bits) }
+    ensures { result ≡ length (signed_text bits) }
 {
     if bits < 0x8000_0000_0000_0000 {
         return digits(bits);
@@ -86,8 +86,8 @@ pub fn signed_len(bits: u64) -> usize
 }
 
 pub fn put_signed(bits: u64, output: &mut [u8], at: usize) -> usize
-    requires { Room output.old at (signedText bits) }
-    ensures { Put output.old at (signedText bits) output.new result }
+    requires { Room output.old at (signed_text bits) }
+    ensures { Put output.old at (signed_text bits) output.new result }
 {
     if bits < 0x8000_0000_0000_0000 {
         return put_decimal(bits, output, at);

@@ -2,9 +2,9 @@
 // struct comes back. Every input is accepted, and every call ends. Each calls the function that does the work; so do the programs here.
 ghost use Rattle.std.specs.Prelude.{[], ◌∷◌, ◌≡◌};
 ghost use Rattle.op.specs.declared.Edition.TheVariants.{Plain};
-ghost use Rattle.reading.specs.Reading.{prefix, whole, prefixIn, wholeIn};
+ghost use Rattle.reading.specs.Reading.{prefix, whole, prefix_in, whole_in};
 ghost use Rattle.table.specs.Compare.{Compares};
-ghost use Rattle.table.specs.Length.{textLength};
+ghost use Rattle.table.specs.Length.{text_length};
 ghost use Rattle.de.specs.Call.{ReadCall};
 ghost use Rattle.batch.specs.Batch.{BatchCall};
 ghost use Rattle.ser.specs.Call.{WriteCall};
@@ -130,7 +130,7 @@ pub extern "C" fn qelemvir_plain_from_bytes_prefix(
     table: &mut [u64],
     text: &mut [u8],
 ) -> Answer
-    ensures { ReadCall (prefixIn Plain pickle.now)
+    ensures { ReadCall (prefix_in Plain pickle.now)
         (nodes.old ∷ owners.old ∷ children.old ∷ stack.old
         ∷ marks.old ∷ keys.old ∷ held.old
         ∷ unescaped.old ∷ starts.old ∷ sorted.old ∷ measures.old
@@ -177,7 +177,7 @@ pub extern "C" fn qelemvir_plain_from_bytes(
     table: &mut [u64],
     text: &mut [u8],
 ) -> Answer
-    ensures { ReadCall (wholeIn Plain pickle.now)
+    ensures { ReadCall (whole_in Plain pickle.now)
         (nodes.old ∷ owners.old ∷ children.old ∷ stack.old
         ∷ marks.old ∷ keys.old ∷ held.old
         ∷ unescaped.old ∷ starts.old ∷ sorted.old ∷ measures.old
@@ -298,7 +298,7 @@ pub extern "C" fn qelemvir_to_bytes(
 // The length of a table's text, which a reading does not return and the calls on a table ask for.
 #[unsafe(no_mangle)]
 pub extern "C" fn qelemvir_text_len(words: &[u64], count: usize) -> usize
-    ensures { result ≡ textLength words.now count }
+    ensures { result ≡ text_length words.now count }
 {
     table::text_len(words, count)
 }

@@ -9,15 +9,15 @@ use Rattle.input.specs.Bytes.{Bytes}
 use Rattle.value.specs.Value.{Label, Forest, one, NoneL, BoolL, I64L, F64L, BytesL, StringL, ListL, TupleL, SetL, FrozenSetL, DictL, GlobalL, ObjectL}
 use Rattle.steps.specs.State.{State, Res, ok, no}
 use Rattle.steps.specs.Run.{run}
-use Rattle.steps.specs.Out.{Out, out, both_out, bind, bind-any, bind-need}
-use Rattle.steps.specs.Shape.{Shaped, run-shaped}
+use Rattle.steps.specs.Out.{Out, out, both_out, bind, bind_any, bind_need}
+use Rattle.steps.specs.Shape.{Shaped, run_shaped}
 use Rattle.reading.specs.Build.{at, tree}
 use Rattle.reading.specs.Form.{All, tree_all}
-use Rattle.reading.specs.Well.{object_of, right-at, settle-labels}
-use Rattle.reading.specs.Letters.{Labelled, labelled-at, PlainLabels, Classes, run-labelled}
+use Rattle.reading.specs.Well.{object_of, right_at, settle-labels}
+use Rattle.reading.specs.Letters.{Labelled, labelled_at, PlainLabels, Classes, run_labelled}
 use Rattle.reading.specs.Measure.{measured}
 use Rattle.reading.specs.Settle.{settle}
-use Rattle.reading.specs.Reading.{Reading, refuses, reads, reading_of, consumed, stopped, prefixIn, wholeIn, leaves}
+use Rattle.reading.specs.Reading.{Reading, refuses, reads, reading_of, consumed, stopped, prefix_in, whole_in, leaves}
 
 abbrev pub classless : Label → Bool
 classless NoneL = true
@@ -43,13 +43,13 @@ Classless f = All (λ l c. IsClassless l) f
 
 -- ---- the machine's nodes
 
-abbrev plain-classless : PlainLabels IsClassless
-plain-classless = record { none = tt; bool = λ b. tt; int = λ n. tt; float = λ n. tt; bytes = λ t. tt; string = λ t v. tt; list = tt; tuple = tt; dict = tt }
+abbrev plain_classless : PlainLabels IsClassless
+plain_classless = record { none = tt; bool = λ b. tt; int = λ n. tt; float = λ n. tt; bytes = λ t. tt; string = λ t v. tt; list = tt; tuple = tt; dict = tt }
 
 -- GLOBAL, REDUCE and NEWOBJ are outside the profile
-outside-it : Classes IsClassless plain-classless Plain
+outside_it : Classes IsClassless plain_classless Plain
 unfolding evaluates
-outside-it = record { globals = λ e. absurd (let z : ◌≡◌ {A = ℕ} 0 1 = cc in omega arith); reduces = λ e. absurd (let z : ◌≡◌ {A = ℕ} 0 1 = cc in omega arith); newobjs = λ e. absurd (let z : ◌≡◌ {A = ℕ} 0 1 = cc in omega arith) }
+outside_it = record { globals = λ e. absurd (let z : ◌≡◌ {A = ℕ} 0 1 = cc in omega arith); reduces = λ e. absurd (let z : ◌≡◌ {A = ℕ} 0 1 = cc in omega arith); newobjs = λ e. absurd (let z : ◌≡◌ {A = ℕ} 0 1 = cc in omega arith) }
 
 -- ---- the value
 
@@ -58,7 +58,7 @@ At-stop s = Shaped s.nodes × Labelled IsClassless s.nodes
 
 stopped-classless : (p : List ℕ) → Bytes p → Out (λ (x : State × ℕ). At-stop x.0) (stopped Plain p)
 unfolding stopped At-stop
-stopped-classless p b = bind-need _ _ _ _ λ l. bind _ _ _ _ (both_out _ _ (run Plain p) (run-shaped Plain p) (run-labelled IsClassless plain-classless Plain outside-it p b)) λ s h. bind-any _ _ _ λ q e. out _ _ h
+stopped-classless p b = bind_need _ _ _ _ λ l. bind _ _ _ _ (both_out _ _ (run Plain p) (run_shaped Plain p) (run_labelled IsClassless plain_classless Plain outside_it p b)) λ s h. bind_any _ _ _ λ q e. out _ _ h
 
 -- the tree of the value left, before equal keys and items collapse
 abbrev pub built : State → ℕ → Forest
@@ -68,8 +68,8 @@ built-classless : (s : State) (root : ℕ) → At-stop s → Classless (built s 
 unfolding At-stop
 built-classless s root h =
     tree_all s.nodes (λ l c. IsClassless l) tt
-    (λ i c n a. labelled-at IsClassless tt s.nodes i h.1)
-    (λ i o. object_of s.nodes (at s.nodes i).label (at s.nodes i).kids (right-at s.nodes h.0 i) o)
+    (λ i c n a. labelled_at IsClassless tt s.nodes i h.1)
+    (λ i o. object_of s.nodes (at s.nodes i).label (at s.nodes i).kids (right_at s.nodes h.0 i) o)
     root
 
 -- ---- the readings
@@ -91,18 +91,18 @@ told-classless p s root e h = go (measured (built s root)) refl
     go (no why) m = refused why (rw (m, reading_of))
     go (ok u) m = read s root e (rw (m, reading_of)) h
 
-pub prefix-classless : (p : List ℕ) → Bytes p → ReadsClassless p (prefixIn Plain p)
-unfolding prefixIn Out
+pub prefix-classless : (p : List ℕ) → Bytes p → ReadsClassless p (prefix_in Plain p)
+unfolding prefix_in Out
 prefix-classless p b = go (stopped Plain p) refl (stopped-classless p b)
   where
-    go : (r : Res (State × ℕ)) → stopped Plain p ≡ r → Out (λ (x : State × ℕ). At-stop x.0) r → ReadsClassless p (prefixIn Plain p)
-    go (no why) e h = refused why (rw (e, prefixIn))
-    go (ok x) e h = rw (e, prefixIn) (told-classless p x.0 x.1 e (built-classless x.0 x.1 h))
+    go : (r : Res (State × ℕ)) → stopped Plain p ≡ r → Out (λ (x : State × ℕ). At-stop x.0) r → ReadsClassless p (prefix_in Plain p)
+    go (no why) e h = refused why (rw (e, prefix_in))
+    go (ok x) e h = rw (e, prefix_in) (told-classless p x.0 x.1 e (built-classless x.0 x.1 h))
 
-pub whole-classless : (p : List ℕ) → Bytes p → ReadsClassless p (wholeIn Plain p)
-unfolding wholeIn
-whole-classless p b = go (leaves p (prefixIn Plain p))
+pub whole-classless : (p : List ℕ) → Bytes p → ReadsClassless p (whole_in Plain p)
+unfolding whole_in
+whole-classless p b = go (leaves p (prefix_in Plain p))
   where
-    go : (c : Bool) → ReadsClassless p (cond c (refuses TrailingData) (prefixIn Plain p))
+    go : (c : Bool) → ReadsClassless p (cond c (refuses TrailingData) (prefix_in Plain p))
     go true = refused TrailingData refl
     go false = prefix-classless p b

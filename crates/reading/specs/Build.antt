@@ -3,7 +3,7 @@
 use Rattle.std.specs.Prelude.{ℕ, suc, zero, Bool, true, false, cond, ◌&&◌, List, [], ◌∷◌, length, get_or, eqb}
 use Rattle.value.specs.Value.{Forest, Value, NoneL, nil, node}
 use Rattle.steps.specs.State.{Node, kidless}
-use Rattle.steps.specs.Opcodes.{isObject}
+use Rattle.steps.specs.Opcodes.{is_object}
 
 -- A node: not reached yet; taken out while its contents are built; or finished and kept. The Rust keeps a finished node only when it is
 -- referenced more than once (`refs > 1`). That needs no place here: a node's contents are gone through once at most, so that a node which
@@ -38,14 +38,14 @@ is_taken fresh = false
 is_taken taken = true
 is_taken (kept v) = false
 
-unfoldable pub firstTaken : Stages → List ℕ → Bool
-firstTaken d [] = false
-firstTaken d (i ∷ is) = is_taken (d i)
+unfoldable pub first_taken : Stages → List ℕ → Bool
+first_taken d [] = false
+first_taken d (i ∷ is) = is_taken (d i)
 
 -- An Object whose arguments, its first child, are being built. (`Value::Tuple(args) = self.build(args) else`: arguments are a Tuple for
 -- good, so that what is built for them is no Tuple exactly when they are taken out.)
 unfoldable pub blocked : List Node → Stages → ℕ → Bool
-blocked t d i = isObject (at t i).label && firstTaken d (at t i).kids
+blocked t d i = is_object (at t i).label && first_taken d (at t i).kids
 
 -- a node whose contents are built is finished, and kept
 unfoldable pub finish : List Node → ℕ → Forest × Stages → Value × Stages

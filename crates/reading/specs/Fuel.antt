@@ -6,16 +6,16 @@ use Rattle.std.proofs.Common.{arith}
 use Rattle.value.specs.Value.{Forest, Value}
 use Rattle.steps.specs.State.{Node}
 use Rattle.reading.specs.Build.{Stage, Stages, fresh, taken, kept, stage, none, at, blocked, finish, each, build}
-use Rattle.reading.specs.Unfold.{In, here, there, freshLeft, freshness, left-stage, left_less, outside-nodes}
+use Rattle.reading.specs.Unfold.{In, here, there, fresh_left, freshness, left_stage, left_less, outside-nodes}
 
-each_left : (n : ℕ) (g : ℕ → Stages → Value × Stages) → ((j : ℕ) (c : Stages) → freshLeft (g j c).1 n ≤ freshLeft c n) → (is : List ℕ) (d : Stages) → freshLeft (each g is d).1 n ≤ freshLeft d n
+each_left : (n : ℕ) (g : ℕ → Stages → Value × Stages) → ((j : ℕ) (c : Stages) → fresh_left (g j c).1 n ≤ fresh_left c n) → (is : List ℕ) (d : Stages) → fresh_left (each g is d).1 n ≤ fresh_left d n
 unfolding each
 each_left n g h [] d = omega arith
 each_left n g h (i ∷ is) d = omega (arith, h i d, each_left n g h is (g i d).1)
 
 -- two calls that agree where no more than m nodes are fresh
-each_same : (n m : ℕ) (g h : ℕ → Stages → Value × Stages) → ((j : ℕ) (c : Stages) → freshLeft (g j c).1 n ≤ freshLeft c n) → (is : List ℕ) (d : Stages) → freshLeft d n ≤ m
-    → ((j : ℕ) → In j is → (c : Stages) → freshLeft c n ≤ m → g j c ≡ h j c) → each g is d ≡ each h is d
+each_same : (n m : ℕ) (g h : ℕ → Stages → Value × Stages) → ((j : ℕ) (c : Stages) → fresh_left (g j c).1 n ≤ fresh_left c n) → (is : List ℕ) (d : Stages) → fresh_left d n ≤ m
+    → ((j : ℕ) → In j is → (c : Stages) → fresh_left c n ≤ m → g j c ≡ h j c) → each g is d ≡ each h is d
 unfolding each
 each_same n m g h down [] d l e = refl
 each_same n m g h down (i ∷ is) d l e =
@@ -23,9 +23,9 @@ each_same n m g h down (i ∷ is) d l e =
     let q : each g is (g i d).1 ≡ each h is (g i d).1 = each_same n m g h down is (g i d).1 (omega (arith, down i d)) (λ j x. e j (there x)) in
     rw (← p, q)
 
-finish-left : (t : List Node) (n i : ℕ) (p : Forest × Stages) → freshLeft (finish t i p).1 n ≤ freshLeft p.1 n
+finish_left : (t : List Node) (n i : ℕ) (p : Forest × Stages) → fresh_left (finish t i p).1 n ≤ fresh_left p.1 n
 unfolding finish freshness
-finish-left t n i p = left-stage p.1 i _ n refl
+finish_left t n i p = left_stage p.1 i _ n refl
 
 -- the four cases of a call, each with what it makes whatever the fuel
 pub data BuildCase (t : List Node) (i : ℕ) (d : Stages) : Type 0 where
@@ -34,9 +34,9 @@ pub data BuildCase (t : List Node) (i : ℕ) (d : Stages) : Type 0 where
   stuck : d i ≡ fresh → blocked t d i ≡ true → ((k : ℕ) → build t (suc k) i d ≡ (none, stage i (kept none) d)) → BuildCase t i d
   entered : d i ≡ fresh → blocked t d i ≡ false → ((k : ℕ) → build t (suc k) i d ≡ finish t i (each (build t k) (at t i).kids (stage i taken d))) → BuildCase t i d
 
-pub build-case : (t : List Node) (i : ℕ) (d : Stages) → BuildCase t i d
+pub build_case : (t : List Node) (i : ℕ) (d : Stages) → BuildCase t i d
 unfolding build
-build-case t i d = go (d i) refl (blocked t d i) refl
+build_case t i d = go (d i) refl (blocked t d i) refl
   where
     go : (m : Stage) → d i ≡ m → (b : Bool) → blocked t d i ≡ b → BuildCase t i d
     go (kept v) e b f = copied v e (λ k. rw (e, build))
@@ -44,40 +44,40 @@ build-case t i d = go (d i) refl (blocked t d i) refl
     go fresh e true f = stuck e f (λ k. rw (e, f, build))
     go fresh e false f = entered e f (λ k. rw (e, f, build))
 
-build-left : (t : List Node) (n k i : ℕ) (d : Stages) → freshLeft (build t k i d).1 n ≤ freshLeft d n
+build_left : (t : List Node) (n k i : ℕ) (d : Stages) → fresh_left (build t k i d).1 n ≤ fresh_left d n
 unfolding build freshness
-build-left t n zero i d = omega arith
-build-left t n (suc k) i d = go (build-case t i d) (build-left t n k)
+build_left t n zero i d = omega arith
+build_left t n (suc k) i d = go (build_case t i d) (build_left t n k)
   where
-    go : BuildCase t i d → ((j : ℕ) (c : Stages) → freshLeft (build t k j c).1 n ≤ freshLeft c n) → freshLeft (build t (suc k) i d).1 n ≤ freshLeft d n
+    go : BuildCase t i d → ((j : ℕ) (c : Stages) → fresh_left (build t k j c).1 n ≤ fresh_left c n) → fresh_left (build t (suc k) i d).1 n ≤ fresh_left d n
     go (copied v e f) ih = rw (f k) (omega arith)
     go (inside e f) ih = rw (f k) (omega arith)
-    go (stuck e b f) ih = rw (f k) (left-stage d i (kept none) n refl)
+    go (stuck e b f) ih = rw (f k) (left_stage d i (kept none) n refl)
     go (entered e b f) ih =
         let p = each (build t k) (at t i).kids (stage i taken d) in
-        rw (f k) (omega (arith, finish-left t n i p, each_left n (build t k) ih (at t i).kids (stage i taken d), left-stage d i taken n refl))
+        rw (f k) (omega (arith, finish_left t n i p, each_left n (build t k) ih (at t i).kids (stage i taken d), left_stage d i taken n refl))
 
 -- two calls that agree wherever fewer nodes are fresh agree on the contents of a fresh node
-kids-same : (t : List Node) (g h : ℕ → Stages → Value × Stages) (i : ℕ) (d : Stages) → ((j : ℕ) (c : Stages) → freshLeft (g j c).1 (length t) ≤ freshLeft c (length t)) → d i ≡ fresh
-    → ((j : ℕ) (c : Stages) → freshLeft c (length t) < freshLeft d (length t) → g j c ≡ h j c) → each g (at t i).kids (stage i taken d) ≡ each h (at t i).kids (stage i taken d)
+kids_same : (t : List Node) (g h : ℕ → Stages → Value × Stages) (i : ℕ) (d : Stages) → ((j : ℕ) (c : Stages) → fresh_left (g j c).1 (length t) ≤ fresh_left c (length t)) → d i ≡ fresh
+    → ((j : ℕ) (c : Stages) → fresh_left c (length t) < fresh_left d (length t) → g j c ≡ h j c) → each g (at t i).kids (stage i taken d) ≡ each h (at t i).kids (stage i taken d)
 unfolding freshness each
-kids-same t g h i d down e same = go (dec_lt i (length t))
+kids_same t g h i d down e same = go (dec_lt i (length t))
   where
     go : Dec (i < length t) → each g (at t i).kids (stage i taken d) ≡ each h (at t i).kids (stage i taken d)
     go (yes l) =
         let n = length t in
-        let l₀ : freshLeft (stage i taken d) n < freshLeft d n = left_less d i taken n refl e l in
-        each_same n (freshLeft (stage i taken d) n) g h down (at t i).kids (stage i taken d) (omega arith) (λ j x c y. same j c (omega arith))
+        let l₀ : fresh_left (stage i taken d) n < fresh_left d n = left_less d i taken n refl e l in
+        each_same n (fresh_left (stage i taken d) n) g h down (at t i).kids (stage i taken d) (omega arith) (λ j x c y. same j c (omega arith))
     go (no l) = rw (outside-nodes t i l)
 
 -- as much fuel as there are fresh nodes, and one more, is enough
-pub build-fuel : (t : List Node) (k k' i : ℕ) (d : Stages) → freshLeft d (length t) < k → freshLeft d (length t) < k' → build t k i d ≡ build t k' i d
-build-fuel t zero k' i d l l' = absurd (omega arith)
-build-fuel t (suc k) zero i d l l' = absurd (omega arith)
-build-fuel t (suc k) (suc k') i d l l' = go (build-case t i d) (build-fuel t k k')
+pub build_fuel : (t : List Node) (k k' i : ℕ) (d : Stages) → fresh_left d (length t) < k → fresh_left d (length t) < k' → build t k i d ≡ build t k' i d
+build_fuel t zero k' i d l l' = absurd (omega arith)
+build_fuel t (suc k) zero i d l l' = absurd (omega arith)
+build_fuel t (suc k) (suc k') i d l l' = go (build_case t i d) (build_fuel t k k')
   where
-    go : BuildCase t i d → ((j : ℕ) (c : Stages) → freshLeft c (length t) < k → freshLeft c (length t) < k' → build t k j c ≡ build t k' j c) → build t (suc k) i d ≡ build t (suc k') i d
+    go : BuildCase t i d → ((j : ℕ) (c : Stages) → fresh_left c (length t) < k → fresh_left c (length t) < k' → build t k j c ≡ build t k' j c) → build t (suc k) i d ≡ build t (suc k') i d
     go (copied v e f) ih = rw (f k, f k')
     go (inside e f) ih = rw (f k, f k')
     go (stuck e b f) ih = rw (f k, f k')
-    go (entered e b f) ih = rw (f k, f k', kids-same t (build t k) (build t k') i d (build-left t (length t) k) e (λ j c m. ih j c (omega arith) (omega arith)))
+    go (entered e b f) ih = rw (f k, f k', kids_same t (build t k) (build t k') i d (build_left t (length t) k) e (λ j c m. ih j c (omega arith) (omega arith)))

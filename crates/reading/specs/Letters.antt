@@ -16,51 +16,51 @@ use Rattle.op.specs.declared.Opcode.{Opcode}
 use Rattle.op.specs.declared.Opcode.TheVariants.{MARK, STOP, POP, POP_MARK, DUP, FLOAT, INT, BININT, BININT1, LONG, BININT2, NONE, REDUCE, STRING, BINSTRING, SHORT_BINSTRING, UNICODE, BINUNICODE, APPEND, BUILD, GLOBAL, DICT, EMPTY_DICT, APPENDS, GET, BINGET, LONG_BINGET, LIST, EMPTY_LIST, PUT, BINPUT, LONG_BINPUT, SETITEM, TUPLE, EMPTY_TUPLE, SETITEMS, BINFLOAT, PROTO, NEWOBJ, TUPLE1, TUPLE2, TUPLE3, NEWTRUE, NEWFALSE, LONG1, LONG4}
 use Rattle.utf8.specs.Utf8.{valid, repair}
 use Rattle.utf8.specs.Laws.{valid-repair}
-use Rattle.input.specs.Bytes.{Bytes, lastByte, bytes_take, bytes_drop}
-use Rattle.input.specs.Line.{lessCr, line_of}
+use Rattle.input.specs.Bytes.{Bytes, last_byte, bytes_take, bytes_drop}
+use Rattle.input.specs.Line.{less_cr, line_of}
 use Rattle.number.specs.Number.{Int, truth, whole}
 use Rattle.number.specs.Space.{same}
 use Rattle.text.specs.Pieces.{bytes_of}
 use Rattle.text.specs.Laws.{unicode-valid}
 use Rattle.value.specs.Value.{Label, NoneL, BoolL, I64L, F64L, BytesL, StringL, ListL, TupleL, SetL, FrozenSetL, DictL, GlobalL, ObjectL}
 use Rattle.value.specs.Shape.{and_l, and_r}
-use Rattle.steps.specs.State.{Node, State, Res, ok, no, kidless, nodeAt, bytes, byte, line, pop, popMark, popMany, pushId, pushNode, push, link, extend, get, put}
-use Rattle.steps.specs.Opcodes.{isTuple, class_of, proto, mark, popOne, popToMark, dup, intLabel, int, low_bytes, binint, binint1, binint2, long, longN, float, binfloat, string, binstring, shortBinstring, unicode, binunicode, global, made, list, tuple, tupleN, dict, addItems, append, appends, setitem, setitems, getLine, getBytes, putLine, putBytes, builtin, set_name, frozensetName, object, setOf, reduced, called, reduce, newobj, buildState}
+use Rattle.steps.specs.State.{Node, State, Res, ok, no, kidless, node_by, bytes, byte, line, pop, pop_mark, pop_many, push_id, push_node, push, link, extend, get, put}
+use Rattle.steps.specs.Opcodes.{is_tuple, class_of, proto, mark, pop_one, pop_to_mark, dup, int_label, int, low_bytes, binint, binint1, binint2, long, long_n, float, binfloat, string, binstring, short_binstring, unicode, binunicode, global, made, list, tuple, tuple_n, dict, add_items, append, appends, setitem, setitems, get_line, get_bytes, put_line, put_bytes, builtin, set_name, frozenset_name, object, set_of, reduced, called, reduce, newobj, build_state}
 use Rattle.steps.specs.Run.{Next, goes, stops, going, does, decide, admit, step, runs, start, run}
-use Rattle.steps.specs.Out.{Out, out, bind, bind-any, bind-need, bind-leaf, Every, every_append}
-use Rattle.steps.specs.Pickletools.{decided-own}
-use Rattle.steps.specs.Keeps.{stateAfter}
-use Rattle.steps.specs.Shrinks.{Later, step-later}
-use Rattle.reading.specs.Well.{validText, both_hold}
+use Rattle.steps.specs.Out.{Out, out, bind, bind_any, bind_need, bind_leaf, Every, every_append}
+use Rattle.steps.specs.Pickletools.{decided_own}
+use Rattle.steps.specs.Keeps.{state_after}
+use Rattle.steps.specs.Shrinks.{Later, step_later}
+use Rattle.reading.specs.Well.{valid_text, both_hold}
 
 -- every node's label has P
 unfoldable pub Labelled : (Label → Type 0) → List Node → Type 0
 Labelled P l = Every (λ (n : Node). P n.label) l
 
 module _ (P : Label → Type 0) where
-  pub labelled-at : P NoneL → (l : List Node) (i : ℕ) → Labelled P l → P (get_or l i (kidless NoneL)).label
+  pub labelled_at : P NoneL → (l : List Node) (i : ℕ) → Labelled P l → P (get_or l i (kidless NoneL)).label
   unfolding Labelled Every
-  labelled-at z [] i a = z
-  labelled-at z (n ∷ l) zero a = a.0
-  labelled-at z (n ∷ l) (suc i) a = labelled-at z l i a.1
+  labelled_at z [] i a = z
+  labelled_at z (n ∷ l) zero a = a.0
+  labelled_at z (n ∷ l) (suc i) a = labelled_at z l i a.1
 
-  labelled-set : (l : List Node) (i : ℕ) (n : Node) → Labelled P l → P n.label → Labelled P (set l i n)
+  labelled_set : (l : List Node) (i : ℕ) (n : Node) → Labelled P l → P n.label → Labelled P (set l i n)
   unfolding Labelled Every
-  labelled-set [] i n a h = tt
-  labelled-set (m ∷ l) zero n a h = (h, a.1)
-  labelled-set (m ∷ l) (suc i) n a h = (a.0, labelled-set l i n a.1 h)
+  labelled_set [] i n a h = tt
+  labelled_set (m ∷ l) zero n a h = (h, a.1)
+  labelled_set (m ∷ l) (suc i) n a h = (a.0, labelled_set l i n a.1 h)
 
-  labelled-more : (l : List Node) (n : Node) → Labelled P l → P n.label → Labelled P (l ++ (n ∷ []))
+  labelled_more : (l : List Node) (n : Node) → Labelled P l → P n.label → Labelled P (l ++ (n ∷ []))
   unfolding Labelled Every
-  labelled-more l n a h = every_append _ l (n ∷ []) a (h, tt)
+  labelled_more l n a h = every_append _ l (n ∷ []) a (h, tt)
 
 truly : (b : Bool) → b ≡ true → T b
 truly b e = rw e tt
 
 -- the line of a pickle of bytes
-bytes-lessCr : (l : List ℕ) → Bytes l → Bytes (lessCr l)
-unfolding lessCr
-bytes-lessCr l b = go (eqb (lastByte l) 13)
+bytes-less_cr : (l : List ℕ) → Bytes l → Bytes (less_cr l)
+unfolding less_cr
+bytes-less_cr l b = go (eqb (last_byte l) 13)
   where
     go : (c : Bool) → Bytes (cond c (take (length l - 1) l) l)
     go true = bytes_take (length l - 1) l b
@@ -83,7 +83,7 @@ pub record PlainLabels (P : Label → Type 0) : Type 0 where
 module _ (P : Label → Type 0) (m : PlainLabels P) where
   -- a node's label has it, and so has what stands for a node that is not there
   held : (l : List Node) (i : ℕ) → Labelled P l → P (get_or l i (kidless NoneL)).label
-  held l i a = labelled-at P m.none l i a
+  held l i a = labelled_at P m.none l i a
 
   -- ---- the parts of a step
 
@@ -95,207 +95,207 @@ module _ (P : Label → Type 0) (m : PlainLabels P) where
   L₂ p = Labelled P p.1.nodes
 
   module _ (s : State) (h : L s) where
-    bytes-l : (n : ℕ) → Out L₂ (bytes n s)
+    bytes_l : (n : ℕ) → Out L₂ (bytes n s)
     unfolding bytes L L₂
-    bytes-l n = bind-need _ _ _ _ λ u. out _ _ h
+    bytes_l n = bind_need _ _ _ _ λ u. out _ _ h
 
-    lowBytes-l : (n : ℕ) → Out L₂ (low_bytes n s)
+    low_bytes_l : (n : ℕ) → Out L₂ (low_bytes n s)
     unfolding low_bytes L₂
-    lowBytes-l n = bind _ _ _ _ (bytes-l n) λ p u. out _ _ u
+    low_bytes_l n = bind _ _ _ _ (bytes_l n) λ p u. out _ _ u
 
-    byte-l : Out L₂ (byte s)
+    byte_l : Out L₂ (byte s)
     unfolding byte L₂
-    byte-l = bind _ _ _ _ (bytes-l 1) λ p u. out _ _ u
+    byte_l = bind _ _ _ _ (bytes_l 1) λ p u. out _ _ u
 
-    line-l : Out L₂ (line s)
+    line_l : Out L₂ (line s)
     unfolding line L L₂
-    line-l = bind-leaf _ _ _ λ i e. out _ _ h
+    line_l = bind_leaf _ _ _ λ i e. out _ _ h
 
-    pop-l : Out L₂ (pop s)
+    pop_l : Out L₂ (pop s)
     unfolding pop L L₂
-    pop-l = bind-need _ _ _ _ λ u. out _ _ h
+    pop_l = bind_need _ _ _ _ λ u. out _ _ h
 
-    popMark-l : Out L₂ (popMark s)
-    unfolding popMark L L₂
-    popMark-l = bind-need _ _ _ _ λ u. bind-need _ _ _ _ λ v. out _ _ h
+    pop_mark_l : Out L₂ (pop_mark s)
+    unfolding pop_mark L L₂
+    pop_mark_l = bind_need _ _ _ _ λ u. bind_need _ _ _ _ λ v. out _ _ h
 
-    popMany-l : (n : ℕ) → Out L₂ (popMany n s)
-    unfolding popMany L L₂
-    popMany-l n = bind-need _ _ _ _ λ u. out _ _ h
+    pop_many_l : (n : ℕ) → Out L₂ (pop_many n s)
+    unfolding pop_many L L₂
+    pop_many_l n = bind_need _ _ _ _ λ u. out _ _ h
 
-    pushId-l : (i : ℕ) → Out L (pushId i s)
-    unfolding pushId L
-    pushId-l i = bind-need _ _ _ _ λ u. out _ _ h
+    push_id_l : (i : ℕ) → Out L (push_id i s)
+    unfolding push_id L
+    push_id_l i = bind_need _ _ _ _ λ u. out _ _ h
 
-    link-l : (n : ℕ) → Out L (link n s)
+    link_l : (n : ℕ) → Out L (link n s)
     unfolding link L
-    link-l n = bind-need _ _ _ _ λ u. out _ _ h
+    link_l n = bind_need _ _ _ _ λ u. out _ _ h
 
-    get-l : (k : ℕ) → Out L (get k s)
+    get_l : (k : ℕ) → Out L (get k s)
     unfolding get
-    get-l k = bind-any _ _ _ λ i e. pushId-l i
+    get_l k = bind_any _ _ _ λ i e. push_id_l i
 
-    put-l : (k : ℕ) → Out L (put k s)
+    put_l : (k : ℕ) → Out L (put k s)
     unfolding put L
-    put-l k = bind-any _ _ _ λ i e. bind-need _ _ _ _ λ u. out _ _ h
+    put_l k = bind_any _ _ _ λ i e. bind_need _ _ _ _ λ u. out _ _ h
 
-  pushNode-l : (n : Node) (s : State) → L s → P n.label → Out L (pushNode n s)
-  unfolding pushNode L
-  pushNode-l n s h v = bind-need _ _ _ _ λ u. pushId-l _ (labelled-more P s.nodes n h v) _
+  push_node_l : (n : Node) (s : State) → L s → P n.label → Out L (push_node n s)
+  unfolding push_node L
+  push_node_l n s h v = bind_need _ _ _ _ λ u. push_id_l _ (labelled_more P s.nodes n h v) _
 
-  push-l : (l : Label) (s : State) → L s → P l → Out L (push l s)
+  push_l : (l : Label) (s : State) → L s → P l → Out L (push l s)
   unfolding push
-  push-l l s h v = pushNode-l (kidless l) s h v
+  push_l l s h v = push_node_l (kidless l) s h v
 
-  made-l : (l : Label) (is : List ℕ) (s : State) → L s → P l → Out L (made l is s)
+  made_l : (l : Label) (is : List ℕ) (s : State) → L s → P l → Out L (made l is s)
   unfolding made
-  made-l l is s h v = bind _ _ _ _ (link-l s h _) λ t u. pushNode-l _ t u v
+  made_l l is s h v = bind _ _ _ _ (link_l s h _) λ t u. push_node_l _ t u v
 
-  added-l : (right : Label → Bool) (why : Refusal) (is : List ℕ) (s : State) → L s → Out L (addItems right why is s)
-  unfolding addItems extend L
-  added-l right why is s h = bind-any _ _ _ λ i e. bind-need _ _ _ _ λ u. bind _ _ _ _ (link-l s h _) λ t v. out _ _ (labelled-set P t.nodes i _ v (held t.nodes i v))
+  added_l : (right : Label → Bool) (why : Refusal) (is : List ℕ) (s : State) → L s → Out L (add_items right why is s)
+  unfolding add_items extend L
+  added_l right why is s h = bind_any _ _ _ λ i e. bind_need _ _ _ _ λ u. bind _ _ _ _ (link_l s h _) λ t v. out _ _ (labelled_set P t.nodes i _ v (held t.nodes i v))
 
   -- ---- the opcodes
 
   module _ (s : State) (h : L s) where
-    int-l : Out L (int s)
-    unfolding int L₂ intLabel L
-    int-l = bind _ _ _ _ (line-l s h) λ p u. bind-leaf _ _ _ λ v e. push-l _ p.1 u (go v)
+    int_l : Out L (int s)
+    unfolding int L₂ int_label L
+    int_l = bind _ _ _ _ (line_l s h) λ p u. bind_leaf _ _ _ λ v e. push_l _ p.1 u (go v)
       where
-        go : (v : Int) → P (intLabel v)
+        go : (v : Int) → P (int_label v)
         go (truth b) = m.bool b
         go (whole z) = m.int _
 
-    binint-l : Out L (binint s)
+    binint_l : Out L (binint s)
     unfolding binint L₂ L
-    binint-l = bind _ _ _ _ (bytes-l s h 4) λ p u. push-l _ p.1 u (m.int _)
+    binint_l = bind _ _ _ _ (bytes_l s h 4) λ p u. push_l _ p.1 u (m.int _)
 
-    binint1-l : Out L (binint1 s)
+    binint1_l : Out L (binint1 s)
     unfolding binint1 L₂ L
-    binint1-l = bind _ _ _ _ (lowBytes-l s h 1) λ p u. push-l _ p.1 u (m.int _)
+    binint1_l = bind _ _ _ _ (low_bytes_l s h 1) λ p u. push_l _ p.1 u (m.int _)
 
-    binint2-l : Out L (binint2 s)
+    binint2_l : Out L (binint2 s)
     unfolding binint2 L₂ L
-    binint2-l = bind _ _ _ _ (lowBytes-l s h 2) λ p u. push-l _ p.1 u (m.int _)
+    binint2_l = bind _ _ _ _ (low_bytes_l s h 2) λ p u. push_l _ p.1 u (m.int _)
 
-    long-l : Out L (long s)
+    long_l : Out L (long s)
     unfolding long L₂ L
-    long-l = bind _ _ _ _ (line-l s h) λ p u. bind-leaf _ _ _ λ v e. push-l _ p.1 u (m.int _)
+    long_l = bind _ _ _ _ (line_l s h) λ p u. bind_leaf _ _ _ λ v e. push_l _ p.1 u (m.int _)
 
-    longN-l : (n : ℕ) → Out L (longN n s)
-    unfolding longN L₂ L
-    longN-l n = bind _ _ _ _ (lowBytes-l s h n) λ p u. bind _ _ _ _ (bytes-l p.1 u p.0) λ q v. bind-leaf _ _ _ λ z e. push-l _ q.1 v (m.int _)
+    long_n_l : (n : ℕ) → Out L (long_n n s)
+    unfolding long_n L₂ L
+    long_n_l n = bind _ _ _ _ (low_bytes_l s h n) λ p u. bind _ _ _ _ (bytes_l p.1 u p.0) λ q v. bind_leaf _ _ _ λ z e. push_l _ q.1 v (m.int _)
 
-    float-l : Out L (float s)
+    float_l : Out L (float s)
     unfolding float L₂ L
-    float-l = bind _ _ _ _ (line-l s h) λ p u. bind-leaf _ _ _ λ v e. push-l _ p.1 u (m.float _)
+    float_l = bind _ _ _ _ (line_l s h) λ p u. bind_leaf _ _ _ λ v e. push_l _ p.1 u (m.float _)
 
-    binfloat-l : Out L (binfloat s)
+    binfloat_l : Out L (binfloat s)
     unfolding binfloat L₂ L
-    binfloat-l = bind _ _ _ _ (bytes-l s h 8) λ p u. push-l _ p.1 u (m.float _)
+    binfloat_l = bind _ _ _ _ (bytes_l s h 8) λ p u. push_l _ p.1 u (m.float _)
 
-    string-l : Out L (string s)
+    string_l : Out L (string s)
     unfolding string L₂ L
-    string-l = bind _ _ _ _ (line-l s h) λ p u. bind-leaf _ _ _ λ v e. push-l _ p.1 u (m.bytes _)
+    string_l = bind _ _ _ _ (line_l s h) λ p u. bind_leaf _ _ _ λ v e. push_l _ p.1 u (m.bytes _)
 
-    binstring-l : Out L (binstring s)
+    binstring_l : Out L (binstring s)
     unfolding binstring L₂ L
-    binstring-l = bind _ _ _ _ (bytes-l s h 4) λ p u. bind-any _ _ _ λ n e. bind _ _ _ _ (bytes-l p.1 u n) λ q v. push-l _ q.1 v (m.bytes _)
+    binstring_l = bind _ _ _ _ (bytes_l s h 4) λ p u. bind_any _ _ _ λ n e. bind _ _ _ _ (bytes_l p.1 u n) λ q v. push_l _ q.1 v (m.bytes _)
 
-    shortBinstring-l : Out L (shortBinstring s)
-    unfolding shortBinstring L₂ L
-    shortBinstring-l = bind _ _ _ _ (lowBytes-l s h 1) λ p u. bind _ _ _ _ (bytes-l p.1 u p.0) λ q v. push-l _ q.1 v (m.bytes _)
+    short_binstring_l : Out L (short_binstring s)
+    unfolding short_binstring L₂ L
+    short_binstring_l = bind _ _ _ _ (low_bytes_l s h 1) λ p u. bind _ _ _ _ (bytes_l p.1 u p.0) λ q v. push_l _ q.1 v (m.bytes _)
 
-    binunicode-l : Out L (binunicode s)
+    binunicode_l : Out L (binunicode s)
     unfolding binunicode L₂ L
-    binunicode-l = bind _ _ _ _ (lowBytes-l s h 4) λ p u. bind _ _ _ _ (bytes-l p.1 u p.0) λ q v. push-l _ q.1 v (m.string _ (truly _ (valid-repair q.0)))
+    binunicode_l = bind _ _ _ _ (low_bytes_l s h 4) λ p u. bind _ _ _ _ (bytes_l p.1 u p.0) λ q v. push_l _ q.1 v (m.string _ (truly _ (valid-repair q.0)))
 
-    list-l : Out L (list s)
+    list_l : Out L (list s)
     unfolding list L₂ L
-    list-l = bind _ _ _ _ (popMark-l s h) λ p u. made-l _ _ p.1 u m.list
+    list_l = bind _ _ _ _ (pop_mark_l s h) λ p u. made_l _ _ p.1 u m.list
 
-    tuple-l : Out L (tuple s)
+    tuple_l : Out L (tuple s)
     unfolding tuple L₂ L
-    tuple-l = bind _ _ _ _ (popMark-l s h) λ p u. made-l _ _ p.1 u m.tuple
+    tuple_l = bind _ _ _ _ (pop_mark_l s h) λ p u. made_l _ _ p.1 u m.tuple
 
-    tupleN-l : (n : ℕ) → Out L (tupleN n s)
-    unfolding tupleN L₂ L
-    tupleN-l n = bind _ _ _ _ (popMany-l s h n) λ p u. made-l _ _ p.1 u m.tuple
+    tuple_n_l : (n : ℕ) → Out L (tuple_n n s)
+    unfolding tuple_n L₂ L
+    tuple_n_l n = bind _ _ _ _ (pop_many_l s h n) λ p u. made_l _ _ p.1 u m.tuple
 
-    dict-l : Out L (dict s)
+    dict_l : Out L (dict s)
     unfolding dict L₂ L
-    dict-l = bind _ _ _ _ (popMark-l s h) λ p u. bind-any _ _ _ λ x e. made-l _ _ p.1 u m.dict
+    dict_l = bind _ _ _ _ (pop_mark_l s h) λ p u. bind_any _ _ _ λ x e. made_l _ _ p.1 u m.dict
 
-    append-l : Out L (append s)
+    append_l : Out L (append s)
     unfolding append L₂ L
-    append-l = bind _ _ _ _ (pop-l s h) λ p u. added-l _ _ _ p.1 u
+    append_l = bind _ _ _ _ (pop_l s h) λ p u. added_l _ _ _ p.1 u
 
-    appends-l : Out L (appends s)
+    appends_l : Out L (appends s)
     unfolding appends L₂ L
-    appends-l = bind _ _ _ _ (popMark-l s h) λ p u. added-l _ _ _ p.1 u
+    appends_l = bind _ _ _ _ (pop_mark_l s h) λ p u. added_l _ _ _ p.1 u
 
-    setitem-l : Out L (setitem s)
+    setitem_l : Out L (setitem s)
     unfolding setitem L₂ L
-    setitem-l = bind _ _ _ _ (pop-l s h) λ p u. bind _ _ _ _ (pop-l p.1 u) λ q v. added-l _ _ _ q.1 v
+    setitem_l = bind _ _ _ _ (pop_l s h) λ p u. bind _ _ _ _ (pop_l p.1 u) λ q v. added_l _ _ _ q.1 v
 
-    setitems-l : Out L (setitems s)
+    setitems_l : Out L (setitems s)
     unfolding setitems L₂ L
-    setitems-l = bind _ _ _ _ (popMark-l s h) λ p u. bind-any _ _ _ λ x e. added-l _ _ _ p.1 u
+    setitems_l = bind _ _ _ _ (pop_mark_l s h) λ p u. bind_any _ _ _ λ x e. added_l _ _ _ p.1 u
 
-    getLine-l : Out L (getLine s)
-    unfolding getLine L₂ L
-    getLine-l = bind _ _ _ _ (line-l s h) λ p u. bind-leaf _ _ _ λ k e. get-l p.1 u k
+    get_line_l : Out L (get_line s)
+    unfolding get_line L₂ L
+    get_line_l = bind _ _ _ _ (line_l s h) λ p u. bind_leaf _ _ _ λ k e. get_l p.1 u k
 
-    getBytes-l : (n : ℕ) → Out L (getBytes n s)
-    unfolding getBytes L₂ L
-    getBytes-l n = bind _ _ _ _ (lowBytes-l s h n) λ p u. get-l p.1 u p.0
+    get_bytes_l : (n : ℕ) → Out L (get_bytes n s)
+    unfolding get_bytes L₂ L
+    get_bytes_l n = bind _ _ _ _ (low_bytes_l s h n) λ p u. get_l p.1 u p.0
 
-    putLine-l : Out L (putLine s)
-    unfolding putLine L₂ L
-    putLine-l = bind _ _ _ _ (line-l s h) λ p u. bind-leaf _ _ _ λ k e. put-l p.1 u k
+    put_line_l : Out L (put_line s)
+    unfolding put_line L₂ L
+    put_line_l = bind _ _ _ _ (line_l s h) λ p u. bind_leaf _ _ _ λ k e. put_l p.1 u k
 
-    putBytes-l : (n : ℕ) → Out L (putBytes n s)
-    unfolding putBytes L₂ L
-    putBytes-l n = bind _ _ _ _ (lowBytes-l s h n) λ p u. put-l p.1 u p.0
+    put_bytes_l : (n : ℕ) → Out L (put_bytes n s)
+    unfolding put_bytes L₂ L
+    put_bytes_l n = bind _ _ _ _ (low_bytes_l s h n) λ p u. put_l p.1 u p.0
 
-    proto-l : (v : ℕ) → Out L (proto v s)
+    proto_l : (v : ℕ) → Out L (proto v s)
     unfolding proto L₂ L
-    proto-l v = bind _ _ _ _ (byte-l s h) λ p u. bind-need _ _ _ _ λ w. out _ _ u
+    proto_l v = bind _ _ _ _ (byte_l s h) λ p u. bind_need _ _ _ _ λ w. out _ _ u
 
-    mark-l : Out L (mark s)
+    mark_l : Out L (mark s)
     unfolding mark L
-    mark-l = bind-need _ _ _ _ λ u. out _ _ h
+    mark_l = bind_need _ _ _ _ λ u. out _ _ h
 
-    popOne-l : Out L (popOne s)
-    unfolding popOne L₂ L
-    popOne-l = bind _ _ _ _ (pop-l s h) λ p u. out _ _ u
+    pop_one_l : Out L (pop_one s)
+    unfolding pop_one L₂ L
+    pop_one_l = bind _ _ _ _ (pop_l s h) λ p u. out _ _ u
 
-    popToMark-l : Out L (popToMark s)
-    unfolding popToMark L₂ L
-    popToMark-l = bind _ _ _ _ (popMark-l s h) λ p u. out _ _ u
+    pop_to_mark_l : Out L (pop_to_mark s)
+    unfolding pop_to_mark L₂ L
+    pop_to_mark_l = bind _ _ _ _ (pop_mark_l s h) λ p u. out _ _ u
 
-    dup-l : Out L (dup s)
+    dup_l : Out L (dup s)
     unfolding dup
-    dup-l = bind-any _ _ _ λ i e. pushId-l s h i
+    dup_l = bind_any _ _ _ λ i e. push_id_l s h i
 
-    build-l : Out L (buildState s)
-    unfolding buildState L₂ L
-    build-l = bind _ _ _ _ (pop-l s h) λ p u. bind-any _ _ _ λ o e. bind-need _ _ _ _ λ v. out _ _ (labelled-set P p.1.nodes o _ u (held p.1.nodes o u))
+    build_l : Out L (build_state s)
+    unfolding build_state L₂ L
+    build_l = bind _ _ _ _ (pop_l s h) λ p u. bind_any _ _ _ λ o e. bind_need _ _ _ _ λ v. out _ _ (labelled_set P p.1.nodes o _ u (held p.1.nodes o u))
 
   line-bytes : (s : State) → Bytes s.input → L s → Out (λ (p : List ℕ × State). Bytes p.0 × L₂ p) (line s)
   unfolding line line_of L L₂
-  line-bytes s b h = bind-leaf _ _ _ λ i e. out _ _ (bytes-lessCr (take (i - 0) (drop 0 s.input)) (bytes_take (i - 0) (drop 0 s.input) (bytes_drop 0 s.input b)), h)
+  line-bytes s b h = bind_leaf _ _ _ λ i e. out _ _ (bytes-less_cr (take (i - 0) (drop 0 s.input)) (bytes_take (i - 0) (drop 0 s.input) (bytes_drop 0 s.input b)), h)
 
-  unicode-l : (s : State) → Bytes s.input → L s → Out L (unicode s)
+  unicode_l : (s : State) → Bytes s.input → L s → Out L (unicode s)
   unfolding unicode bytes_of L₂ L
-  unicode-l s b h = bind _ _ _ _ (line-bytes s b h) λ p u. bind-leaf _ _ _ λ t e.
+  unicode_l s b h = bind _ _ _ _ (line-bytes s b h) λ p u. bind_leaf _ _ _ λ t e.
       let v : valid t ≡ true = let w = unicode-valid p.0 u.0 in rw e at w in
-      push-l _ p.1 u.1 (m.string t (truly (valid t) v))
+      push_l _ p.1 u.1 (m.string t (truly (valid t) v))
 
-  going-l : (r : Res State) → Out L r → Out (λ (n : Next). L (stateAfter n)) (going r)
-  unfolding Out going stateAfter
-  going-l (ok t) h = h
-  going-l (no why) h = tt
+  going_l : (r : Res State) → Out L r → Out (λ (n : Next). L (state_after n)) (going r)
+  unfolding Out going state_after
+  going_l (ok t) h = h
+  going_l (no why) h = tt
 
   -- the opcodes that name and call classes, where the edition accepts them
   pub record Classes (ed : Edition) : Type 0 where
@@ -306,147 +306,147 @@ module _ (P : Label → Type 0) (m : PlainLabels P) where
   -- the opcode's byte leaves bytes
   bytes-bytes : (n : ℕ) (s : State) → Bytes s.input → L s → Out (λ (p : List ℕ × State). Bytes p.1.input × L p.1) (bytes n s)
   unfolding bytes L
-  bytes-bytes n s b h = bind-need _ _ _ _ λ u. out _ _ (bytes_drop n s.input b, h)
+  bytes-bytes n s b h = bind_need _ _ _ _ λ u. out _ _ (bytes_drop n s.input b, h)
 
   byte-bytes : (s : State) → Bytes s.input → L s → Out (λ (p : ℕ × State). Bytes p.1.input × L p.1) (byte s)
   unfolding byte
   byte-bytes s b h = bind _ _ _ _ (bytes-bytes 1 s b h) λ p u. out _ _ u
 
   module _ (ed : Edition) (c : Classes ed) where
-    does-l : (o : Opcode) → against ed (code_of o) ≡ Nothing → (s : State) → Bytes s.input → L s → Out (λ (n : Next). L (stateAfter n)) (does (highest ed) o s)
-    unfolding does stateAfter L
-    does-l MARK free s b h = going-l _ (mark-l s h)
-    does-l STOP free s b h = out _ _ h
-    does-l POP free s b h = going-l _ (popOne-l s h)
-    does-l POP_MARK free s b h = going-l _ (popToMark-l s h)
-    does-l DUP free s b h = going-l _ (dup-l s h)
-    does-l FLOAT free s b h = going-l _ (float-l s h)
-    does-l INT free s b h = going-l _ (int-l s h)
-    does-l BININT free s b h = going-l _ (binint-l s h)
-    does-l BININT1 free s b h = going-l _ (binint1-l s h)
-    does-l LONG free s b h = going-l _ (long-l s h)
-    does-l BININT2 free s b h = going-l _ (binint2-l s h)
-    does-l NONE free s b h = going-l _ (push-l NoneL s h m.none)
-    does-l REDUCE free s b h = going-l _ (c.reduces free s h)
-    does-l STRING free s b h = going-l _ (string-l s h)
-    does-l BINSTRING free s b h = going-l _ (binstring-l s h)
-    does-l SHORT_BINSTRING free s b h = going-l _ (shortBinstring-l s h)
-    does-l UNICODE free s b h = going-l _ (unicode-l s b h)
-    does-l BINUNICODE free s b h = going-l _ (binunicode-l s h)
-    does-l APPEND free s b h = going-l _ (append-l s h)
-    does-l BUILD free s b h = going-l _ (build-l s h)
-    does-l GLOBAL free s b h = going-l _ (c.globals free s h)
-    does-l DICT free s b h = going-l _ (dict-l s h)
-    does-l EMPTY_DICT free s b h = going-l _ (push-l DictL s h m.dict)
-    does-l APPENDS free s b h = going-l _ (appends-l s h)
-    does-l GET free s b h = going-l _ (getLine-l s h)
-    does-l BINGET free s b h = going-l _ (getBytes-l s h 1)
-    does-l LONG_BINGET free s b h = going-l _ (getBytes-l s h 4)
-    does-l LIST free s b h = going-l _ (list-l s h)
-    does-l EMPTY_LIST free s b h = going-l _ (push-l ListL s h m.list)
-    does-l PUT free s b h = going-l _ (putLine-l s h)
-    does-l BINPUT free s b h = going-l _ (putBytes-l s h 1)
-    does-l LONG_BINPUT free s b h = going-l _ (putBytes-l s h 4)
-    does-l SETITEM free s b h = going-l _ (setitem-l s h)
-    does-l TUPLE free s b h = going-l _ (tuple-l s h)
-    does-l EMPTY_TUPLE free s b h = going-l _ (push-l TupleL s h m.tuple)
-    does-l SETITEMS free s b h = going-l _ (setitems-l s h)
-    does-l BINFLOAT free s b h = going-l _ (binfloat-l s h)
-    does-l PROTO free s b h = going-l _ (proto-l s h (highest ed))
-    does-l NEWOBJ free s b h = going-l _ (c.newobjs free s h)
-    does-l TUPLE1 free s b h = going-l _ (tupleN-l s h 1)
-    does-l TUPLE2 free s b h = going-l _ (tupleN-l s h 2)
-    does-l TUPLE3 free s b h = going-l _ (tupleN-l s h 3)
-    does-l NEWTRUE free s b h = going-l _ (push-l (BoolL true) s h (m.bool true))
-    does-l NEWFALSE free s b h = going-l _ (push-l (BoolL false) s h (m.bool false))
-    does-l LONG1 free s b h = going-l _ (longN-l s h 1)
-    does-l LONG4 free s b h = going-l _ (longN-l s h 4)
+    does_l : (o : Opcode) → against ed (code_of o) ≡ Nothing → (s : State) → Bytes s.input → L s → Out (λ (n : Next). L (state_after n)) (does (highest ed) o s)
+    unfolding does state_after L
+    does_l MARK free s b h = going_l _ (mark_l s h)
+    does_l STOP free s b h = out _ _ h
+    does_l POP free s b h = going_l _ (pop_one_l s h)
+    does_l POP_MARK free s b h = going_l _ (pop_to_mark_l s h)
+    does_l DUP free s b h = going_l _ (dup_l s h)
+    does_l FLOAT free s b h = going_l _ (float_l s h)
+    does_l INT free s b h = going_l _ (int_l s h)
+    does_l BININT free s b h = going_l _ (binint_l s h)
+    does_l BININT1 free s b h = going_l _ (binint1_l s h)
+    does_l LONG free s b h = going_l _ (long_l s h)
+    does_l BININT2 free s b h = going_l _ (binint2_l s h)
+    does_l NONE free s b h = going_l _ (push_l NoneL s h m.none)
+    does_l REDUCE free s b h = going_l _ (c.reduces free s h)
+    does_l STRING free s b h = going_l _ (string_l s h)
+    does_l BINSTRING free s b h = going_l _ (binstring_l s h)
+    does_l SHORT_BINSTRING free s b h = going_l _ (short_binstring_l s h)
+    does_l UNICODE free s b h = going_l _ (unicode_l s b h)
+    does_l BINUNICODE free s b h = going_l _ (binunicode_l s h)
+    does_l APPEND free s b h = going_l _ (append_l s h)
+    does_l BUILD free s b h = going_l _ (build_l s h)
+    does_l GLOBAL free s b h = going_l _ (c.globals free s h)
+    does_l DICT free s b h = going_l _ (dict_l s h)
+    does_l EMPTY_DICT free s b h = going_l _ (push_l DictL s h m.dict)
+    does_l APPENDS free s b h = going_l _ (appends_l s h)
+    does_l GET free s b h = going_l _ (get_line_l s h)
+    does_l BINGET free s b h = going_l _ (get_bytes_l s h 1)
+    does_l LONG_BINGET free s b h = going_l _ (get_bytes_l s h 4)
+    does_l LIST free s b h = going_l _ (list_l s h)
+    does_l EMPTY_LIST free s b h = going_l _ (push_l ListL s h m.list)
+    does_l PUT free s b h = going_l _ (put_line_l s h)
+    does_l BINPUT free s b h = going_l _ (put_bytes_l s h 1)
+    does_l LONG_BINPUT free s b h = going_l _ (put_bytes_l s h 4)
+    does_l SETITEM free s b h = going_l _ (setitem_l s h)
+    does_l TUPLE free s b h = going_l _ (tuple_l s h)
+    does_l EMPTY_TUPLE free s b h = going_l _ (push_l TupleL s h m.tuple)
+    does_l SETITEMS free s b h = going_l _ (setitems_l s h)
+    does_l BINFLOAT free s b h = going_l _ (binfloat_l s h)
+    does_l PROTO free s b h = going_l _ (proto_l s h (highest ed))
+    does_l NEWOBJ free s b h = going_l _ (c.newobjs free s h)
+    does_l TUPLE1 free s b h = going_l _ (tuple_n_l s h 1)
+    does_l TUPLE2 free s b h = going_l _ (tuple_n_l s h 2)
+    does_l TUPLE3 free s b h = going_l _ (tuple_n_l s h 3)
+    does_l NEWTRUE free s b h = going_l _ (push_l (BoolL true) s h (m.bool true))
+    does_l NEWFALSE free s b h = going_l _ (push_l (BoolL false) s h (m.bool false))
+    does_l LONG1 free s b h = going_l _ (long_n_l s h 1)
+    does_l LONG4 free s b h = going_l _ (long_n_l s h 4)
 
-    step-l : (s : State) → Bytes s.input → L s → Out (λ (n : Next). L (stateAfter n)) (step ed s)
+    step_l : (s : State) → Bytes s.input → L s → Out (λ (n : Next). L (state_after n)) (step ed s)
     unfolding step Out decide admit
-    step-l s b h = bind _ _ _ _ (byte-bytes s b h) λ p u. go p.0 p.1 (opcode_of p.0) refl (against ed p.0) refl u
+    step_l s b h = bind _ _ _ _ (byte-bytes s b h) λ p u. go p.0 p.1 (opcode_of p.0) refl (against ed p.0) refl u
       where
-        go : (i : ℕ) (t : State) (o : Option Opcode) → opcode_of i ≡ o → (x : Objection) → against ed i ≡ x → Bytes t.input × L t → Out (λ (n : Next). L (stateAfter n)) (admit x i (decide (highest ed) o i t))
+        go : (i : ℕ) (t : State) (o : Option Opcode) → opcode_of i ≡ o → (x : Objection) → against ed i ≡ x → Bytes t.input × L t → Out (λ (n : Next). L (state_after n)) (admit x i (decide (highest ed) o i t))
         go i t none e Nothing f u = tt
-        go i t (some o) e Nothing f u = does-l o (rw (decided-own i o e) f) t u.0 u.1
+        go i t (some o) e Nothing f u = does_l o (rw (decided_own i o e) f) t u.0 u.1
         go i t o e Outside f u = tt
         go i t o e Unknown f u = tt
 
-    runs-l : (k : ℕ) (s : State) → Bytes s.input → L s → Out L (runs ed k s)
-    unfolding runs Out stateAfter
-    runs-l zero s b h = tt
-    runs-l (suc k) s b h = go (step ed s) refl (step-l s b h) (step-later ed s) (runs-l k)
+    runs_l : (k : ℕ) (s : State) → Bytes s.input → L s → Out L (runs ed k s)
+    unfolding runs Out state_after
+    runs_l zero s b h = tt
+    runs_l (suc k) s b h = go (step ed s) refl (step_l s b h) (step_later ed s) (runs_l k)
       where
-        go : (r : Res Next) → step ed s ≡ r → Out (λ (n : Next). L (stateAfter n)) r → Out (λ (n : Next). Later 1 s.input (stateAfter n)) r → ((t : State) → Bytes t.input → L t → Out L (runs ed k t)) → Out L (runs ed (suc k) s)
+        go : (r : Res Next) → step ed s ≡ r → Out (λ (n : Next). L (state_after n)) r → Out (λ (n : Next). Later 1 s.input (state_after n)) r → ((t : State) → Bytes t.input → L t → Out L (runs ed k t)) → Out L (runs ed (suc k) s)
         go (no why) e u l more = rw (e, runs) tt
         go (ok (stops t)) e u l more = rw (e, runs) u
         go (ok (goes t)) e u l more = rw (e, runs) (more t (rw l.left (bytes_drop l.read s.input b)) u)
 
-    pub run-labelled : (p : List ℕ) → Bytes p → Out (λ (s : State). Labelled P s.nodes) (run ed p)
+    pub run_labelled : (p : List ℕ) → Bytes p → Out (λ (s : State). Labelled P s.nodes) (run ed p)
     unfolding run start L Labelled Every
-    run-labelled p b = runs-l (suc (length p)) (start p) b tt
+    run_labelled p b = runs_l (suc (length p)) (start p) b tt
 
 -- ---- valid text: so every node's label in any edition
 
 abbrev HasValid : Label → Type 0
-HasValid l = T (validText l)
+HasValid l = T (valid_text l)
 
 unfoldable pub Lettered : List Node → Type 0
 Lettered l = Labelled HasValid l
 
-pub lettered-at : (l : List Node) (i : ℕ) → Lettered l → T (validText (get_or l i (kidless NoneL)).label)
+pub lettered_at : (l : List Node) (i : ℕ) → Lettered l → T (valid_text (get_or l i (kidless NoneL)).label)
 unfolding Lettered
-lettered-at l i a = labelled-at HasValid tt l i a
+lettered_at l i a = labelled_at HasValid tt l i a
 
 abbrev valid-made : PlainLabels HasValid
 valid-made = record { none = tt; bool = λ b. tt; int = λ n. tt; float = λ n. tt; bytes = λ t. tt; string = λ t v. v; list = tt; tuple = tt; dict = tt }
 
-global-l : (s : State) → L HasValid valid-made s → Out (L HasValid valid-made) (global s)
+global_l : (s : State) → L HasValid valid-made s → Out (L HasValid valid-made) (global s)
 unfolding global L₂ L
-global-l s h = bind _ _ _ _ (line-l HasValid valid-made s h) λ p u. bind _ _ _ _ (line-l HasValid valid-made p.1 u) λ q v. push-l HasValid valid-made _ q.1 v (both_hold (valid (repair p.0)) (valid (repair q.0)) (truly _ (valid-repair p.0)) (truly _ (valid-repair q.0)))
+global_l s h = bind _ _ _ _ (line_l HasValid valid-made s h) λ p u. bind _ _ _ _ (line_l HasValid valid-made p.1 u) λ q v. push_l HasValid valid-made _ q.1 v (both_hold (valid (repair p.0)) (valid (repair q.0)) (truly _ (valid-repair p.0)) (truly _ (valid-repair q.0)))
 
 -- a class is a Global's module and name
-class-valid : (l : Label) → T (validText l) → Out (λ (c : List ℕ × List ℕ). T (valid c.0) × T (valid c.1)) (class_of l)
+class_valid : (l : Label) → T (valid_text l) → Out (λ (c : List ℕ × List ℕ). T (valid c.0) × T (valid c.1)) (class_of l)
 unfolding Out
-class-valid NoneL v = tt
-class-valid (BoolL b) v = tt
-class-valid (I64L n) v = tt
-class-valid (F64L n) v = tt
-class-valid (BytesL t) v = tt
-class-valid (StringL t) v = tt
-class-valid ListL v = tt
-class-valid TupleL v = tt
-class-valid SetL v = tt
-class-valid FrozenSetL v = tt
-class-valid DictL v = tt
-class-valid (GlobalL m n) v = (and_l (valid m) (valid n) v, and_r (valid m) (valid n) v)
-class-valid (ObjectL m n b) v = tt
+class_valid NoneL v = tt
+class_valid (BoolL b) v = tt
+class_valid (I64L n) v = tt
+class_valid (F64L n) v = tt
+class_valid (BytesL t) v = tt
+class_valid (StringL t) v = tt
+class_valid ListL v = tt
+class_valid TupleL v = tt
+class_valid SetL v = tt
+class_valid FrozenSetL v = tt
+class_valid DictL v = tt
+class_valid (GlobalL m n) v = (and_l (valid m) (valid n) v, and_r (valid m) (valid n) v)
+class_valid (ObjectL m n b) v = tt
 
-called-l : (makes : List ℕ × List ℕ → ℕ → List ℕ → Node) → ((c : List ℕ × List ℕ) (a : ℕ) (is : List ℕ) → T (valid c.0) → T (valid c.1) → T (validText (makes c a is).label)) → (s : State) → L HasValid valid-made s → Out (L HasValid valid-made) (called makes s)
+called_l : (makes : List ℕ × List ℕ → ℕ → List ℕ → Node) → ((c : List ℕ × List ℕ) (a : ℕ) (is : List ℕ) → T (valid c.0) → T (valid c.1) → T (valid_text (makes c a is).label)) → (s : State) → L HasValid valid-made s → Out (L HasValid valid-made) (called makes s)
 unfolding called L₂ L Lettered
-called-l makes m s h =
-    bind _ _ _ _ (pop-l HasValid valid-made s h) λ p u. bind _ _ _ _ (pop-l HasValid valid-made p.1 u) λ q v.
-    bind (λ (c : List ℕ × List ℕ). T (valid c.0) × T (valid c.1)) (L HasValid valid-made) (class_of (nodeAt q.1 q.0).label) _ (class-valid (nodeAt q.1 q.0).label (lettered-at q.1.nodes q.0 v)) λ c w.
-    bind-need (L HasValid valid-made) (isTuple (nodeAt q.1 p.0).label) _ _ λ x.
-    pushNode-l HasValid valid-made (makes c p.0 (nodeAt q.1 p.0).kids) q.1 v (m c p.0 (nodeAt q.1 p.0).kids w.0 w.1)
+called_l makes m s h =
+    bind _ _ _ _ (pop_l HasValid valid-made s h) λ p u. bind _ _ _ _ (pop_l HasValid valid-made p.1 u) λ q v.
+    bind (λ (c : List ℕ × List ℕ). T (valid c.0) × T (valid c.1)) (L HasValid valid-made) (class_of (node_by q.1 q.0).label) _ (class_valid (node_by q.1 q.0).label (lettered_at q.1.nodes q.0 v)) λ c w.
+    bind_need (L HasValid valid-made) (is_tuple (node_by q.1 p.0).label) _ _ λ x.
+    push_node_l HasValid valid-made (makes c p.0 (node_by q.1 p.0).kids) q.1 v (m c p.0 (node_by q.1 p.0).kids w.0 w.1)
 
-reduce-l : (s : State) → L HasValid valid-made s → Out (L HasValid valid-made) (reduce s)
+reduce_l : (s : State) → L HasValid valid-made s → Out (L HasValid valid-made) (reduce s)
 unfolding reduce reduced
-reduce-l s h = called-l reduced makes s h
+reduce_l s h = called_l reduced makes s h
   where
-    makes : (c : List ℕ × List ℕ) (a : ℕ) (is : List ℕ) → T (valid c.0) → T (valid c.1) → T (validText (reduced c a is).label)
-    makes c a is m n = go (same c.0 builtin && leb (length is) 1) (same c.1 set_name) (same c.1 frozensetName)
+    makes : (c : List ℕ × List ℕ) (a : ℕ) (is : List ℕ) → T (valid c.0) → T (valid c.1) → T (valid_text (reduced c a is).label)
+    makes c a is m n = go (same c.0 builtin && leb (length is) 1) (same c.1 set_name) (same c.1 frozenset_name)
       where
-        go : (x y z : Bool) → T (validText (cond x (cond y (setOf SetL a is) (cond z (setOf FrozenSetL a is) (object c false a))) (object c false a)).label)
+        go : (x y z : Bool) → T (valid_text (cond x (cond y (set_of SetL a is) (cond z (set_of FrozenSetL a is) (object c false a))) (object c false a)).label)
         go true true z = tt
         go true false true = tt
         go true false false = both_hold (valid c.0) (valid c.1) m n
         go false y z = both_hold (valid c.0) (valid c.1) m n
 
-newobj-l : (s : State) → L HasValid valid-made s → Out (L HasValid valid-made) (newobj s)
+newobj_l : (s : State) → L HasValid valid-made s → Out (L HasValid valid-made) (newobj s)
 unfolding newobj
-newobj-l s h = called-l _ (λ c a is m n. both_hold (valid c.0) (valid c.1) m n) s h
+newobj_l s h = called_l _ (λ c a is m n. both_hold (valid c.0) (valid c.1) m n) s h
 
-pub run-lettered : (ed : Edition) (p : List ℕ) → Bytes p → Out (λ (s : State). Lettered s.nodes) (run ed p)
+pub run_lettered : (ed : Edition) (p : List ℕ) → Bytes p → Out (λ (s : State). Lettered s.nodes) (run ed p)
 unfolding Lettered L
-run-lettered ed p b = run-labelled HasValid valid-made ed (record { globals = λ u. global-l; reduces = λ u. reduce-l; newobjs = λ u. newobj-l }) p b
+run_lettered ed p b = run_labelled HasValid valid-made ed (record { globals = λ u. global_l; reduces = λ u. reduce_l; newobjs = λ u. newobj_l }) p b

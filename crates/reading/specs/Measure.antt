@@ -11,50 +11,50 @@ use Rattle.refusal.specs.declared.Refusal.TheVariants.{TooDeep, TooManyValues, T
 use Rattle.value.specs.Value.{Forest, depth, size, text}
 use Rattle.steps.specs.State.{Res, ok, no, ◌>>=◌, need}
 
-abbrev pub depthLimit : ℕ
-depthLimit = 64
+abbrev pub depth_limit : ℕ
+depth_limit = 64
 
-abbrev pub valuesLimit : ℕ
-valuesLimit = 2048
+abbrev pub values_limit : ℕ
+values_limit = 2048
 
-abbrev pub textLimit : ℕ
-textLimit = 65536
+abbrev pub text_limit : ℕ
+text_limit = 65536
 
 -- the refusal that is due over the whole tree: 17, then 18, then 19
 unfoldable pub measured : Forest → Res (Unit {0})
 measured f = do
-  _ ← need (leb (depth f) depthLimit) TooDeep
-  _ ← need (leb (size f) valuesLimit) TooManyValues
-  need (leb (length (text f)) textLimit) TextFull
+  _ ← need (leb (depth f) depth_limit) TooDeep
+  _ ← need (leb (size f) values_limit) TooManyValues
+  need (leb (length (text f)) text_limit) TextFull
 
 -- ---- the same, case by case
 
 module _ (f : Forest) where
-  pub too-deep : depthLimit < depth f → measured f ≡ no TooDeep
+  pub too_deep : depth_limit < depth f → measured f ≡ no TooDeep
   unfolding measured ◌>>=◌ need
-  too-deep h = rw (lt-leb (depth f) depthLimit h)
+  too_deep h = rw (lt-leb (depth f) depth_limit h)
 
-  pub too-many-values : depth f ≤ depthLimit → valuesLimit < size f → measured f ≡ no TooManyValues
+  pub too_many_values : depth f ≤ depth_limit → values_limit < size f → measured f ≡ no TooManyValues
   unfolding measured ◌>>=◌ need
-  too-many-values d h = rw (le-leb (depth f) depthLimit d, lt-leb (size f) valuesLimit h)
+  too_many_values d h = rw (le-leb (depth f) depth_limit d, lt-leb (size f) values_limit h)
 
-  pub text-full : depth f ≤ depthLimit → size f ≤ valuesLimit → textLimit < length (text f) → measured f ≡ no TextFull
+  pub text_full : depth f ≤ depth_limit → size f ≤ values_limit → text_limit < length (text f) → measured f ≡ no TextFull
   unfolding measured ◌>>=◌ need
-  text-full d v h = rw (le-leb (depth f) depthLimit d, le-leb (size f) valuesLimit v, lt-leb (length (text f)) textLimit h)
+  text_full d v h = rw (le-leb (depth f) depth_limit d, le-leb (size f) values_limit v, lt-leb (length (text f)) text_limit h)
 
-  pub within-limits : depth f ≤ depthLimit → size f ≤ valuesLimit → length (text f) ≤ textLimit → measured f ≡ ok tt
+  pub within_limits : depth f ≤ depth_limit → size f ≤ values_limit → length (text f) ≤ text_limit → measured f ≡ ok tt
   unfolding measured ◌>>=◌ need
-  within-limits d v h = rw (le-leb (depth f) depthLimit d, le-leb (size f) valuesLimit v, le-leb (length (text f)) textLimit h)
+  within_limits d v h = rw (le-leb (depth f) depth_limit d, le-leb (size f) values_limit v, le-leb (length (text f)) text_limit h)
 
   -- nothing due: all three are within
-  pub measured-within : measured f ≡ ok tt → (depth f ≤ depthLimit) × (size f ≤ valuesLimit) × (length (text f) ≤ textLimit)
+  pub measured-within : measured f ≡ ok tt → (depth f ≤ depth_limit) × (size f ≤ values_limit) × (length (text f) ≤ text_limit)
   unfolding measured ◌>>=◌ need
-  measured-within = go (leb (depth f) depthLimit) refl (leb (size f) valuesLimit) refl (leb (length (text f)) textLimit) refl
+  measured-within = go (leb (depth f) depth_limit) refl (leb (size f) values_limit) refl (leb (length (text f)) text_limit) refl
     where
-      go : (a : Bool) → leb (depth f) depthLimit ≡ a → (b : Bool) → leb (size f) valuesLimit ≡ b → (c : Bool) → leb (length (text f)) textLimit ≡ c
+      go : (a : Bool) → leb (depth f) depth_limit ≡ a → (b : Bool) → leb (size f) values_limit ≡ b → (c : Bool) → leb (length (text f)) text_limit ≡ c
           → (need a TooDeep >>= λ x. need b TooManyValues >>= λ y. need c TextFull) ≡ ok tt
-          → (depth f ≤ depthLimit) × (size f ≤ valuesLimit) × (length (text f) ≤ textLimit)
-      go true p true q true r h = (leb-true (depth f) depthLimit p, leb-true (size f) valuesLimit q, leb-true (length (text f)) textLimit r)
+          → (depth f ≤ depth_limit) × (size f ≤ values_limit) × (length (text f) ≤ text_limit)
+      go true p true q true r h = (leb-true (depth f) depth_limit p, leb-true (size f) values_limit q, leb-true (length (text f)) text_limit r)
       go false p b q c r h = absurd (let z : ◌≡◌ {A = ℕ} 0 1 = cc in omega arith)
       go true p false q c r h = absurd (let z : ◌≡◌ {A = ℕ} 0 1 = cc in omega arith)
       go true p true q false r h = absurd (let z : ◌≡◌ {A = ℕ} 0 1 = cc in omega arith)

@@ -9,34 +9,34 @@ pub record Measure : Type 0 where
   pub values : ℕ
   pub texts : ℕ
 
-abbrev pub nilM : Measure
-nilM = record { deep = 0; values = 0; texts = 0 }
+abbrev pub nil_m : Measure
+nil_m = record { deep = 0; values = 0; texts = 0 }
 
 -- a label over its contents
-abbrev pub makeM : Label → Measure → Measure
-makeM l c = record { deep = suc c.deep; values = suc c.values; texts = length (text_of l) + c.texts }
+abbrev pub make_m : Label → Measure → Measure
+make_m l c = record { deep = suc c.deep; values = suc c.values; texts = length (text_of l) + c.texts }
 
 -- a value before others
-abbrev pub pushM : Measure → Measure → Measure
-pushM v f = record { deep = max v.deep f.deep; values = v.values + f.values; texts = v.texts + f.texts }
+abbrev pub push_m : Measure → Measure → Measure
+push_m v f = record { deep = max v.deep f.deep; values = v.values + f.values; texts = v.texts + f.texts }
 
 -- of values one after the other
 unfoldable pub measure : Forest → Measure
-measure nil = nilM
-measure (node l c r) = pushM (makeM l (measure c)) (measure r)
+measure nil = nil_m
+measure (node l c r) = push_m (make_m l (measure c)) (measure r)
 
-abbrev pub valueMeasure : Value → Measure
-valueMeasure v = makeM v.label (measure v.contents)
+abbrev pub value_measure : Value → Measure
+value_measure v = make_m v.label (measure v.contents)
 
 pub measure-deep : (f : Forest) → (measure f).deep ≡ depth f
 unfolding measure depth
 measure-deep nil = refl
 measure-deep (node l c r) = rw (measure-deep c, measure-deep r)
 
-pub measure-values : (f : Forest) → (measure f).values ≡ size f
+pub measure_values : (f : Forest) → (measure f).values ≡ size f
 unfolding measure size
-measure-values nil = refl
-measure-values (node l c r) = let a = measure-values c in let b = measure-values r in omega (arith, measure-values c, measure-values r)
+measure_values nil = refl
+measure_values (node l c r) = let a = measure_values c in let b = measure_values r in omega (arith, measure_values c, measure_values r)
 
 pub measure-texts : (f : Forest) → (measure f).texts ≡ length (text f)
 unfolding measure text

@@ -6,19 +6,19 @@ use borrow.Author.Tests.{le-leb, lt-leb, lt-ltb, le-ltb}
 use Rattle.refusal.specs.declared.Refusal.{Refusal}
 use Rattle.refusal.specs.declared.Refusal.TheVariants.{TooLong, StackUnderflow, TrailingData}
 use Rattle.refusal.specs.declared.Answer.{Answer}
-use Rattle.refusal.specs.Numbers.{refusedAnswer}
+use Rattle.refusal.specs.Numbers.{refused_answer}
 use Rattle.op.specs.declared.Edition.{Edition}
 use Rattle.op.specs.declared.Edition.TheVariants.{Full}
 use Rattle.value.specs.Value.{Forest, one, size, depth, text, table, table-length}
 use Rattle.steps.specs.State.{State, Res, ok, no, ◌>>=◌, need, last, pop}
 use Rattle.steps.specs.Run.{run}
-use Rattle.steps.specs.Out.{of-out}
-use Rattle.steps.specs.Shrinks.{Later, run-later}
+use Rattle.steps.specs.Out.{of_out}
+use Rattle.steps.specs.Shrinks.{Later, run_later}
 use Rattle.reading.specs.Build.{tree}
-use Rattle.reading.specs.Unfold.{WritesOut, NothingContainsItself, tree-writes-out, tree-is-write-out}
-use Rattle.reading.specs.Measure.{depthLimit, valuesLimit, textLimit, measured, measured-within}
+use Rattle.reading.specs.Unfold.{WritesOut, NothingContainsItself, tree_writes_out, tree_is_write_out}
+use Rattle.reading.specs.Measure.{depth_limit, values_limit, text_limit, measured, measured-within}
 use Rattle.reading.specs.Settle.{settle}
-use Rattle.reading.specs.Smaller.{settle-smaller}
+use Rattle.reading.specs.Smaller.{settle_smaller}
 
 -- what a reading gives: its answer, and what it fills of the lent table and text, from their beginnings
 pub record Reading : Type 0 where
@@ -28,7 +28,7 @@ pub record Reading : Type 0 where
 
 -- a refusal changes no output
 abbrev pub refuses : Refusal → Reading
-refuses why = record { answer = refusedAnswer why; words = []; bytes = [] }
+refuses why = record { answer = refused_answer why; words = []; bytes = [] }
 
 -- success: number 0, detail 0, the bytes read, the records
 abbrev pub reads : ℕ → Forest → Reading
@@ -38,14 +38,14 @@ reads n f = record { answer = record { number = 0; detail = 0; length = n; count
 unfoldable pub reading_of : ℕ → Forest → Reading
 reading_of n f = elim (measured f) [ no why ↦ refuses why | ok u ↦ reads n (settle f) ]
 
-abbrev pub pickleLimit : ℕ
-pickleLimit = 65536
+abbrev pub pickle_limit : ℕ
+pickle_limit = 65536
 
 -- The machine at STOP and the value left, the top of the stack whatever lies below it and whatever marks are open: 2 for more bytes than
 -- the limit, opcode by opcode, 6 for an empty stack.
 unfoldable pub stopped : Edition → List ℕ → Res (State × ℕ)
 stopped ed p = do
-  _ ← need (leb (length p) pickleLimit) TooLong
+  _ ← need (leb (length p) pickle_limit) TooLong
   s ← run ed p
   (root, below) ← pop s
   ok (s, root)
@@ -55,64 +55,64 @@ abbrev pub consumed : List ℕ → State → ℕ
 consumed p s = length p - length s.input
 
 -- the prefix reading
-unfoldable pub prefixIn : Edition → List ℕ → Reading
-prefixIn ed p = elim (stopped ed p) [ no why ↦ refuses why | ok x ↦ reading_of (consumed p x.0) (one (tree x.0.nodes x.1)) ]
+unfoldable pub prefix_in : Edition → List ℕ → Reading
+prefix_in ed p = elim (stopped ed p) [ no why ↦ refuses why | ok x ↦ reading_of (consumed p x.0) (one (tree x.0.nodes x.1)) ]
 
 -- a reading that succeeds and leaves bytes
 unfoldable pub leaves : List ℕ → Reading → Bool
 leaves p r = eqb r.answer.number 0 && ltb r.answer.length (length p)
 
 -- the whole reading: as the prefix reading, but 11 exactly when that one succeeds and leaves bytes
-unfoldable pub wholeIn : Edition → List ℕ → Reading
-wholeIn ed p = cond (leaves p (prefixIn ed p)) (refuses TrailingData) (prefixIn ed p)
+unfoldable pub whole_in : Edition → List ℕ → Reading
+whole_in ed p = cond (leaves p (prefix_in ed p)) (refuses TrailingData) (prefix_in ed p)
 
 -- those of RULES, part A: in the full edition
 abbrev pub prefix : List ℕ → Reading
-prefix p = prefixIn Full p
+prefix p = prefix_in Full p
 
 abbrev pub whole : List ℕ → Reading
-whole p = wholeIn Full p
+whole p = whole_in Full p
 
 -- ---- the readings, case by case
 
 module _ (ed : Edition) (p : List ℕ) where
-  pub stopped-long : pickleLimit < length p → stopped ed p ≡ no TooLong
+  pub stopped-long : pickle_limit < length p → stopped ed p ≡ no TooLong
   unfolding stopped ◌>>=◌ need
-  stopped-long h = rw (lt-leb (length p) pickleLimit h)
+  stopped-long h = rw (lt-leb (length p) pickle_limit h)
 
-  pub stopped-refused : (why : Refusal) → length p ≤ pickleLimit → run ed p ≡ no why → stopped ed p ≡ no why
+  pub stopped_refused : (why : Refusal) → length p ≤ pickle_limit → run ed p ≡ no why → stopped ed p ≡ no why
   unfolding stopped ◌>>=◌ need
-  stopped-refused why l e = rw (le-leb (length p) pickleLimit l, e)
+  stopped_refused why l e = rw (le-leb (length p) pickle_limit l, e)
 
   -- read to STOP with no value left
-  pub stopped-empty : (s : State) → length p ≤ pickleLimit → run ed p ≡ ok s → length s.stack ≤ 0 → stopped ed p ≡ no StackUnderflow
+  pub stopped_empty : (s : State) → length p ≤ pickle_limit → run ed p ≡ ok s → length s.stack ≤ 0 → stopped ed p ≡ no StackUnderflow
   unfolding stopped pop ◌>>=◌ need
-  stopped-empty s l e h = rw (le-leb (length p) pickleLimit l, e, le-ltb 0 (length s.stack) h)
+  stopped_empty s l e h = rw (le-leb (length p) pickle_limit l, e, le-ltb 0 (length s.stack) h)
 
   -- read to STOP with a value left
-  pub stopped-with : (s : State) → length p ≤ pickleLimit → run ed p ≡ ok s → 0 < length s.stack → stopped ed p ≡ ok (s, last s.stack)
+  pub stopped_with : (s : State) → length p ≤ pickle_limit → run ed p ≡ ok s → 0 < length s.stack → stopped ed p ≡ ok (s, last s.stack)
   unfolding stopped pop ◌>>=◌ need
-  stopped-with s l e h = rw (le-leb (length p) pickleLimit l, e, lt-ltb 0 (length s.stack) h)
+  stopped_with s l e h = rw (le-leb (length p) pickle_limit l, e, lt-ltb 0 (length s.stack) h)
 
-  pub prefix-refused : (why : Refusal) → stopped ed p ≡ no why → prefixIn ed p ≡ refuses why
-  unfolding prefixIn
-  prefix-refused why e = rw (e, prefixIn)
+  pub prefix_refused : (why : Refusal) → stopped ed p ≡ no why → prefix_in ed p ≡ refuses why
+  unfolding prefix_in
+  prefix_refused why e = rw (e, prefix_in)
 
-  pub prefix-told : (s : State) (root : ℕ) → stopped ed p ≡ ok (s, root) → prefixIn ed p ≡ reading_of (consumed p s) (one (tree s.nodes root))
-  unfolding prefixIn
-  prefix-told s root e = rw (e, prefixIn)
+  pub prefix-told : (s : State) (root : ℕ) → stopped ed p ≡ ok (s, root) → prefix_in ed p ≡ reading_of (consumed p s) (one (tree s.nodes root))
+  unfolding prefix_in
+  prefix-told s root e = rw (e, prefix_in)
 
-  pub whole-trailing : leaves p (prefixIn ed p) ≡ true → wholeIn ed p ≡ refuses TrailingData
-  unfolding wholeIn
+  pub whole-trailing : leaves p (prefix_in ed p) ≡ true → whole_in ed p ≡ refuses TrailingData
+  unfolding whole_in
   whole-trailing e = rw e
 
-  pub whole-prefix : leaves p (prefixIn ed p) ≡ false → wholeIn ed p ≡ prefixIn ed p
-  unfolding wholeIn
+  pub whole-prefix : leaves p (prefix_in ed p) ≡ false → whole_in ed p ≡ prefix_in ed p
+  unfolding whole_in
   whole-prefix e = rw e
 
 -- the bytes consumed are the pickle's beginning, of one at least; what the machine has left is the rest
 pub consumed-rest : (ed : Edition) (p : List ℕ) (s : State) → run ed p ≡ ok s → (0 < consumed p s) × (consumed p s ≤ length p) × (s.input ≡ drop (consumed p s) p)
-consumed-rest ed p s e = let l : Later 1 p s = of-out (Later 1 p) (run ed p) s (run-later ed p) e in go l.read l.enough l.inside l.left
+consumed-rest ed p s e = let l : Later 1 p s = of_out (Later 1 p) (run ed p) s (run_later ed p) e in go l.read l.enough l.inside l.left
   where
     go : (r : ℕ) → 1 ≤ r → r ≤ length p → s.input ≡ drop r p → (0 < consumed p s) × (consumed p s ≤ length p) × (s.input ≡ drop (consumed p s) p)
     go r a b i =
@@ -121,11 +121,11 @@ consumed-rest ed p s e = let l : Later 1 p s = of-out (Later 1 p) (run ed p) s (
         (omega arith, omega arith, i ∙ ap (λ (n : ℕ). drop n p) (sym c))
 
 -- what a reading that succeeds fills: no more than the caller lends
-pub told-fits : (n : ℕ) (f : Forest) → measured f ≡ ok tt → (reading_of n f ≡ reads n (settle f)) × (length (table (settle f) 0) ≤ 4 * valuesLimit) × (length (text (settle f)) ≤ textLimit) × (depth (settle f) ≤ depthLimit)
+pub told_fits : (n : ℕ) (f : Forest) → measured f ≡ ok tt → (reading_of n f ≡ reads n (settle f)) × (length (table (settle f) 0) ≤ 4 * values_limit) × (length (text (settle f)) ≤ text_limit) × (depth (settle f) ≤ depth_limit)
 unfolding reading_of
-told-fits n f e =
+told_fits n f e =
     let w = measured-within f e in
-    let s = settle-smaller f in
+    let s = settle_smaller f in
     let v = s.values in
     let d = s.deep in
     let t = s.texts in
@@ -138,10 +138,10 @@ told-fits n f e =
 
 -- Any pickle that is read to its STOP with a value left, where nothing reachable from that value contains itself: the prefix reading's
 -- answer is that of the value written out plainly, same value, length, and refusal for depth, values or text.
-module _ (ed : Edition) (p : List ℕ) (s : State) (short : length p ≤ pickleLimit) (stop : run ed p ≡ ok s) (left : 0 < length s.stack) where
-  pub sharing-never-shows : (f : Forest) → NothingContainsItself s.nodes (last s.stack) → WritesOut s.nodes (last s.stack ∷ []) f → prefixIn ed p ≡ reading_of (consumed p s) f
-  sharing-never-shows f h w = rw (prefix-told ed p s (last s.stack) (stopped-with ed p s short stop left)) (ap (reading_of (consumed p s)) (tree-is-write-out s.nodes (last s.stack) f h w))
+module _ (ed : Edition) (p : List ℕ) (s : State) (short : length p ≤ pickle_limit) (stop : run ed p ≡ ok s) (left : 0 < length s.stack) where
+  pub sharing_never_shows : (f : Forest) → NothingContainsItself s.nodes (last s.stack) → WritesOut s.nodes (last s.stack ∷ []) f → prefix_in ed p ≡ reading_of (consumed p s) f
+  sharing_never_shows f h w = rw (prefix-told ed p s (last s.stack) (stopped_with ed p s short stop left)) (ap (reading_of (consumed p s)) (tree_is_write_out s.nodes (last s.stack) f h w))
 
-  -- and such a write-out there is
-  pub written_out : NothingContainsItself s.nodes (last s.stack) → (f : Forest) × WritesOut s.nodes (last s.stack ∷ []) f × (prefixIn ed p ≡ reading_of (consumed p s) f)
-  written_out h = (one (tree s.nodes (last s.stack)), tree-writes-out s.nodes (last s.stack) h, prefix-told ed p s (last s.stack) (stopped-with ed p s short stop left))
+  -- and such a write_out there is
+  pub written_out : NothingContainsItself s.nodes (last s.stack) → (f : Forest) × WritesOut s.nodes (last s.stack ∷ []) f × (prefix_in ed p ≡ reading_of (consumed p s) f)
+  written_out h = (one (tree s.nodes (last s.stack)), tree_writes_out s.nodes (last s.stack) h, prefix-told ed p s (last s.stack) (stopped_with ed p s short stop left))

@@ -6,14 +6,14 @@ use Rattle.std.proofs.Common.{inl, inr, sym, ◌∙◌, ap, arith}
 use Rattle.value.specs.Value.{Label, Forest, Value, one, count, nil, node}
 use Rattle.value.specs.Order.{order}
 use Rattle.value.specs.OrderLaws.{swap, order-swap}
-use Rattle.value.specs.Total.{order-equal, order-less}
+use Rattle.value.specs.Total.{order_equal, order-less}
 use Rattle.value.specs.WellFormed.{ascending, keys}
 use Rattle.reading.specs.Build.{before}
-use Rattle.reading.specs.Settle.{by, insert, asSet, enter, asDict}
+use Rattle.reading.specs.Settle.{by, insert, as_set, enter, as_dict}
 
 -- a value is not below itself
-pub order-self : (v : Value) → order v v ≡ Ordering.lt → ⊥
-order-self v h = let e : Ordering.lt ≡ Ordering.gt = sym h ∙ order-swap v v ∙ ap swap h in let z : ◌≡◌ {A = ℕ} 0 1 = cc in omega arith
+pub order_self : (v : Value) → order v v ≡ Ordering.lt → ⊥
+order_self v h = let e : Ordering.lt ≡ Ordering.gt = sym h ∙ order-swap v v ∙ ap swap h in let z : ◌≡◌ {A = ℕ} 0 1 = cc in omega arith
 
 -- ---- strictly ascending
 
@@ -26,12 +26,12 @@ unfoldable pub Ascending : Forest → Type 0
 Ascending nil = Unit {0}
 Ascending (node l c r) = Under (record { label = l; contents = c }) r × Ascending r
 
--- as a well-formed table has it
-pub ascending-test : (f : Forest) → Ascending f → T (ascending f)
+-- as a well_formed_lem table has it
+pub ascending_test : (f : Forest) → Ascending f → T (ascending f)
 unfolding Ascending Under ascending
-ascending-test nil a = tt
-ascending-test (node l c nil) a = tt
-ascending-test (node l c (node m d r)) a = rw a.0 (ascending-test (node m d r) a.1)
+ascending_test nil a = tt
+ascending_test (node l c nil) a = tt
+ascending_test (node l c (node m d r)) a = rw a.0 (ascending_test (node m d r) a.1)
 
 -- ---- sets
 
@@ -58,32 +58,32 @@ insert-ascending v (node l c r) h = go (order v w) refl (insert-ascending v r h.
     go Ordering.eq q i = h
     go Ordering.gt q i = (insert-under w v r h.0 (order-swap v w ∙ ap swap q), i)
 
-pub set-ascending : (f : Forest) → Ascending (asSet f)
-unfolding asSet Ascending
+pub set-ascending : (f : Forest) → Ascending (as_set f)
+unfolding as_set Ascending
 set-ascending nil = tt
-set-ascending (node l c r) = insert-ascending (record { label = l; contents = c }) (asSet r) (set-ascending r)
+set-ascending (node l c r) = insert-ascending (record { label = l; contents = c }) (as_set r) (set-ascending r)
 
 -- v is one of them
 pub data Among (v : Value) : Forest → Type 0 where
   first : {l : Label} {c r : Forest} → v ≡ record { label = l; contents = c } → Among v (node l c r)
   after : {l : Label} {c r : Forest} → Among v r → Among v (node l c r)
 
-insert-has : (v : Value) (f : Forest) → Among v (insert v f)
+insert_has : (v : Value) (f : Forest) → Among v (insert v f)
 unfolding insert by
-insert-has v nil = first refl
-insert-has v (node l c r) = go (order v w) refl (insert-has v r)
+insert_has v nil = first refl
+insert_has v (node l c r) = go (order v w) refl (insert_has v r)
   where
     w : Value
     w = record { label = l; contents = c }
 
     go : (o : Ordering) → order v w ≡ o → Among v (insert v r) → Among v (by o (before v (node l c r)) (node l c r) (node l c (insert v r)))
     go Ordering.lt q i = first refl
-    go Ordering.eq q i = first (order-equal v w q)
+    go Ordering.eq q i = first (order_equal v w q)
     go Ordering.gt q i = after i
 
-insert-keeps : (u v : Value) (f : Forest) → Among u f → Among u (insert v f)
+insert_keeps : (u v : Value) (f : Forest) → Among u f → Among u (insert v f)
 unfolding insert by
-insert-keeps u v (node l c r) a = go (order v (record { label = l; contents = c })) a (insert-keeps u v r)
+insert_keeps u v (node l c r) a = go (order v (record { label = l; contents = c })) a (insert_keeps u v r)
   where
     go : (o : Ordering) → Among u (node l c r) → (Among u r → Among u (insert v r)) → Among u (by o (before v (node l c r)) (node l c r) (node l c (insert v r)))
     go Ordering.lt b i = after b
@@ -107,16 +107,16 @@ insert-only u v (node l c r) a = go (order v (record { label = l; contents = c }
     go Ordering.gt (after b) i = pass (i b)
 
 -- every item given is there, and no other
-pub set-has : (v : Value) (f : Forest) → Among v f → Among v (asSet f)
-unfolding asSet
-set-has v (node l c r) (first e) = rw e (insert-has (record { label = l; contents = c }) (asSet r))
-set-has v (node l c r) (after a) = insert-keeps v (record { label = l; contents = c }) (asSet r) (set-has v r a)
+pub set_has : (v : Value) (f : Forest) → Among v f → Among v (as_set f)
+unfolding as_set
+set_has v (node l c r) (first e) = rw e (insert_has (record { label = l; contents = c }) (as_set r))
+set_has v (node l c r) (after a) = insert_keeps v (record { label = l; contents = c }) (as_set r) (set_has v r a)
 
-pub set-only : (v : Value) (f : Forest) → Among v (asSet f) → Among v f
-unfolding asSet
-set-only v (node l c r) a = go (insert-only v (record { label = l; contents = c }) (asSet r) a) (set-only v r)
+pub set-only : (v : Value) (f : Forest) → Among v (as_set f) → Among v f
+unfolding as_set
+set-only v (node l c r) a = go (insert-only v (record { label = l; contents = c }) (as_set r) a) (set-only v r)
   where
-    go : Among v (node l c (asSet r)) → (Among v (asSet r) → Among v r) → Among v (node l c r)
+    go : Among v (node l c (as_set r)) → (Among v (as_set r) → Among v r) → Among v (node l c r)
     go (first e) i = first e
     go (after b) i = after (i b)
 
@@ -147,11 +147,11 @@ enter-ascending v w (node l c (node m d r)) h = go (order v x) refl (enter-ascen
     go Ordering.eq q i = h
     go Ordering.gt q i = (enter-under x v w r h.0 (order-swap v x ∙ ap swap q), i)
 
-pub dict-ascending : (f : Forest) → Ascending (keys (asDict f))
-unfolding asDict Ascending keys
+pub dict-ascending : (f : Forest) → Ascending (keys (as_dict f))
+unfolding as_dict Ascending keys
 dict-ascending nil = tt
 dict-ascending (node l c nil) = tt
-dict-ascending (node l c (node m d r)) = enter-ascending (record { label = l; contents = c }) (record { label = m; contents = d }) (asDict r) (dict-ascending r)
+dict-ascending (node l c (node m d r)) = enter-ascending (record { label = l; contents = c }) (record { label = m; contents = d }) (as_dict r) (dict-ascending r)
 
 -- v has w as a value in these entries
 pub data Entry (v w : Value) : Forest → Type 0 where
@@ -163,9 +163,9 @@ pub data Last (v w : Value) : Forest → Type 0 where
   first : {l m : Label} {c d r : Forest} → v ≡ record { label = l; contents = c } → w ≡ record { label = m; contents = d } → ((x : Value) → ¬ Entry v x r) → Last v w (node l c (node m d r))
   after : {l m : Label} {c d r : Forest} → Last v w r → Last v w (node l c (node m d r))
 
-enter-keeps : (u x v w : Value) (f : Forest) → Entry u x f → Entry u x (enter v w f)
+enter_keeps : (u x v w : Value) (f : Forest) → Entry u x f → Entry u x (enter v w f)
 unfolding enter by
-enter-keeps u x v w (node l c (node m d r)) a = go (order v (record { label = l; contents = c })) a (enter-keeps u x v w r)
+enter_keeps u x v w (node l c (node m d r)) a = go (order v (record { label = l; contents = c })) a (enter_keeps u x v w r)
   where
     go : (o : Ordering) → Entry u x (node l c (node m d r)) → (Entry u x r → Entry u x (enter v w r)) → Entry u x (by o (before v (before w (node l c (node m d r)))) (node l c (node m d r)) (node l c (node m d (enter v w r))))
     go Ordering.lt b i = after b
@@ -174,39 +174,39 @@ enter-keeps u x v w (node l c (node m d r)) a = go (order v (record { label = l;
     go Ordering.gt (after b) i = after (i b)
 
 -- the key entered is there, with the value entered if there was none
-enter-key : (v w : Value) (f : Forest) → (x : Value) × Entry v x (enter v w f)
+enter_key : (v w : Value) (f : Forest) → (x : Value) × Entry v x (enter v w f)
 unfolding enter by
-enter-key v w nil = (w, first refl refl)
-enter-key v w (node l c nil) = (w, first refl refl)
-enter-key v w (node l c (node m d r)) = go (order v k) refl (enter-key v w r)
+enter_key v w nil = (w, first refl refl)
+enter_key v w (node l c nil) = (w, first refl refl)
+enter_key v w (node l c (node m d r)) = go (order v k) refl (enter_key v w r)
   where
     k : Value
     k = record { label = l; contents = c }
 
     go : (o : Ordering) → order v k ≡ o → (x : Value) × Entry v x (enter v w r) → (x : Value) × Entry v x (by o (before v (before w (node l c (node m d r)))) (node l c (node m d r)) (node l c (node m d (enter v w r))))
     go Ordering.lt q i = (w, first refl refl)
-    go Ordering.eq q i = (record { label = m; contents = d }, first (order-equal v k q) refl)
+    go Ordering.eq q i = (record { label = m; contents = d }, first (order_equal v k q) refl)
     go Ordering.gt q i = (i.0, after i.1)
 
-enter-has : (v w : Value) (f : Forest) → ((x : Value) → ¬ Entry v x f) → Entry v w (enter v w f)
+enter_has : (v w : Value) (f : Forest) → ((x : Value) → ¬ Entry v x f) → Entry v w (enter v w f)
 unfolding enter by
-enter-has v w nil n = first refl refl
-enter-has v w (node l c nil) n = first refl refl
-enter-has v w (node l c (node m d r)) n = go (order v k) refl (enter-has v w r (λ x a. n x (after a)))
+enter_has v w nil n = first refl refl
+enter_has v w (node l c nil) n = first refl refl
+enter_has v w (node l c (node m d r)) n = go (order v k) refl (enter_has v w r (λ x a. n x (after a)))
   where
     k : Value
     k = record { label = l; contents = c }
 
     go : (o : Ordering) → order v k ≡ o → Entry v w (enter v w r) → Entry v w (by o (before v (before w (node l c (node m d r)))) (node l c (node m d r)) (node l c (node m d (enter v w r))))
     go Ordering.lt q i = first refl refl
-    go Ordering.eq q i = absurd (n (record { label = m; contents = d }) (first (order-equal v k q) refl))
+    go Ordering.eq q i = absurd (n (record { label = m; contents = d }) (first (order_equal v k q) refl))
     go Ordering.gt q i = after i
 
 -- a key below the first of ascending ones is none of them
-not-under : (v x : Value) (f : Forest) → Ascending (keys f) → Under v (keys f) → Entry v x f → ⊥
+not_under : (v x : Value) (f : Forest) → Ascending (keys f) → Under v (keys f) → Entry v x f → ⊥
 unfolding Ascending Under keys
-not-under v x (node l c (node m d r)) a h (first e f) = order-self v (rw (← e) at h)
-not-under v x (node l c (node m d r)) a h (after b) = not-under v x r a.1 (under (keys r) a.0) b
+not_under v x (node l c (node m d r)) a h (first e f) = order_self v (rw (← e) at h)
+not_under v x (node l c (node m d r)) a h (after b) = not_under v x r a.1 (under (keys r) a.0) b
   where
     under : (g : Forest) → Under (record { label = l; contents = c }) g → Under v g
     under nil u = tt
@@ -219,8 +219,8 @@ busy v x f h (first e g) = omega arith
 busy v x f h (after b) = omega arith
 
 -- nor is a key above another
-order-self-gt : (v : Value) → order v v ≡ Ordering.gt → ⊥
-order-self-gt v h = order-self v (order-swap v v ∙ ap swap h)
+order_self_gt : (v : Value) → order v v ≡ Ordering.gt → ⊥
+order_self_gt v h = order_self v (order-swap v v ∙ ap swap h)
 
 -- what is there after entering was there, or is what was entered where the key was not
 enter-only : (u x v w : Value) (f : Forest) → Ascending (keys f) → Entry u x (enter v w f) → Entry u x f ⊎ ((u ≡ v) × (x ≡ w) × ((y : Value) → ¬ Entry v y f))
@@ -244,7 +244,7 @@ enter-only u x v w (node l c (node m d r)) s a = go (order v k) refl a (enter-on
     Got f = Entry u x f ⊎ ((u ≡ v) × (x ≡ w) × ((y : Value) → ¬ Entry v y f))
 
     no_more : (y : Value) → order v k ≡ Ordering.gt → ((z : Value) → ¬ Entry v z r) → Entry v y (node l c (node m d r)) → ⊥
-    no_more y q n (first e g) = order-self-gt v (rw (← e) at q)
+    no_more y q n (first e g) = order_self_gt v (rw (← e) at q)
     no_more y q n (after b) = n y b
 
     pass : order v k ≡ Ordering.gt → Got r → Got (node l c (node m d r))
@@ -252,37 +252,37 @@ enter-only u x v w (node l c (node m d r)) s a = go (order v k) refl a (enter-on
     pass q (inr b) = inr (b.0, b.1, λ y. no_more y q b.2)
 
     go : (o : Ordering) → order v k ≡ o → Entry u x (by o (before v (before w (node l c (node m d r)))) (node l c (node m d r)) (node l c (node m d (enter v w r)))) → (Entry u x (enter v w r) → Got r) → Got (node l c (node m d r))
-    go Ordering.lt q (first e g) i = inr (e, g, λ y. not-under v y (node l c (node m d r)) s q)
+    go Ordering.lt q (first e g) i = inr (e, g, λ y. not_under v y (node l c (node m d r)) s q)
     go Ordering.lt q (after b) i = inl b
     go Ordering.eq q b i = inl b
     go Ordering.gt q (first e g) i = inl (first e g)
     go Ordering.gt q (after b) i = pass q (i b)
 
 -- every key given is there
-pub dict-key : (v x : Value) (f : Forest) → Entry v x f → (y : Value) × Entry v y (asDict f)
-unfolding asDict
-dict-key v x (node l c (node m d r)) (first e g) = rw e (enter-key (record { label = l; contents = c }) (record { label = m; contents = d }) (asDict r))
-dict-key v x (node l c (node m d r)) (after b) = let h = dict-key v x r b in (h.0, enter-keeps v h.0 (record { label = l; contents = c }) (record { label = m; contents = d }) (asDict r) h.1)
+pub dict_key : (v x : Value) (f : Forest) → Entry v x f → (y : Value) × Entry v y (as_dict f)
+unfolding as_dict
+dict_key v x (node l c (node m d r)) (first e g) = rw e (enter_key (record { label = l; contents = c }) (record { label = m; contents = d }) (as_dict r))
+dict_key v x (node l c (node m d r)) (after b) = let h = dict_key v x r b in (h.0, enter_keeps v h.0 (record { label = l; contents = c }) (record { label = m; contents = d }) (as_dict r) h.1)
 
 -- and its value is its last one
-pub dict-only : (v x : Value) (f : Forest) → Entry v x (asDict f) → Last v x f
-unfolding asDict
-dict-only v x (node l c (node m d r)) a = go (enter-only v x k (record { label = m; contents = d }) (asDict r) (dict-ascending r) a) (dict-only v x r)
+pub dict-only : (v x : Value) (f : Forest) → Entry v x (as_dict f) → Last v x f
+unfolding as_dict
+dict-only v x (node l c (node m d r)) a = go (enter-only v x k (record { label = m; contents = d }) (as_dict r) (dict-ascending r) a) (dict-only v x r)
   where
     k : Value
     k = record { label = l; contents = c }
 
-    none : v ≡ k → ((y : Value) → ¬ Entry k y (asDict r)) → (y : Value) → Entry v y r → ⊥
-    none q n y e = let h = dict-key k y r (rw q at e) in n h.0 h.1
+    none : v ≡ k → ((y : Value) → ¬ Entry k y (as_dict r)) → (y : Value) → Entry v y r → ⊥
+    none q n y e = let h = dict_key k y r (rw q at e) in n h.0 h.1
 
-    go : Entry v x (asDict r) ⊎ ((v ≡ k) × (x ≡ record { label = m; contents = d }) × ((y : Value) → ¬ Entry k y (asDict r))) → (Entry v x (asDict r) → Last v x r) → Last v x (node l c (node m d r))
+    go : Entry v x (as_dict r) ⊎ ((v ≡ k) × (x ≡ record { label = m; contents = d }) × ((y : Value) → ¬ Entry k y (as_dict r))) → (Entry v x (as_dict r) → Last v x r) → Last v x (node l c (node m d r))
     go (inl b) i = after (i b)
     go (inr b) i = first b.0 b.1 (λ y e. none b.0 b.2 y e)
 
-pub dict-last : (v x : Value) (f : Forest) → Last v x f → Entry v x (asDict f)
-unfolding asDict
+pub dict-last : (v x : Value) (f : Forest) → Last v x f → Entry v x (as_dict f)
+unfolding as_dict
 dict-last v x (node l c (node m d r)) (first e g n) =
-    rw (e, g) (enter-has (record { label = l; contents = c }) (record { label = m; contents = d }) (asDict r) (λ y b. n y (was y (dict-only (record { label = l; contents = c }) y r b))))
+    rw (e, g) (enter_has (record { label = l; contents = c }) (record { label = m; contents = d }) (as_dict r) (λ y b. n y (was y (dict-only (record { label = l; contents = c }) y r b))))
   where
     entry : (k y : Value) (h : Forest) → Last k y h → Entry k y h
     entry k y h (first p q o) = first p q
@@ -290,4 +290,4 @@ dict-last v x (node l c (node m d r)) (first e g n) =
 
     was : (y : Value) → Last (record { label = l; contents = c }) y r → Entry v y r
     was y b = rw e (entry _ y r b)
-dict-last v x (node l c (node m d r)) (after b) = enter-keeps v x (record { label = l; contents = c }) (record { label = m; contents = d }) (asDict r) (dict-last v x r b)
+dict-last v x (node l c (node m d r)) (after b) = enter_keeps v x (record { label = l; contents = c }) (record { label = m; contents = d }) (as_dict r) (dict-last v x r b)

@@ -9,19 +9,19 @@ use Rattle.refusal.specs.declared.Refusal.TheVariants.{ShortRoom, TooLong, EndOf
 use Rattle.refusal.specs.declared.Answer.{Answer}
 
 -- the details of number 10
-abbrev pub wantedDetail : Wanted → ℕ
-wantedDetail Length = 1
-wantedDetail DictItems = 2
-wantedDetail List = 3
-wantedDetail Dict = 4
-wantedDetail Class = 5
-wantedDetail Arguments = 6
-wantedDetail Object = 7
+abbrev pub wanted_detail : Wanted → ℕ
+wanted_detail Length = 1
+wanted_detail DictItems = 2
+wanted_detail List = 3
+wanted_detail Dict = 4
+wanted_detail Class = 5
+wanted_detail Arguments = 6
+wanted_detail Object = 7
 
 -- the details of number 21
-abbrev pub whichDetail : Which → ℕ
-whichDetail First = 1
-whichDetail Second = 2
+abbrev pub which_detail : Which → ℕ
+which_detail First = 1
+which_detail Second = 2
 
 -- number and detail
 abbrev pub number_of : Refusal → ℕ × ℕ
@@ -34,7 +34,7 @@ number_of StackUnderflow = (6, 0)
 number_of (MissingMemo index) = (7, index)
 number_of InvalidLiteral = (8, 0)
 number_of IntegerTooLarge = (9, 0)
-number_of (Invalid what) = (10, wantedDetail what)
+number_of (Invalid what) = (10, wanted_detail what)
 number_of TrailingData = (11, 0)
 number_of StackFull = (12, 0)
 number_of MarksFull = (13, 0)
@@ -45,11 +45,11 @@ number_of TooDeep = (17, 0)
 number_of TooManyValues = (18, 0)
 number_of TextFull = (19, 0)
 number_of FloatOutside = (20, 0)
-number_of (BadTable which) = (21, whichDetail which)
+number_of (BadTable which) = (21, which_detail which)
 number_of OutputFull = (22, 0)
 number_of UnwritableName = (25, 0)
 number_of (OutsideProfile code) = (26, code)
 
 -- a refusal has length 0 and count 0
-abbrev pub refusedAnswer : Refusal → Answer
-refusedAnswer why = record { number = (number_of why).0; detail = (number_of why).1; length = 0; count = 0 }
+abbrev pub refused_answer : Refusal → Answer
+refused_answer why = record { number = (number_of why).0; detail = (number_of why).1; length = 0; count = 0 }

@@ -1,7 +1,7 @@
 // Why a call refuses (`DeError` of de.rs, with the refusals that are added here), and what every public call answers.
 // Below every other crate. An enum cannot be exported, so a call answers its number and detail.
 ghost use Rattle.std.specs.Prelude.{◌≡◌};
-ghost use Rattle.refusal.specs.Numbers.{wantedDetail, whichDetail, number_of, refusedAnswer};
+ghost use Rattle.refusal.specs.Numbers.{wanted_detail, which_detail, number_of, refused_answer};
 
 // What an opcode found instead of the value that it needs: `DeError::Invalid`.
 #[derive(Drop)]
@@ -92,7 +92,7 @@ pub fn number(why: Refusal) -> u64
 }
 
 fn wanted_detail(what: Wanted) -> u64
-    ensures { result ≡ wantedDetail what }
+    ensures { result ≡ wanted_detail what }
 {
     match what {
         Wanted::Length => 1,
@@ -106,7 +106,7 @@ fn wanted_detail(what: Wanted) -> u64
 }
 
 fn which_detail(which: Which) -> u64
-    ensures { result ≡ whichDetail which }
+    ensures { result ≡ which_detail which }
 {
     match which {
         Which::First => 1,
@@ -147,7 +147,7 @@ pub fn detail(why: Refusal) -> u64
 
 // The answer of a call that refuses.
 pub fn refused(why: Refusal) -> Answer
-    ensures { result ≡ refusedAnswer why }
+    ensures { result ≡ refused_answer why }
 {
     Answer {
         number: number(why),

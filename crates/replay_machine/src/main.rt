@@ -3,7 +3,7 @@
 // the length read, the node on top of the stack, and then the rooms as they are used, in words.
 ghost use Rattle.std.specs.Prelude.{◌≤◌, length};
 ghost use Rattle.store.specs.Effects.{Lengths};
-ghost use Rattle.machine.specs.RoomsOf.{lentRooms};
+ghost use Rattle.machine.specs.RoomsOf.{lent_rooms};
 ghost use Rattle.replay_machine.specs.Shown.{CountsInRange};
 
 use machine::effects::Step;
@@ -39,7 +39,7 @@ fn steps(
     keys: &mut [u32],
     held: &mut [u16],
 ) -> Outcome
-    requires { Lengths (lentRooms pickle.now nodes.old owners.old children.old stack.old marks.old keys.old held.old) }
+    requires { Lengths (lent_rooms pickle.now nodes.old owners.old children.old stack.old marks.old keys.old held.old) }
 {
     let mut c = Counts {
         at: 0,
@@ -109,7 +109,7 @@ fn show(
     keys: &mut [u32],
     held: &mut [u16],
 )
-    requires { Lengths (lentRooms pickle.now nodes.old owners.old children.old stack.old marks.old keys.old held.old) }
+    requires { Lengths (lent_rooms pickle.now nodes.old owners.old children.old stack.old marks.old keys.old held.old) }
 {
     match steps(pickle, nodes, owners, children, stack, marks, keys, held) {
         Outcome::Stopped(c) => show_stop(nodes, owners, children, stack, c),

@@ -7,13 +7,13 @@ use borrow.Author.Tests.{le-ltb, ne_eqb}
 use Rattle.std.proofs.Math.Decide.{dec_lt, ℕ_discrete}
 use native.Mathlib.Omega.{arith}
 use Rattle.value.specs.Value.{Label, kind, NoneL, BoolL, I64L, F64L, BytesL, StringL, ListL, TupleL, SetL, FrozenSetL, DictL, GlobalL, ObjectL}
-use Rattle.value.specs.Shape.{kindIn}
+use Rattle.value.specs.Shape.{kind_in}
 use Rattle.store.specs.Rooms.{tabulated}
-use Rattle.store.specs.RoomLists.{getD-tab}
+use Rattle.store.specs.RoomLists.{get_d_tab}
 use Rattle.steps.specs.NodeWords.{first, second}
-use Rattle.resolve.specs.Noted.{isContainer}
-use Rattle.resolve.specs.Dues.{isDue}
-use Rattle.resolve.specs.Shown.{nodeLabels, nodeLabel, isSorted}
+use Rattle.resolve.specs.Noted.{is_container}
+use Rattle.resolve.specs.Dues.{is_due}
+use Rattle.resolve.specs.Shown.{node_labels, node_label, sorted_in}
 
 -- ---- a value's kind
 
@@ -23,40 +23,40 @@ kinds = 0 ∷ 1 ∷ 2 ∷ 3 ∷ 4 ∷ 5 ∷ 6 ∷ 7 ∷ 8 ∷ 9 ∷ 10 ∷ 11 �
 
 -- the kind of a node's label, by the node's first word
 unfoldable pub kind_of : ℕ → ℕ
-kind_of a = get_or kinds (kindIn a) 0
+kind_of a = get_or kinds (kind_in a) 0
 
 module _ (a : ℕ) where
-  pub kind-same : kindIn a < 13 → kind_of a ≡ kindIn a
+  pub kind-same : kind_in a < 13 → kind_of a ≡ kind_in a
   unfolding kind_of tabulated
-  kind-same h = get_or-append (tabulated (λ i. i) 13) (4 ∷ 5 ∷ []) 0 (kindIn a) h ∙ getD-tab (λ i. i) 13 (kindIn a) 0 h
+  kind-same h = get_or-append (tabulated (λ i. i) 13) (4 ∷ 5 ∷ []) 0 (kind_in a) h ∙ get_d_tab (λ i. i) 13 (kind_in a) 0 h
 
   -- 13 and 14 are texts as their lines
-  pub kind-line : 13 ≤ kindIn a → kindIn a < 15 → kind_of a ≡ kindIn a - 9
+  pub kind-line : 13 ≤ kind_in a → kind_in a < 15 → kind_of a ≡ kind_in a - 9
   unfolding kind_of
-  kind-line h l = go (ℕ_discrete (kindIn a) 13)
+  kind-line h l = go (ℕ_discrete (kind_in a) 13)
     where
-      go : Dec (kindIn a ≡ 13) → get_or kinds (kindIn a) 0 ≡ kindIn a - 9
+      go : Dec (kind_in a ≡ 13) → get_or kinds (kind_in a) 0 ≡ kind_in a - 9
       go (yes e) = rw e
-      go (no e) = let f : kindIn a ≡ 14 = omega arith in rw f
+      go (no e) = let f : kind_in a ≡ 14 = omega arith in rw f
 
   -- behind them is None
-  pub kind-none : 15 ≤ kindIn a → kind_of a ≡ 0
+  pub kind-none : 15 ≤ kind_in a → kind_of a ≡ 0
   unfolding kind_of
-  kind-none h = get_or-eq_default kinds 0 {n = kindIn a} (omega arith)
+  kind-none h = get_or-eq_default kinds 0 {n = kind_in a} (omega arith)
 
   pub kind-small : kind_of a < 13
-  kind-small = go (dec_lt (kindIn a) 13) (dec_lt (kindIn a) 15)
+  kind-small = go (dec_lt (kind_in a) 13) (dec_lt (kind_in a) 15)
     where
-      go : Dec (kindIn a < 13) → Dec (kindIn a < 15) → kind_of a < 13
+      go : Dec (kind_in a < 13) → Dec (kind_in a < 15) → kind_of a < 13
       go (yes x) y = rw (kind-same x) x
       go (no x) (yes y) = rw (kind-line (omega arith) y) (omega arith)
       go (no x) (no y) = rw (kind-none (omega arith)) (omega arith)
 
   -- a kind below 4 and not 0 is the node's own
-  pub kind-low : 0 < kind_of a → kind_of a < 4 → kindIn a ≡ kind_of a
-  kind-low l m = go (dec_lt (kindIn a) 13) (dec_lt (kindIn a) 15)
+  pub kind_low : 0 < kind_of a → kind_of a < 4 → kind_in a ≡ kind_of a
+  kind_low l m = go (dec_lt (kind_in a) 13) (dec_lt (kind_in a) 15)
     where
-      go : Dec (kindIn a < 13) → Dec (kindIn a < 15) → kindIn a ≡ kind_of a
+      go : Dec (kind_in a < 13) → Dec (kind_in a < 15) → kind_in a ≡ kind_of a
       go (yes x) y = sym (kind-same x)
       go (no x) (yes y) = absurd (omega (arith, kind-line (omega arith) y))
       go (no x) (no y) = absurd (omega (arith, kind-none (omega arith)))
@@ -64,11 +64,11 @@ module _ (a : ℕ) where
 -- ---- contents
 
 -- the kinds with contents, of values and of nodes
-unfoldable pub containerKind : ℕ → Bool
-containerKind k = cond (ltb k 6) false (cond (ltb k 11) true (eqb k 12))
+unfoldable pub container_kind : ℕ → Bool
+container_kind k = cond (ltb k 6) false (cond (ltb k 11) true (eqb k 12))
 
-pub container-kind : (l : Label) → isContainer l ≡ containerKind (kind l)
-unfolding containerKind
+pub container-kind : (l : Label) → is_container l ≡ container_kind (kind l)
+unfolding container_kind
 container-kind NoneL = refl
 container-kind (BoolL b) = refl
 container-kind (I64L n) = refl
@@ -108,28 +108,28 @@ by_kind Q q0 q1 q2 q3 q4 q5 q6 q7 q8 q9 q10 q11 q12 q13 q14 r (suc (suc (suc (su
 
 module _ (p ws : List ℕ) (i : ℕ) where
   abbrev all : List Label
-  all = nodeLabels p ws (first ws i) (second ws i)
+  all = node_labels p ws (first ws i) (second ws i)
 
-  pub kind-is : kind (nodeLabel p ws i) ≡ kind_of (first ws i)
-  unfolding nodeLabel kind_of
-  kind-is = sym (get_or-map kind all (kindIn (first ws i)) NoneL)
+  pub kind_is : kind (node_label p ws i) ≡ kind_of (first ws i)
+  unfolding node_label kind_of
+  kind_is = sym (get_or-map kind all (kind_in (first ws i)) NoneL)
 
-  pub container-is : isContainer (nodeLabel p ws i) ≡ containerKind (kind_of (first ws i))
-  container-is = container-kind (nodeLabel p ws i) ∙ ap containerKind kind-is
+  pub container_is : is_container (node_label p ws i) ≡ container_kind (kind_of (first ws i))
+  container_is = container-kind (node_label p ws i) ∙ ap container_kind kind_is
 
   -- a container by its node's kind, and a Set or a Dict
-  pub container-node : isContainer (nodeLabel p ws i) ≡ containerKind (kindIn (first ws i))
-  unfolding nodeLabel containerKind
-  container-node =
-      by_kind (λ k. isContainer (get_or all k NoneL) ≡ containerKind k)
+  pub container_node : is_container (node_label p ws i) ≡ container_kind (kind_in (first ws i))
+  unfolding node_label container_kind
+  container_node =
+      by_kind (λ k. is_container (get_or all k NoneL) ≡ container_kind k)
       refl refl refl refl refl refl refl refl refl refl refl refl refl refl refl
       (λ k l. rw (get_or-eq_default all NoneL l, le-ltb k 6 (omega arith), le-ltb k 11 (omega arith), ne_eqb k 12 (λ e. omega arith)))
-      (kindIn (first ws i))
+      (kind_in (first ws i))
 
-  pub sorted-due : isDue (nodeLabel p ws i) ≡ isSorted (kindIn (first ws i))
-  unfolding nodeLabel isSorted
-  sorted-due =
-      by_kind (λ k. isDue (get_or all k NoneL) ≡ isSorted k)
+  pub sorted_due : is_due (node_label p ws i) ≡ sorted_in (kind_in (first ws i))
+  unfolding node_label sorted_in
+  sorted_due =
+      by_kind (λ k. is_due (get_or all k NoneL) ≡ sorted_in k)
       refl refl refl refl refl refl refl refl refl refl refl refl refl refl refl
       (λ k l. rw (get_or-eq_default all NoneL l, ne_eqb k 8 (λ e. omega arith), ne_eqb k 9 (λ e. omega arith), ne_eqb k 10 (λ e. omega arith)))
-      (kindIn (first ws i))
+      (kind_in (first ws i))

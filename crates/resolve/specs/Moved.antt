@@ -6,10 +6,10 @@ use Rattle.std.proofs.Math.Path.{refl, sym, ap}
 use Rattle.std.proofs.Common.{◌∙◌, length-append}
 use Rattle.std.proofs.Math.ListN.{length}
 use native.Mathlib.Omega.{arith}
-use Rattle.value.specs.Value.{Label, Forest, Value, one, bit, half, text_of, text, count, size, recordOf, table, NoneL, BoolL, I64L, F64L, BytesL, StringL, ListL, TupleL, SetL, FrozenSetL, DictL, GlobalL, ObjectL, nil, node}
+use Rattle.value.specs.Value.{Label, Forest, Value, one, bit, half, text_of, text, count, size, record_of, table, NoneL, BoolL, I64L, F64L, BytesL, StringL, ListL, TupleL, SetL, FrozenSetL, DictL, GlobalL, ObjectL, nil, node}
 use Rattle.steps.specs.State.{Node}
 use Rattle.reading.specs.Build.{before}
-use Rattle.resolve.specs.Resolved.{Kids, Stand, sNil, sNode}
+use Rattle.resolve.specs.Resolved.{Kids, Stand, s_nil, s_node}
 
 -- ---- one value and those behind it
 
@@ -25,16 +25,16 @@ table_before v f p =
     rw e (simp append_assoc)
 
 -- a list of nodes stands for as many values
-pub stand-count : {t : List Node} {g : Kids} {is : List ℕ} {f : Forest} → Stand t g is f → count f ≡ length is
+pub stand_count : {t : List Node} {g : Kids} {is : List ℕ} {f : Forest} → Stand t g is f → count f ≡ length is
 unfolding count
-stand-count sNil = refl
-stand-count (sNode a b) = let e = stand-count b in omega arith
+stand_count s_nil = refl
+stand_count (s_node a b) = let e = stand_count b in omega arith
 
 -- ---- copied
 
 -- kinds whose second word is a text place: Bytes, String, Global, Object
-unfoldable pub hasTextPlace : ℕ → Bool
-hasTextPlace a = eqb (a % 16) 4 || (eqb (a % 16) 5 || ltb 10 (a % 16))
+unfoldable pub has_text_place : ℕ → Bool
+has_text_place a = eqb (a % 16) 4 || (eqb (a % 16) 5 || ltb 10 (a % 16))
 
 -- records with texts from p on, as they are with texts from q on
 unfoldable pub moves : ℕ → ℕ → List ℕ → List ℕ
@@ -42,7 +42,7 @@ moves p q [] = []
 moves p q (a ∷ []) = []
 moves p q (a ∷ b ∷ []) = []
 moves p q (a ∷ b ∷ c ∷ []) = []
-moves p q (a ∷ b ∷ c ∷ d ∷ r) = a ∷ cond (hasTextPlace a) (b - p + q) b ∷ c ∷ d ∷ moves p q r
+moves p q (a ∷ b ∷ c ∷ d ∷ r) = a ∷ cond (has_text_place a) (b - p + q) b ∷ c ∷ d ∷ moves p q r
 
 pub regroup : (a b c d : List ℕ) → (a ++ (b ++ c)) ++ d ≡ a ++ (b ++ (c ++ d))
 regroup a b c d = simp append_assoc
@@ -54,21 +54,21 @@ module _ (p q : ℕ) where
   object-kind : (b : Bool) (n : ℕ) → (12 + 16 * bit b + 32 * half n) % 16 ≡ 12
   object-kind b n = omega arith
 
-  record-moves : (l : Label) (o n z : ℕ) (r : List ℕ) → moves p q (recordOf l (p + o) n z ++ r) ≡ recordOf l (q + o) n z ++ moves p q r
-  unfolding moves hasTextPlace
-  record-moves NoneL o n z r = refl
-  record-moves (BoolL b) o n z r = refl
-  record-moves (I64L i) o n z r = refl
-  record-moves (F64L i) o n z r = refl
-  record-moves (BytesL x) o n z r = rw (back o)
-  record-moves (StringL x) o n z r = rw (back o)
-  record-moves ListL o n z r = refl
-  record-moves TupleL o n z r = refl
-  record-moves SetL o n z r = refl
-  record-moves FrozenSetL o n z r = refl
-  record-moves DictL o n z r = refl
-  record-moves (GlobalL m k) o n z r = rw (back o)
-  record-moves (ObjectL m k b) o n z r = rw (object-kind b n, back o)
+  record_moves : (l : Label) (o n z : ℕ) (r : List ℕ) → moves p q (record_of l (p + o) n z ++ r) ≡ record_of l (q + o) n z ++ moves p q r
+  unfolding moves has_text_place
+  record_moves NoneL o n z r = refl
+  record_moves (BoolL b) o n z r = refl
+  record_moves (I64L i) o n z r = refl
+  record_moves (F64L i) o n z r = refl
+  record_moves (BytesL x) o n z r = rw (back o)
+  record_moves (StringL x) o n z r = rw (back o)
+  record_moves ListL o n z r = refl
+  record_moves TupleL o n z r = refl
+  record_moves SetL o n z r = refl
+  record_moves FrozenSetL o n z r = refl
+  record_moves DictL o n z r = refl
+  record_moves (GlobalL m k) o n z r = rw (back o)
+  record_moves (ObjectL m k b) o n z r = rw (object-kind b n, back o)
 
   table-moves : (f : Forest) (o : ℕ) (r : List ℕ) → moves p q (table f (p + o) ++ r) ≡ table f (q + o) ++ moves p q r
   unfolding table moves
@@ -84,10 +84,10 @@ module _ (p q : ℕ) where
       let b : moves p q (table f (p + o + n + m) ++ r) ≡ table f (q + o + n + m) ++ moves p q r = rw (e₃, e₄) at (table-moves f (o + n + m) r) in
       let s = table f (p + o + n + m) ++ r in
       let a : moves p q (table c (p + o + n) ++ s) ≡ table c (q + o + n) ++ moves p q s = rw (e₁, e₂) at (table-moves c (o + n) s) in
-      ap (moves p q) (regroup (recordOf l (p + o) (count c) z) (table c (p + o + n)) (table f (p + o + n + m)) r)
-      ∙ (record-moves l o (count c) z (table c (p + o + n) ++ s)
-      ∙ (ap (λ (x : List ℕ). recordOf l (q + o) (count c) z ++ x) (a ∙ ap (λ (x : List ℕ). table c (q + o + n) ++ x) b)
-      ∙ sym (regroup (recordOf l (q + o) (count c) z) (table c (q + o + n)) (table f (q + o + n + m)) (moves p q r))))
+      ap (moves p q) (regroup (record_of l (p + o) (count c) z) (table c (p + o + n)) (table f (p + o + n + m)) r)
+      ∙ (record_moves l o (count c) z (table c (p + o + n) ++ s)
+      ∙ (ap (λ (x : List ℕ). record_of l (q + o) (count c) z ++ x) (a ∙ ap (λ (x : List ℕ). table c (q + o + n) ++ x) b)
+      ∙ sym (regroup (record_of l (q + o) (count c) z) (table c (q + o + n)) (table f (q + o + n + m)) (moves p q r))))
 
   -- so copied, the records of a forest are its records at the new text place
   pub moved : (f : Forest) → moves p q (table f p) ≡ table f q

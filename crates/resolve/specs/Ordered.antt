@@ -15,19 +15,19 @@ Final nowhere done i = (i ≡ nowhere) ⊎ In i done
 
 -- no node is there twice, and what its list has is final before it
 pub data ChildrenFirst (nowhere : ℕ) (g : Kids) : List ℕ → Type 0 where
-  oNil : ChildrenFirst nowhere g []
-  oNext : {i : ℕ} {done : List ℕ} → ¬ In i done → ((j : ℕ) → In j (g i) → Final nowhere done j) → ChildrenFirst nowhere g done
+  o_nil : ChildrenFirst nowhere g []
+  o_next : {i : ℕ} {done : List ℕ} → ¬ In i done → ((j : ℕ) → In j (g i) → Final nowhere done j) → ChildrenFirst nowhere g done
       → ChildrenFirst nowhere g (i ∷ done)
 
-pub final-more : {nowhere : ℕ} {done : List ℕ} {i j : ℕ} → Final nowhere done j → Final nowhere (i ∷ done) j
-final-more (inl e) = inl e
-final-more (inr m) = inr (there m)
+pub final_more : {nowhere : ℕ} {done : List ℕ} {i j : ℕ} → Final nowhere done j → Final nowhere (i ∷ done) j
+final_more (inl e) = inl e
+final_more (inr m) = inr (there m)
 
-pub ordered-closed : {nowhere : ℕ} {g : Kids} {done : List ℕ} → ChildrenFirst nowhere g done → (i : ℕ) → In i done → (j : ℕ) → In j (g i)
+pub ordered_closed : {nowhere : ℕ} {g : Kids} {done : List ℕ} → ChildrenFirst nowhere g done → (i : ℕ) → In i done → (j : ℕ) → In j (g i)
     → Final nowhere done j
-ordered-closed (oNext f c o) i here j h = final-more (c j h)
-ordered-closed (oNext f c o) i (there m) j h = final-more (ordered-closed o i m j h)
+ordered_closed (o_next f c o) i here j h = final_more (c j h)
+ordered_closed (o_next f c o) i (there m) j h = final_more (ordered_closed o i m j h)
 
 pub ordered_same : {nowhere : ℕ} {g h : Kids} {done : List ℕ} → ((i : ℕ) → In i done → h i ≡ g i) → ChildrenFirst nowhere g done → ChildrenFirst nowhere h done
-ordered_same e oNil = oNil
-ordered_same e (oNext {i} {done} f c o) = oNext f (λ j m. c j (rw (e i here) at m)) (ordered_same (λ j m. e j (there m)) o)
+ordered_same e o_nil = o_nil
+ordered_same e (o_next {i} {done} f c o) = o_next f (λ j m. c j (rw (e i here) at m)) (ordered_same (λ j m. e j (there m)) o)

@@ -3,10 +3,10 @@ use Rattle.std.specs.Prelude.{ℕ, ◌+◌, ◌-◌, ◌^◌, ◌/◌, ◌%◌, 
 use Rattle.std.proofs.Common.{arith}
 use borrow.Author.Tests.{le-leb, lt-leb, ne_eqb}
 use Rattle.text.specs.Text.{pick}
-use Rattle.value.specs.Shape.{kindIn}
+use Rattle.value.specs.Shape.{kind_in}
 use Rattle.value.specs.Parts.{part_cut}
-use Rattle.steps.specs.NodeWords.{first, second, within, classIn}
-use Rattle.resolve.specs.Shown.{isDecoded, place_in, leadIn, trailIn, rawLead, rawTrail, leadText, trailText}
+use Rattle.steps.specs.NodeWords.{first, second, within, class_in}
+use Rattle.resolve.specs.Shown.{was_decoded, place_in, lead_in, trail_in, raw_lead, raw_trail, lead_text, trail_text}
 use Rattle.resolve.specs.declared.texts.TextPlace.{TextPlace}
 
 -- of the decoded text d or the pickle p
@@ -23,45 +23,45 @@ module _ (p d ws measures : List ℕ) (i : ℕ) where
   -- ---- decoded
 
   module _ (h : 2 ^ 62 ≤ get_or measures i 0) where
-    pub lead-decoded : placed (record { decoded = true; at = get_or measures i 0 % 2 ^ 17; len = get_or measures i 0 / 2 ^ 17 % 2 ^ 17 }) p d ≡ leadText p d ws measures i
-    unfolding placed leadText isDecoded place_in leadIn pick
-    lead-decoded = rw (le-leb (2 ^ 62) (get_or measures i 0) h)
+    pub lead_decoded : placed (record { decoded = true; at = get_or measures i 0 % 2 ^ 17; len = get_or measures i 0 / 2 ^ 17 % 2 ^ 17 }) p d ≡ lead_text p d ws measures i
+    unfolding placed lead_text was_decoded place_in lead_in pick
+    lead_decoded = rw (le-leb (2 ^ 62) (get_or measures i 0) h)
 
-    pub trail-decoded : placed (record { decoded = true; at = get_or measures i 0 % 2 ^ 17 + get_or measures i 0 / 2 ^ 17 % 2 ^ 17; len = get_or measures i 0 / 2 ^ 34 % 2 ^ 17 }) p d ≡ trailText p d ws measures i
-    unfolding placed trailText isDecoded place_in leadIn trailIn pick
-    trail-decoded = rw (le-leb (2 ^ 62) (get_or measures i 0) h)
+    pub trail_decoded : placed (record { decoded = true; at = get_or measures i 0 % 2 ^ 17 + get_or measures i 0 / 2 ^ 17 % 2 ^ 17; len = get_or measures i 0 / 2 ^ 34 % 2 ^ 17 }) p d ≡ trail_text p d ws measures i
+    unfolding placed trail_text was_decoded place_in lead_in trail_in pick
+    trail_decoded = rw (le-leb (2 ^ 62) (get_or measures i 0) h)
 
   -- ---- as it stands in the pickle
 
   module _ (h : get_or measures i 0 < 2 ^ 62) where
-    raw-lead : leadText p d ws measures i ≡ rawLead p ws i
-    unfolding leadText isDecoded
-    raw-lead = rw (lt-leb (2 ^ 62) (get_or measures i 0) h)
+    raw_lead_lem : lead_text p d ws measures i ≡ raw_lead p ws i
+    unfolding lead_text was_decoded
+    raw_lead_lem = rw (lt-leb (2 ^ 62) (get_or measures i 0) h)
 
-    raw-trail : trailText p d ws measures i ≡ rawTrail p ws i
-    unfolding trailText isDecoded
-    raw-trail = rw (lt-leb (2 ^ 62) (get_or measures i 0) h)
+    raw_trail_lem : trail_text p d ws measures i ≡ raw_trail p ws i
+    unfolding trail_text was_decoded
+    raw_trail_lem = rw (lt-leb (2 ^ 62) (get_or measures i 0) h)
 
-    pub lead-global : kindIn (first ws i) ≡ 11 → within 24 (first ws i / 16) p ≡ leadText p d ws measures i
-    unfolding rawLead
-    lead-global k = rw (raw-lead, k)
+    pub lead-global : kind_in (first ws i) ≡ 11 → within 24 (first ws i / 16) p ≡ lead_text p d ws measures i
+    unfolding raw_lead
+    lead-global k = rw (raw_lead_lem, k)
 
-    pub lead-object : kindIn (first ws i) ≡ 12 → within 24 (first ws (classIn (first ws i)) / 16) p ≡ leadText p d ws measures i
-    unfolding rawLead
-    lead-object k = rw (raw-lead, k)
+    pub lead-object : kind_in (first ws i) ≡ 12 → within 24 (first ws (class_in (first ws i)) / 16) p ≡ lead_text p d ws measures i
+    unfolding raw_lead
+    lead-object k = rw (raw_lead_lem, k)
 
-    pub lead-leaf : kindIn (first ws i) ≢ 11 → kindIn (first ws i) ≢ 12 → within 32 (second ws i) p ≡ leadText p d ws measures i
-    unfolding rawLead
-    lead-leaf k l = rw (raw-lead, ne_eqb _ _ k, ne_eqb _ _ l)
+    pub lead-leaf : kind_in (first ws i) ≢ 11 → kind_in (first ws i) ≢ 12 → within 32 (second ws i) p ≡ lead_text p d ws measures i
+    unfolding raw_lead
+    lead-leaf k l = rw (raw_lead_lem, ne_eqb _ _ k, ne_eqb _ _ l)
 
-    pub trail-global : kindIn (first ws i) ≡ 11 → within 32 (second ws i) p ≡ trailText p d ws measures i
-    unfolding rawTrail
-    trail-global k = rw (raw-trail, k)
+    pub trail-global : kind_in (first ws i) ≡ 11 → within 32 (second ws i) p ≡ trail_text p d ws measures i
+    unfolding raw_trail
+    trail-global k = rw (raw_trail_lem, k)
 
-    pub trail-object : kindIn (first ws i) ≡ 12 → within 32 (second ws (classIn (first ws i))) p ≡ trailText p d ws measures i
-    unfolding rawTrail
-    trail-object k = rw (raw-trail, k)
+    pub trail-object : kind_in (first ws i) ≡ 12 → within 32 (second ws (class_in (first ws i))) p ≡ trail_text p d ws measures i
+    unfolding raw_trail
+    trail-object k = rw (raw_trail_lem, k)
 
-    pub trail-leaf : kindIn (first ws i) ≢ 11 → kindIn (first ws i) ≢ 12 → placed (record { decoded = false; at = 0; len = 0 }) p d ≡ trailText p d ws measures i
-    unfolding placed rawTrail
-    trail-leaf k l = rw (raw-trail, ne_eqb _ _ k, ne_eqb _ _ l)
+    pub trail-leaf : kind_in (first ws i) ≢ 11 → kind_in (first ws i) ≢ 12 → placed (record { decoded = false; at = 0; len = 0 }) p d ≡ trail_text p d ws measures i
+    unfolding placed raw_trail
+    trail-leaf k l = rw (raw_trail_lem, ne_eqb _ _ k, ne_eqb _ _ l)

@@ -8,7 +8,7 @@ use Rattle.std.proofs.Math.Path.{refl, ap, ap₂}
 use Rattle.std.proofs.Common.{◌∙◌}
 use Rattle.value.specs.Value.{Forest, Value, kind, nil}
 use Rattle.steps.specs.State.{Node}
-use Rattle.steps.specs.Opcodes.{isObject}
+use Rattle.steps.specs.Opcodes.{is_object}
 use Rattle.reading.specs.Build.{Stage, Stages, fresh, taken, kept, unbuilt, stage, none, before, at, blocked, finish, each, build}
 use Rattle.resolve.specs.Resolved.{Kids}
 
@@ -23,7 +23,7 @@ with_list i l g = λ j. cond (eqb j i) l (g j)
 
 -- node i is an Object that can never be made: the value that it keeps is no Object
 abbrev pub gone : List Node → ℕ → Value → Bool
-gone t i v = isObject (at t i).label && eqb (kind v.label) 0
+gone t i v = is_object (at t i).label && eqb (kind v.label) 0
 
 -- what a call comes to: the number for its owner's list, the value, the state that it leaves
 pub record WalkMade : Type 0 where
@@ -36,19 +36,19 @@ abbrev pub overwrite : ℕ → List ℕ → WalkState → WalkState
 overwrite n l s = record { stages = s.stages; kids = with_list n l s.kids; done = s.done }
 
 -- a new stage for node i
-abbrev pub stageR : ℕ → Stage → WalkState → WalkState
-stageR i m s = record { stages = stage i m s.stages; kids = s.kids; done = s.done }
+abbrev pub stage_r : ℕ → Stage → WalkState → WalkState
+stage_r i m s = record { stages = stage i m s.stages; kids = s.kids; done = s.done }
 
 -- the children of node n from the first to the last, where `is` have come before: a number is replaced when its call has returned
-unfoldable pub eachR : (ℕ → WalkState → WalkMade) → ℕ → List ℕ → List ℕ → WalkState → Forest × WalkState
-eachR g n is [] s = (nil, s)
-eachR g n is (i ∷ js) s =
+unfoldable pub each_r : (ℕ → WalkState → WalkMade) → ℕ → List ℕ → List ℕ → WalkState → Forest × WalkState
+each_r g n is [] s = (nil, s)
+each_r g n is (i ∷ js) s =
     let p = g i s in
-    let q = eachR g n (is ++ (p.slot ∷ [])) js (overwrite n (is ++ (p.slot ∷ js)) p.after) in
+    let q = each_r g n (is ++ (p.slot ∷ [])) js (overwrite n (is ++ (p.slot ∷ js)) p.after) in
     (before p.value q.0, q.1)
 
-unfoldable pub finishR : List Node → ℕ → Forest × WalkState → WalkMade
-finishR t i p =
+unfoldable pub finish_r : List Node → ℕ → Forest × WalkState → WalkMade
+finish_r t i p =
     let v : Value = record { label = (at t i).label; contents = p.0 } in
     record { slot = i; value = v; after = record { stages = stage i (kept v) p.1.stages; kids = p.1.kids; done = i ∷ p.1.done } }
 
@@ -60,14 +60,14 @@ walk t nowhere (suc k) i s =
       | taken ↦ record { slot = nowhere; value = none; after = s }
       | fresh ↦
           elim (blocked t s.stages i) [
-            | true ↦ record { slot = nowhere; value = none; after = stageR i (kept none) s }
-            | false ↦ finishR t i (eachR (walk t nowhere k) i [] (at t i).kids (stageR i taken s))
+            | true ↦ record { slot = nowhere; value = none; after = stage_r i (kept none) s }
+            | false ↦ finish_r t i (each_r (walk t nowhere k) i [] (at t i).kids (stage_r i taken s))
           ]
     ]
 
 -- every node is fresh, lists are the nodes' own
-abbrev pub walkStart : List Node → WalkState
-walkStart t = record { stages = unbuilt; kids = λ i. (at t i).kids; done = [] }
+abbrev pub walk_start : List Node → WalkState
+walk_start t = record { stages = unbuilt; kids = λ i. (at t i).kids; done = [] }
 
 -- ---- a call, by the stage that it finds
 
@@ -76,13 +76,13 @@ pub data WalkCase (t : List Node) (nowhere k i : ℕ) (s : WalkState) : Type 0 w
       → WalkCase t nowhere k i s
   inside : s.stages i ≡ taken → walk t nowhere (suc k) i s ≡ record { slot = nowhere; value = none; after = s } → WalkCase t nowhere k i s
   stuck : s.stages i ≡ fresh → blocked t s.stages i ≡ true
-      → walk t nowhere (suc k) i s ≡ record { slot = nowhere; value = none; after = stageR i (kept none) s } → WalkCase t nowhere k i s
+      → walk t nowhere (suc k) i s ≡ record { slot = nowhere; value = none; after = stage_r i (kept none) s } → WalkCase t nowhere k i s
   entered : s.stages i ≡ fresh → blocked t s.stages i ≡ false
-      → walk t nowhere (suc k) i s ≡ finishR t i (eachR (walk t nowhere k) i [] (at t i).kids (stageR i taken s)) → WalkCase t nowhere k i s
+      → walk t nowhere (suc k) i s ≡ finish_r t i (each_r (walk t nowhere k) i [] (at t i).kids (stage_r i taken s)) → WalkCase t nowhere k i s
 
-pub walk-case : (t : List Node) (nowhere k i : ℕ) (s : WalkState) → WalkCase t nowhere k i s
+pub walk_case : (t : List Node) (nowhere k i : ℕ) (s : WalkState) → WalkCase t nowhere k i s
 unfolding walk
-walk-case t nowhere k i s = go (s.stages i) refl (blocked t s.stages i) refl
+walk_case t nowhere k i s = go (s.stages i) refl (blocked t s.stages i) refl
   where
     go : (m : Stage) → s.stages i ≡ m → (b : Bool) → blocked t s.stages i ≡ b → WalkCase t nowhere k i s
     go (kept v) e b f = copied v e (rw (e, walk))
@@ -101,22 +101,22 @@ record AsEach (p : Forest × WalkState) (q : Forest × Stages) : Type 0 where
   staged : p.1.stages ≡ q.1
 
 module _ (t : List Node) (nowhere : ℕ) where
-  each-as : (g : ℕ → WalkState → WalkMade) (b : ℕ → Stages → Value × Stages) → ((i : ℕ) (s : WalkState) → AsBuilt (g i s) (b i s.stages))
-      → (n : ℕ) (is js : List ℕ) (s : WalkState) → AsEach (eachR g n is js s) (each b js s.stages)
-  unfolding each eachR
-  each-as g b h n is [] s = record { forest = refl; staged = refl }
-  each-as g b h n is (i ∷ js) s =
+  each_as : (g : ℕ → WalkState → WalkMade) (b : ℕ → Stages → Value × Stages) → ((i : ℕ) (s : WalkState) → AsBuilt (g i s) (b i s.stages))
+      → (n : ℕ) (is js : List ℕ) (s : WalkState) → AsEach (each_r g n is js s) (each b js s.stages)
+  unfolding each each_r
+  each_as g b h n is [] s = record { forest = refl; staged = refl }
+  each_as g b h n is (i ∷ js) s =
       let p = g i s in
       let a : AsBuilt p (b i s.stages) = h i s in
-      let e = each-as g b h n (is ++ (p.slot ∷ [])) js (overwrite n (is ++ (p.slot ∷ js)) p.after) in
+      let e = each_as g b h n (is ++ (p.slot ∷ [])) js (overwrite n (is ++ (p.slot ∷ js)) p.after) in
       let m : each b js p.after.stages ≡ each b js (b i s.stages).1 = ap (each b js) a.staged in
       let x = e.forest in
       let y = e.staged in
       record { forest = ap₂ before a.value (x ∙ ap (λ (z : Forest × Stages). z.0) m); staged = y ∙ ap (λ (z : Forest × Stages). z.1) m }
 
-  finish-as : (i : ℕ) (p : Forest × WalkState) (q : Forest × Stages) → AsEach p q → AsBuilt (finishR t i p) (finish t i q)
-  unfolding finish finishR
-  finish-as i p q a = let e = a.forest in let m = a.staged in record { value = rw e; staged = rw (e, m) }
+  finish_as : (i : ℕ) (p : Forest × WalkState) (q : Forest × Stages) → AsEach p q → AsBuilt (finish_r t i p) (finish t i q)
+  unfolding finish finish_r
+  finish_as i p q a = let e = a.forest in let m = a.staged in record { value = rw e; staged = rw (e, m) }
 
   pub walk-build : (k i : ℕ) (s : WalkState) → AsBuilt (walk t nowhere k i s) (build t k i s.stages)
   unfolding walk build
@@ -129,4 +129,4 @@ module _ (t : List Node) (nowhere : ℕ) where
       go (kept v) e b f ih = rw (e, walk, build) (record { value = refl; staged = refl })
       go taken e b f ih = rw (e, walk, build) (record { value = refl; staged = refl })
       go fresh e true f ih = rw (e, f, walk, build) (record { value = refl; staged = refl })
-      go fresh e false f ih = rw (e, f, walk, build) (finish-as i _ _ (each-as (walk t nowhere k) (build t k) ih i [] (at t i).kids (stageR i taken s)))
+      go fresh e false f ih = rw (e, f, walk, build) (finish_as i _ _ (each_as (walk t nowhere k) (build t k) ih i [] (at t i).kids (stage_r i taken s)))

@@ -3,12 +3,12 @@ use Rattle.std.specs.Prelude.{List, [], ◌∷◌, ◌≡◌, refl}
 use Rattle.value.specs.Value.{I64L, ListL, TupleL, SetL, DictL}
 use Rattle.value.specs.Order.{lex, labels, ◌then◌}
 use Rattle.steps.specs.State.{Node, kidless}
-use Rattle.reading.specs.Build.{blocked, firstTaken}
+use Rattle.reading.specs.Build.{blocked, first_taken}
 use Rattle.resolve.specs.Resolved.{Kids}
-use Rattle.resolve.specs.Walk.{WalkState, walkStart, eachR, finishR, walk}
-use Rattle.resolve.specs.Arrange.{byN, insertN, asSetN, enterN, asDictN, itemsN, arrangeN}
-use Rattle.resolve.specs.Dues.{dues, settleN}
-use Rattle.resolve.specs.Compare.{forestsN, orderN, compareN}
+use Rattle.resolve.specs.Walk.{WalkState, walk_start, each_r, finish_r, walk}
+use Rattle.resolve.specs.Arrange.{by_n, insert_n, as_set_n, enter_n, as_dict_n, items_n, arrange_n}
+use Rattle.resolve.specs.Dues.{dues, settle_n}
+use Rattle.resolve.specs.Compare.{forests_n, order_n, compare_n}
 
 -- the numbers 2 and 1, the List [2, 1, 2], its Set, the Dict {2: 1, 1: 1, 2: the Set}, and the Tuple of Set and Dict
 abbrev nodes : List Node
@@ -22,15 +22,15 @@ nodes =
     ∷ []
 
 after : WalkState
-after = (walk nodes 4096 64 5 (walkStart nodes)).after
+after = (walk nodes 4096 64 5 (walk_start nodes)).after
 
 finished : (after.done ≡ 5 ∷ 4 ∷ 3 ∷ 2 ∷ 1 ∷ 0 ∷ []) × (dues nodes after.done ≡ 4 ∷ 3 ∷ [])
-unfolding after walk eachR finishR blocked firstTaken dues
+unfolding after walk each_r finish_r blocked first_taken dues
 finished = (refl, refl)
 
 settled : Kids
-settled = settleN nodes (λ h. compareN nodes h 63) after.kids (4 ∷ 3 ∷ [])
+settled = settle_n nodes (λ h. compare_n nodes h 63) after.kids (4 ∷ 3 ∷ [])
 
 in_order : (settled 3 ≡ 1 ∷ 0 ∷ []) × (settled 4 ≡ 1 ∷ 1 ∷ 0 ∷ 3 ∷ []) × (settled 2 ≡ 0 ∷ 1 ∷ 0 ∷ [])
-unfolding after settled walk eachR finishR blocked firstTaken settleN arrangeN itemsN asSetN insertN asDictN enterN byN forestsN orderN compareN labels lex ◌then◌
+unfolding after settled walk each_r finish_r blocked first_taken settle_n arrange_n items_n as_set_n insert_n as_dict_n enter_n by_n forests_n order_n compare_n labels lex ◌then◌
 in_order = (refl, refl, refl)

@@ -7,11 +7,11 @@ use Rattle.std.proofs.Math.Path.{refl}
 use Rattle.std.proofs.Common.{sym, ◌∙◌, ap, length-append, take-add, drop-drop, take-take, zero-add, suc-add, arith}
 use Rattle.std.proofs.Math.ListN.{length}
 use Rattle.std.proofs.Math.Seq.{take-nil}
-use Rattle.value.specs.Value.{Forest, nil, node, text_of, text, count, size, recordOf, record-length, table, table-length}
+use Rattle.value.specs.Value.{Forest, nil, node, text_of, text, count, size, record_of, record_length, table, table-length}
 use Rattle.steps.specs.State.{Node}
 use Rattle.reading.specs.Build.{at}
-use Rattle.resolve.specs.Resolved.{Kids, Stand, sNil, sNode}
-use Rattle.resolve.specs.Moved.{stand-count, moves, moved}
+use Rattle.resolve.specs.Resolved.{Kids, Stand, s_nil, s_node}
+use Rattle.resolve.specs.Moved.{stand_count, moves, moved}
 
 -- ---- a part of a room
 
@@ -41,43 +41,43 @@ part_stays r s e a l h k p = early s ∙ (ap (λ (x : List ℕ). drop a (take (a
 pub record Written (t : List Node) (h : Kids) (records bytes : List ℕ) (is : List ℕ) (f : Forest) (a p : ℕ) : Type 0 where
   pub stands : Stand t h is f
   pub table_is : HasAt records (4 * a) (table f p)
-  pub text-is : HasAt bytes p (text f)
+  pub text_is : HasAt bytes p (text f)
 
 module _ (t : List Node) (h : Kids) (records bytes : List ℕ) where
   pub written_none : (a p : ℕ) → Written t h records bytes [] nil a p
   unfolding table text
-  written_none a p = record { stands = sNil; table_is = refl; text-is = refl }
+  written_none a p = record { stands = s_nil; table_is = refl; text_is = refl }
 
   -- a node's own record and text, then its contents
-  pub written-node : {i : ℕ} {c : Forest} (a p : ℕ) → HasAt records (4 * a) (recordOf (at t i).label p (length (h i)) (suc (size c)))
+  pub written_node : {i : ℕ} {c : Forest} (a p : ℕ) → HasAt records (4 * a) (record_of (at t i).label p (length (h i)) (suc (size c)))
       → HasAt bytes p (text_of (at t i).label)
       → Written t h records bytes (h i) c (suc a) (p + length (text_of (at t i).label))
       → Written t h records bytes (i ∷ []) (node (at t i).label c nil) a p
   unfolding table text
-  written-node {i} {c} a p r b y =
+  written_node {i} {c} a p r b y =
       let l = (at t i).label in
-      let n : count c ≡ length (h i) = stand-count y.stands in
-      let k = record-length l p (length (h i)) (suc (size c)) in
+      let n : count c ≡ length (h i) = stand_count y.stands in
+      let k = record_length l p (length (h i)) (suc (size c)) in
       let x = part_join records (4 * a) (4 * suc a) _ _ r (omega arith) y.table_is in
-      let z = part_join bytes p (p + length (text_of l)) _ _ b refl y.text-is in
-      record { stands = sNode y.stands sNil; table_is = rw (n, append-nil) x; text-is = rw append-nil z }
+      let z = part_join bytes p (p + length (text_of l)) _ _ b refl y.text_is in
+      record { stands = s_node y.stands s_nil; table_is = rw (n, append-nil) x; text_is = rw append-nil z }
 
 -- copied to b and q: the records with their text places moved, the text as it is
-pub written-again : {t : List Node} {h : Kids} {records bytes : List ℕ} {is : List ℕ} {f : Forest} (records' bytes' : List ℕ) (a p b q : ℕ)
+pub written_again : {t : List Node} {h : Kids} {records bytes : List ℕ} {is : List ℕ} {f : Forest} (records' bytes' : List ℕ) (a p b q : ℕ)
     → Written t h records bytes is f a p
     → HasAt records' (4 * b) (moves p q (take (4 * size f) (drop (4 * a) records))) → HasAt bytes' q (take (length (text f)) (drop p bytes))
     → Written t h records' bytes' is f b q
-written-again {records = records} {f = f} records' bytes' a p b q w r x =
+written_again {records = records} {f = f} records' bytes' a p b q w r x =
     let e : take (4 * size f) (drop (4 * a) records) ≡ table f p = rw (← table-length f p) w.table_is in
     let r' : HasAt records' (4 * b) (table f q) = rw (e, moved p q f) at r in
-    let g = w.text-is in
-    record { stands = w.stands; table_is = r'; text-is = rw g at x }
+    let g = w.text_is in
+    record { stands = w.stands; table_is = r'; text_is = rw g at x }
 
 -- in rooms that agree with these so far
-pub written-stays : {t : List Node} {h : Kids} {records bytes : List ℕ} {is : List ℕ} {f : Forest} (records' bytes' : List ℕ) (a p e u : ℕ)
+pub written_stays : {t : List Node} {h : Kids} {records bytes : List ℕ} {is : List ℕ} {f : Forest} (records' bytes' : List ℕ) (a p e u : ℕ)
     → Written t h records bytes is f a p
     → take (4 * e) records' ≡ take (4 * e) records → take u bytes' ≡ take u bytes → a + size f ≤ e → p + length (text f) ≤ u
     → Written t h records' bytes' is f a p
-written-stays {records = records} {bytes = bytes} {f = f} records' bytes' a p e u w r x k l =
+written_stays {records = records} {bytes = bytes} {f = f} records' bytes' a p e u w r x k l =
     let m = table-length f p in
-    record { stands = w.stands; table_is = part_stays records records' (4 * e) (4 * a) _ r (omega arith) w.table_is; text-is = part_stays bytes bytes' u p _ x l w.text-is }
+    record { stands = w.stands; table_is = part_stays records records' (4 * e) (4 * a) _ r (omega arith) w.table_is; text_is = part_stays bytes bytes' u p _ x l w.text_is }

@@ -9,10 +9,10 @@ pub mod texts;
 ghost use Rattle.std.specs.Prelude.{◌≡◌, ◌+◌, ◌*◌, ◌<◌, ◌≤◌, min, max, length, get_or};
 ghost use Rattle.std.proofs.Math.Seq.{slice};
 ghost use Rattle.text.specs.Pieces.{bytes_of};
-ghost use Rattle.text.specs.Text.{unescapeString, unescapeUnicode};
-ghost use Rattle.resolve.specs.Length.{namesLen, textLen, LengthReadable};
-ghost use Rattle.resolve.specs.MeasureWord.{packW};
-ghost use Rattle.resolve.specs.Blocked.{argumentsTaken};
+ghost use Rattle.text.specs.Text.{unescape_string, unescape_unicode};
+ghost use Rattle.resolve.specs.Length.{names_len, text_bytes, LengthReadable};
+ghost use Rattle.resolve.specs.MeasureWord.{pack_w};
+ghost use Rattle.resolve.specs.Blocked.{arguments_taken};
 ghost use Rattle.resolve.specs.DuesRoom.{Notes};
 ghost use Rattle.resolve.specs.Class.{OwnTextReadable, Owns};
 ghost use Rattle.resolve.specs.Known.{Learns};
@@ -63,7 +63,7 @@ fn most(x: u64, y: u64) -> u64
 // A measure's word, values and text capped. The bound on depth is only so that nothing wraps.
 fn measure_word(depth: u64, values: u64, text_len: u64) -> u64
     requires { depth ≤ 128 }
-    ensures { result ≡ packW depth values text_len }
+    ensures { result ≡ pack_w depth values text_len }
 {
     depth + store::DEPTHS * least(values, 2049) + store::TEXT_AT * least(text_len, 65537)
 }
@@ -73,7 +73,7 @@ fn measure_word(depth: u64, values: u64, text_len: u64) -> u64
 // Of a Global's module and name.
 fn global_text_len(pickle: &[u8], a: u64, b: u64) -> usize
     requires { length pickle.now ≤ 65536 }
-    ensures { result ≡ namesLen pickle.now a b }
+    ensures { result ≡ names_len pickle.now a b }
 {
     let module = repaired_len(module_text(pickle, a));
     let name = repaired_len(raw_text(pickle, b));
@@ -82,7 +82,7 @@ fn global_text_len(pickle: &[u8], a: u64, b: u64) -> usize
 
 // Of a line of STRING. One that is refused has no text.
 fn string_text_len(line: &[u8]) -> usize
-    ensures { result ≡ length (bytes_of (unescapeString line.now)) }
+    ensures { result ≡ length (bytes_of (unescape_string line.now)) }
 {
     match string_len(line) {
         Quoted::Plain => line.len() - 2,
@@ -93,7 +93,7 @@ fn string_text_len(line: &[u8]) -> usize
 
 // Of a line of UNICODE, the same.
 fn unicode_text_len(line: &[u8]) -> usize
-    ensures { result ≡ length (bytes_of (unescapeUnicode line.now)) }
+    ensures { result ≡ length (bytes_of (unescape_unicode line.now)) }
 {
     match unicode_len(line) {
         Decoded::Len(n) => n,
@@ -104,7 +104,7 @@ fn unicode_text_len(line: &[u8]) -> usize
 // Of a node; an Object's is its class's.
 fn node_text_len(pickle: &[u8], nodes: &[u64], node: NodeId) -> usize
     requires { LengthReadable pickle.now nodes.now node.0 }
-    ensures { result ≡ textLen pickle.now nodes.now node.0 }
+    ensures { result ≡ text_bytes pickle.now nodes.now node.0 }
 {
     let i = node.0;
     let a = nodes[2 * i];
@@ -138,7 +138,7 @@ fn node_text_len(pickle: &[u8], nodes: &[u64], node: NodeId) -> usize
 // The word of a leaf.
 fn leaf_word(node: NodeId, pickle: &[u8], nodes: &[u64]) -> u64
     requires { LengthReadable pickle.now nodes.now node.0 }
-    ensures { result ≡ packW 1 1 (textLen pickle.now nodes.now node.0) }
+    ensures { result ≡ pack_w 1 1 (text_bytes pickle.now nodes.now node.0) }
 {
     measure_word(1, 1, node_text_len(pickle, nodes, node) as u64)
 }
@@ -198,7 +198,7 @@ fn own_text_len(kind: u64, node: NodeId, pickle: &[u8], nodes: &[u64], measures:
 fn blocked(kind: u64, at: usize, end: usize, sorted: &[u16], measures: &[u64]) -> bool
     requires end_in_bounds { end ≤ length sorted.now }
     requires at_in_bounds { at < end → get_or sorted.now at 0 < length measures.now }
-    ensures { result ≡ argumentsTaken kind (slice at end sorted.now) measures.now }
+    ensures { result ≡ arguments_taken kind (slice at end sorted.now) measures.now }
 {
     if kind != value::KIND_OBJECT {
         false

@@ -1,8 +1,8 @@
 // What the passes behind STOP ask of a node but its text: its value's kind, whether that has contents, where its list stands, among the children
 // or in the log, and the list's numbers one by one.
 ghost use Rattle.std.specs.Prelude.{◌≡◌, cond, ◌<◌, length, get_or};
-ghost use Rattle.resolve.specs.Shown.{isSorted};
-ghost use Rattle.resolve.specs.Kinds.{kind_of, containerKind};
+ghost use Rattle.resolve.specs.Shown.{sorted_in};
+ghost use Rattle.resolve.specs.Kinds.{kind_of, container_kind};
 ghost use Rattle.resolve.specs.NodeList.{Listed, Ranges};
 
 use store::NodeId;
@@ -26,7 +26,7 @@ pub fn value_kind(first: u64) -> u64
 
 // Has a value, or a node, of this kind contents? (Of a value's kind as `value::holds` says; the two kinds that only a node has have none.)
 pub fn is_container(kind: u64) -> bool
-    ensures { result ≡ containerKind kind }
+    ensures { result ≡ container_kind kind }
 {
     if kind < value::KIND_LIST {
         return false;
@@ -47,7 +47,7 @@ pub struct Range {
 
 // Whether lists of a kind are put in order.
 pub fn is_sorted(kind: u64) -> bool
-    ensures { result ≡ isSorted kind }
+    ensures { result ≡ sorted_in kind }
 {
     if kind < value::KIND_SET {
         return false;

@@ -3,14 +3,14 @@
 ghost use Rattle.std.specs.Prelude.{◌≡◌, List, [], ℕ, ◌+◌, ◌/◌, ◌≤◌, length};
 ghost use Rattle.utf8.specs.Utf8.{repair};
 ghost use Rattle.text.specs.Pieces.{bytes_of};
-ghost use Rattle.text.specs.Text.{pick, unescapeString, unescapeUnicode};
+ghost use Rattle.text.specs.Text.{pick, unescape_string, unescape_unicode};
 ghost use Rattle.steps.specs.NodeWords.{within};
-ghost use Rattle.resolve.specs.Shown.{leadText, trailText};
+ghost use Rattle.resolve.specs.Shown.{lead_text, trail_text};
 ghost use Rattle.resolve.specs.Readable.{TextReadable};
 ghost use Rattle.resolve.specs.Place.{placed};
-ghost use Rattle.resolve.specs.DecodedMeasure.{measureOf};
+ghost use Rattle.resolve.specs.DecodedMeasure.{measure_of};
 ghost use Rattle.resolve.specs.Spell.{PutsText, TextRoom, Spells, StandsDecoded, SpellsNode, Unspelled};
-ghost use Rattle.resolve.specs.TextsDue.{textKind, textDueWord, DecodableOne, DecodesOne, Decodable, Decodes};
+ghost use Rattle.resolve.specs.TextsDue.{text_kind, text_due_word, DecodableOne, DecodesOne, Decodable, Decodes};
 
 use store::NodeId;
 use text::{Decoded, Quoted};
@@ -77,7 +77,7 @@ fn text_place(second: u64) -> TextPlace
 
 fn lead_place(node: NodeId, nodes: &[u64], measures: &[u64]) -> TextPlace
     requires { TextReadable nodes.now measures.now node.0 }
-    ensures { (p d : List ℕ) → placed result p d ≡ leadText p d nodes.now measures.now node.0 }
+    ensures { (p d : List ℕ) → placed result p d ≡ lead_text p d nodes.now measures.now node.0 }
 {
     let i = node.0;
     let measure = measures[i];
@@ -102,7 +102,7 @@ fn lead_place(node: NodeId, nodes: &[u64], measures: &[u64]) -> TextPlace
 
 fn trail_place(node: NodeId, nodes: &[u64], measures: &[u64]) -> TextPlace
     requires { TextReadable nodes.now measures.now node.0 }
-    ensures { (p d : List ℕ) → placed result p d ≡ trailText p d nodes.now measures.now node.0 }
+    ensures { (p d : List ℕ) → placed result p d ≡ trail_text p d nodes.now measures.now node.0 }
 {
     let i = node.0;
     let measure = measures[i];
@@ -138,7 +138,7 @@ pub fn lead_part<'a>(
     measures: &[u64],
 ) -> &'a [u8]
     requires { TextReadable nodes.now measures.now node.0 }
-    ensures { result.now ≡ leadText pickle.now decoded.now nodes.now measures.now node.0 }
+    ensures { result.now ≡ lead_text pickle.now decoded.now nodes.now measures.now node.0 }
 {
     text_of_place(pickle, decoded, lead_place(node, nodes, measures))
 }
@@ -152,7 +152,7 @@ pub fn trail_part<'a>(
     measures: &[u64],
 ) -> &'a [u8]
     requires { TextReadable nodes.now measures.now node.0 }
-    ensures { result.now ≡ trailText pickle.now decoded.now nodes.now measures.now node.0 }
+    ensures { result.now ≡ trail_text pickle.now decoded.now nodes.now measures.now node.0 }
 {
     text_of_place(pickle, decoded, trail_place(node, nodes, measures))
 }
@@ -169,7 +169,7 @@ struct Spelling {
 // The measure of a text that was decoded.
 fn decoded_measure(at: usize, lead: usize, trail: usize) -> u64
     requires { (at ≤ 65536) × (lead ≤ 65536) × (trail ≤ 65536) }
-    ensures { result ≡ measureOf at lead trail }
+    ensures { result ≡ measure_of at lead trail }
 {
     DECODED + at as u64 + 0x2_0000 * lead as u64 + 0x4_0000_0000 * trail as u64
 }
@@ -203,8 +203,8 @@ fn put_repaired(bytes: &[u8], decoded: &mut [u8], at: usize) -> usize
 
 // A line of STRING, unescaped. One that cannot be has no text.
 fn put_string(line: &[u8], decoded: &mut [u8], at: usize) -> usize
-    requires { at + length (bytes_of (unescapeString line.now)) ≤ length decoded.old }
-    ensures { PutsText (bytes_of (unescapeString line.now)) decoded.old at decoded.new result }
+    requires { at + length (bytes_of (unescape_string line.now)) ≤ length decoded.old }
+    ensures { PutsText (bytes_of (unescape_string line.now)) decoded.old at decoded.new result }
 {
     match text::string_len(line) {
         Quoted::Refused(_) => 0,
@@ -215,8 +215,8 @@ fn put_string(line: &[u8], decoded: &mut [u8], at: usize) -> usize
 
 // A line of UNICODE, decoded. One that cannot be has no text.
 fn put_unicode(line: &[u8], decoded: &mut [u8], at: usize) -> usize
-    requires { at + length (bytes_of (unescapeUnicode line.now)) ≤ length decoded.old }
-    ensures { PutsText (bytes_of (unescapeUnicode line.now)) decoded.old at decoded.new result }
+    requires { at + length (bytes_of (unescape_unicode line.now)) ≤ length decoded.old }
+    ensures { PutsText (bytes_of (unescape_unicode line.now)) decoded.old at decoded.new result }
 {
     match text::unicode_len(line) {
         Decoded::Refused(_) => 0,
@@ -261,8 +261,8 @@ fn spell_names(lead: &[u8], trail: &[u8], measure: u64, decoded: &mut [u8], used
 
 // A line of STRING is always decoded, and so is one of UNICODE.
 fn spell_string(line: &[u8], decoded: &mut [u8], used: usize) -> Spelling
-    requires { TextRoom (bytes_of (unescapeString line.now)) [] used decoded.old }
-    ensures { StandsDecoded (bytes_of (unescapeString line.now)) [] used decoded.old result decoded.new }
+    requires { TextRoom (bytes_of (unescape_string line.now)) [] used decoded.old }
+    ensures { StandsDecoded (bytes_of (unescape_string line.now)) [] used decoded.old result decoded.new }
 {
     let n = put_string(line, decoded, used);
     Spelling {
@@ -272,8 +272,8 @@ fn spell_string(line: &[u8], decoded: &mut [u8], used: usize) -> Spelling
 }
 
 fn spell_unicode(line: &[u8], decoded: &mut [u8], used: usize) -> Spelling
-    requires { TextRoom (bytes_of (unescapeUnicode line.now)) [] used decoded.old }
-    ensures { StandsDecoded (bytes_of (unescapeUnicode line.now)) [] used decoded.old result decoded.new }
+    requires { TextRoom (bytes_of (unescape_unicode line.now)) [] used decoded.old }
+    ensures { StandsDecoded (bytes_of (unescape_unicode line.now)) [] used decoded.old result decoded.new }
 {
     let n = put_unicode(line, decoded, used);
     Spelling {
@@ -332,7 +332,7 @@ fn spell_node(
 
 // Whether nodes of a kind have text.
 fn kind_has_text(kind: u64) -> bool
-    ensures { result ≡ textKind kind }
+    ensures { result ≡ text_kind kind }
 {
     if kind < value::KIND_BYTES {
         return false;
@@ -348,7 +348,7 @@ fn kind_has_text(kind: u64) -> bool
 
 // Whether a node's text is wanted: the walk reached it, as its measure says.
 fn text_is_due(first: u64, measure: u64) -> bool
-    ensures { result ≡ textDueWord first measure }
+    ensures { result ≡ text_due_word first measure }
 {
     let kind = first % store::KIND_RADIX;
     if measure < store::DEPTHS {

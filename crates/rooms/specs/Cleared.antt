@@ -19,16 +19,16 @@ pub record Clearing (l : List ℕ) (n i : ℕ) (m : List ℕ) : Type 0 where
   pub same : length m ≡ length l
 
 module _ {l : List ℕ} {n : ℕ} where
-  pub clearing-none : Clearing l n 0 l
+  pub clearing_none : Clearing l n 0 l
   unfolding cleared
-  clearing-none = record { low = omega arith; is = refl; same = refl }
+  clearing_none = record { low = omega arith; is = refl; same = refl }
 
-  pub clearing-more : {i : ℕ} {m : List ℕ} → Clearing l n i m → i < n → n ≤ length l → Clearing l n (i + 1) (set m i 0)
+  pub clearing_more : {i : ℕ} {m : List ℕ} → Clearing l n i m → i < n → n ≤ length l → Clearing l n (i + 1) (set m i 0)
   unfolding cleared
-  clearing-more {i = i} {m = m} c h k = record { low = omega arith; is = ap (λ (x : List ℕ). set x i 0) c.is ∙ fill_more i 0 l (omega arith); same = length-set m i 0 ∙ c.same }
+  clearing_more {i = i} {m = m} c h k = record { low = omega arith; is = ap (λ (x : List ℕ). set x i 0) c.is ∙ fill_more i 0 l (omega arith); same = length-set m i 0 ∙ c.same }
 
-  pub clearing-end : {i : ℕ} {m : List ℕ} → Clearing l n i m → n ≤ i → m ≡ cleared n l
-  clearing-end {i = i} c h = let e : i ≡ n = omega arith in rw (← e) c.is
+  pub clearing_end : {i : ℕ} {m : List ℕ} → Clearing l n i m → n ≤ i → m ≡ cleared n l
+  clearing_end {i = i} c h = let e : i ≡ n = omega arith in rw (← e) c.is
 
 -- ---- a list that is zero already
 
@@ -44,17 +44,17 @@ or_right : (a b : ℕ) → bit_or a b ≡ 0 → b ≡ 0
 or_right a b e = omega (arith, or_add_and a b, and_le_l a b)
 
 module _ {l : List ℕ} {n : ℕ} where
-  pub looked-none : Looked l n 0 0
+  pub looked_none : Looked l n 0 0
   unfolding cleared
-  looked-none = record { low = omega arith; zero = λ e. refl }
+  looked_none = record { low = omega arith; zero = λ e. refl }
 
   module _ {i any : ℕ} (k : Looked l n i any) where
-    pub looked-more : i < n → n ≤ length l → Looked l n (i + 1) (bit_or any (get_or l i 0))
+    pub looked_more : i < n → n ≤ length l → Looked l n (i + 1) (bit_or any (get_or l i 0))
     unfolding cleared
-    looked-more h g = record {
+    looked_more h g = record {
       low = omega arith;
       zero = λ e. sym (fill_more i 0 l (omega arith)) ∙ ap (λ (x : List ℕ). set x i 0) (k.zero (or_left any (get_or l i 0) e)) ∙ ap (set l i) (sym (or_right any (get_or l i 0) e)) ∙ set-get_or l i 0;
     }
 
-    pub looked-all : n ≤ i → eqb any 0 ≡ true → cleared n l ≡ l
-    looked-all h e = let q : i ≡ n = omega arith in rw (← q) (k.zero (eqb-true any 0 e))
+    pub looked_all : n ≤ i → eqb any 0 ≡ true → cleared n l ≡ l
+    looked_all h e = let q : i ≡ n = omega arith in rw (← q) (k.zero (eqb-true any 0 e))

@@ -1,5 +1,5 @@
 -- Items added late, carried through the run: what an opcode adds to a list or dict at any step stands, at its place in that node, at each
--- place of the node in the write-out that the prefix call fills in order.
+-- place of the node in the write_out that the prefix call fills in order.
 use Rattle.std.specs.Prelude.{ℕ, ◌<◌, ◌≤◌, List, [], ◌∷◌, ◌≡◌, length}
 use Rattle.refusal.specs.declared.Answer.{Answer}
 use Rattle.op.specs.declared.Edition.{Edition}
@@ -7,26 +7,26 @@ use Rattle.value.specs.Value.{Forest}
 use Rattle.steps.specs.State.{State, ok, last}
 use Rattle.steps.specs.Run.{Next, run}
 use Rattle.reading.specs.Unfold.{WritesOut, NothingContainsItself}
-use Rattle.reading.specs.Reading.{pickleLimit, reading_of, consumed, prefixIn, written_out}
+use Rattle.reading.specs.Reading.{pickle_limit, reading_of, consumed, prefix_in, written_out}
 use Rattle.rooms.specs.Stated.{Slices}
 use Rattle.de.specs.Call.{ReadCall}
-use Rattle.de.specs.Theorems.{ShownIn, place-shows, LateItems, late-items-show}
-use Rattle.run_laws.specs.Late.{Item, Has, what, late-item}
+use Rattle.de.specs.Theorems.{ShownIn, place_shows, LateItems, late_items_show}
+use Rattle.run_laws.specs.Late.{Item, Has, what, late_item}
 
--- in a write-out of nodes at STOP
-pub at-each-place : (ed : Edition) (p : List ℕ) (z : State) → run ed p ≡ ok z → {is : List ℕ} {f : Forest} {w : WritesOut z.nodes is f} → (x : Next) (i j : ℕ) → Has ed p x i j → (c : Forest) → ShownIn i c is f w → Item z.nodes (what x i j) j c
-at-each-place ed p z stop x i j h c q = late-item ed p x i j h z stop c (place-shows i c q)
+-- in a write_out of nodes at STOP
+pub at_each-place : (ed : Edition) (p : List ℕ) (z : State) → run ed p ≡ ok z → {is : List ℕ} {f : Forest} {w : WritesOut z.nodes is f} → (x : Next) (i j : ℕ) → Has ed p x i j → (c : Forest) → ShownIn i c is f w → Item z.nodes (what x i j) j c
+at_each-place ed p z stop x i j h c q = late_item ed p x i j h z stop c (place_shows i c q)
 
--- every item that a list or dict had after some steps, at each place of it in the write-out f of the value left
+-- every item that a list or dict had after some steps, at each place of it in the write_out f of the value left
 abbrev pub EachItem : (ed : Edition) (p : List ℕ) (z : State) (f : Forest) → WritesOut z.nodes (last z.stack ∷ []) f → Type 0
 EachItem ed p z f w = (x : Next) (i j : ℕ) → Has ed p x i j → (c : Forest) → ShownIn i c (last z.stack ∷ []) f w → Item z.nodes (what x i j) j c
 
 -- A pickle read to STOP with a value left, nothing reachable from which contains itself.
-module _ (ed : Edition) (p : List ℕ) (z : State) (fits : length p ≤ pickleLimit) (stop : run ed p ≡ ok z) (left : 0 < length z.stack) (apart : NothingContainsItself z.nodes (last z.stack)) where
+module _ (ed : Edition) (p : List ℕ) (z : State) (fits : length p ≤ pickle_limit) (stop : run ed p ≡ ok z) (left : 0 < length z.stack) (apart : NothingContainsItself z.nodes (last z.stack)) where
   -- in what the prefix reading gives
-  pub prefix-late-items : (f : Forest) × (w : WritesOut z.nodes (last z.stack ∷ []) f) × (prefixIn ed p ≡ reading_of (consumed p z) f) × EachItem ed p z f w
-  prefix-late-items = let o = written_out ed p z fits stop left apart in (o.0, o.1, o.2, λ x i j h c q. at-each-place ed p z stop x i j h c q)
+  pub prefix_late_items : (f : Forest) × (w : WritesOut z.nodes (last z.stack ∷ []) f) × (prefix_in ed p ≡ reading_of (consumed p z) f) × EachItem ed p z f w
+  prefix_late_items = let o = written_out ed p z fits stop left apart in (o.0, o.1, o.2, λ x i j h c q. at_each-place ed p z stop x i j h c q)
 
   -- and in that of the call, in which every node that the value left reaches has a place
-  pub call-late-items : (l l' : Slices) (a : Answer) → ReadCall (prefixIn ed p) l l' a → (late : LateItems p z l l' a) × EachItem ed p z late.forest late.written
-  call-late-items l l' a c = (late-items-show ed p z fits stop left apart l l' a c, λ x i j h c q. at-each-place ed p z stop x i j h c q)
+  pub call_late_items : (l l' : Slices) (a : Answer) → ReadCall (prefix_in ed p) l l' a → (late : LateItems p z l l' a) × EachItem ed p z late.forest late.written
+  call_late_items l l' a c = (late_items_show ed p z fits stop left apart l l' a c, λ x i j h c q. at_each-place ed p z stop x i j h c q)

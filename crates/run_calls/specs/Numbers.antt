@@ -5,10 +5,10 @@ use Rattle.std.proofs.Math.Logic.{Iff·trans, Iff·and, Iff·rfl}
 use Rattle.std.proofs.Common.{sym, ◌∙◌, ap, arith}
 use Rattle.refusal.specs.declared.Answer.{Answer}
 use Rattle.op.specs.declared.Edition.{Edition}
-use Rattle.reading.specs.Reading.{Reading, pickleLimit, prefixIn, wholeIn}
+use Rattle.reading.specs.Reading.{Reading, pickle_limit, prefix_in, whole_in}
 use Rattle.rooms.specs.Stated.{Slices, stated, short}
 use Rattle.de.specs.Call.{Left, reading, ReadCall}
-use Rattle.run_laws.specs.Numbers.{LeavesBytes, prefix-two, prefix-never-one, prefix-never-eleven, whole-two, whole-eleven, whole-never-one}
+use Rattle.run_laws.specs.Numbers.{LeavesBytes, prefix_two, prefix_never_one, prefix_never_eleven, whole_two, whole_eleven, whole_never_one}
 
 number_of : (b : Bool) (x y : Left) → (cond b x y).answer.number ≡ cond b x.answer.number y.answer.number
 number_of true x y = refl
@@ -25,36 +25,36 @@ is_one : (b : Bool) (n m : ℕ) → m ≡ cond b 1 n → ¬ (n ≡ 1) → (m ≡
 is_one true n m e h = (λ q. refl, λ q. e)
 is_one false n m e h = (λ q. absurd (h (sym e ∙ q)), λ q. absurd (let z : ◌≡◌ {A = ℕ} 0 1 = cc in omega arith))
 
-is-other : (b : Bool) (n m : ℕ) → m ≡ cond b 1 n → (k : ℕ) → ¬ (k ≡ 1) → (m ≡ k) ↔ ((b ≡ false) × (n ≡ k))
-is-other true n m e k h = (λ q. absurd (h (sym q ∙ e)), λ q. absurd (let y = q.0 in let z : ◌≡◌ {A = ℕ} 0 1 = cc in omega arith))
-is-other false n m e k h = (λ q. (refl, sym e ∙ q), λ q. e ∙ q.1)
+is_other : (b : Bool) (n m : ℕ) → m ≡ cond b 1 n → (k : ℕ) → ¬ (k ≡ 1) → (m ≡ k) ↔ ((b ≡ false) × (n ≡ k))
+is_other true n m e k h = (λ q. absurd (h (sym q ∙ e)), λ q. absurd (let y = q.0 in let z : ◌≡◌ {A = ℕ} 0 1 = cc in omega arith))
+is_other false n m e k h = (λ q. (refl, sym e ∙ q), λ q. e ∙ q.1)
 
 module _ (x : Reading) (l l' : Slices) (a : Answer) (c : ReadCall x l l' a) where
-  call-one : ¬ (x.answer.number ≡ 1) → (a.number ≡ 1) ↔ (short stated l ≡ true)
-  call-one h = is_one (short stated l) x.answer.number a.number (answered x l l' a c) h
+  call_one : ¬ (x.answer.number ≡ 1) → (a.number ≡ 1) ↔ (short stated l ≡ true)
+  call_one h = is_one (short stated l) x.answer.number a.number (answered x l l' a c) h
 
   -- any other number is the reading's, under its rule
-  call-other : (k : ℕ) → ¬ (k ≡ 1) → (Rule : Type 0) → (x.answer.number ≡ k) ↔ Rule → (a.number ≡ k) ↔ ((short stated l ≡ false) × Rule)
-  call-other k h Rule r = Iff·trans (is-other (short stated l) x.answer.number a.number (answered x l l' a c) k h) (Iff·and Iff·rfl r)
+  call_other : (k : ℕ) → ¬ (k ≡ 1) → (Rule : Type 0) → (x.answer.number ≡ k) ↔ Rule → (a.number ≡ k) ↔ ((short stated l ≡ false) × Rule)
+  call_other k h Rule r = Iff·trans (is_other (short stated l) x.answer.number a.number (answered x l l' a c) k h) (Iff·and Iff·rfl r)
 
 -- ---- the two calls, in any edition
 
-module _ (ed : Edition) (p : List ℕ) (l l' : Slices) (a : Answer) (c : ReadCall (prefixIn ed p) l l' a) where
-  pub prefix-call-one : (a.number ≡ 1) ↔ (short stated l ≡ true)
-  prefix-call-one = call-one (prefixIn ed p) l l' a c (prefix-never-one ed p)
+module _ (ed : Edition) (p : List ℕ) (l l' : Slices) (a : Answer) (c : ReadCall (prefix_in ed p) l l' a) where
+  pub prefix-call_one : (a.number ≡ 1) ↔ (short stated l ≡ true)
+  prefix-call_one = call_one (prefix_in ed p) l l' a c (prefix_never_one ed p)
 
-  pub prefix-call-two : (a.number ≡ 2) ↔ ((short stated l ≡ false) × (pickleLimit < length p))
-  prefix-call-two = call-other (prefixIn ed p) l l' a c 2 (λ q. omega arith) (pickleLimit < length p) (prefix-two ed p)
+  pub prefix-call_two : (a.number ≡ 2) ↔ ((short stated l ≡ false) × (pickle_limit < length p))
+  prefix-call_two = call_other (prefix_in ed p) l l' a c 2 (λ q. omega arith) (pickle_limit < length p) (prefix_two ed p)
 
-  pub prefix-call-never-eleven : ¬ (a.number ≡ 11)
-  prefix-call-never-eleven e = prefix-never-eleven ed p ((is-other (short stated l) (prefixIn ed p).answer.number a.number (answered (prefixIn ed p) l l' a c) 11 (λ q. omega arith)).0 e).1
+  pub prefix-call_never_eleven : ¬ (a.number ≡ 11)
+  prefix-call_never_eleven e = prefix_never_eleven ed p ((is_other (short stated l) (prefix_in ed p).answer.number a.number (answered (prefix_in ed p) l l' a c) 11 (λ q. omega arith)).0 e).1
 
-module _ (ed : Edition) (p : List ℕ) (l l' : Slices) (a : Answer) (c : ReadCall (wholeIn ed p) l l' a) where
-  pub whole-call-one : (a.number ≡ 1) ↔ (short stated l ≡ true)
-  whole-call-one = call-one (wholeIn ed p) l l' a c (whole-never-one ed p)
+module _ (ed : Edition) (p : List ℕ) (l l' : Slices) (a : Answer) (c : ReadCall (whole_in ed p) l l' a) where
+  pub whole-call_one : (a.number ≡ 1) ↔ (short stated l ≡ true)
+  whole-call_one = call_one (whole_in ed p) l l' a c (whole_never_one ed p)
 
-  pub whole-call-two : (a.number ≡ 2) ↔ ((short stated l ≡ false) × (pickleLimit < length p))
-  whole-call-two = call-other (wholeIn ed p) l l' a c 2 (λ q. omega arith) (pickleLimit < length p) (whole-two ed p)
+  pub whole-call_two : (a.number ≡ 2) ↔ ((short stated l ≡ false) × (pickle_limit < length p))
+  whole-call_two = call_other (whole_in ed p) l l' a c 2 (λ q. omega arith) (pickle_limit < length p) (whole_two ed p)
 
-  pub whole-call-eleven : (a.number ≡ 11) ↔ ((short stated l ≡ false) × LeavesBytes ed p)
-  whole-call-eleven = call-other (wholeIn ed p) l l' a c 11 (λ q. omega arith) (LeavesBytes ed p) (whole-eleven ed p)
+  pub whole-call_eleven : (a.number ≡ 11) ↔ ((short stated l ≡ false) × LeavesBytes ed p)
+  whole-call_eleven = call_other (whole_in ed p) l l' a c 11 (λ q. omega arith) (LeavesBytes ed p) (whole_eleven ed p)

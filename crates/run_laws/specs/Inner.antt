@@ -3,17 +3,17 @@ use Rattle.std.specs.Prelude.{ℕ, suc, zero, Bool, true, false, cond, not, ◌|
 use Rattle.refusal.specs.Read.{Read, got, refused}
 use Rattle.refusal.specs.declared.Refusal.{Refusal}
 use Rattle.refusal.specs.Numbers.{number_of}
-use Rattle.input.specs.Line.{firstFrom, newlineOf}
+use Rattle.input.specs.Line.{first_from, newline_of}
 use Rattle.utf8.specs.Utf8.{valid}
-use Rattle.input.specs.Long.{denotes, inI64, longOf}
+use Rattle.input.specs.Long.{denotes, in_i64, long_of}
 use Rattle.number.specs.Space.{same, trimmed}
-use Rattle.number.specs.Number.{whole, invalid, turned, only, digits, natural, plus, integer, parseI64, parseU32, intLiteral, lessL, longLiteral}
-use Rattle.float.specs.Form.{behindSign, Number, number, formless, isWord}
-use Rattle.float.specs.Literal.{nearestWithin, valued, signedValue, floatLiteral, parseF64}
+use Rattle.number.specs.Number.{whole, invalid, turned, only, digits, natural, plus, integer, parse_i64, parse_u32, int_literal, less_l, long_literal}
+use Rattle.float.specs.Form.{behind_sign, Number, number, formless, is_word}
+use Rattle.float.specs.Literal.{nearest_within, valued, signed_value, float_literal, parse_f64}
 use Rattle.text.specs.declared.TextPiece.{TextPiece}
 use Rattle.text.specs.declared.TextPiece.TheVariants.{One, Bad}
-use Rattle.text.specs.Pieces.{bytesBefore, pieceThen, texts}
-use Rattle.text.specs.Text.{hasQuotes, unescapeString, unescapeUnicode}
+use Rattle.text.specs.Pieces.{bytes_before, piece_then, texts}
+use Rattle.text.specs.Text.{has_quotes, unescape_string, unescape_unicode}
 
 abbrev pub outer : ℕ → Bool
 outer n = eqb n 1 || (eqb n 2 || eqb n 11)
@@ -33,18 +33,18 @@ either false x y h k = k
 
 -- ---- lines, and integers of bytes
 
-first_inner : (l : List ℕ) (k : ℕ) → InnerRead (firstFrom l k)
-unfolding firstFrom InnerRead
+first_inner : (l : List ℕ) (k : ℕ) → InnerRead (first_from l k)
+unfolding first_from InnerRead
 first_inner [] k = tt
 first_inner (b ∷ t) k = either (eqb b 10) _ _ tt (first_inner t (suc k))
 
-pub newline-inner : (p : List ℕ) (from : ℕ) → InnerRead (newlineOf p from)
-unfolding newlineOf
-newline-inner p from = first_inner _ from
+pub newline_inner : (p : List ℕ) (from : ℕ) → InnerRead (newline_of p from)
+unfolding newline_of
+newline_inner p from = first_inner _ from
 
-pub longOf-inner : (l : List ℕ) → InnerRead (longOf l)
-unfolding longOf InnerRead
-longOf-inner l = either (inI64 (denotes l)) _ _ tt tt
+pub long_of-inner : (l : List ℕ) → InnerRead (long_of l)
+unfolding long_of InnerRead
+long_of-inner l = either (in_i64 (denotes l)) _ _ tt tt
 
 -- ---- numbers in decimal
 
@@ -73,26 +73,26 @@ unfolding integer invalid InnerRead
 integer-inner [] = tt
 integer-inner (b ∷ s) = either (eqb b 0x2D) _ _ (turned-inner _ (natural s) (natural-inner s)) (turned-inner _ (plus (b ∷ s)) (plus-inner (b ∷ s)))
 
-parseI64-inner : (line : List ℕ) → InnerRead (parseI64 line)
-unfolding parseI64 invalid InnerRead
-parseI64-inner line = either (valid line) _ _ (only-inner _ _ (integer-inner _)) tt
+parse_i64-inner : (line : List ℕ) → InnerRead (parse_i64 line)
+unfolding parse_i64 invalid InnerRead
+parse_i64-inner line = either (valid line) _ _ (only-inner _ _ (integer-inner _)) tt
 
-pub parseU32-inner : (line : List ℕ) → InnerRead (parseU32 line)
-unfolding parseU32 invalid InnerRead
-parseU32-inner line = either (valid line) _ _ (only-inner _ _ (plus-inner _)) tt
+pub parse_u32-inner : (line : List ℕ) → InnerRead (parse_u32 line)
+unfolding parse_u32 invalid InnerRead
+parse_u32-inner line = either (valid line) _ _ (only-inner _ _ (plus-inner _)) tt
 
-pub intLiteral-inner : (line : List ℕ) → InnerRead (intLiteral line)
-unfolding intLiteral InnerRead
-intLiteral-inner line = either (same line (0x30 ∷ 0x30 ∷ [])) _ _ tt (either (same line (0x30 ∷ 0x31 ∷ [])) _ _ tt (turned-inner whole _ (parseI64-inner line)))
+pub int_literal-inner : (line : List ℕ) → InnerRead (int_literal line)
+unfolding int_literal InnerRead
+int_literal-inner line = either (same line (0x30 ∷ 0x30 ∷ [])) _ _ tt (either (same line (0x30 ∷ 0x31 ∷ [])) _ _ tt (turned-inner whole _ (parse_i64-inner line)))
 
-pub longLiteral-inner : (line : List ℕ) → InnerRead (longLiteral line)
-unfolding longLiteral
-longLiteral-inner line = parseI64-inner (lessL line)
+pub long_literal-inner : (line : List ℕ) → InnerRead (long_literal line)
+unfolding long_literal
+long_literal-inner line = parse_i64-inner (less_l line)
 
 -- ---- floats
 
-within-inner : (b m : Bool) (w up down : ℕ) → InnerRead (nearestWithin b m w up down)
-unfolding nearestWithin InnerRead
+within-inner : (b m : Bool) (w up down : ℕ) → InnerRead (nearest_within b m w up down)
+unfolding nearest_within InnerRead
 within-inner true m w up down = tt
 within-inner false m w up down = tt
 
@@ -101,24 +101,24 @@ unfolding valued InnerRead
 valued-inner true m w up down = tt
 valued-inner false m w up down = within-inner _ m w up down
 
-value-inner : (m : Bool) (n : Number) → InnerRead (signedValue m n)
-unfolding signedValue InnerRead
+value-inner : (m : Bool) (n : Number) → InnerRead (signed_value m n)
+unfolding signed_value InnerRead
 value-inner m (number w up down) = valued-inner _ m w up down
 value-inner m formless = tt
 
-pub parseF64-inner : (line : List ℕ) → InnerRead (parseF64 line)
-unfolding parseF64 floatLiteral InnerRead
-parseF64-inner line = either (valid line) _ _ (either (isWord (behindSign (trimmed line))) _ _ tt (value-inner _ _)) tt
+pub parse_f64-inner : (line : List ℕ) → InnerRead (parse_f64 line)
+unfolding parse_f64 float_literal InnerRead
+parse_f64-inner line = either (valid line) _ _ (either (is_word (behind_sign (trimmed line))) _ _ tt (value-inner _ _)) tt
 
 -- ---- texts
 
-before-inner : (l : List ℕ) (r : Read (List ℕ)) → InnerRead r → InnerRead (bytesBefore l r)
-unfolding bytesBefore InnerRead
+before-inner : (l : List ℕ) (r : Read (List ℕ)) → InnerRead r → InnerRead (bytes_before l r)
+unfolding bytes_before InnerRead
 before-inner l (got v) h = tt
 before-inner l (refused why at) h = h
 
-after-inner : (form : ℕ → List ℕ) (q : TextPiece) (at : ℕ) (rest : ℕ → Read (List ℕ)) → ((n : ℕ) → InnerRead (rest n)) → InnerRead (pieceThen form q at rest)
-unfolding pieceThen InnerRead
+after-inner : (form : ℕ → List ℕ) (q : TextPiece) (at : ℕ) (rest : ℕ → Read (List ℕ)) → ((n : ℕ) → InnerRead (rest n)) → InnerRead (piece_then form q at rest)
+unfolding piece_then InnerRead
 after-inner form (One v more) at rest h = before-inner (form v) (rest more) (h more)
 after-inner form Bad at rest h = tt
 
@@ -129,10 +129,10 @@ texts-inner head form (suc n) at [] = tt
 texts-inner head form zero at (b ∷ s) = after-inner form (head (b ∷ s)) at _ (λ more. texts-inner head form more (suc at) s)
 texts-inner head form (suc n) at (b ∷ s) = texts-inner head form n (suc at) s
 
-pub unescapeString-inner : (line : List ℕ) → InnerRead (unescapeString line)
-unfolding unescapeString InnerRead
-unescapeString-inner line = either (hasQuotes line) _ _ (texts-inner _ _ 0 1 _) tt
+pub unescape_string-inner : (line : List ℕ) → InnerRead (unescape_string line)
+unfolding unescape_string InnerRead
+unescape_string-inner line = either (has_quotes line) _ _ (texts-inner _ _ 0 1 _) tt
 
-pub unescapeUnicode-inner : (line : List ℕ) → InnerRead (unescapeUnicode line)
-unfolding unescapeUnicode
-unescapeUnicode-inner line = texts-inner _ _ 0 0 line
+pub unescape_unicode-inner : (line : List ℕ) → InnerRead (unescape_unicode line)
+unfolding unescape_unicode
+unescape_unicode-inner line = texts-inner _ _ 0 0 line

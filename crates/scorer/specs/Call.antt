@@ -7,26 +7,26 @@ use Rattle.refusal.specs.declared.Refusal.TheVariants.{BadTable}
 use Rattle.value.specs.Value.{Value}
 use Rattle.value.specs.WellFormed.{WellFormed}
 use Rattle.table.specs.Compare.{decided}
-use Rattle.scorer.specs.Sheet.{isSheet, scoreOf, items_of}
+use Rattle.scorer.specs.Sheet.{is_sheet, score_of, items_of}
 use Rattle.scorer.specs.declared.Scored.{Scored}
 use Rattle.scorer.specs.declared.Tally.{Tally}
 use Rattle.scorer.specs.declared.Tally.TheVariants.{Off, Sum}
 
 -- number and detail of SheetShape
-abbrev pub sheetShape : ℕ × ℕ
-sheetShape = (24, 0)
+abbrev pub sheet_shape : ℕ × ℕ
+sheet_shape = (24, 0)
 
 -- a refusal, by its number and detail
 abbrev pub unscored : ℕ × ℕ → Scored
 unscored why = record { number = why.0; detail = why.1; score = 0; items = 0 }
 
 -- the answer for a value
-unfoldable pub scoredOf : Tally → Scored
-scoredOf Off = unscored sheetShape
-scoredOf (Sum s n) = record { number = 0; detail = 0; score = s; items = n }
+unfoldable pub scored_of : Tally → Scored
+scored_of Off = unscored sheet_shape
+scored_of (Sum s n) = record { number = 0; detail = 0; score = s; items = n }
 
 unfoldable pub tally_of : Value → Tally
-tally_of v = cond (isSheet v) (Sum (scoreOf v) (items_of v)) Off
+tally_of v = cond (is_sheet v) (Sum (score_of v) (items_of v)) Off
 
 -- of whatever count the table is well formed
 abbrev pub Assesses : List ℕ → List ℕ → Tally → Type 0
@@ -35,11 +35,11 @@ Assesses w t r = (n : ℕ) (f : WellFormed w n t) → r ≡ tally_of f.value
 -- the call, lent n records in w and the text t, answers r
 pub record Scores (w : List ℕ) (n : ℕ) (t : List ℕ) (r : Scored) : Type 0 where
   pub bad : (WellFormed w n t → ⊥) → r ≡ unscored (number_of (BadTable First))
-  pub good : (f : WellFormed w n t) → r ≡ scoredOf (tally_of f.value)
+  pub good : (f : WellFormed w n t) → r ≡ scored_of (tally_of f.value)
 
 -- the answer is determined
-pub score-one : {w : List ℕ} {n : ℕ} {t : List ℕ} {r s : Scored} → Scores w n t r → Scores w n t s → r ≡ s
-score-one {w} {n} {t} {r} {s} x y = go (decided w n t)
+pub score_one : {w : List ℕ} {n : ℕ} {t : List ℕ} {r s : Scored} → Scores w n t r → Scores w n t s → r ≡ s
+score_one {w} {n} {t} {r} {s} x y = go (decided w n t)
   where
     go : WellFormed w n t ⊎ (WellFormed w n t → ⊥) → r ≡ s
     go (inl f) = x.good f ∙ sym (y.good f)
@@ -48,8 +48,8 @@ score-one {w} {n} {t} {r} {s} x y = go (decided w n t)
 -- ---- the code's answers
 
 module _ (w : List ℕ) (n : ℕ) (t : List ℕ) (r : Scored) where
-  pub scores-bad : (WellFormed w n t → ⊥) → r ≡ unscored (number_of (BadTable First)) → Scores w n t r
-  scores-bad h e = record { bad = λ q. e; good = λ f. absurd (h f) }
+  pub scores_bad : (WellFormed w n t → ⊥) → r ≡ unscored (number_of (BadTable First)) → Scores w n t r
+  scores_bad h e = record { bad = λ q. e; good = λ f. absurd (h f) }
 
-  pub scores-good : WellFormed w n t → ((f : WellFormed w n t) → r ≡ scoredOf (tally_of f.value)) → Scores w n t r
-  scores-good f h = record { bad = λ q. absurd (q f); good = h }
+  pub scores_good : WellFormed w n t → ((f : WellFormed w n t) → r ≡ scored_of (tally_of f.value)) → Scores w n t r
+  scores_good f h = record { bad = λ q. absurd (q f); good = h }

@@ -26,50 +26,50 @@ unfoldable pub between : ℕ → ℕ → Label → Bool
 between a b l = eqb (kind l) 2 && (leb a (bits l) && leb (bits l) b)
 
 -- both I64, and of the same number
-unfoldable pub sameInt : Label → Label → Bool
-sameInt l m = eqb (kind l) 2 && (eqb (kind m) 2 && eqb (bits l) (bits m))
+unfoldable pub same_int : Label → Label → Bool
+same_int l m = eqb (kind l) 2 && (eqb (kind m) 2 && eqb (bits l) (bits m))
 
 -- the I64 is one of the values
-unfoldable pub holdsInt : Label → Forest → Bool
-holdsInt l nil = false
-holdsInt l (node m c r) = sameInt l m || holdsInt l r
+unfoldable pub holds_int : Label → Forest → Bool
+holds_int l nil = false
+holds_int l (node m c r) = same_int l m || holds_int l r
 
 -- ---- the four keys
 
 -- `answers`, `reverse`, `max`, `flipped`
-abbrev pub answersKey : List ℕ
-answersKey = 97 ∷ 110 ∷ 115 ∷ 119 ∷ 101 ∷ 114 ∷ 115 ∷ []
+abbrev pub answers_key : List ℕ
+answers_key = 97 ∷ 110 ∷ 115 ∷ 119 ∷ 101 ∷ 114 ∷ 115 ∷ []
 
-abbrev pub reverseKey : List ℕ
-reverseKey = 114 ∷ 101 ∷ 118 ∷ 101 ∷ 114 ∷ 115 ∷ 101 ∷ []
+abbrev pub reverse_key : List ℕ
+reverse_key = 114 ∷ 101 ∷ 118 ∷ 101 ∷ 114 ∷ 115 ∷ 101 ∷ []
 
-abbrev pub maxKey : List ℕ
-maxKey = 109 ∷ 97 ∷ 120 ∷ []
+abbrev pub max_key : List ℕ
+max_key = 109 ∷ 97 ∷ 120 ∷ []
 
-abbrev pub flippedKey : List ℕ
-flippedKey = 102 ∷ 108 ∷ 105 ∷ 112 ∷ 112 ∷ 101 ∷ 100 ∷ []
+abbrev pub flipped_key : List ℕ
+flipped_key = 102 ∷ 108 ∷ 105 ∷ 112 ∷ 112 ∷ 101 ∷ 100 ∷ []
 
 -- Bytes of this text
-unfoldable pub isKey : List ℕ → Label → Bool
-isKey k l = eqb (kind l) 4 && compare_is_eq (lex k (text_of l))
+unfoldable pub is_key : List ℕ → Label → Bool
+is_key k l = eqb (kind l) 4 && compare_is_eq (lex k (text_of l))
 
 -- what a Dict with these contents has under a Bytes key; None, which no key of a sheet may have, where the key is absent
 unfoldable pub under : List ℕ → Forest → Value
 under k nil = record { label = NoneL; contents = nil }
 under k (node l c nil) = record { label = NoneL; contents = nil }
-under k (node l c (node m d r)) = cond (isKey k l) (record { label = m; contents = d }) (under k r)
+under k (node l c (node m d r)) = cond (is_key k l) (record { label = m; contents = d }) (under k r)
 
 abbrev pub answers : Value → Value
-answers v = under answersKey v.contents
+answers v = under answers_key v.contents
 
 abbrev pub reverse : Value → Value
-reverse v = under reverseKey v.contents
+reverse v = under reverse_key v.contents
 
-abbrev pub highestAnswer : Value → Value
-highestAnswer v = under maxKey v.contents
+abbrev pub highest_answer : Value → Value
+highest_answer v = under max_key v.contents
 
 abbrev pub flipped : Value → Value
-flipped v = under flippedKey v.contents
+flipped v = under flipped_key v.contents
 
 -- ---- a sheet
 
@@ -80,21 +80,21 @@ in_range m (node l c nil) = false
 in_range m (node l c (node a d r)) = between 1 200 l && (between 0 m a && in_range m r)
 
 -- each of the reversed items is one of the item numbers
-unfoldable pub allAnswered : Forest → Forest → Bool
-allAnswered items nil = true
-allAnswered items (node l c r) = holdsInt l items && allAnswered items r
+unfoldable pub all_answered : Forest → Forest → Bool
+all_answered items nil = true
+all_answered items (node l c r) = holds_int l items && all_answered items r
 
-unfoldable pub isSheet : Value → Bool
-isSheet v =
+unfoldable pub is_sheet : Value → Bool
+is_sheet v =
     eqb (kind v.label) 10 &&
     (eqb (kind (answers v).label) 10 &&
     (eqb (kind (reverse v).label) 8 &&
     (eqb (kind (flipped v).label) 1 &&
-    (between 1 100 (highestAnswer v).label &&
-    (in_range (bits (highestAnswer v).label) (answers v).contents && allAnswered (keys (answers v).contents) (reverse v).contents)))))
+    (between 1 100 (highest_answer v).label &&
+    (in_range (bits (highest_answer v).label) (answers v).contents && all_answered (keys (answers v).contents) (reverse v).contents)))))
 
 abbrev pub Sheet : Value → Type 0
-Sheet v = T (isSheet v)
+Sheet v = T (is_sheet v)
 
 -- ---- its score
 
@@ -104,16 +104,16 @@ counted m true reversed a = a
 counted m false true a = m - a
 counted m false false a = a
 
-unfoldable pub answersSum : ℕ → Bool → Forest → Forest → ℕ
-answersSum m mark reversed nil = 0
-answersSum m mark reversed (node l c nil) = 0
-answersSum m mark reversed (node l c (node a d r)) = counted m mark (holdsInt l reversed) (bits a) + answersSum m mark reversed r
+unfoldable pub answers_sum : ℕ → Bool → Forest → Forest → ℕ
+answers_sum m mark reversed nil = 0
+answers_sum m mark reversed (node l c nil) = 0
+answers_sum m mark reversed (node l c (node a d r)) = counted m mark (holds_int l reversed) (bits a) + answers_sum m mark reversed r
 
 unfoldable pub marked : Value → Bool
 marked v = eqb (bits (flipped v).label) 1
 
-unfoldable pub scoreOf : Value → ℕ
-scoreOf v = answersSum (bits (highestAnswer v).label) (marked v) (reverse v).contents (answers v).contents
+unfoldable pub score_of : Value → ℕ
+score_of v = answers_sum (bits (highest_answer v).label) (marked v) (reverse v).contents (answers v).contents
 
 unfoldable pub items_of : Value → ℕ
 items_of v = half (count (answers v).contents)

@@ -8,16 +8,16 @@ use borrow.Author.Tests.{eqb-true, eq-eqb, ne_eqb, lt-ltb, le-leb, lt-leb, leb-t
 use native.Mathlib.Omega.{arith}
 use Rattle.utf8.specs.Rows.{both}
 use Rattle.value.specs.Value.{Label, Forest, Value, one, bit, kind, count, size, nil, node}
-use Rattle.value.specs.Shape.{kindIn, head_of, label_of}
+use Rattle.value.specs.Shape.{kind_in, head_of, label_of}
 use Rattle.value.specs.Stands.{word_at, label_at, Reads, Says}
 use Rattle.value.specs.Left.{kind_at}
-use Rattle.value.specs.Labels.{text-inside}
+use Rattle.value.specs.Labels.{text_inside}
 use Rattle.value.specs.declared.Head.{Head}
 use Rattle.value.specs.Order.{lex}
 use Rattle.value.specs.WellFormed.{WellFormed}
 use Rattle.table.specs.Sound.{size_at}
-use Rattle.scorer.specs.Sheet.{bits, between, sameInt, isKey, under, counted}
-use Rattle.scorer.specs.Walk.{same_parts, isFirst, pastIf, tallyWalk, int-leaf}
+use Rattle.scorer.specs.Sheet.{bits, between, same_int, is_key, under, counted}
+use Rattle.scorer.specs.Walk.{same_parts, is_first, past_if, tally_walk, int_leaf}
 use Rattle.scorer.specs.Place.{Lies, FirstAndRest, parts}
 use Rattle.scorer.specs.declared.Tally.{Tally}
 use Rattle.scorer.specs.declared.Tally.TheVariants.{Off, Sum}
@@ -25,20 +25,20 @@ use Rattle.scorer.specs.declared.Tally.TheVariants.{Off, Sum}
 -- ---- a record's words and its label
 
 module _ {w t : List ℕ} {i : ℕ} {l : Label} {n : ℕ} (q : Says w t i l n) where
-  pub kind-says : kindIn (word_at w i 0) ≡ kind l
+  pub kind-says : kind_in (word_at w i 0) ≡ kind l
   kind-says = sym (kind_at w t i q.reads) ∙ ap kind q.label
 
   pub bits-says : kind l ≡ 2 → word_at w i 1 ≡ bits l
   unfolding label_at label_of
   bits-says k =
-      let e : kindIn (word_at w i 0) ≡ 2 = kind-says ∙ k in
+      let e : kind_in (word_at w i 0) ≡ 2 = kind-says ∙ k in
       let b : bits (label_at w t i) ≡ word_at w i 1 = rw e in
       sym b ∙ ap bits q.label
 
   pub mark-says : kind l ≡ 1 → eqb (word_at w i 1) 1 ≡ eqb (bits l) 1
   unfolding label_at label_of
   mark-says k =
-      let e : kindIn (word_at w i 0) ≡ 1 = kind-says ∙ k in
+      let e : kind_in (word_at w i 0) ≡ 1 = kind-says ∙ k in
       let b : bits (label_at w t i) ≡ bit (eqb (word_at w i 1) 1) = rw e in
       go (eqb (word_at w i 1) 1) (sym b ∙ ap bits q.label)
     where
@@ -47,11 +47,11 @@ module _ {w t : List ℕ} {i : ℕ} {l : Label} {n : ℕ} (q : Says w t i l n) w
       go false e = rw (← e)
 
 -- record i is an I64 from a to b
-unfoldable pub betweenAt : List ℕ → ℕ → ℕ → ℕ → Bool
-betweenAt w i a b = eqb (kindIn (word_at w i 0)) 2 && (leb a (word_at w i 1) && leb (word_at w i 1) b)
+unfoldable pub between_at : List ℕ → ℕ → ℕ → ℕ → Bool
+between_at w i a b = eqb (kind_in (word_at w i 0)) 2 && (leb a (word_at w i 1) && leb (word_at w i 1) b)
 
-pub between-says : {w t : List ℕ} {i : ℕ} {l : Label} {n : ℕ} (a b : ℕ) → Says w t i l n → betweenAt w i a b ≡ between a b l
-unfolding betweenAt between
+pub between-says : {w t : List ℕ} {i : ℕ} {l : Label} {n : ℕ} (a b : ℕ) → Says w t i l n → between_at w i a b ≡ between a b l
+unfolding between_at between
 between-says {w} {t} {i} {l} {n} a b q = rw (kind-says q) (go (eqb (kind l) 2) refl)
   where
     go : (x : Bool) → eqb (kind l) 2 ≡ x → (x && (leb a (word_at w i 1) && leb (word_at w i 1) b)) ≡ (x && (leb a (bits l) && leb (bits l) b))
@@ -59,9 +59,9 @@ between-says {w} {t} {i} {l} {n} a b q = rw (kind-says q) (go (eqb (kind l) 2) r
     go false e = refl
 
 -- what is in no wider range is in no narrower one
-pub narrower : (w : List ℕ) (i a b c : ℕ) → b ≤ c → betweenAt w i a c ≡ false → betweenAt w i a b ≡ false
-unfolding betweenAt
-narrower w i a b c h e = go (eqb (kindIn (word_at w i 0)) 2) (leb a (word_at w i 1)) (leb (word_at w i 1) b) refl e
+pub narrower : (w : List ℕ) (i a b c : ℕ) → b ≤ c → between_at w i a c ≡ false → between_at w i a b ≡ false
+unfolding between_at
+narrower w i a b c h e = go (eqb (kind_in (word_at w i 0)) 2) (leb a (word_at w i 1)) (leb (word_at w i 1) b) refl e
   where
     go : (x y z : Bool) → leb (word_at w i 1) b ≡ z → (x && (y && leb (word_at w i 1) c)) ≡ false → (x && (y && z)) ≡ false
     go false y z q e = refl
@@ -70,12 +70,12 @@ narrower w i a b c h e = go (eqb (kindIn (word_at w i 0)) 2) (leb a (word_at w i
     go true true true q e = let n = leb-true (word_at w i 1) b q in sym (le-leb (word_at w i 1) c (omega arith)) ∙ e
 
 -- some items are left, and the next one, at record j, is this one
-unfoldable pub hitAt : List ℕ → ℕ → ℕ → ℕ → Bool
-hitAt w j left item = ltb 0 left && (eqb (kindIn (word_at w j 0)) 2 && eqb item (word_at w j 1))
+unfoldable pub hit_at : List ℕ → ℕ → ℕ → ℕ → Bool
+hit_at w j left item = ltb 0 left && (eqb (kind_in (word_at w j 0)) 2 && eqb item (word_at w j 1))
 
 -- ---- from key to key
 
--- a well-formed table, of whatever count
+-- a well_formed_lem table, of whatever count
 pub record Tabled (w t : List ℕ) : Type 0 where
   pub count : ℕ
   pub formed : WellFormed w count t
@@ -112,11 +112,11 @@ pub record KeyStep (w t : List ℕ) (k : List ℕ) (i left : ℕ) (v : Value) : 
   pub further : 0 < size_at w i
   pub ends : i + size_at w i ≤ length w
   pub inside : 4 * (i + size_at w i) + 4 ≤ length w
-  pub value-ends : i + size_at w i + size_at w (i + size_at w i) ≤ length w
-  pub value-lies : Lies w t (i + size_at w i) (one found)
-  pub value-kind : kindIn (word_at w (i + size_at w i) 0) ≡ kind found.label
-  pub yes : isKey k key ≡ true → v ≡ found
-  pub no : isKey k key ≡ false → Seeking w t k (i + size_at w i + size_at w (i + size_at w i)) (left - 1) v
+  pub value_ends : i + size_at w i + size_at w (i + size_at w i) ≤ length w
+  pub value_lies : Lies w t (i + size_at w i) (one found)
+  pub value-kind : kind_in (word_at w (i + size_at w i) 0) ≡ kind found.label
+  pub yes : is_key k key ≡ true → v ≡ found
+  pub no : is_key k key ≡ false → Seeking w t k (i + size_at w i + size_at w (i + size_at w i)) (left - 1) v
 
 module _ {w t : List ℕ} {k : List ℕ} {i left : ℕ} {v : Value} where
   entry_of : (l m : Label) (c d r : Forest) → Lies w t i (node l c (node m d r)) → count r ≡ left - 1 + (left - 1) → v ≡ under k (node l c (node m d r)) → KeyStep w t k i left v
@@ -138,8 +138,8 @@ module _ {w t : List ℕ} {k : List ℕ} {i left : ℕ} {v : Value} where
         further = omega arith;
         ends = omega arith;
         inside = in₂;
-        value-ends = omega arith;
-        value-lies = p₂.alone;
+        value_ends = omega arith;
+        value_lies = p₂.alone;
         value-kind = kind-says p₂.says;
         yes = λ q. e ∙ rw q;
         no = λ q. record { rest = r; lies = subst (λ (x : ℕ). Lies w t x r) behind p₂.rest; counted = n; same = e ∙ rw q };
@@ -155,9 +155,9 @@ module _ {w t : List ℕ} {k : List ℕ} {i left : ℕ} {v : Value} where
       go (node l c (node m d r)) a b e = entry_of l m c d r a (omega arith) e
 
   -- no entry is left
-  pub seek-none : Seeking w t k i left v → left ≡ 0 → kind v.label ≡ 0
+  pub seek_none : Seeking w t k i left v → left ≡ 0 → kind v.label ≡ 0
   unfolding count under
-  seek-none s h = go s.rest s.counted s.same
+  seek_none s h = go s.rest s.counted s.same
     where
       go : (f : Forest) → count f ≡ left + left → v ≡ under k f → kind v.label ≡ 0
       go nil b e = rw e
@@ -169,11 +169,11 @@ module _ {w t : List ℕ} {k : List ℕ} {i left : ℕ} {v : Value} where
 pub record TallySoFar (w t : List ℕ) (m : ℕ) (mark : Bool) (n i left j rest s : ℕ) (all : Tally) : Type 0 where
   pub answers : Forest
   pub reversed : Forest
-  pub answers-lie : Lies w t i answers
-  pub reversed-lie : Lies w t j reversed
+  pub answers_lie : Lies w t i answers
+  pub reversed_lie : Lies w t j reversed
   pub answers-count : count answers ≡ left + left
-  pub reversed-count : count reversed ≡ rest
-  pub same : all ≡ tallyWalk m mark n s answers reversed
+  pub reversed_count : count reversed ≡ rest
+  pub same : all ≡ tally_walk m mark n s answers reversed
 
 -- where they may lie at first
 pub record Both (w : List ℕ) (i left j rest : ℕ) : Type 0 where
@@ -185,21 +185,21 @@ pub record Both (w : List ℕ) (i left j rest : ℕ) : Type 0 where
 -- whatever answers and reversed items lie there: what the walk through them comes to
 abbrev pub AddsUp : List ℕ → ℕ → ℕ → ℕ → ℕ → ℕ → Bool → Tally → Type 0
 AddsUp w i left j rest m mark r =
-    (t : List ℕ) (f g : Forest) → Lies w t i f → count f ≡ left + left → Lies w t j g → count g ≡ rest → r ≡ tallyWalk m mark left 0 f g
+    (t : List ℕ) (f g : Forest) → Lies w t i f → count f ≡ left + left → Lies w t j g → count g ≡ rest → r ≡ tally_walk m mark left 0 f g
 
 -- the next answer
 pub record AnswerStep (w t : List ℕ) (m : ℕ) (mark : Bool) (n i left j rest s : ℕ) (all : Tally) : Type 0 where
   pub inside : 4 * i + 8 ≤ length w
-  pub reversed-inside : 0 < rest → 4 * j + 4 ≤ length w
-  pub bad-item : betweenAt w i 1 200 ≡ false → all ≡ Off
-  pub bad-answer : betweenAt w i 1 200 ≡ true → betweenAt w (i + 1) 0 m ≡ false → all ≡ Off
-  pub on : betweenAt w i 1 200 ≡ true → betweenAt w (i + 1) 0 m ≡ true → (b : Bool) → b ≡ hitAt w j rest (word_at w i 1) → TallySoFar w t m mark n (i + 2) (left - 1) (j + bit b) (rest - bit b) (s + counted m mark b (word_at w (i + 1) 1)) all
+  pub reversed_inside : 0 < rest → 4 * j + 4 ≤ length w
+  pub bad_item : between_at w i 1 200 ≡ false → all ≡ Off
+  pub bad_answer : between_at w i 1 200 ≡ true → between_at w (i + 1) 0 m ≡ false → all ≡ Off
+  pub on : between_at w i 1 200 ≡ true → between_at w (i + 1) 0 m ≡ true → (b : Bool) → b ≡ hit_at w j rest (word_at w i 1) → TallySoFar w t m mark n (i + 2) (left - 1) (j + bit b) (rest - bit b) (s + counted m mark b (word_at w (i + 1) 1)) all
 
 -- the next reversed item is the one at hand
-first-hit : {w t : List ℕ} {j rest : ℕ} (l : Label) (f : Forest) → kind l ≡ 2 → Lies w t j f → count f ≡ rest → hitAt w j rest (bits l) ≡ isFirst l f
-unfolding hitAt isFirst sameInt count
-first-hit l nil k h e = rw (← e)
-first-hit {w} {t} {j} {rest} l (node r c f) k h e =
+first_hit : {w t : List ℕ} {j rest : ℕ} (l : Label) (f : Forest) → kind l ≡ 2 → Lies w t j f → count f ≡ rest → hit_at w j rest (bits l) ≡ is_first l f
+unfolding hit_at is_first same_int count
+first_hit l nil k h e = rw (← e)
+first_hit {w} {t} {j} {rest} l (node r c f) k h e =
     let q = (parts h).says in
     let some : ltb 0 rest ≡ true = lt-ltb 0 rest (omega arith) in
     rw (some, kind-says q, eq-eqb (kind l) 2 k) (go (eqb (kind r) 2) refl)
@@ -208,14 +208,14 @@ first-hit {w} {t} {j} {rest} l (node r c f) k h e =
     go true u = rw (bits-says (parts h).says (eqb-true (kind r) 2 u))
     go false u = refl
 
-past-lies : {w t : List ℕ} {j rest : ℕ} (b : Bool) (l : Label) (f : Forest) → Lies w t j f → count f ≡ rest → b ≡ isFirst l f → (Lies w t (j + bit b) (pastIf b f)) × (count (pastIf b f) ≡ rest - bit b)
-unfolding pastIf isFirst count size
-past-lies {w} {t} {j} false l f h e q = (let z : j ≡ j + 0 = omega arith in subst (λ (x : ℕ). Lies w t x f) z h, omega arith)
-past-lies true l nil h e q = let z : ◌≡◌ {A = ℕ} 0 1 = cc in absurd (omega arith)
-past-lies {w} {t} {j} true l (node r c f) h e q =
+past_lies : {w t : List ℕ} {j rest : ℕ} (b : Bool) (l : Label) (f : Forest) → Lies w t j f → count f ≡ rest → b ≡ is_first l f → (Lies w t (j + bit b) (past_if b f)) × (count (past_if b f) ≡ rest - bit b)
+unfolding past_if is_first count size
+past_lies {w} {t} {j} false l f h e q = (let z : j ≡ j + 0 = omega arith in subst (λ (x : ℕ). Lies w t x f) z h, omega arith)
+past_lies true l nil h e q = let z : ◌≡◌ {A = ℕ} 0 1 = cc in absurd (omega arith)
+past_lies {w} {t} {j} true l (node r c f) h e q =
     let p = parts h in
     let two : kind r ≡ 2 = (same_parts l r (sym q)).1 in
-    let none : c ≡ nil = int-leaf r c two p.fits in
+    let none : c ≡ nil = int_leaf r c two p.fits in
     let z : j + 1 + size c ≡ j + 1 = rw none (omega arith) in
     (subst (λ (x : ℕ). Lies w t x f) z p.rest, omega arith)
 
@@ -223,26 +223,26 @@ between-kind : (a b : ℕ) (l : Label) → between a b l ≡ true → kind l ≡
 unfolding between
 between-kind a b l e = eqb-true (kind l) 2 (both {a = eqb (kind l) 2} e).0
 
-lies-inside : {w t : List ℕ} {j : ℕ} (f : Forest) → Lies w t j f → 0 < count f → 4 * j + 4 ≤ length w
+lies_inside : {w t : List ℕ} {j : ℕ} (f : Forest) → Lies w t j f → 0 < count f → 4 * j + 4 ≤ length w
 unfolding count
-lies-inside nil y o = absurd (omega arith)
-lies-inside (node r c f) y o = (parts y).says.reads.inside
+lies_inside nil y o = absurd (omega arith)
+lies_inside (node r c f) y o = (parts y).says.reads.inside
 
 module _ {w t : List ℕ} {m : ℕ} {mark : Bool} {n i left j rest s : ℕ} {all : Tally} where
-  answer-of : (l a : Label) (c d g f : Forest) → Lies w t i (node l c (node a d g)) → Lies w t j f → count g ≡ left - 1 + (left - 1) → count f ≡ rest → all ≡ tallyWalk m mark n s (node l c (node a d g)) f → AnswerStep w t m mark n i left j rest s all
-  unfolding tallyWalk size
-  answer-of l a c d g f h y x z e =
+  answer_of : (l a : Label) (c d g f : Forest) → Lies w t i (node l c (node a d g)) → Lies w t j f → count g ≡ left - 1 + (left - 1) → count f ≡ rest → all ≡ tally_walk m mark n s (node l c (node a d g)) f → AnswerStep w t m mark n i left j rest s all
+  unfolding tally_walk size
+  answer_of l a c d g f h y x z e =
       let p = parts h in
       let p₂ = parts p.rest in
       let in₂ = p₂.says.reads.inside in
-      let item : betweenAt w i 1 200 ≡ between 1 200 l = between-says 1 200 p.says in
-      let leaf : kind l ≡ 2 → i + 1 + size c ≡ i + 1 = λ k. let none = int-leaf l c k p.fits in rw none (omega arith) in
+      let item : between_at w i 1 200 ≡ between 1 200 l = between-says 1 200 p.says in
+      let leaf : kind l ≡ 2 → i + 1 + size c ≡ i + 1 = λ k. let none = int_leaf l c k p.fits in rw none (omega arith) in
       let said : kind l ≡ 2 → Says w t (i + 1) a (count d) = λ k. subst (λ (q : ℕ). Says w t q a (count d)) (leaf k) p₂.says in
       record {
         inside = omega arith;
-        reversed-inside = λ q. lies-inside f y (omega arith);
-        bad-item = λ q. e ∙ rw (sym item ∙ q);
-        bad-answer = λ q v.
+        reversed_inside = λ q. lies_inside f y (omega arith);
+        bad_item = λ q. e ∙ rw (sym item ∙ q);
+        bad_answer = λ q v.
             let k = between-kind 1 200 l (sym item ∙ q) in
             e ∙ rw (sym item ∙ q, sym (between-says 0 m (said k)) ∙ v);
         on = λ q v b u.
@@ -250,37 +250,37 @@ module _ {w t : List ℕ} {m : ℕ} {mark : Bool} {n i left j rest s : ℕ} {all
             let fine : between 0 m a ≡ true = sym (between-says 0 m (said k)) ∙ v in
             let k₂ = between-kind 0 m a fine in
             let number : word_at w (i + 1) 1 ≡ bits a = bits-says (said k) k₂ in
-            let hits : b ≡ isFirst l f = u ∙ ap (hitAt w j rest) (bits-says p.says k) ∙ first-hit l f k y z in
-            let behind : i + 1 + size c + 1 + size d ≡ i + 2 = let none = int-leaf a d k₂ p₂.fits in let o = leaf k in rw none (omega arith) in
-            let step : all ≡ tallyWalk m mark n (s + counted m mark (isFirst l f) (bits a)) g (pastIf (isFirst l f) f) = e ∙ rw (sym item ∙ q, fine) in
-            let after = past-lies b l f y z hits in
+            let hits : b ≡ is_first l f = u ∙ ap (hit_at w j rest) (bits-says p.says k) ∙ first_hit l f k y z in
+            let behind : i + 1 + size c + 1 + size d ≡ i + 2 = let none = int_leaf a d k₂ p₂.fits in let o = leaf k in rw none (omega arith) in
+            let step : all ≡ tally_walk m mark n (s + counted m mark (is_first l f) (bits a)) g (past_if (is_first l f) f) = e ∙ rw (sym item ∙ q, fine) in
+            let after = past_lies b l f y z hits in
             record {
               answers = g;
-              reversed = pastIf b f;
-              answers-lie = subst (λ (o : ℕ). Lies w t o g) behind p₂.rest;
-              reversed-lie = after.0;
+              reversed = past_if b f;
+              answers_lie = subst (λ (o : ℕ). Lies w t o g) behind p₂.rest;
+              reversed_lie = after.0;
               answers-count = x;
-              reversed-count = after.1;
+              reversed_count = after.1;
               same = rw (hits, number) step;
             };
       }
 
   pub answer : TallySoFar w t m mark n i left j rest s all → 0 < left → AnswerStep w t m mark n i left j rest s all
   unfolding count
-  answer q h = go q.answers q.answers-lie q.answers-count q.same
+  answer q h = go q.answers q.answers_lie q.answers-count q.same
     where
-      go : (f : Forest) → Lies w t i f → count f ≡ left + left → all ≡ tallyWalk m mark n s f q.reversed → AnswerStep w t m mark n i left j rest s all
+      go : (f : Forest) → Lies w t i f → count f ≡ left + left → all ≡ tally_walk m mark n s f q.reversed → AnswerStep w t m mark n i left j rest s all
       go nil a b e = absurd (omega arith)
       go (node l c nil) a b e = absurd (omega arith)
-      go (node l c (node v d r)) a b e = answer-of l v c d r q.reversed a q.reversed-lie (omega arith) q.reversed-count e
+      go (node l c (node v d r)) a b e = answer_of l v c d r q.reversed a q.reversed_lie (omega arith) q.reversed_count e
 
   -- no answer is left
   module _ (q : TallySoFar w t m mark n i left j rest s all) (h : left ≡ 0) where
     ended : (rest ≡ 0 → all ≡ Sum s n) × (0 < rest → all ≡ Off)
-    unfolding count tallyWalk
-    ended = go q.answers q.reversed q.answers-count q.reversed-count q.same
+    unfolding count tally_walk
+    ended = go q.answers q.reversed q.answers-count q.reversed_count q.same
       where
-        go : (f g : Forest) → count f ≡ left + left → count g ≡ rest → all ≡ tallyWalk m mark n s f g → (rest ≡ 0 → all ≡ Sum s n) × (0 < rest → all ≡ Off)
+        go : (f g : Forest) → count f ≡ left + left → count g ≡ rest → all ≡ tally_walk m mark n s f g → (rest ≡ 0 → all ≡ Sum s n) × (0 < rest → all ≡ Off)
         go nil nil a b e = (λ o. e, λ o. absurd (omega arith))
         go nil (node l c r) a b e = (λ o. absurd (omega arith), λ o. e)
         go (node l c r) g a b e = absurd (omega arith)
@@ -293,99 +293,99 @@ module _ {w t : List ℕ} {m : ℕ} {mark : Bool} {n i left j rest s : ℕ} {all
 
 -- ---- numbers of a turn
 
-pub hit-some : (w : List ℕ) (j rest item : ℕ) → bit (hitAt w j rest item) ≤ rest
-unfolding hitAt
-hit-some w j rest item = go (ltb 0 rest) refl _
+pub hit_some : (w : List ℕ) (j rest item : ℕ) → bit (hit_at w j rest item) ≤ rest
+unfolding hit_at
+hit_some w j rest item = go (ltb 0 rest) refl _
   where
     go : (x : Bool) → ltb 0 rest ≡ x → (y : Bool) → bit (x && y) ≤ rest
     go false e y = omega arith
     go true e false = omega arith
     go true e true = let h = ltb-true 0 rest e in omega arith
 
-pub bit-back : (b : Bool) → eqb (bit b) 1 ≡ b
-bit-back true = refl
-bit-back false = refl
+pub bit_back : (b : Bool) → eqb (bit b) 1 ≡ b
+bit_back true = refl
+bit_back false = refl
 
-pub counted-most : (m : ℕ) (mark b : Bool) (a : ℕ) → a ≤ m → counted m mark b a ≤ m
-counted-most m true b a h = h
-counted-most m false true a h = omega arith
-counted-most m false false a h = h
+pub counted_most : (m : ℕ) (mark b : Bool) (a : ℕ) → a ≤ m → counted m mark b a ≤ m
+counted_most m true b a h = h
+counted_most m false true a h = omega arith
+counted_most m false false a h = h
 
-pub answer-most : (w : List ℕ) (i a b : ℕ) → betweenAt w i a b ≡ true → word_at w i 1 ≤ b
-unfolding betweenAt
-answer-most w i a b e = leb-true (word_at w i 1) b (both {a = leb a (word_at w i 1)} (both {a = eqb (kindIn (word_at w i 0)) 2} e).1).1
+pub answer_most : (w : List ℕ) (i a b : ℕ) → between_at w i a b ≡ true → word_at w i 1 ≤ b
+unfolding between_at
+answer_most w i a b e = leb-true (word_at w i 1) b (both {a = leb a (word_at w i 1)} (both {a = eqb (kind_in (word_at w i 0)) 2} e).1).1
 
 -- ---- what the code's tests say, with the head h that it read
 
 module _ (w : List ℕ) (i : ℕ) (h : Head) (q : h ≡ head_of (get_or w (4 * i) 0)) where
-  pub kind-read : kindIn (word_at w i 0) ≡ h.kind
+  pub kind-read : kind_in (word_at w i 0) ≡ h.kind
   kind-read = rw (add-zero, q)
 
   -- the value under the key is at record i: of kind d, or not
-  module _ {t : List ℕ} {k : List ℕ} {from left : ℕ} {v : Value} (e : KeyStep w t k from left v) (at : i ≡ from + size_at w from) (y : isKey k (label_at w t from) ≡ true) (d : ℕ) where
-    found-kind : kind v.label ≡ h.kind
-    found-kind =
-        let f : v ≡ e.found = e.yes (ap (isKey k) (sym e.label) ∙ y) in
+  module _ {t : List ℕ} {k : List ℕ} {from left : ℕ} {v : Value} (e : KeyStep w t k from left v) (at : i ≡ from + size_at w from) (y : is_key k (label_at w t from) ≡ true) (d : ℕ) where
+    found_kind : kind v.label ≡ h.kind
+    found_kind =
+        let f : v ≡ e.found = e.yes (ap (is_key k) (sym e.label) ∙ y) in
         ap (λ (x : Value). kind x.label) f ∙ sym e.value-kind ∙ rw (← at) kind-read
 
     pub seek_found : h.kind ≡ d → Sought w t v d i
     seek_found g =
-        let f : v ≡ e.found = e.yes (ap (isKey k) (sym e.label) ∙ y) in
+        let f : v ≡ e.found = e.yes (ap (is_key k) (sym e.label) ∙ y) in
         let far = e.further in
         record {
           missing = λ o. absurd (omega arith);
-          there = λ o. rw (f, at) e.value-lies;
-          right = λ o. found-kind ∙ g;
+          there = λ o. rw (f, at) e.value_lies;
+          right = λ o. found_kind ∙ g;
         }
 
-    pub seek-other : (h.kind ≡ d → ⊥) → Sought w t v d 0
-    seek-other g =
+    pub seek_other : (h.kind ≡ d → ⊥) → Sought w t v d 0
+    seek_other g =
         record {
-          missing = λ o. ne_eqb (kind v.label) d (λ q. g (sym found-kind ∙ q));
+          missing = λ o. ne_eqb (kind v.label) d (λ q. g (sym found_kind ∙ q));
           there = λ o. absurd (omega arith);
           right = λ o. absurd (omega arith);
         }
 
-  pub not_int : (a b : ℕ) → (h.kind ≡ 2 → ⊥) → false ≡ betweenAt w i a b
-  unfolding betweenAt
+  pub not_int : (a b : ℕ) → (h.kind ≡ 2 → ⊥) → false ≡ between_at w i a b
+  unfolding between_at
   not_int a b n = rw (kind-read, ne_eqb h.kind 2 n)
 
-  pub too-low : (a b : ℕ) → word_at w i 1 < a → false ≡ betweenAt w i a b
-  unfolding betweenAt
-  too-low a b l = sym (rw (lt-leb a (word_at w i 1) l) (and-false (eqb (kindIn (word_at w i 0)) 2)))
+  pub too_low : (a b : ℕ) → word_at w i 1 < a → false ≡ between_at w i a b
+  unfolding between_at
+  too_low a b l = sym (rw (lt-leb a (word_at w i 1) l) (and-false (eqb (kind_in (word_at w i 0)) 2)))
 
-  pub not_low : (a b : ℕ) → h.kind ≡ 2 → a ≤ word_at w i 1 → leb (word_at w i 1) b ≡ betweenAt w i a b
-  unfolding betweenAt
+  pub not_low : (a b : ℕ) → h.kind ≡ 2 → a ≤ word_at w i 1 → leb (word_at w i 1) b ≡ between_at w i a b
+  unfolding between_at
   not_low a b k l = rw (kind-read, eq-eqb h.kind 2 k, le-leb a (word_at w i 1) l)
 
-  pub hit_other : (left item : ℕ) → (left ≡ 0 → ⊥) → (h.kind ≡ 2 → ⊥) → 0 ≡ bit (hitAt w i left item)
-  unfolding hitAt
+  pub hit_other : (left item : ℕ) → (left ≡ 0 → ⊥) → (h.kind ≡ 2 → ⊥) → 0 ≡ bit (hit_at w i left item)
+  unfolding hit_at
   hit_other left item some n = rw (lt-ltb 0 left (omega arith), kind-read, ne_eqb h.kind 2 n)
 
-  pub hit-yes : (left item : ℕ) → (left ≡ 0 → ⊥) → h.kind ≡ 2 → item ≡ word_at w i 1 → 1 ≡ bit (hitAt w i left item)
-  unfolding hitAt
-  hit-yes left item some k e = rw (lt-ltb 0 left (omega arith), kind-read, eq-eqb h.kind 2 k, eq-eqb item (word_at w i 1) e)
+  pub hit_yes : (left item : ℕ) → (left ≡ 0 → ⊥) → h.kind ≡ 2 → item ≡ word_at w i 1 → 1 ≡ bit (hit_at w i left item)
+  unfolding hit_at
+  hit_yes left item some k e = rw (lt-ltb 0 left (omega arith), kind-read, eq-eqb h.kind 2 k, eq-eqb item (word_at w i 1) e)
 
-  pub hit-no : (left item : ℕ) → (left ≡ 0 → ⊥) → h.kind ≡ 2 → (item ≡ word_at w i 1 → ⊥) → 0 ≡ bit (hitAt w i left item)
-  unfolding hitAt
-  hit-no left item some k e = rw (lt-ltb 0 left (omega arith), kind-read, eq-eqb h.kind 2 k, ne_eqb item (word_at w i 1) e)
+  pub hit_no : (left item : ℕ) → (left ≡ 0 → ⊥) → h.kind ≡ 2 → (item ≡ word_at w i 1 → ⊥) → 0 ≡ bit (hit_at w i left item)
+  unfolding hit_at
+  hit_no left item some k e = rw (lt-ltb 0 left (omega arith), kind-read, eq-eqb h.kind 2 k, ne_eqb item (word_at w i 1) e)
 
   module _ (t : List ℕ) (r : Reads w t i) (k : List ℕ) where
-    pub not_key : (h.kind ≡ 4 → ⊥) → false ≡ isKey k (label_at w t i)
-    unfolding isKey
+    pub not_key : (h.kind ≡ 4 → ⊥) → false ≡ is_key k (label_at w t i)
+    unfolding is_key
     not_key n = rw (kind_at w t i r, kind-read, ne_eqb h.kind 4 n)
 
-    pub key-inside : h.kind ≡ 4 → word_at w i 1 + word_at w i 2 ≤ length t
-    key-inside e = text-inside w t i h.kind r (ap (λ (x : Head). x.kind) q) (omega arith) (omega arith)
+    pub key_inside : h.kind ≡ 4 → word_at w i 1 + word_at w i 2 ≤ length t
+    key_inside e = text_inside w t i h.kind r (ap (λ (x : Head). x.kind) q) (omega arith) (omega arith)
 
-    pub key-by : h.kind ≡ 4 → compare_is_eq (lex k (take (word_at w i 2) (drop (word_at w i 1) t))) ≡ isKey k (label_at w t i)
-    unfolding isKey label_at label_of
-    key-by e = let u : kindIn (word_at w i 0) ≡ 4 = kind-read ∙ e in rw u
+    pub key_by_lem : h.kind ≡ 4 → compare_is_eq (lex k (take (word_at w i 2) (drop (word_at w i 1) t))) ≡ is_key k (label_at w t i)
+    unfolding is_key label_at label_of
+    key_by_lem e = let u : kind_in (word_at w i 0) ≡ 4 = kind-read ∙ e in rw u
 
 -- no entry is left
-pub seek-end : {w t : List ℕ} {k : List ℕ} {i left : ℕ} {v : Value} (d : ℕ) → Seeking w t k i left v → left ≡ 0 → 0 < d → Sought w t v d 0
-seek-end {v = v} d s h p =
-    let z = seek-none s h in
+pub seek_end : {w t : List ℕ} {k : List ℕ} {i left : ℕ} {v : Value} (d : ℕ) → Seeking w t k i left v → left ≡ 0 → 0 < d → Sought w t v d 0
+seek_end {v = v} d s h p =
+    let z = seek_none s h in
     record {
       missing = λ o. ne_eqb (kind v.label) d (λ q. omega arith);
       there = λ o. absurd (omega arith);
@@ -393,9 +393,9 @@ seek-end {v = v} d s h p =
     }
 
 -- the next place among the reversed items
-pub hit-room : (w : List ℕ) (j rest item r : ℕ) → r ≡ bit (hitAt w j rest item) → (0 < rest → 4 * j + 4 ≤ length w) → j ≤ length w → j + r ≤ length w
-hit-room w j rest item r e h l = go (hitAt w j rest item) refl
+pub hit_room : (w : List ℕ) (j rest item r : ℕ) → r ≡ bit (hit_at w j rest item) → (0 < rest → 4 * j + 4 ≤ length w) → j ≤ length w → j + r ≤ length w
+hit_room w j rest item r e h l = go (hit_at w j rest item) refl
   where
-    go : (b : Bool) → hitAt w j rest item ≡ b → j + r ≤ length w
-    go true q = let u : r ≡ 1 = e ∙ ap bit q in let m = hit-some w j rest item in let o : 0 < rest = omega arith in let i = h o in omega arith
+    go : (b : Bool) → hit_at w j rest item ≡ b → j + r ≤ length w
+    go true q = let u : r ≡ 1 = e ∙ ap bit q in let m = hit_some w j rest item in let o : 0 < rest = omega arith in let i = h o in omega arith
     go false q = let u : r ≡ 0 = e ∙ ap bit q in omega arith

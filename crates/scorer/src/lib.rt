@@ -1,12 +1,12 @@
 // The score of a sheet (RULES, Ask 3), from the table that a reading gave. It stands on the reader's promises about tables: that
-// `well_formed` decides, and what a well-formed table says.
+// `well_formed` decides, and what a well_formed_lem table says.
 ghost use Rattle.std.specs.Prelude.{◌≡◌, ◌+◌, ◌*◌, ◌≤◌, ◌<◌, length, eqb};
 ghost use Rattle.std.proofs.Math.Dec.{compare_is_eq};
 ghost use Rattle.value.specs.Value.{bit};
 ghost use Rattle.value.specs.Stands.{label_at, Reads};
 ghost use Rattle.value.specs.Told.{told as order_of};
-ghost use Rattle.scorer.specs.Sheet.{isKey, counted as countedAs};
-ghost use Rattle.scorer.specs.Steps.{betweenAt, hitAt, Tabled, Lain, Seeks, Both, AddsUp};
+ghost use Rattle.scorer.specs.Sheet.{is_key, counted as countedAs};
+ghost use Rattle.scorer.specs.Steps.{between_at, hit_at, Tabled, Lain, Seeks, Both, AddsUp};
 ghost use Rattle.scorer.specs.Call.{unscored, Assesses, Scores};
 
 use refusal::{Refusal, Which, detail, number};
@@ -48,7 +48,7 @@ fn equal(order: Order) -> bool
 // Record i is the Bytes `name`.
 fn is_key(words: &[u64], text: &[u8], i: usize, name: &[u8]) -> bool
     requires { Reads words.now text.now i }
-    ensures { result ≡ isKey name.now (label_at words.now text.now i) }
+    ensures { result ≡ is_key name.now (label_at words.now text.now i) }
 {
     let kind = head_of(words[4 * i]).kind;
     if kind != KIND_BYTES {
@@ -84,7 +84,7 @@ fn seek(words: &[u64], text: &[u8], entries: u64, name: &[u8], kind: u64) -> usi
 // Record i is an I64 from low to high.
 fn is_between(words: &[u64], i: usize, low: u64, high: u64) -> bool
     requires { 4 * i + 4 ≤ length words.now }
-    ensures { result ≡ betweenAt words.now i low high }
+    ensures { result ≡ between_at words.now i low high }
 {
     if head_of(words[4 * i]).kind != KIND_I64 {
         return false;
@@ -99,7 +99,7 @@ fn is_between(words: &[u64], i: usize, low: u64, high: u64) -> bool
 // 1 where items are left and the next one, at record j, is this one, else 0.
 fn hit(words: &[u64], j: usize, left: u64, item: u64) -> u64
     requires { 0 < left → 4 * j + 4 ≤ length words.now }
-    ensures { result ≡ bit (hitAt words.now j left item) }
+    ensures { result ≡ bit (hit_at words.now j left item) }
 {
     if left == 0 {
         return 0;
@@ -169,7 +169,7 @@ fn tally_answers(
     Tally::Sum(score, entries)
 }
 
-// The value of a well-formed table: whether it is a sheet, and its score.
+// The value of a well_formed_lem table: whether it is a sheet, and its score.
 fn assess(words: &[u64], text: &[u8]) -> Tally
     requires { Tabled words.now text.now }
     ensures { Assesses words.now text.now result }

@@ -1,13 +1,13 @@
 -- Written bytes by computation, as Python and the Rust write them.
 use Rattle.std.specs.Prelude.{ℕ, ◌-◌, ◌^◌, true, List, [], ◌∷◌, ◌++◌, ◌≡◌, refl, replicate}
-use Rattle.op.specs.Table.{code_of, number_in, isNamed, place}
+use Rattle.op.specs.Table.{code_of, number_in, is_named, place}
 use Rattle.value.specs.Value.{Forest, NoneL, I64L, ListL, TupleL, SetL, DictL, ObjectL, nil, node}
-use Rattle.output.specs.Decimal.{figure, figures, noZeros, decimalText, signedText}
-use Rattle.ser.specs.Image.{low, high, inI32, intImage, floatImage, bytesImage, stringImage, globalImage, setOpening, boolImage, opening, joined, listBatch, dictBatch, oneBatch, batchSize, batchesUpTo, batches, itemsImage, tupleMark, tupleOpcode, tupleImage, objectOpcode, stateImage, objectImage, contents, images, framed, pickled}
+use Rattle.output.specs.Decimal.{figure, figures, no_zeros, decimal_text, signed_text}
+use Rattle.ser.specs.Image.{low, high, in_i32, int_image, float_image, bytes_image, string_image, global_image, set_opening, bool_image, opening, joined, list_batch, dict_batch, one_batch, batch_size, batches_up_to, batches, items_image, tuple_mark, tuple_opcode, tuple_image, object_opcode, state_image, object_image, contents, images, framed, pickled}
 
 -- what computes on given values
 unfoldable evaluates : Unit {0}
-unfolding code_of number_in isNamed place figure figures noZeros decimalText signedText low high inI32 intImage floatImage bytesImage stringImage globalImage setOpening boolImage opening joined listBatch dictBatch oneBatch batchSize batchesUpTo batches itemsImage tupleMark tupleOpcode tupleImage objectOpcode stateImage objectImage contents images framed pickled
+unfolding code_of number_in is_named place figure figures no_zeros decimal_text signed_text low high in_i32 int_image float_image bytes_image string_image global_image set_opening bool_image opening joined list_batch dict_batch one_batch batch_size batches_up_to batches items_image tuple_mark tuple_opcode tuple_image object_opcode state_image object_image contents images framed pickled
 evaluates = tt
 
 abbrev i64 : ℕ → Forest → Forest
@@ -24,19 +24,19 @@ pub dict : pickled (record { label = DictL; contents = i64 1 (i64 (2 ^ 64 - 3000
 unfolding evaluates
 dict = refl
 
-pub aSet : pickled (record { label = SetL; contents = i64 5 nil })
+pub a_set : pickled (record { label = SetL; contents = i64 5 nil })
     ≡ 0x80 ∷ 2 ∷ 0x63 ∷ 0x5F ∷ 0x5F ∷ 0x62 ∷ 0x75 ∷ 0x69 ∷ 0x6C ∷ 0x74 ∷ 0x69 ∷ 0x6E ∷ 0x5F ∷ 0x5F ∷ 0x0A ∷ 0x73 ∷ 0x65 ∷ 0x74 ∷ 0x0A ∷ 0x5D ∷ 0x4B ∷ 5 ∷ 0x61 ∷ 0x85 ∷ 0x52 ∷ 0x2E ∷ []
 unfolding evaluates
-aSet = refl
+a_set = refl
 
 -- a new m.C() with the state {}
-pub anObject : pickled (record { label = ObjectL (0x6D ∷ []) (0x43 ∷ []) true; contents = node TupleL nil (node DictL nil nil) })
+pub an_object : pickled (record { label = ObjectL (0x6D ∷ []) (0x43 ∷ []) true; contents = node TupleL nil (node DictL nil nil) })
     ≡ 0x80 ∷ 2 ∷ 0x63 ∷ 0x6D ∷ 0x0A ∷ 0x43 ∷ 0x0A ∷ 0x29 ∷ 0x81 ∷ 0x7D ∷ 0x62 ∷ 0x2E ∷ []
 unfolding evaluates
-anObject = refl
+an_object = refl
 
 -- integers at the ends of their ranges: 255, 256, 65535, 65536, -1, the ends of i32 and the numbers behind them
-pub ints : intImage 255 ∷ intImage 256 ∷ intImage 65535 ∷ intImage 65536 ∷ intImage (2 ^ 64 - 1) ∷ intImage (2 ^ 31 - 1) ∷ intImage (2 ^ 31) ∷ intImage (2 ^ 64 - 2 ^ 31) ∷ intImage (2 ^ 64 - 2 ^ 31 - 1) ∷ []
+pub ints : int_image 255 ∷ int_image 256 ∷ int_image 65535 ∷ int_image 65536 ∷ int_image (2 ^ 64 - 1) ∷ int_image (2 ^ 31 - 1) ∷ int_image (2 ^ 31) ∷ int_image (2 ^ 64 - 2 ^ 31) ∷ int_image (2 ^ 64 - 2 ^ 31 - 1) ∷ []
     ≡ (0x4B ∷ 0xFF ∷ [])
     ∷ (0x4D ∷ 0 ∷ 1 ∷ [])
     ∷ (0x4D ∷ 0xFF ∷ 0xFF ∷ [])
@@ -51,20 +51,20 @@ unfolding evaluates
 ints = refl
 
 -- 1.0, and 'a' and u'a'
-pub aFloat : floatImage 0x3FF0_0000_0000_0000 ≡ 0x47 ∷ 0x3F ∷ 0xF0 ∷ 0 ∷ 0 ∷ 0 ∷ 0 ∷ 0 ∷ 0 ∷ []
+pub a_float : float_image 0x3FF0_0000_0000_0000 ≡ 0x47 ∷ 0x3F ∷ 0xF0 ∷ 0 ∷ 0 ∷ 0 ∷ 0 ∷ 0 ∷ 0 ∷ []
 unfolding evaluates
-aFloat = refl
+a_float = refl
 
-pub texts : bytesImage (0x61 ∷ []) ++ stringImage (0x61 ∷ []) ≡ 0x55 ∷ 1 ∷ 0x61 ∷ 0x58 ∷ 1 ∷ 0 ∷ 0 ∷ 0 ∷ 0x61 ∷ []
+pub texts : bytes_image (0x61 ∷ []) ++ string_image (0x61 ∷ []) ≡ 0x55 ∷ 1 ∷ 0x61 ∷ 0x58 ∷ 1 ∷ 0 ∷ 0 ∷ 0 ∷ 0x61 ∷ []
 unfolding evaluates
 texts = refl
 
 -- 255 bytes are short, 256 are not
-pub short : bytesImage (replicate 255 0x78) ≡ 0x55 ∷ 0xFF ∷ replicate 255 0x78
+pub short : bytes_image (replicate 255 0x78) ≡ 0x55 ∷ 0xFF ∷ replicate 255 0x78
 unfolding evaluates
 short = refl
 
-pub long : bytesImage (replicate 256 0x78) ≡ 0x54 ∷ 0 ∷ 1 ∷ 0 ∷ 0 ∷ replicate 256 0x78
+pub long : bytes_image (replicate 256 0x78) ≡ 0x54 ∷ 0 ∷ 1 ∷ 0 ∷ 0 ∷ replicate 256 0x78
 unfolding evaluates
 long = refl
 
@@ -72,11 +72,11 @@ long = refl
 abbrev nones : ℕ → List (List ℕ)
 nones n = replicate n (0x4E ∷ [])
 
-pub thousand : itemsImage (nones 1000) ≡ 0x28 ∷ replicate 1000 0x4E ++ (0x65 ∷ [])
+pub thousand : items_image (nones 1000) ≡ 0x28 ∷ replicate 1000 0x4E ++ (0x65 ∷ [])
 unfolding evaluates
 thousand = refl
 
-pub one_more : itemsImage (nones 1001) ≡ 0x28 ∷ replicate 1000 0x4E ++ (0x65 ∷ 0x28 ∷ 0x4E ∷ 0x65 ∷ [])
+pub one_more : items_image (nones 1001) ≡ 0x28 ∷ replicate 1000 0x4E ++ (0x65 ∷ 0x28 ∷ 0x4E ∷ 0x65 ∷ [])
 unfolding evaluates
 one_more = refl
 

@@ -3,14 +3,14 @@
 // is left out.
 ghost use Rattle.std.specs.Prelude.{◌≡◌, ◌&&◌, ◌+◌, ◌*◌, ◌^◌, ◌≤◌, ◌<◌, suc, min, length, drop};
 ghost use Rattle.value.specs.Value.{bit};
-ghost use Rattle.value.specs.Stands.{word_at, label_at, arityAt, Reads};
+ghost use Rattle.value.specs.Stands.{word_at, label_at, arity_at, Reads};
 ghost use Rattle.output.specs.Put.{Put, Room};
 ghost use Rattle.op.specs.Table.{code_of};
-ghost use Rattle.value.specs.Shape.{kindIn, namesEnd, modulePart, namePart};
-ghost use Rattle.ser.specs.Image.{low, high, inI32, intImage, floatImage, bytesImage, stringImage, globalImage, setOpening, boolImage, opening, joined, oneBatch, batchSize, batches, itemsImage, tupleMark, tupleOpcode, tupleImage, objectOpcode, objectImage, framed};
+ghost use Rattle.value.specs.Shape.{kind_in, names_end, module_part, name_part};
+ghost use Rattle.ser.specs.Image.{low, high, in_i32, int_image, float_image, bytes_image, string_image, global_image, set_opening, bool_image, opening, joined, one_batch, batch_size, batches, items_image, tuple_mark, tuple_opcode, tuple_image, object_opcode, object_image, framed};
 ghost use Rattle.ser.specs.Walk.{ReadyToWrite, Puts, Wrote};
-ghost use Rattle.ser.specs.Length.{batchesTake, appendsTake, around, openingTakes, recordTakes, recordsTake};
-ghost use Rattle.ser.specs.Writable.{endsCr, writable, writableLabel, writableFrom, RecordsReadable};
+ghost use Rattle.ser.specs.Length.{batches_take, appends_take, around, opening_takes, record_takes, records_take};
+ghost use Rattle.ser.specs.Writable.{ends_cr, writable, writable_label, writable_from, RecordsReadable};
 ghost use Rattle.ser.specs.Call.{WriteCall};
 
 use input::LineEnd;
@@ -53,8 +53,8 @@ fn put_high(n: u64, count: usize, output: &mut [u8], at: usize) -> usize
 }
 
 fn encode_bool(value: bool, output: &mut [u8], at: usize) -> usize
-    requires { Room output.old at (boolImage value) }
-    ensures { Put output.old at (boolImage value) output.new result }
+    requires { Room output.old at (bool_image value) }
+    ensures { Put output.old at (bool_image value) output.new result }
 {
     if value {
         return output::put_byte(op::NEWTRUE, output, at);
@@ -64,7 +64,7 @@ fn encode_bool(value: bool, output: &mut [u8], at: usize) -> usize
 
 // Whether the i64 of 64 bits is one of an i32.
 fn in_i32(bits: u64) -> bool
-    ensures { result ≡ inI32 bits }
+    ensures { result ≡ in_i32 bits }
 {
     if bits < 0x8000_0000 {
         return true;
@@ -74,8 +74,8 @@ fn in_i32(bits: u64) -> bool
 
 // An i64, from its 64 bits.
 fn encode_i64(bits: u64, output: &mut [u8], at: usize) -> usize
-    requires { Room output.old at (intImage bits) }
-    ensures { Put output.old at (intImage bits) output.new result }
+    requires { Room output.old at (int_image bits) }
+    ensures { Put output.old at (int_image bits) output.new result }
 {
     if bits <= 255 {
         let next = output::put_byte(op::BININT1, output, at);
@@ -95,16 +95,16 @@ fn encode_i64(bits: u64, output: &mut [u8], at: usize) -> usize
 }
 
 fn encode_f64(bits: u64, output: &mut [u8], at: usize) -> usize
-    requires { Room output.old at (floatImage bits) }
-    ensures { Put output.old at (floatImage bits) output.new result }
+    requires { Room output.old at (float_image bits) }
+    ensures { Put output.old at (float_image bits) output.new result }
 {
     let next = output::put_byte(op::BINFLOAT, output, at);
     put_high(bits, 8, output, next)
 }
 
 fn encode_bytes(value: &[u8], output: &mut [u8], at: usize) -> usize
-    requires { Room output.old at (bytesImage value.now) }
-    ensures { Put output.old at (bytesImage value.now) output.new result }
+    requires { Room output.old at (bytes_image value.now) }
+    ensures { Put output.old at (bytes_image value.now) output.new result }
 {
     let len = value.len();
     if len <= 255 {
@@ -118,8 +118,8 @@ fn encode_bytes(value: &[u8], output: &mut [u8], at: usize) -> usize
 }
 
 fn encode_string(value: &[u8], output: &mut [u8], at: usize) -> usize
-    requires { Room output.old at (stringImage value.now) }
-    ensures { Put output.old at (stringImage value.now) output.new result }
+    requires { Room output.old at (string_image value.now) }
+    ensures { Put output.old at (string_image value.now) output.new result }
 {
     let next = output::put_byte(op::BINUNICODE, output, at);
     let end = put_low(value.len() as u64, 4, output, next);
@@ -127,8 +127,8 @@ fn encode_string(value: &[u8], output: &mut [u8], at: usize) -> usize
 }
 
 fn encode_global(module: &[u8], name: &[u8], output: &mut [u8], at: usize) -> usize
-    requires { Room output.old at (globalImage «module».now name.now) }
-    ensures { Put output.old at (globalImage «module».now name.now) output.new result }
+    requires { Room output.old at (global_image «module».now name.now) }
+    ensures { Put output.old at (global_image «module».now name.now) output.new result }
 {
     let a = output::put_byte(op::GLOBAL, output, at);
     let b = output::put_run(module, output, a);
@@ -139,8 +139,8 @@ fn encode_global(module: &[u8], name: &[u8], output: &mut [u8], at: usize) -> us
 
 // Python 2 has no set opcodes and pickles `set([items])`: the name, and the list that the items are appended to.
 fn encode_set(name: &[u8], output: &mut [u8], at: usize) -> usize
-    requires { Room output.old at (setOpening name.now) }
-    ensures { Put output.old at (setOpening name.now) output.new result }
+    requires { Room output.old at (set_opening name.now) }
+    ensures { Put output.old at (set_opening name.now) output.new result }
 {
     let next = encode_global(b"__builtin__", name, output, at);
     output::put_byte(op::EMPTY_LIST, output, next)
@@ -148,10 +148,10 @@ fn encode_set(name: &[u8], output: &mut [u8], at: usize) -> usize
 
 // A module and a name, whose texts stand side by side from `from` on; `lengths` has the module's in its upper half.
 fn encode_names(text: &[u8], from: u64, lengths: u64, output: &mut [u8], at: usize) -> usize
-    requires lengths_in_bounds { namesEnd from lengths ≤ length text.now }
-    requires room { Room output.old at (globalImage (modulePart lengths (drop from text.now)) (namePart lengths (drop from text.now))) }
+    requires lengths_in_bounds { names_end from lengths ≤ length text.now }
+    requires room { Room output.old at (global_image (module_part lengths (drop from text.now)) (name_part lengths (drop from text.now))) }
     ensures { Put output.old at
-        (globalImage (modulePart lengths (drop from text.now)) (namePart lengths (drop from text.now)))
+        (global_image (module_part lengths (drop from text.now)) (name_part lengths (drop from text.now)))
         output.new result }
 {
     let start = from as usize;
@@ -216,7 +216,7 @@ const BATCH: usize = 1000;
 
 // The values of a batch: an entry has two.
 fn batch_size(entries: bool) -> usize
-    ensures { result ≡ batchSize entries }
+    ensures { result ≡ batch_size entries }
 {
     if entries {
         return 2 * BATCH;
@@ -226,7 +226,7 @@ fn batch_size(entries: bool) -> usize
 
 // Of so many values, those of the next batch.
 fn batch_of(left: usize, entries: bool) -> usize
-    ensures { result ≡ min (batchSize entries) left }
+    ensures { result ≡ min (batch_size entries) left }
 {
     let size = batch_size(entries);
     if left < size {
@@ -317,8 +317,8 @@ fn encode_batch(
     output: &mut [u8],
     at: usize,
 ) -> Place
-    requires { ReadyToWrite (oneBatch entries) words.now text.now from count output.old at }
-    ensures { Wrote (oneBatch entries) words.now text.now from count
+    requires { ReadyToWrite (one_batch entries) words.now text.now from count output.old at }
+    ensures { Wrote (one_batch entries) words.now text.now from count
         output.old at output.new result.record result.at }
 {
     if entries {
@@ -385,8 +385,8 @@ fn encode_appends(
     output: &mut [u8],
     at: usize,
 ) -> Place
-    requires { ReadyToWrite itemsImage words.now text.now from count output.old at }
-    ensures { Wrote itemsImage words.now text.now from count output.old at output.new result.record result.at }
+    requires { ReadyToWrite items_image words.now text.now from count output.old at }
+    ensures { Wrote items_image words.now text.now from count output.old at output.new result.record result.at }
 {
     if count == 1 {
         let item = encode_items(words, text, from, count, output, at);
@@ -399,8 +399,8 @@ fn encode_appends(
 }
 
 fn tuple_mark(len: usize, output: &mut [u8], at: usize) -> usize
-    requires { Room output.old at (tupleMark len) }
-    ensures { Put output.old at (tupleMark len) output.new result }
+    requires { Room output.old at (tuple_mark len) }
+    ensures { Put output.old at (tuple_mark len) output.new result }
 {
     if len <= 3 {
         return at;
@@ -409,7 +409,7 @@ fn tuple_mark(len: usize, output: &mut [u8], at: usize) -> usize
 }
 
 fn tuple_opcode(len: usize) -> u8
-    ensures { result ≡ code_of (tupleOpcode len) }
+    ensures { result ≡ code_of (tuple_opcode len) }
 {
     if len == 0 {
         return op::EMPTY_TUPLE;
@@ -435,8 +435,8 @@ fn encode_tuple(
     output: &mut [u8],
     at: usize,
 ) -> Place
-    requires { ReadyToWrite tupleImage words.now text.now from count output.old at }
-    ensures { Wrote tupleImage words.now text.now from count output.old at output.new result.record result.at }
+    requires { ReadyToWrite tuple_image words.now text.now from count output.old at }
+    ensures { Wrote tuple_image words.now text.now from count output.old at output.new result.record result.at }
 {
     let next = tuple_mark(count, output, at);
     let end = encode_items(words, text, from, count, output, next);
@@ -447,7 +447,7 @@ fn encode_tuple(
 }
 
 fn object_opcode(new: bool) -> u8
-    ensures { result ≡ code_of (objectOpcode new) }
+    ensures { result ≡ code_of (object_opcode new) }
 {
     if new {
         return op::NEWOBJ;
@@ -466,8 +466,8 @@ fn encode_object(
     output: &mut [u8],
     at: usize,
 ) -> Place
-    requires { ReadyToWrite (objectImage new) words.now text.now from (suc (bit state)) output.old at }
-    ensures { Wrote (objectImage new) words.now text.now from (suc (bit state))
+    requires { ReadyToWrite (object_image new) words.now text.now from (suc (bit state)) output.old at }
+    ensures { Wrote (object_image new) words.now text.now from (suc (bit state))
         output.old at output.new result.record result.at }
 {
     let args = encode(words, text, from, output, at);
@@ -488,7 +488,7 @@ fn encode_object(
 // ---- the length, by arithmetic: no byte is looked at
 
 fn int_len(bits: u64) -> usize
-    ensures { result ≡ length (intImage bits) }
+    ensures { result ≡ length (int_image bits) }
 {
     if bits <= 255 {
         return 2;
@@ -505,8 +505,8 @@ fn int_len(bits: u64) -> usize
 // What stands before the contents of a record, from its kind and its words 1 and 2.
 fn opening_len(kind: u64, second: u64, third: u64) -> usize
     requires kind_bound { kind < 13 }
-    requires third_bound { openingTakes kind second third < 2 ^ 64 }
-    ensures { result ≡ openingTakes kind second third }
+    requires third_bound { opening_takes kind second third < 2 ^ 64 }
+    ensures { result ≡ opening_takes kind second third }
 {
     if kind > KIND_DICT {
         return (third / 0x1_0000_0000) as usize + (third % 0x1_0000_0000) as usize + 3;
@@ -544,7 +544,7 @@ fn opening_len(kind: u64, second: u64, third: u64) -> usize
 // What batches of so many values take beside those: MARK and an opcode each, but an entry alone one opcode.
 fn batches_len(count: usize, entries: bool) -> usize
     requires { count ≤ 2048 }
-    ensures { result ≡ batchesTake entries count }
+    ensures { result ≡ batches_take entries count }
 {
     if entries {
         if count % 2000 == 2 {
@@ -557,7 +557,7 @@ fn batches_len(count: usize, entries: bool) -> usize
 
 fn appends_len(count: usize) -> usize
     requires { count ≤ 2048 }
-    ensures { result ≡ appendsTake count }
+    ensures { result ≡ appends_take count }
 {
     if count < 2 {
         return count;
@@ -595,10 +595,10 @@ fn contents_len(kind: u64, count: usize) -> usize
 // What record i takes without the values in it.
 fn record_len(words: &[u64], i: usize) -> usize
     requires i_in_bounds { 4 * i + 4 ≤ length words.now }
-    requires i_bound { kindIn (word_at words.now i 0) < 13 }
-    requires i_bound_2 { arityAt words.now i ≤ min 2048 (length words.now) }
-    requires i_bound_3 { recordTakes words.now i < 2 ^ 64 }
-    ensures { result ≡ recordTakes words.now i }
+    requires i_bound { kind_in (word_at words.now i 0) < 13 }
+    requires i_bound_2 { arity_at words.now i ≤ min 2048 (length words.now) }
+    requires i_bound_3 { record_takes words.now i < 2 ^ 64 }
+    ensures { result ≡ record_takes words.now i }
 {
     let kind = value::head_of(words[4 * i]).kind;
     let beside = contents_len(kind, value::arity(words, i));
@@ -608,8 +608,8 @@ fn record_len(words: &[u64], i: usize) -> usize
 // What all records take, and PROTO 2 and STOP.
 fn pickle_len(words: &[u64], count: usize, text: &[u8]) -> usize
     requires records_readable { RecordsReadable words.now text.now 0 count }
-    requires count_bound { recordsTake words.now 0 count + 3 < 2 ^ 64 }
-    ensures { result ≡ recordsTake words.now 0 count + 3 }
+    requires count_bound { records_take words.now 0 count + 3 < 2 ^ 64 }
+    ensures { result ≡ records_take words.now 0 count + 3 }
 {
     let mut i = 0;
     let mut sum = 3;
@@ -632,7 +632,7 @@ fn encode_pickle(words: &[u64], text: &[u8], output: &mut [u8]) -> usize
 }
 
 fn ends_with_cr(name: &[u8]) -> bool
-    ensures { result ≡ endsCr name.now }
+    ensures { result ≡ ends_cr name.now }
 {
     let len = name.len();
     if len == 0 {
@@ -653,8 +653,8 @@ fn name_is_writable(name: &[u8]) -> bool
 
 // The same of a module and a name, which stand as for `encode_names`.
 fn names_are_writable(text: &[u8], from: u64, lengths: u64) -> bool
-    requires { namesEnd from lengths ≤ length text.now }
-    ensures { result ≡ (writable (modulePart lengths (drop from text.now)) && writable (namePart lengths (drop from text.now))) }
+    requires { names_end from lengths ≤ length text.now }
+    ensures { result ≡ (writable (module_part lengths (drop from text.now)) && writable (name_part lengths (drop from text.now))) }
 {
     let start = from as usize;
     let first = (lengths / 0x1_0000_0000) as usize;
@@ -668,7 +668,7 @@ fn names_are_writable(text: &[u8], from: u64, lengths: u64) -> bool
 // The same of record i; only a Global and an Object have names.
 fn record_is_writable(words: &[u64], text: &[u8], i: usize) -> bool
     requires { Reads words.now text.now i }
-    ensures { result ≡ writableLabel (label_at words.now text.now i) }
+    ensures { result ≡ writable_label (label_at words.now text.now i) }
 {
     let kind = value::head_of(words[4 * i]).kind;
     if kind > KIND_DICT {
@@ -680,7 +680,7 @@ fn record_is_writable(words: &[u64], text: &[u8], i: usize) -> bool
 // The same of all records.
 fn is_writable(words: &[u64], count: usize, text: &[u8]) -> bool
     requires { RecordsReadable words.now text.now 0 count }
-    ensures { result ≡ writableFrom words.now text.now 0 count }
+    ensures { result ≡ writable_from words.now text.now 0 count }
 {
     let mut i = 0;
     while i < count {

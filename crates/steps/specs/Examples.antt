@@ -2,20 +2,20 @@
 use Rattle.std.specs.Prelude.{[], ◌∷◌, ◌≡◌, refl}
 use Rattle.refusal.specs.declared.Refusal.TheVariants.{EndOfInput, UnsupportedOpcode, IntegerTooLarge, Invalid, OutsideProfile}
 use Rattle.refusal.specs.declared.Wanted.TheVariants.{Length}
-use Rattle.op.specs.Table.{row_in, row_of, knownName, opcode_of}
+use Rattle.op.specs.Table.{row_in, row_of, known_name, opcode_of}
 use Rattle.op.specs.Edition.{evaluates as edition-evaluates}
 use Rattle.op.specs.declared.Edition.TheVariants.{Full, Plain}
-use Rattle.input.specs.Bytes.{lowFirst}
-use Rattle.input.specs.Line.{firstFrom, newlineOf}
+use Rattle.input.specs.Bytes.{low_first}
+use Rattle.input.specs.Line.{first_from, newline_of}
 use Rattle.input.specs.Long.{evaluates as long-evaluates}
 use Rattle.value.specs.Value.{I64L, ListL, TupleL}
-use Rattle.steps.specs.State.{ok, no, ◌>>=◌, need, leaf, bytes, byte, line, pop, top, popMark, popMany, pushId, pushNode, push, link, extend, memoFind, memoHas, memoInsert, get, put}
-use Rattle.steps.specs.Opcodes.{proto, low_bytes, binint1, longN, signedLength, binstring, global, made, tupleN, addItems, append, getBytes, putBytes}
+use Rattle.steps.specs.State.{ok, no, ◌>>=◌, need, leaf, bytes, byte, line, pop, top, pop_mark, pop_many, push_id, push_node, push, link, extend, memo_find, memo_has, memo_insert, get, put}
+use Rattle.steps.specs.Opcodes.{proto, low_bytes, binint1, long_n, signed_length, binstring, global, made, tuple_n, add_items, append, get_bytes, put_bytes}
 use Rattle.steps.specs.Run.{going, does, decide, admit, step, runs, start, run}
 
 -- opens what the examples compute with
 unfoldable evaluates : Unit {0}
-unfolding row_in row_of knownName opcode_of edition-evaluates lowFirst firstFrom newlineOf long-evaluates ◌>>=◌ need leaf bytes byte line pop top popMark popMany pushId pushNode push link extend memoFind memoHas memoInsert get put proto low_bytes binint1 longN signedLength binstring global made tupleN addItems append getBytes putBytes going does decide admit step runs start run
+unfolding row_in row_of known_name opcode_of edition-evaluates low_first first_from newline_of long-evaluates ◌>>=◌ need leaf bytes byte line pop top pop_mark pop_many push_id push_node push link extend memo_find memo_has memo_insert get put proto low_bytes binint1 long_n signed_length binstring global made tuple_n add_items append get_bytes put_bytes going does decide admit step runs start run
 evaluates = tt
 
 -- the listing's input, 80 02 5D 71 00 68 00 4B 05 61 86 2E: a tuple of one list twice, the 5 appended after it was placed
@@ -41,9 +41,9 @@ unfolding evaluates
 too_large = refl
 
 -- 54 FF FF FF FF 2E
-pub negative-length : run Full (0x54 ∷ 0xFF ∷ 0xFF ∷ 0xFF ∷ 0xFF ∷ 0x2E ∷ []) ≡ no (Invalid Length)
+pub negative_length : run Full (0x54 ∷ 0xFF ∷ 0xFF ∷ 0xFF ∷ 0xFF ∷ 0x2E ∷ []) ≡ no (Invalid Length)
 unfolding evaluates
-negative-length = refl
+negative_length = refl
 
 -- GLOBAL's byte alone: the profile refuses it before the operand is read; EXT1 is no opcode of either edition
 pub global-alone : (run Full (0x63 ∷ []) ≡ no EndOfInput) × (run Plain (0x63 ∷ []) ≡ no (OutsideProfile 0x63)) × (run Plain (0x82 ∷ []) ≡ no (UnsupportedOpcode 0x82))

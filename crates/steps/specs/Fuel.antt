@@ -5,17 +5,17 @@ use Rattle.refusal.specs.declared.Refusal.{Refusal}
 use Rattle.op.specs.declared.Edition.{Edition}
 use Rattle.steps.specs.State.{State, Res, ok, no}
 use Rattle.steps.specs.Run.{Next, goes, stops, step, runs, start, run}
-use Rattle.steps.specs.Out.{Out, of-out}
-use Rattle.steps.specs.Keeps.{stateAfter}
+use Rattle.steps.specs.Out.{Out, of_out}
+use Rattle.steps.specs.Keeps.{state_after}
 use Rattle.steps.specs.Shrinks.{step_less}
 
-pub runs-enough : (ed : Edition) (k j : ℕ) (s : State) → length s.input < k → length s.input < j → runs ed k s ≡ runs ed j s
-unfolding runs Out stateAfter
-runs-enough ed zero j s h u = absurd (omega arith)
-runs-enough ed (suc k) zero s h u = absurd (omega arith)
-runs-enough ed (suc k) (suc j) s h u = go (step ed s) refl (step_less ed s) (runs-enough ed k j)
+pub runs_enough : (ed : Edition) (k j : ℕ) (s : State) → length s.input < k → length s.input < j → runs ed k s ≡ runs ed j s
+unfolding runs Out state_after
+runs_enough ed zero j s h u = absurd (omega arith)
+runs_enough ed (suc k) zero s h u = absurd (omega arith)
+runs_enough ed (suc k) (suc j) s h u = go (step ed s) refl (step_less ed s) (runs_enough ed k j)
   where
-    go : (r : Res Next) → step ed s ≡ r → Out (λ (n : Next). length (stateAfter n).input < length s.input) r → ((t : State) → length t.input < k → length t.input < j → runs ed k t ≡ runs ed j t) → runs ed (suc k) s ≡ runs ed (suc j) s
+    go : (r : Res Next) → step ed s ≡ r → Out (λ (n : Next). length (state_after n).input < length s.input) r → ((t : State) → length t.input < k → length t.input < j → runs ed k t ≡ runs ed j t) → runs ed (suc k) s ≡ runs ed (suc j) s
     go (no why) e l more = rw (e, runs)
     go (ok (stops t)) e l more = rw (e, runs)
     go (ok (goes t)) e l more = rw (e, runs) (more t (omega arith) (omega arith))
@@ -24,20 +24,20 @@ runs-enough ed (suc k) (suc j) s h u = go (step ed s) refl (step_less ed s) (run
 unfoldable pub run_from : Edition → State → Res State
 run_from ed s = runs ed (suc (length s.input)) s
 
-pub run-finish : (ed : Edition) (p : List ℕ) → run ed p ≡ run_from ed (start p)
+pub run_finish : (ed : Edition) (p : List ℕ) → run ed p ≡ run_from ed (start p)
 unfolding run run_from start
-run-finish ed p = refl
+run_finish ed p = refl
 
 -- its three equations
 module _ (ed : Edition) (s t : State) where
-  pub finish-refused : (why : Refusal) → step ed s ≡ no why → run_from ed s ≡ no why
+  pub finish_refused : (why : Refusal) → step ed s ≡ no why → run_from ed s ≡ no why
   unfolding run_from runs
-  finish-refused why e = rw (e, runs)
+  finish_refused why e = rw (e, runs)
 
-  pub finish-stops : step ed s ≡ ok (stops t) → run_from ed s ≡ ok t
+  pub finish_stops : step ed s ≡ ok (stops t) → run_from ed s ≡ ok t
   unfolding run_from runs
-  finish-stops e = rw (e, runs)
+  finish_stops e = rw (e, runs)
 
   pub finish-goes : step ed s ≡ ok (goes t) → run_from ed s ≡ run_from ed t
-  unfolding run_from runs stateAfter
-  finish-goes e = rw (e, runs) (runs-enough ed (length s.input) (suc (length t.input)) t (of-out _ (step ed s) (goes t) (step_less ed s) e) (omega arith))
+  unfolding run_from runs state_after
+  finish-goes e = rw (e, runs) (runs_enough ed (length s.input) (suc (length t.input)) t (of_out _ (step ed s) (goes t) (step_less ed s) e) (omega arith))

@@ -16,9 +16,9 @@ pub out : {A : Type 0} (P : A → Type 0) (a : A) → P a → Out P (ok a)
 unfolding Out
 out P a h = h
 
-pub of-out : {A : Type 0} (P : A → Type 0) (r : Res A) (a : A) → Out P r → r ≡ ok a → P a
+pub of_out : {A : Type 0} (P : A → Type 0) (r : Res A) (a : A) → Out P r → r ≡ ok a → P a
 unfolding Out
-of-out P r a h e = rw e at h
+of_out P r a h e = rw e at h
 
 pub weaken : {A : Type 0} (P Q : A → Type 0) (r : Res A) → Out P r → ((a : A) → P a → Q a) → Out Q r
 unfolding Out
@@ -36,15 +36,15 @@ bind P Q (ok a) f h k = k a h
 bind P Q (no why) f h k = tt
 
 -- nothing is known of what came out of the first part but that it did
-pub bind-any : {A B : Type 0} (Q : B → Type 0) (r : Res A) (f : A → Res B) → ((a : A) → r ≡ ok a → Out Q (f a)) → Out Q (r >>= f)
+pub bind_any : {A B : Type 0} (Q : B → Type 0) (r : Res A) (f : A → Res B) → ((a : A) → r ≡ ok a → Out Q (f a)) → Out Q (r >>= f)
 unfolding Out ◌>>=◌
-bind-any Q (ok a) f k = k a refl
-bind-any Q (no why) f k = tt
+bind_any Q (ok a) f k = k a refl
+bind_any Q (no why) f k = tt
 
-pub bind-need : {B : Type 0} (Q : B → Type 0) (b : Bool) (why : Refusal) (f : Unit {0} → Res B) → (T b → Out Q (f tt)) → Out Q (need b why >>= f)
+pub bind_need : {B : Type 0} (Q : B → Type 0) (b : Bool) (why : Refusal) (f : Unit {0} → Res B) → (T b → Out Q (f tt)) → Out Q (need b why >>= f)
 unfolding Out ◌>>=◌ need
-bind-need Q true why f k = k tt
-bind-need Q false why f k = tt
+bind_need Q true why f k = k tt
+bind_need Q false why f k = tt
 
 -- a check at the start of a part that is joined to more
 pub join-need : {A B : Type 0} (Q : B → Type 0) (b : Bool) (why : Refusal) (g : Unit {0} → Res A) (f : A → Res B) → (T b → Out Q (g tt >>= f)) → Out Q (need b why >>= g >>= f)
@@ -52,10 +52,10 @@ unfolding Out ◌>>=◌ need
 join-need Q true why g f k = k tt
 join-need Q false why g f k = tt
 
-pub bind-leaf : {A B : Type 0} (Q : B → Type 0) (r : Read A) (f : A → Res B) → ((a : A) → r ≡ got a → Out Q (f a)) → Out Q (leaf r >>= f)
+pub bind_leaf : {A B : Type 0} (Q : B → Type 0) (r : Read A) (f : A → Res B) → ((a : A) → r ≡ got a → Out Q (f a)) → Out Q (leaf r >>= f)
 unfolding Out ◌>>=◌ leaf
-bind-leaf Q (got a) f k = k a refl
-bind-leaf Q (refused why place) f k = tt
+bind_leaf Q (got a) f k = k a refl
+bind_leaf Q (refused why place) f k = tt
 
 -- ---- a fact of each member of a list
 
@@ -81,11 +81,11 @@ module _ {A : Type 0} (P : A → Type 0) where
   every_drop (suc n) [] a = tt
   every_drop (suc n) (x ∷ l) a = every_drop n l a.1
 
-  pub every-at : (n : ℕ) (l : List A) (d : A) → Every P l → n < length l → P (get_or l n d)
+  pub every_at : (n : ℕ) (l : List A) (d : A) → Every P l → n < length l → P (get_or l n d)
   unfolding Every
-  every-at n [] d a h = absurd (omega arith)
-  every-at zero (x ∷ l) d a h = a.0
-  every-at (suc n) (x ∷ l) d a h = every-at n l d a.1 (omega arith)
+  every_at n [] d a h = absurd (omega arith)
+  every_at zero (x ∷ l) d a h = a.0
+  every_at (suc n) (x ∷ l) d a h = every_at n l d a.1 (omega arith)
 
   pub every_of : (l : List A) (d : A) → ((n : ℕ) → n < length l → P (get_or l n d)) → Every P l
   unfolding Every

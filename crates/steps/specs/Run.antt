@@ -11,7 +11,7 @@ use Rattle.op.specs.declared.Opcode.{Opcode}
 use Rattle.op.specs.declared.Opcode.TheVariants.{MARK, STOP, POP, POP_MARK, DUP, FLOAT, INT, BININT, BININT1, LONG, BININT2, NONE, REDUCE, STRING, BINSTRING, SHORT_BINSTRING, UNICODE, BINUNICODE, APPEND, BUILD, GLOBAL, DICT, EMPTY_DICT, APPENDS, GET, BINGET, LONG_BINGET, LIST, EMPTY_LIST, PUT, BINPUT, LONG_BINPUT, SETITEM, TUPLE, EMPTY_TUPLE, SETITEMS, BINFLOAT, PROTO, NEWOBJ, TUPLE1, TUPLE2, TUPLE3, NEWTRUE, NEWFALSE, LONG1, LONG4}
 use Rattle.value.specs.Value.{NoneL, BoolL, ListL, TupleL, DictL}
 use Rattle.steps.specs.State.{State, Res, ok, no, ◌>>=◌, byte, push}
-use Rattle.steps.specs.Opcodes.{proto, mark, popOne, popToMark, dup, int, binint, binint1, binint2, long, longN, float, binfloat, string, binstring, shortBinstring, unicode, binunicode, global, list, tuple, tupleN, dict, append, appends, setitem, setitems, getLine, getBytes, putLine, putBytes, reduce, newobj, buildState}
+use Rattle.steps.specs.Opcodes.{proto, mark, pop_one, pop_to_mark, dup, int, binint, binint1, binint2, long, long_n, float, binfloat, string, binstring, short_binstring, unicode, binunicode, global, list, tuple, tuple_n, dict, append, appends, setitem, setitems, get_line, get_bytes, put_line, put_bytes, reduce, newobj, build_state}
 
 -- what a step comes to: the machine goes on, or has stopped
 pub data Next : Type 0 where
@@ -26,8 +26,8 @@ going (no why) = no why
 unfoldable pub does : ℕ → Opcode → State → Res Next
 does v MARK s = going (mark s)
 does v STOP s = ok (stops s)
-does v POP s = going (popOne s)
-does v POP_MARK s = going (popToMark s)
+does v POP s = going (pop_one s)
+does v POP_MARK s = going (pop_to_mark s)
 does v DUP s = going (dup s)
 does v FLOAT s = going (float s)
 does v INT s = going (int s)
@@ -39,23 +39,23 @@ does v NONE s = going (push NoneL s)
 does v REDUCE s = going (reduce s)
 does v STRING s = going (string s)
 does v BINSTRING s = going (binstring s)
-does v SHORT_BINSTRING s = going (shortBinstring s)
+does v SHORT_BINSTRING s = going (short_binstring s)
 does v UNICODE s = going (unicode s)
 does v BINUNICODE s = going (binunicode s)
 does v APPEND s = going (append s)
-does v BUILD s = going (buildState s)
+does v BUILD s = going (build_state s)
 does v GLOBAL s = going (global s)
 does v DICT s = going (dict s)
 does v EMPTY_DICT s = going (push DictL s)
 does v APPENDS s = going (appends s)
-does v GET s = going (getLine s)
-does v BINGET s = going (getBytes 1 s)
-does v LONG_BINGET s = going (getBytes 4 s)
+does v GET s = going (get_line s)
+does v BINGET s = going (get_bytes 1 s)
+does v LONG_BINGET s = going (get_bytes 4 s)
 does v LIST s = going (list s)
 does v EMPTY_LIST s = going (push ListL s)
-does v PUT s = going (putLine s)
-does v BINPUT s = going (putBytes 1 s)
-does v LONG_BINPUT s = going (putBytes 4 s)
+does v PUT s = going (put_line s)
+does v BINPUT s = going (put_bytes 1 s)
+does v LONG_BINPUT s = going (put_bytes 4 s)
 does v SETITEM s = going (setitem s)
 does v TUPLE s = going (tuple s)
 does v EMPTY_TUPLE s = going (push TupleL s)
@@ -63,13 +63,13 @@ does v SETITEMS s = going (setitems s)
 does v BINFLOAT s = going (binfloat s)
 does v PROTO s = going (proto v s)
 does v NEWOBJ s = going (newobj s)
-does v TUPLE1 s = going (tupleN 1 s)
-does v TUPLE2 s = going (tupleN 2 s)
-does v TUPLE3 s = going (tupleN 3 s)
+does v TUPLE1 s = going (tuple_n 1 s)
+does v TUPLE2 s = going (tuple_n 2 s)
+does v TUPLE3 s = going (tuple_n 3 s)
 does v NEWTRUE s = going (push (BoolL true) s)
 does v NEWFALSE s = going (push (BoolL false) s)
-does v LONG1 s = going (longN 1 s)
-does v LONG4 s = going (longN 4 s)
+does v LONG1 s = going (long_n 1 s)
+does v LONG4 s = going (long_n 4 s)
 
 -- a byte that is no opcode that the Rust knows is number 4
 unfoldable pub decide : ℕ → Option Opcode → ℕ → State → Res Next

@@ -3,25 +3,25 @@ use Rattle.std.specs.Prelude.{ℕ, suc, ◌+◌, ◌-◌, Bool, true, false, con
 use Rattle.refusal.specs.Read.{Read, got, refused}
 use Rattle.refusal.specs.declared.Refusal.{Refusal}
 use Rattle.refusal.specs.declared.Refusal.TheVariants.{EndOfInput, StackUnderflow, MissingMemo, StackFull, MemoFull, NodesFull, LinksFull}
-use Rattle.input.specs.Line.{newlineOf, line_of}
+use Rattle.input.specs.Line.{newline_of, line_of}
 use Rattle.value.specs.Value.{Label, NoneL}
 
 -- ---- RULES A3.1
 
-abbrev pub stackLimit : ℕ
-stackLimit = 2048
+abbrev pub stack_limit : ℕ
+stack_limit = 2048
 
-abbrev pub marksLimit : ℕ
-marksLimit = 256
+abbrev pub marks_limit : ℕ
+marks_limit = 256
 
-abbrev pub memoLimit : ℕ
-memoLimit = 1024
+abbrev pub memo_limit : ℕ
+memo_limit = 1024
 
-abbrev pub nodesLimit : ℕ
-nodesLimit = 4096
+abbrev pub nodes_limit : ℕ
+nodes_limit = 4096
 
-abbrev pub linksLimit : ℕ
-linksLimit = 8192
+abbrev pub links_limit : ℕ
+links_limit = 8192
 
 -- ---- the state
 
@@ -62,23 +62,23 @@ unfoldable pub leaf : {A : Type 0} → Read A → Res A
 leaf (got a) = ok a
 leaf (refused why place) = no why
 
-abbrev pub withInput : State → List ℕ → State
-withInput s i = record { input = i; nodes = s.nodes; stack = s.stack; marks = s.marks; memo = s.memo; links = s.links }
+abbrev pub with_input : State → List ℕ → State
+with_input s i = record { input = i; nodes = s.nodes; stack = s.stack; marks = s.marks; memo = s.memo; links = s.links }
 
 abbrev pub with_nodes : State → List Node → State
 with_nodes s n = record { input = s.input; nodes = n; stack = s.stack; marks = s.marks; memo = s.memo; links = s.links }
 
-abbrev pub withStack : State → List ℕ → State
-withStack s t = record { input = s.input; nodes = s.nodes; stack = t; marks = s.marks; memo = s.memo; links = s.links }
+abbrev pub with_stack : State → List ℕ → State
+with_stack s t = record { input = s.input; nodes = s.nodes; stack = t; marks = s.marks; memo = s.memo; links = s.links }
 
-abbrev pub withMarks : State → List ℕ → State
-withMarks s m = record { input = s.input; nodes = s.nodes; stack = s.stack; marks = m; memo = s.memo; links = s.links }
+abbrev pub with_marks : State → List ℕ → State
+with_marks s m = record { input = s.input; nodes = s.nodes; stack = s.stack; marks = m; memo = s.memo; links = s.links }
 
-abbrev pub withMemo : State → List (ℕ × ℕ) → State
-withMemo s m = record { input = s.input; nodes = s.nodes; stack = s.stack; marks = s.marks; memo = m; links = s.links }
+abbrev pub with_memo : State → List (ℕ × ℕ) → State
+with_memo s m = record { input = s.input; nodes = s.nodes; stack = s.stack; marks = s.marks; memo = m; links = s.links }
 
-abbrev pub withLinks : State → ℕ → State
-withLinks s n = record { input = s.input; nodes = s.nodes; stack = s.stack; marks = s.marks; memo = s.memo; links = n }
+abbrev pub with_links : State → ℕ → State
+with_links s n = record { input = s.input; nodes = s.nodes; stack = s.stack; marks = s.marks; memo = s.memo; links = n }
 
 -- ---- reading
 
@@ -86,7 +86,7 @@ withLinks s n = record { input = s.input; nodes = s.nodes; stack = s.stack; mark
 unfoldable pub bytes : ℕ → State → Res (List ℕ × State)
 bytes n s = do
   _ ← need (leb n (length s.input)) EndOfInput
-  ok (take n s.input, withInput s (drop n s.input))
+  ok (take n s.input, with_input s (drop n s.input))
 
 -- `u8`
 unfoldable pub byte : State → Res (ℕ × State)
@@ -97,21 +97,21 @@ byte s = do
 -- `line`: to the first newline, less one CR
 unfoldable pub line : State → Res (List ℕ × State)
 line s = do
-  i ← leaf (newlineOf s.input 0)
-  ok (line_of s.input 0 i, withInput s (drop (suc i) s.input))
+  i ← leaf (newline_of s.input 0)
+  ok (line_of s.input 0 i, with_input s (drop (suc i) s.input))
 
 -- ---- the stack and its marks
 
 abbrev pub last : List ℕ → ℕ
 last l = get_or l (length l - 1) 0
 
-abbrev pub butLast : List ℕ → List ℕ
-butLast l = take (length l - 1) l
+abbrev pub but_last : List ℕ → List ℕ
+but_last l = take (length l - 1) l
 
 unfoldable pub pop : State → Res (ℕ × State)
 pop s = do
   _ ← need (ltb 0 (length s.stack)) StackUnderflow
-  ok (last s.stack, withStack s (butLast s.stack))
+  ok (last s.stack, with_stack s (but_last s.stack))
 
 unfoldable pub top : State → Res ℕ
 top s = do
@@ -119,74 +119,74 @@ top s = do
   ok (last s.stack)
 
 -- the values above the mark; a mark above the stack is number 6
-unfoldable pub popMark : State → Res (List ℕ × State)
-popMark s = do
+unfoldable pub pop_mark : State → Res (List ℕ × State)
+pop_mark s = do
   _ ← need (ltb 0 (length s.marks)) StackUnderflow
   let m = last s.marks
   _ ← need (leb m (length s.stack)) StackUnderflow
-  ok (drop m s.stack, withMarks (withStack s (take m s.stack)) (butLast s.marks))
+  ok (drop m s.stack, with_marks (with_stack s (take m s.stack)) (but_last s.marks))
 
 -- the n topmost values, whatever marks there are
-unfoldable pub popMany : ℕ → State → Res (List ℕ × State)
-popMany n s = do
+unfoldable pub pop_many : ℕ → State → Res (List ℕ × State)
+pop_many n s = do
   let z = length s.stack
   _ ← need (leb n z) StackUnderflow
-  ok (drop (z - n) s.stack, withStack s (take (z - n) s.stack))
+  ok (drop (z - n) s.stack, with_stack s (take (z - n) s.stack))
 
 -- StackFull
-unfoldable pub pushId : ℕ → State → Res State
-pushId i s = do
-  _ ← need (ltb (length s.stack) stackLimit) StackFull
-  ok (withStack s (s.stack ++ (i ∷ [])))
+unfoldable pub push_id : ℕ → State → Res State
+push_id i s = do
+  _ ← need (ltb (length s.stack) stack_limit) StackFull
+  ok (with_stack s (s.stack ++ (i ∷ [])))
 
 -- NodesFull, then StackFull
-unfoldable pub pushNode : Node → State → Res State
-pushNode n s = do
-  _ ← need (ltb (length s.nodes) nodesLimit) NodesFull
-  pushId (length s.nodes) (with_nodes s (s.nodes ++ (n ∷ [])))
+unfoldable pub push_node : Node → State → Res State
+push_node n s = do
+  _ ← need (ltb (length s.nodes) nodes_limit) NodesFull
+  push_id (length s.nodes) (with_nodes s (s.nodes ++ (n ∷ [])))
 
 unfoldable pub push : Label → State → Res State
-push l s = pushNode (kidless l) s
+push l s = push_node (kidless l) s
 
 -- LinksFull: k links more
 unfoldable pub link : ℕ → State → Res State
 link k s = do
-  _ ← need (leb (s.links + k) linksLimit) LinksFull
-  ok (withLinks s (s.links + k))
+  _ ← need (leb (s.links + k) links_limit) LinksFull
+  ok (with_links s (s.links + k))
 
 -- ---- nodes
 
-abbrev pub nodeAt : State → ℕ → Node
-nodeAt s i = get_or s.nodes i (kidless NoneL)
+abbrev pub node_by : State → ℕ → Node
+node_by s i = get_or s.nodes i (kidless NoneL)
 
 -- items after those that a node has
 unfoldable pub extend : ℕ → List ℕ → State → State
-extend i items s = with_nodes s (set s.nodes i (record { label = (nodeAt s i).label; kids = (nodeAt s i).kids ++ items }))
+extend i items s = with_nodes s (set s.nodes i (record { label = (node_by s i).label; kids = (node_by s i).kids ++ items }))
 
 -- ---- the memo
 
-unfoldable pub memoFind : List (ℕ × ℕ) → ℕ → Res ℕ
-memoFind [] k = no (MissingMemo k)
-memoFind (e ∷ m) k = cond (eqb k e.0) (ok e.1) (memoFind m k)
+unfoldable pub memo_find : List (ℕ × ℕ) → ℕ → Res ℕ
+memo_find [] k = no (MissingMemo k)
+memo_find (e ∷ m) k = cond (eqb k e.0) (ok e.1) (memo_find m k)
 
-unfoldable pub memoHas : List (ℕ × ℕ) → ℕ → Bool
-memoHas [] k = false
-memoHas (e ∷ m) k = cond (eqb k e.0) true (memoHas m k)
+unfoldable pub memo_has : List (ℕ × ℕ) → ℕ → Bool
+memo_has [] k = false
+memo_has (e ∷ m) k = cond (eqb k e.0) true (memo_has m k)
 
 -- an entry replaced, or a new one at the end
-unfoldable pub memoInsert : List (ℕ × ℕ) → ℕ → ℕ → List (ℕ × ℕ)
-memoInsert [] k i = (k, i) ∷ []
-memoInsert (e ∷ m) k i = cond (eqb k e.0) ((k, i) ∷ m) (e ∷ memoInsert m k i)
+unfoldable pub memo_insert : List (ℕ × ℕ) → ℕ → ℕ → List (ℕ × ℕ)
+memo_insert [] k i = (k, i) ∷ []
+memo_insert (e ∷ m) k i = cond (eqb k e.0) ((k, i) ∷ m) (e ∷ memo_insert m k i)
 
 -- MissingMemo, then StackFull
 unfoldable pub get : ℕ → State → Res State
 get k s = do
-  i ← memoFind s.memo k
-  pushId i s
+  i ← memo_find s.memo k
+  push_id i s
 
 -- the top (6), then MemoFull; a number that is there already is replaced
 unfoldable pub put : ℕ → State → Res State
 put k s = do
   i ← top s
-  _ ← need (cond (memoHas s.memo k) true (ltb (length s.memo) memoLimit)) MemoFull
-  ok (withMemo s (memoInsert s.memo k i))
+  _ ← need (cond (memo_has s.memo k) true (ltb (length s.memo) memo_limit)) MemoFull
+  ok (with_memo s (memo_insert s.memo k i))

@@ -1,8 +1,8 @@
 -- The machine's state as the code keeps it, in lent rooms with counts of what is used: one function from their contents to a State.
 use Rattle.std.specs.Prelude.{ℕ, suc, zero, ◌+◌, ◌^◌, ◌/◌, ◌%◌, ◌<◌, ◌≤◌, cond, List, [], ◌∷◌, ◌++◌, ◌≡◌, ◌≢◌, length, get_or, take, drop, eqb}
-use Rattle.value.specs.Shape.{kindIn}
+use Rattle.value.specs.Shape.{kind_in}
 use Rattle.steps.specs.State.{Node, State}
-use Rattle.steps.specs.NodeWords.{first, second, classIn, nodeIs, HoldsLinks}
+use Rattle.steps.specs.NodeWords.{first, second, class_in, node_is, HoldsLinks}
 pub use Rattle.store.specs.declared.Counts.{Counts}
 
 -- the rooms as a run was lent them
@@ -35,10 +35,10 @@ tabulated f zero = []
 tabulated f (suc n) = tabulated f n ++ (f n ∷ [])
 
 -- the children of those links of the log that o owns, in order
-unfoldable pub linkedItems : List ℕ → List ℕ → ℕ → List ℕ
-linkedItems [] cs o = []
-linkedItems (w ∷ ws) [] o = []
-linkedItems (w ∷ ws) (c ∷ cs) o = cond (eqb w o) (c ∷ linkedItems ws cs o) (linkedItems ws cs o)
+unfoldable pub linked_items : List ℕ → List ℕ → ℕ → List ℕ
+linked_items [] cs o = []
+linked_items (w ∷ ws) [] o = []
+linked_items (w ∷ ws) (c ∷ cs) o = cond (eqb w o) (c ∷ linked_items ws cs o) (linked_items ws cs o)
 
 -- memo numbers, each with its node
 unfoldable pub entries : List ℕ → List ℕ → List (ℕ × ℕ)
@@ -49,61 +49,61 @@ entries (k ∷ ks) (h ∷ hs) = (k, h) ∷ entries ks hs
 -- ---- the state
 
 -- the children of node i's links, of the part of the log that is used
-abbrev pub kidsOf : Rooms → Counts → ℕ → List ℕ
-kidsOf r c i = linkedItems (take c.links r.owners) (take c.links r.children) i
+abbrev pub kids_of : Rooms → Counts → ℕ → List ℕ
+kids_of r c i = linked_items (take c.links r.owners) (take c.links r.children) i
 
 -- node i
 abbrev pub node_of : Rooms → Counts → ℕ → Node
-node_of r c i = nodeIs r.pickle r.nodes (kidsOf r c i) (first r.nodes i) (second r.nodes i)
+node_of r c i = node_is r.pickle r.nodes (kids_of r c i) (first r.nodes i) (second r.nodes i)
 
 -- all of them
-abbrev pub nodesOf : Rooms → Counts → List Node
-nodesOf r c = tabulated (node_of r c) c.nodes
+abbrev pub nodes_of : Rooms → Counts → List Node
+nodes_of r c = tabulated (node_of r c) c.nodes
 
 -- the memo
-abbrev pub memoOf : Rooms → Counts → List (ℕ × ℕ)
-memoOf r c = entries (take c.memo r.keys) (take c.memo r.held)
+abbrev pub memo_of : Rooms → Counts → List (ℕ × ℕ)
+memo_of r c = entries (take c.memo r.keys) (take c.memo r.held)
 
 -- the state that the rooms and counts say
 unfoldable pub state_of : Rooms → Counts → State
-state_of r c = record { input = drop c.at r.pickle; nodes = nodesOf r c; stack = take c.stack r.stack; marks = take c.marks r.marks; memo = memoOf r c; links = c.links }
+state_of r c = record { input = drop c.at r.pickle; nodes = nodes_of r c; stack = take c.stack r.stack; marks = take c.marks r.marks; memo = memo_of r c; links = c.links }
 
 -- ---- one room changed
 
 abbrev pub words_in : Rooms → List ℕ → Rooms
 words_in r l = record { lent = r.lent; pickle = r.pickle; nodes = l; owners = r.owners; children = r.children; stack = r.stack; marks = r.marks; keys = r.keys; held = r.held }
 
-abbrev pub logIn : Rooms → List ℕ → List ℕ → Rooms
-logIn r ws cs = record { lent = r.lent; pickle = r.pickle; nodes = r.nodes; owners = ws; children = cs; stack = r.stack; marks = r.marks; keys = r.keys; held = r.held }
+abbrev pub log_in : Rooms → List ℕ → List ℕ → Rooms
+log_in r ws cs = record { lent = r.lent; pickle = r.pickle; nodes = r.nodes; owners = ws; children = cs; stack = r.stack; marks = r.marks; keys = r.keys; held = r.held }
 
-abbrev pub stackIn : Rooms → List ℕ → Rooms
-stackIn r l = record { lent = r.lent; pickle = r.pickle; nodes = r.nodes; owners = r.owners; children = r.children; stack = l; marks = r.marks; keys = r.keys; held = r.held }
+abbrev pub stack_in : Rooms → List ℕ → Rooms
+stack_in r l = record { lent = r.lent; pickle = r.pickle; nodes = r.nodes; owners = r.owners; children = r.children; stack = l; marks = r.marks; keys = r.keys; held = r.held }
 
-abbrev pub marksIn : Rooms → List ℕ → Rooms
-marksIn r l = record { lent = r.lent; pickle = r.pickle; nodes = r.nodes; owners = r.owners; children = r.children; stack = r.stack; marks = l; keys = r.keys; held = r.held }
+abbrev pub marks_in : Rooms → List ℕ → Rooms
+marks_in r l = record { lent = r.lent; pickle = r.pickle; nodes = r.nodes; owners = r.owners; children = r.children; stack = r.stack; marks = l; keys = r.keys; held = r.held }
 
-abbrev pub memoIn : Rooms → List ℕ → List ℕ → Rooms
-memoIn r ks hs = record { lent = r.lent; pickle = r.pickle; nodes = r.nodes; owners = r.owners; children = r.children; stack = r.stack; marks = r.marks; keys = ks; held = hs }
+abbrev pub memo_in : Rooms → List ℕ → List ℕ → Rooms
+memo_in r ks hs = record { lent = r.lent; pickle = r.pickle; nodes = r.nodes; owners = r.owners; children = r.children; stack = r.stack; marks = r.marks; keys = ks; held = hs }
 
 -- ---- one count changed
 
-abbrev pub atTo : Counts → ℕ → Counts
-atTo c n = record { at = n; nodes = c.nodes; links = c.links; stack = c.stack; deepest = c.deepest; marks = c.marks; most = c.most; memo = c.memo; greatest = c.greatest }
+abbrev pub at_to : Counts → ℕ → Counts
+at_to c n = record { at = n; nodes = c.nodes; links = c.links; stack = c.stack; deepest = c.deepest; marks = c.marks; most = c.most; memo = c.memo; greatest = c.greatest }
 
-abbrev pub nodesTo : Counts → ℕ → Counts
-nodesTo c n = record { at = c.at; nodes = n; links = c.links; stack = c.stack; deepest = c.deepest; marks = c.marks; most = c.most; memo = c.memo; greatest = c.greatest }
+abbrev pub nodes_to : Counts → ℕ → Counts
+nodes_to c n = record { at = c.at; nodes = n; links = c.links; stack = c.stack; deepest = c.deepest; marks = c.marks; most = c.most; memo = c.memo; greatest = c.greatest }
 
-abbrev pub linksTo : Counts → ℕ → Counts
-linksTo c n = record { at = c.at; nodes = c.nodes; links = n; stack = c.stack; deepest = c.deepest; marks = c.marks; most = c.most; memo = c.memo; greatest = c.greatest }
+abbrev pub links_to : Counts → ℕ → Counts
+links_to c n = record { at = c.at; nodes = c.nodes; links = n; stack = c.stack; deepest = c.deepest; marks = c.marks; most = c.most; memo = c.memo; greatest = c.greatest }
 
-abbrev pub stackTo : Counts → ℕ → Counts
-stackTo c n = record { at = c.at; nodes = c.nodes; links = c.links; stack = n; deepest = c.deepest; marks = c.marks; most = c.most; memo = c.memo; greatest = c.greatest }
+abbrev pub stack_to : Counts → ℕ → Counts
+stack_to c n = record { at = c.at; nodes = c.nodes; links = c.links; stack = n; deepest = c.deepest; marks = c.marks; most = c.most; memo = c.memo; greatest = c.greatest }
 
-abbrev pub marksTo : Counts → ℕ → Counts
-marksTo c n = record { at = c.at; nodes = c.nodes; links = c.links; stack = c.stack; deepest = c.deepest; marks = n; most = c.most; memo = c.memo; greatest = c.greatest }
+abbrev pub marks_to : Counts → ℕ → Counts
+marks_to c n = record { at = c.at; nodes = c.nodes; links = c.links; stack = c.stack; deepest = c.deepest; marks = n; most = c.most; memo = c.memo; greatest = c.greatest }
 
-abbrev pub memoTo : Counts → ℕ → Counts
-memoTo c n = record { at = c.at; nodes = c.nodes; links = c.links; stack = c.stack; deepest = c.deepest; marks = c.marks; most = c.most; memo = n; greatest = c.greatest }
+abbrev pub memo_to : Counts → ℕ → Counts
+memo_to c n = record { at = c.at; nodes = c.nodes; links = c.links; stack = c.stack; deepest = c.deepest; marks = c.marks; most = c.most; memo = n; greatest = c.greatest }
 
 -- ---- what the code keeps
 
@@ -113,7 +113,7 @@ Owned owners links n = (k : ℕ) → k < links → get_or owners k 0 < n
 
 -- if a is the first word of an Object, its class is a Global among the n nodes
 unfoldable pub Class : List ℕ → ℕ → ℕ → Type 0
-Class ws n a = kindIn a ≡ 12 → (classIn a < n) × (kindIn (first ws (classIn a)) ≡ 11)
+Class ws n a = kind_in a ≡ 12 → (class_in a < n) × (kind_in (first ws (class_in a)) ≡ 11)
 
 -- every Object's class is a Global
 unfoldable pub Classed : List ℕ → ℕ → Type 0
@@ -134,7 +134,7 @@ pub record Numbered (keys : List ℕ) (n m : ℕ) : Type 0 where
 
 -- the low half of a container's second word is the number of its items
 unfoldable pub Counted : List ℕ → List ℕ → List ℕ → ℕ → ℕ → Type 0
-Counted ws owners children links n = (i : ℕ) → i < n → HoldsLinks (first ws i) → second ws i % 2 ^ 32 ≡ length (linkedItems (take links owners) (take links children) i)
+Counted ws owners children links n = (i : ℕ) → i < n → HoldsLinks (first ws i) → second ws i % 2 ^ 32 ≡ length (linked_items (take links owners) (take links children) i)
 
 -- `is` are the children of links that stand together: the halves of the word b are their number and the place of the first
 pub record Together (b : ℕ) (is children : List ℕ) (links : ℕ) : Type 0 where
@@ -143,7 +143,7 @@ pub record Together (b : ℕ) (is children : List ℕ) (links : ℕ) : Type 0 wh
 
 -- a Tuple's links do, as it never grows
 unfoldable pub Placed : List ℕ → List ℕ → List ℕ → ℕ → ℕ → Type 0
-Placed ws owners children links n = (i : ℕ) → i < n → kindIn (first ws i) ≡ 7 → Together (second ws i) (linkedItems (take links owners) (take links children) i) children links
+Placed ws owners children links n = (i : ℕ) → i < n → kind_in (first ws i) ≡ 7 → Together (second ws i) (linked_items (take links owners) (take links children) i) children links
 
 -- every owner is a List, Tuple or Dict
 unfoldable pub Holding : List ℕ → List ℕ → ℕ → Type 0

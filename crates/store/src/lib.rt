@@ -1,7 +1,7 @@
 // What the machine keeps in its rooms: nodes and memo numbers, the counts of what is used, and the effect that an opcode decides on. The
 // opcodes read it, the effects write it, the passes behind STOP go on from it. specs/ has what rooms and counts say of the state.
 ghost use Rattle.std.specs.Prelude.{true, ◌≡◌, ℕ, ◌+◌, ◌*◌, ◌<◌, ◌≤◌, length, get_or};
-ghost use Rattle.value.specs.Shape.{kindIn};
+ghost use Rattle.value.specs.Shape.{kind_in};
 ghost use Rattle.steps.specs.NodeWords.{first};
 ghost use Rattle.store.specs.Rooms.{Absent, Passed, Numbered};
 
@@ -98,7 +98,7 @@ pub const SHORTS: u64 = 0x1_0000;
 // The kind of a node.
 pub fn kind(nodes: &[u64], id: NodeId) -> u64
     requires { 2 * id.0 < length nodes.now }
-    ensures { result ≡ kindIn (first nodes.now id.0) }
+    ensures { result ≡ kind_in (first nodes.now id.0) }
 {
     let i = 2 * id.0;
     nodes[i] % KIND_RADIX

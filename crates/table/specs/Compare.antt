@@ -9,12 +9,12 @@ use Rattle.refusal.specs.declared.Which.TheVariants.{First, Second}
 use Rattle.refusal.specs.declared.Refusal.TheVariants.{BadTable}
 use Rattle.value.specs.Value.{Value, one, text, table}
 use Rattle.value.specs.Stands.{Stands, Begins}
-use Rattle.value.specs.Tabled.{table-stands}
+use Rattle.value.specs.Tabled.{table_stands}
 use Rattle.value.specs.Order.{order}
 use Rattle.value.specs.WellFormed.{WellFormed}
-use Rattle.table.specs.Find.{findMany, find}
-use Rattle.table.specs.Check.{Lent, checkedOf}
-use Rattle.table.specs.Verdict.{formed-found, found-formed}
+use Rattle.table.specs.Find.{find_many, find}
+use Rattle.table.specs.Check.{Lent, checked_of}
+use Rattle.table.specs.Verdict.{formed_found, found_formed}
 use Rattle.table.specs.declared.Compared.{Compared}
 use Rattle.table.specs.declared.Checked.{Checked}
 use Rattle.table.specs.declared.Checked.TheVariants.{Bad, Good}
@@ -26,8 +26,8 @@ sign_of Ordering.eq = pos 0
 sign_of Ordering.gt = pos 1
 
 -- BadTable, with the table as its detail, and sign 0
-abbrev pub badTable : Which → Compared
-badTable which = record { number = (number_of (BadTable which)).0; detail = (number_of (BadTable which)).1; sign = pos 0 }
+abbrev pub bad_table : Which → Compared
+bad_table which = record { number = (number_of (BadTable which)).0; detail = (number_of (BadTable which)).1; sign = pos 0 }
 
 -- number 0, and the sign
 abbrev pub ordered : Ordering → Compared
@@ -35,8 +35,8 @@ ordered o = record { number = 0; detail = 0; sign = sign_of o }
 
 -- the first table is looked at first; both well formed, the order of their values
 pub record Compares (w : List ℕ) (n : ℕ) (t : List ℕ) (v : List ℕ) (m : ℕ) (u : List ℕ) (r : Compared) : Type 0 where
-  pub first : (WellFormed w n t → ⊥) → r ≡ badTable First
-  pub second : WellFormed w n t → (WellFormed v m u → ⊥) → r ≡ badTable Second
+  pub first : (WellFormed w n t → ⊥) → r ≡ bad_table First
+  pub second : WellFormed w n t → (WellFormed v m u → ⊥) → r ≡ bad_table Second
   pub both : (a : WellFormed w n t) (b : WellFormed v m u) → r ≡ ordered (order a.value b.value)
 
 -- ---- a table is well formed or it is not
@@ -44,54 +44,54 @@ pub record Compares (w : List ℕ) (n : ℕ) (t : List ℕ) (v : List ℕ) (m : 
 pub decided : (w : List ℕ) (n : ℕ) (t : List ℕ) → WellFormed w n t ⊎ (WellFormed w n t → ⊥)
 decided w n t = go (ltb 2048 n) (ltb (length w) (4 * n)) (ltb 65536 (length t)) refl refl refl
   where
-    last : Lent w n t → (s : Checked) → checkedOf (findMany (find w n t 64) 1 0 0) ≡ s → WellFormed w n t ⊎ (WellFormed w n t → ⊥)
-    last lent Bad e = inr (λ a. let x = formed-found w n t a in let z : ◌≡◌ {A = ℕ} 0 1 = cc in omega arith)
+    last : Lent w n t → (s : Checked) → checked_of (find_many (find w n t 64) 1 0 0) ≡ s → WellFormed w n t ⊎ (WellFormed w n t → ⊥)
+    last lent Bad e = inr (λ a. let x = formed_found w n t a in let z : ◌≡◌ {A = ℕ} 0 1 = cc in omega arith)
     last lent (Good j d) e = ends (eqb j n) (eqb d (length t)) refl refl
       where
         ends : (p q : Bool) → eqb j n ≡ p → eqb d (length t) ≡ q → WellFormed w n t ⊎ (WellFormed w n t → ⊥)
-        ends true true x y = inl (found-formed w n t lent (e ∙ rw (eqb-true j n x, eqb-true d (length t) y)))
-        ends true false x y = inr (λ a. let f = formed-found w n t a in eqb-false d (length t) y (cc))
-        ends false q x y = inr (λ a. let f = formed-found w n t a in eqb-false j n x (cc))
+        ends true true x y = inl (found_formed w n t lent (e ∙ rw (eqb-true j n x, eqb-true d (length t) y)))
+        ends true false x y = inr (λ a. let f = formed_found w n t a in eqb-false d (length t) y (cc))
+        ends false q x y = inr (λ a. let f = formed_found w n t a in eqb-false j n x (cc))
 
     go : (p q r : Bool) → ltb 2048 n ≡ p → ltb (length w) (4 * n) ≡ q → ltb 65536 (length t) ≡ r → WellFormed w n t ⊎ (WellFormed w n t → ⊥)
     go true q r x y z = inr (λ a. let f = a.few in let g = ltb-true 2048 n x in omega arith)
     go false true r x y z = inr (λ a. let f = a.lent in let g = ltb-true (length w) (4 * n) y in omega arith)
     go false false true x y z = inr (λ a. let f = a.short in let g = ltb-true 65536 (length t) z in omega arith)
-    go false false false x y z = last (record { room = ltb-false (length w) (4 * n) y; few = ltb-false 2048 n x; short = ltb-false 65536 (length t) z }) (checkedOf (findMany (find w n t 64) 1 0 0)) refl
+    go false false false x y z = last (record { room = ltb-false (length w) (4 * n) y; few = ltb-false 2048 n x; short = ltb-false 65536 (length t) z }) (checked_of (find_many (find w n t 64) 1 0 0)) refl
 
 -- the answer is determined
-pub compare-one : (w : List ℕ) (n : ℕ) (t : List ℕ) (v : List ℕ) (m : ℕ) (u : List ℕ) (r s : Compared) → Compares w n t v m u r → Compares w n t v m u s → r ≡ s
-compare-one w n t v m u r s x y = go (decided w n t) (decided v m u)
+pub compare_one : (w : List ℕ) (n : ℕ) (t : List ℕ) (v : List ℕ) (m : ℕ) (u : List ℕ) (r s : Compared) → Compares w n t v m u r → Compares w n t v m u s → r ≡ s
+compare_one w n t v m u r s x y = go (decided w n t) (decided v m u)
   where
     go : WellFormed w n t ⊎ (WellFormed w n t → ⊥) → WellFormed v m u ⊎ (WellFormed v m u → ⊥) → r ≡ s
     go (inr a) b = x.first a ∙ sym (y.first a)
     go (inl a) (inr b) = x.second a b ∙ sym (y.second a b)
     go (inl a) (inl b) = x.both a b ∙ sym (y.both a b)
 
--- the value of a well-formed table stands at its first record
-pub formed-stands : (w : List ℕ) (n : ℕ) (t : List ℕ) (a : WellFormed w n t) → Stands w t 0 (one a.value)
-formed-stands w n t a =
+-- the value of a well_formed_lem table stands at its first record
+pub formed_stands : (w : List ℕ) (n : ℕ) (t : List ℕ) (a : WellFormed w n t) → Stands w t 0 (one a.value)
+formed_stands w n t a =
     let f = one a.value in
     let e : drop (4 * 0) w ≡ table f 0 ++ drop (4 * n) w = sym (take-append-drop (4 * n) w) ∙ rw a.records in
     let d : drop 0 t ≡ text f ++ [] = a.texts ∙ sym (append-nil (text f)) in
-    table-stands w t f 0 0 (drop (4 * n) w) [] a.shape e d (omega arith)
+    table_stands w t f 0 0 (drop (4 * n) w) [] a.shape e d (omega arith)
 
-pub formed-begins : (w : List ℕ) (n : ℕ) (t : List ℕ) → WellFormed w n t → Begins w t 0
-formed-begins w n t a = record { value = a.value; stands = formed-stands w n t a }
+pub formed_begins : (w : List ℕ) (n : ℕ) (t : List ℕ) → WellFormed w n t → Begins w t 0
+formed_begins w n t a = record { value = a.value; stands = formed_stands w n t a }
 
 -- ---- the code's answers
 
 module _ (w : List ℕ) (n : ℕ) (t : List ℕ) (v : List ℕ) (m : ℕ) (u : List ℕ) (r : Compared) where
-  pub compares-first : (WellFormed w n t → ⊥) → r ≡ badTable First → Compares w n t v m u r
-  compares-first h e = record { first = λ q. e; second = λ a q. absurd (h a); both = λ a b. absurd (h a) }
+  pub compares_first : (WellFormed w n t → ⊥) → r ≡ bad_table First → Compares w n t v m u r
+  compares_first h e = record { first = λ q. e; second = λ a q. absurd (h a); both = λ a b. absurd (h a) }
 
-  pub compares-second : WellFormed w n t → (WellFormed v m u → ⊥) → r ≡ badTable Second → Compares w n t v m u r
-  compares-second a h e = record { first = λ q. absurd (q a); second = λ x q. e; both = λ x b. absurd (h b) }
+  pub compares_second : WellFormed w n t → (WellFormed v m u → ⊥) → r ≡ bad_table Second → Compares w n t v m u r
+  compares_second a h e = record { first = λ q. absurd (q a); second = λ x q. e; both = λ x b. absurd (h b) }
 
-  pub compares-both : (o : Ordering) → WellFormed w n t → WellFormed v m u → r ≡ ordered o → ((x y : Value) → Stands w t 0 (one x) → Stands v u 0 (one y) → o ≡ order x y) → Compares w n t v m u r
-  compares-both o a b e h =
+  pub compares_both : (o : Ordering) → WellFormed w n t → WellFormed v m u → r ≡ ordered o → ((x y : Value) → Stands w t 0 (one x) → Stands v u 0 (one y) → o ≡ order x y) → Compares w n t v m u r
+  compares_both o a b e h =
       record {
         first = λ q. absurd (q a);
         second = λ x q. absurd (q b);
-        both = λ x y. e ∙ ap ordered (h x.value y.value (formed-stands w n t x) (formed-stands v m u y));
+        both = λ x y. e ∙ ap ordered (h x.value y.value (formed_stands w n t x) (formed_stands v m u y));
       }

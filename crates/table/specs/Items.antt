@@ -7,13 +7,13 @@ use Rattle.std.proofs.Math.Dec.{eqb}
 use borrow.Author.Tests.{lt-ltb, le-ltb}
 use native.Mathlib.Omega.{arith}
 use Rattle.value.specs.Value.{Label, Forest, Value, one, count, size, nil, node}
-use Rattle.value.specs.Shape.{kindIn, newIn, label_of}
+use Rattle.value.specs.Shape.{kind_in, fresh_in, label_of}
 use Rattle.value.specs.Stands.{word_at, label_at, Stands, stands_one}
 use Rattle.value.specs.Order.{order}
-use Rattle.value.specs.WellFormed.{less, ascending, keys, firstIsTuple, isTuple}
-use Rattle.table.specs.Record.{EachBelow, each_below, labelBy}
+use Rattle.value.specs.WellFormed.{less, ascending, keys, first_is_tuple, is_tuple}
+use Rattle.table.specs.Record.{EachBelow, each_below, label_by}
 use Rattle.table.specs.Sound.{size_at, Sized}
-use Rattle.table.specs.Names.{orderedIn}
+use Rattle.table.specs.Names.{ordered_in}
 
 -- m values that stand from record i on, each saying its size
 pub record Held (w t : List ℕ) (i m : ℕ) : Type 0 where
@@ -27,14 +27,14 @@ unfoldable pub picked : ℕ → Forest → Forest
 picked e f = cond (eqb e 1) f (keys f)
 
 -- what a label with word 0 a asks of its contents
-unfoldable pub arrangedBy : ℕ → Forest → Bool
-arrangedBy k f = cond (ltb k 8) true (cond (ltb k 10) (ascending (picked 1 f)) (cond (ltb k 11) (ascending (picked 2 f)) (cond (ltb k 12) true (firstIsTuple f))))
+unfoldable pub arranged_by : ℕ → Forest → Bool
+arranged_by k f = cond (ltb k 8) true (cond (ltb k 10) (ascending (picked 1 f)) (cond (ltb k 11) (ascending (picked 2 f)) (cond (ltb k 12) true (first_is_tuple f))))
 
-pub ordered-back : (a b c : ℕ) (x : List ℕ) (f : Forest) → kindIn a < 13 → orderedIn (label_of a b c x) f ≡ arrangedBy (kindIn a) f
-unfolding orderedIn label_of labelBy arrangedBy picked EachBelow
-ordered-back a b c x f known =
-    each_below 13 (λ k. orderedIn (labelBy (newIn a) b c x k) f ≡ arrangedBy k f)
-    (refl, (refl, (refl, (refl, (refl, (refl, (refl, (refl, (refl, (refl, (refl, (refl, (refl, tt))))))))))))) (kindIn a) known
+pub ordered_back : (a b c : ℕ) (x : List ℕ) (f : Forest) → kind_in a < 13 → ordered_in (label_of a b c x) f ≡ arranged_by (kind_in a) f
+unfolding ordered_in label_of label_by arranged_by picked EachBelow
+ordered_back a b c x f known =
+    each_below 13 (λ k. ordered_in (label_by (fresh_in a) b c x k) f ≡ arranged_by k f)
+    (refl, (refl, (refl, (refl, (refl, (refl, (refl, (refl, (refl, (refl, (refl, (refl, (refl, tt))))))))))))) (kind_in a) known
 
 -- the record behind an item, or behind a key and its value
 unfoldable pub next_at : List ℕ → ℕ → ℕ → ℕ
@@ -58,25 +58,25 @@ pub record ItemStep (w t : List ℕ) (e p : ℕ) (f : Forest) : Type 0 where
   pub first : Value
   pub second : Value
   pub rest : Forest
-  pub first-stands : Stands w t p (one first)
-  pub second-stands : Stands w t (next_at w e p) (one second)
-  pub rest-stands : Stands w t (next_at w e p) rest
-  pub rest-sized : Sized w (next_at w e p) rest
+  pub first_stands : Stands w t p (one first)
+  pub second_stands : Stands w t (next_at w e p) (one second)
+  pub rest_stands : Stands w t (next_at w e p) rest
+  pub rest_sized : Sized w (next_at w e p) rest
   pub fewer : count rest ≡ count f - e
   pub ordered : ascending (picked e f) ≡ (less (order first second) && ascending (picked e rest))
 
-keysAfter : Forest → Forest
-keysAfter nil = nil
-keysAfter (node m d r) = keys r
+keys_after : Forest → Forest
+keys_after nil = nil
+keys_after (node m d r) = keys r
 
-keys-node : (l : Label) (c r : Forest) → keys (node l c r) ≡ node l c (keysAfter r)
-unfolding keys keysAfter
-keys-node l c nil = refl
-keys-node l c (node m d r) = refl
+keys_node : (l : Label) (c r : Forest) → keys (node l c r) ≡ node l c (keys_after r)
+unfolding keys keys_after
+keys_node l c nil = refl
+keys_node l c (node m d r) = refl
 
 keys-order : (l m k : Label) (c d g r : Forest) → ascending (keys (node l c (node m d (node k g r)))) ≡ (less (order (value l c) (value k g)) && ascending (keys (node k g r)))
 unfolding ascending keys
-keys-order l m k c d g r = rw (keys-node k g r)
+keys-order l m k c d g r = rw (keys_node k g r)
 
 module _ (w t : List ℕ) where
   items : (p : ℕ) (l m : Label) (c d r : Forest) → Stands w t p (node l c (node m d r)) → Sized w p (node l c (node m d r)) → ItemStep w t 1 p (node l c (node m d r))
@@ -91,10 +91,10 @@ module _ (w t : List ℕ) where
         first = value l c;
         second = value m d;
         rest = node m d r;
-        first-stands = (s.0, s.1, tt);
-        second-stands = subst (λ (x : ℕ). Stands w t x (node m d nil)) q (s.2.0, s.2.1, tt);
-        rest-stands = subst (λ (x : ℕ). Stands w t x (node m d r)) q s.2;
-        rest-sized = subst (λ (x : ℕ). Sized w x (node m d r)) q z.1;
+        first_stands = (s.0, s.1, tt);
+        second_stands = subst (λ (x : ℕ). Stands w t x (node m d nil)) q (s.2.0, s.2.1, tt);
+        rest_stands = subst (λ (x : ℕ). Stands w t x (node m d r)) q s.2;
+        rest_sized = subst (λ (x : ℕ). Sized w x (node m d r)) q z.1;
         fewer = omega arith;
         ordered = refl;
       }
@@ -114,10 +114,10 @@ module _ (w t : List ℕ) where
         first = value l c;
         second = value k g;
         rest = node k g r;
-        first-stands = (s.0, s.1, tt);
-        second-stands = subst (λ (x : ℕ). Stands w t x (node k g nil)) u (s.2.2.0, s.2.2.1, tt);
-        rest-stands = subst (λ (x : ℕ). Stands w t x (node k g r)) u s.2.2;
-        rest-sized = subst (λ (x : ℕ). Sized w x (node k g r)) u z.1.1;
+        first_stands = (s.0, s.1, tt);
+        second_stands = subst (λ (x : ℕ). Stands w t x (node k g nil)) u (s.2.2.0, s.2.2.1, tt);
+        rest_stands = subst (λ (x : ℕ). Stands w t x (node k g r)) u s.2.2;
+        rest_sized = subst (λ (x : ℕ). Sized w x (node k g r)) u z.1.1;
         fewer = omega arith;
         ordered = keys-order l m k c d g r;
       }
@@ -136,29 +136,29 @@ module _ (w t : List ℕ) where
   step (suc (suc (suc e))) p f x y s z h = absurd (omega arith)
 
   -- an Object's first value, by its record
-  tuple-kind : (a b c : ℕ) (x : List ℕ) → kindIn a < 13 → isTuple (label_of a b c x) ≡ eqb (kindIn a) 7
-  unfolding label_of labelBy EachBelow
+  tuple-kind : (a b c : ℕ) (x : List ℕ) → kind_in a < 13 → is_tuple (label_of a b c x) ≡ eqb (kind_in a) 7
+  unfolding label_of label_by EachBelow
   tuple-kind a b c x known =
-      each_below 13 (λ k. isTuple (labelBy (newIn a) b c x k) ≡ eqb k 7)
-      (refl, (refl, (refl, (refl, (refl, (refl, (refl, (refl, (refl, (refl, (refl, (refl, (refl, tt))))))))))))) (kindIn a) known
+      each_below 13 (λ k. is_tuple (label_by (fresh_in a) b c x k) ≡ eqb k 7)
+      (refl, (refl, (refl, (refl, (refl, (refl, (refl, (refl, (refl, (refl, (refl, (refl, (refl, tt))))))))))))) (kind_in a) known
 
-  pub first_kind : (i : ℕ) (f : Forest) → Stands w t i f → 1 ≤ count f → firstIsTuple f ≡ eqb (kindIn (word_at w i 0)) 7
+  pub first_kind : (i : ℕ) (f : Forest) → Stands w t i f → 1 ≤ count f → first_is_tuple f ≡ eqb (kind_in (word_at w i 0)) 7
   unfolding Stands count label_at
   first_kind i nil s h = absurd (omega arith)
-  first_kind i (node l c r) s h = ap isTuple (sym s.0.label) ∙ tuple-kind (word_at w i 0) (word_at w i 1) (word_at w i 2) _ s.0.reads.known
+  first_kind i (node l c r) s h = ap is_tuple (sym s.0.label) ∙ tuple-kind (word_at w i 0) (word_at w i 1) (word_at w i 2) _ s.0.reads.known
 
 -- one item, or one entry, or none
-pub few-ascend : (e : ℕ) (f : Forest) → 1 ≤ e → e ≤ 2 → count f ≤ e → ascending (picked e f) ≡ true
+pub few_ascend : (e : ℕ) (f : Forest) → 1 ≤ e → e ≤ 2 → count f ≤ e → ascending (picked e f) ≡ true
 unfolding picked ascending keys count
-few-ascend zero f x y h = absurd (omega arith)
-few-ascend (suc zero) nil x y h = refl
-few-ascend (suc zero) (node l c nil) x y h = refl
-few-ascend (suc zero) (node l c (node m d r)) x y h = absurd (omega arith)
-few-ascend (suc (suc zero)) nil x y h = refl
-few-ascend (suc (suc zero)) (node l c nil) x y h = refl
-few-ascend (suc (suc zero)) (node l c (node m d nil)) x y h = refl
-few-ascend (suc (suc zero)) (node l c (node m d (node k g r))) x y h = absurd (omega arith)
-few-ascend (suc (suc (suc e))) f x y h = absurd (omega arith)
+few_ascend zero f x y h = absurd (omega arith)
+few_ascend (suc zero) nil x y h = refl
+few_ascend (suc zero) (node l c nil) x y h = refl
+few_ascend (suc zero) (node l c (node m d r)) x y h = absurd (omega arith)
+few_ascend (suc (suc zero)) nil x y h = refl
+few_ascend (suc (suc zero)) (node l c nil) x y h = refl
+few_ascend (suc (suc zero)) (node l c (node m d nil)) x y h = refl
+few_ascend (suc (suc zero)) (node l c (node m d (node k g r))) x y h = absurd (omega arith)
+few_ascend (suc (suc (suc e))) f x y h = absurd (omega arith)
 
 -- ---- the way from item to item: what is left decides for all
 
@@ -183,7 +183,7 @@ module _ (w t : List ℕ) (i m e : ℕ) (low : 1 ≤ e) (high : e ≤ 2) where
 
   module _ (p left : ℕ) (r : Rest w t i m e p left) where
     pub rest-done : left ≤ e → (f : Forest) → Stands w t i f → count f ≡ m → true ≡ ascending (picked e f)
-    rest-done h f s c = let n = r.counted in sym (r.same f s c ∙ few-ascend e r.values low high (omega arith))
+    rest-done h f s c = let n = r.counted in sym (r.same f s c ∙ few_ascend e r.values low high (omega arith))
 
     module _ (more : e < left) where
       pub rest-step : ItemStep w t e p r.values
@@ -191,43 +191,43 @@ module _ (w t : List ℕ) (i m e : ℕ) (low : 1 ≤ e) (high : e ≤ 2) where
 
       module _ (o : Ordering) (told : (v u : Value) → Stands w t p (one v) → Stands w t (next_at w e p) (one u) → o ≡ order v u) where
         decided : (f : Forest) → Stands w t i f → count f ≡ m → ascending (picked e f) ≡ (less o && ascending (picked e rest-step.rest))
-        decided f s c = r.same f s c ∙ rest-step.ordered ∙ rw (told rest-step.first rest-step.second rest-step.first-stands rest-step.second-stands)
+        decided f s c = r.same f s c ∙ rest-step.ordered ∙ rw (told rest-step.first rest-step.second rest-step.first_stands rest-step.second_stands)
 
-        pub rest-not : less o ≡ false → (f : Forest) → Stands w t i f → count f ≡ m → false ≡ ascending (picked e f)
-        rest-not q f s c = sym (decided f s c ∙ rw q)
+        pub rest_not : less o ≡ false → (f : Forest) → Stands w t i f → count f ≡ m → false ≡ ascending (picked e f)
+        rest_not q f s c = sym (decided f s c ∙ rw q)
 
         pub rest-less : less o ≡ true → Rest w t i m e (next_at w e p) (left - e)
         rest-less q =
             record {
               values = rest-step.rest;
-              stands = rest-step.rest-stands;
-              sized = rest-step.rest-sized;
+              stands = rest-step.rest_stands;
+              sized = rest-step.rest_sized;
               counted = rest-step.fewer ∙ ap (λ (x : ℕ). x - e) r.counted;
               same = λ f s c. decided f s c ∙ rw q;
             }
 
 -- ---- what a label asks of its contents, by its kind k
 
-module _ (a k : ℕ) (f : Forest) (e : k ≡ kindIn a) where
-  pub arranged-none : k < 8 → true ≡ arrangedBy (kindIn a) f
-  unfolding arrangedBy
-  arranged-none h = rw (← e, lt-ltb k 8 h)
+module _ (a k : ℕ) (f : Forest) (e : k ≡ kind_in a) where
+  pub arranged_none : k < 8 → true ≡ arranged_by (kind_in a) f
+  unfolding arranged_by
+  arranged_none h = rw (← e, lt-ltb k 8 h)
 
-  pub arranged-items : 8 ≤ k → k < 10 → ascending (picked 1 f) ≡ arrangedBy (kindIn a) f
-  unfolding arrangedBy
-  arranged-items g h = rw (← e, le-ltb k 8 g, lt-ltb k 10 h)
+  pub arranged_items : 8 ≤ k → k < 10 → ascending (picked 1 f) ≡ arranged_by (kind_in a) f
+  unfolding arranged_by
+  arranged_items g h = rw (← e, le-ltb k 8 g, lt-ltb k 10 h)
 
-  pub arranged-keys : 10 ≤ k → k < 11 → ascending (picked 2 f) ≡ arrangedBy (kindIn a) f
-  unfolding arrangedBy
-  arranged-keys g h = rw (← e, le-ltb k 8 (omega arith), le-ltb k 10 g, lt-ltb k 11 h)
+  pub arranged_keys : 10 ≤ k → k < 11 → ascending (picked 2 f) ≡ arranged_by (kind_in a) f
+  unfolding arranged_by
+  arranged_keys g h = rw (← e, le-ltb k 8 (omega arith), le-ltb k 10 g, lt-ltb k 11 h)
 
-  pub arranged-name : 11 ≤ k → k < 12 → true ≡ arrangedBy (kindIn a) f
-  unfolding arrangedBy
-  arranged-name g h = rw (← e, le-ltb k 8 (omega arith), le-ltb k 10 (omega arith), le-ltb k 11 g, lt-ltb k 12 h)
+  pub arranged_name : 11 ≤ k → k < 12 → true ≡ arranged_by (kind_in a) f
+  unfolding arranged_by
+  arranged_name g h = rw (← e, le-ltb k 8 (omega arith), le-ltb k 10 (omega arith), le-ltb k 11 g, lt-ltb k 12 h)
 
-  pub arranged-object : 12 ≤ k → firstIsTuple f ≡ arrangedBy (kindIn a) f
-  unfolding arrangedBy
-  arranged-object g = rw (← e, le-ltb k 8 (omega arith), le-ltb k 10 (omega arith), le-ltb k 11 (omega arith), le-ltb k 12 g)
+  pub arranged_object : 12 ≤ k → first_is_tuple f ≡ arranged_by (kind_in a) f
+  unfolding arranged_by
+  arranged_object g = rw (← e, le-ltb k 8 (omega arith), le-ltb k 10 (omega arith), le-ltb k 11 (omega arith), le-ltb k 12 g)
 
 -- the first of some values is inside
 pub held_first : (w t : List ℕ) (i m : ℕ) → Held w t i m → 1 ≤ m → 4 * i + 4 ≤ length w

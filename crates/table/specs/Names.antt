@@ -5,71 +5,71 @@ use Rattle.std.proofs.Common.{sym, ◌∙◌, ap, drop-drop, arith}
 use borrow.Author.Tests.{lt-ltb, le-ltb}
 use Rattle.utf8.specs.Utf8.{valid}
 use Rattle.value.specs.Value.{Label, Forest, NoneL, BoolL, I64L, F64L, BytesL, StringL, ListL, TupleL, SetL, FrozenSetL, DictL, GlobalL, ObjectL}
-use Rattle.value.specs.Shape.{kindIn, newIn, label_of}
-use Rattle.value.specs.WellFormed.{proper, ascending, keys, firstIsTuple}
-use Rattle.table.specs.Record.{right1, EachBelow, each_below, labelBy}
+use Rattle.value.specs.Shape.{kind_in, fresh_in, label_of}
+use Rattle.value.specs.WellFormed.{proper, ascending, keys, first_is_tuple}
+use Rattle.table.specs.Record.{right1, EachBelow, each_below, label_by}
 
 -- String and names valid UTF-8
-unfoldable pub validIn : Label → Bool
-validIn NoneL = true
-validIn (BoolL b) = true
-validIn (I64L i) = true
-validIn (F64L i) = true
-validIn (BytesL t) = true
-validIn (StringL t) = valid t
-validIn ListL = true
-validIn TupleL = true
-validIn SetL = true
-validIn FrozenSetL = true
-validIn DictL = true
-validIn (GlobalL m k) = valid m && valid k
-validIn (ObjectL m k b) = valid m && valid k
+unfoldable pub valid_in : Label → Bool
+valid_in NoneL = true
+valid_in (BoolL b) = true
+valid_in (I64L i) = true
+valid_in (F64L i) = true
+valid_in (BytesL t) = true
+valid_in (StringL t) = valid t
+valid_in ListL = true
+valid_in TupleL = true
+valid_in SetL = true
+valid_in FrozenSetL = true
+valid_in DictL = true
+valid_in (GlobalL m k) = valid m && valid k
+valid_in (ObjectL m k b) = valid m && valid k
 
 -- set items and dict keys strictly ascending, an Object's arguments a Tuple
-unfoldable pub orderedIn : Label → Forest → Bool
-orderedIn NoneL c = true
-orderedIn (BoolL b) c = true
-orderedIn (I64L i) c = true
-orderedIn (F64L i) c = true
-orderedIn (BytesL t) c = true
-orderedIn (StringL t) c = true
-orderedIn ListL c = true
-orderedIn TupleL c = true
-orderedIn SetL c = ascending c
-orderedIn FrozenSetL c = ascending c
-orderedIn DictL c = ascending (keys c)
-orderedIn (GlobalL m k) c = true
-orderedIn (ObjectL m k b) c = firstIsTuple c
+unfoldable pub ordered_in : Label → Forest → Bool
+ordered_in NoneL c = true
+ordered_in (BoolL b) c = true
+ordered_in (I64L i) c = true
+ordered_in (F64L i) c = true
+ordered_in (BytesL t) c = true
+ordered_in (StringL t) c = true
+ordered_in ListL c = true
+ordered_in TupleL c = true
+ordered_in SetL c = ascending c
+ordered_in FrozenSetL c = ascending c
+ordered_in DictL c = ascending (keys c)
+ordered_in (GlobalL m k) c = true
+ordered_in (ObjectL m k b) c = first_is_tuple c
 
 and-true : (b : Bool) → b ≡ (b && true)
 and-true true = refl
 and-true false = refl
 
-pub proper-parts : (l : Label) (c : Forest) → proper l c ≡ (validIn l && orderedIn l c)
-unfolding validIn orderedIn
-proper-parts NoneL c = refl
-proper-parts (BoolL b) c = refl
-proper-parts (I64L i) c = refl
-proper-parts (F64L i) c = refl
-proper-parts (BytesL t) c = refl
-proper-parts (StringL t) c = and-true (valid t)
-proper-parts ListL c = refl
-proper-parts TupleL c = refl
-proper-parts SetL c = refl
-proper-parts FrozenSetL c = refl
-proper-parts DictL c = refl
-proper-parts (GlobalL m k) c = and-true (valid m && valid k)
-proper-parts (ObjectL m k b) c = and_comm (firstIsTuple c) (valid m && valid k)
+pub proper_parts : (l : Label) (c : Forest) → proper l c ≡ (valid_in l && ordered_in l c)
+unfolding valid_in ordered_in
+proper_parts NoneL c = refl
+proper_parts (BoolL b) c = refl
+proper_parts (I64L i) c = refl
+proper_parts (F64L i) c = refl
+proper_parts (BytesL t) c = refl
+proper_parts (StringL t) c = and-true (valid t)
+proper_parts ListL c = refl
+proper_parts TupleL c = refl
+proper_parts SetL c = refl
+proper_parts FrozenSetL c = refl
+proper_parts DictL c = refl
+proper_parts (GlobalL m k) c = and-true (valid m && valid k)
+proper_parts (ObjectL m k b) c = and_comm (first_is_tuple c) (valid m && valid k)
 
 -- the text from its place on, by the kind
-unfoldable pub namesRight : ℕ → ℕ → List ℕ → Bool
-namesRight k c x = cond (ltb k 5) true (cond (ltb k 6) (valid (take c x)) (cond (ltb k 11) true (valid (take (c / 2 ^ 32) x) && valid (take (c % 2 ^ 32) (drop (c / 2 ^ 32) x)))))
+unfoldable pub names_right : ℕ → ℕ → List ℕ → Bool
+names_right k c x = cond (ltb k 5) true (cond (ltb k 6) (valid (take c x)) (cond (ltb k 11) true (valid (take (c / 2 ^ 32) x) && valid (take (c % 2 ^ 32) (drop (c / 2 ^ 32) x)))))
 
-pub names-back : (a b c p : ℕ) (t : List ℕ) → kindIn a < 13 → b ≡ right1 (kindIn a) b p → validIn (label_of a b c (drop b t)) ≡ namesRight (kindIn a) c (drop p t)
-unfolding validIn label_of labelBy right1 namesRight EachBelow
-names-back a b c p t known =
-    each_below 13 (λ k. b ≡ right1 k b p → validIn (labelBy (newIn a) b c (drop b t) k) ≡ (let x = drop p t in namesRight k c x))
-    ((λ e. refl), ((λ e. refl), ((λ e. refl), ((λ e. refl), ((λ e. refl), ((λ e. rw e), ((λ e. refl), ((λ e. refl), ((λ e. refl), ((λ e. refl), ((λ e. refl), ((λ e. rw e), ((λ e. rw e), tt))))))))))))) (kindIn a) known
+pub names_back : (a b c p : ℕ) (t : List ℕ) → kind_in a < 13 → b ≡ right1 (kind_in a) b p → valid_in (label_of a b c (drop b t)) ≡ names_right (kind_in a) c (drop p t)
+unfolding valid_in label_of label_by right1 names_right EachBelow
+names_back a b c p t known =
+    each_below 13 (λ k. b ≡ right1 k b p → valid_in (label_by (fresh_in a) b c (drop b t) k) ≡ (let x = drop p t in names_right k c x))
+    ((λ e. refl), ((λ e. refl), ((λ e. refl), ((λ e. refl), ((λ e. refl), ((λ e. rw e), ((λ e. refl), ((λ e. refl), ((λ e. refl), ((λ e. refl), ((λ e. refl), ((λ e. rw e), ((λ e. rw e), tt))))))))))))) (kind_in a) known
 
 -- a part of the text, from p to p + q
 abbrev pub part_of : ℕ → ℕ → List ℕ → List ℕ
@@ -79,29 +79,29 @@ pub part_at : (p q : ℕ) (t : List ℕ) → part_of p q t ≡ take q (drop p t)
 part_at p q t = let e : p + q - p ≡ q = omega arith in ap (λ (n : ℕ). take n (drop p t)) e
 
 -- the text, by the kind k
-module _ (a c k : ℕ) (t : List ℕ) (e : k ≡ kindIn a) where
-  pub names-plain : k < 5 → true ≡ namesRight (kindIn a) c t
-  unfolding namesRight
-  names-plain h = rw (← e, lt-ltb k 5 h)
+module _ (a c k : ℕ) (t : List ℕ) (e : k ≡ kind_in a) where
+  pub names_plain : k < 5 → true ≡ names_right (kind_in a) c t
+  unfolding names_right
+  names_plain h = rw (← e, lt-ltb k 5 h)
 
-  pub names-string : 5 ≤ k → k < 6 → namesRight (kindIn a) c t ≡ valid (take c t)
-  unfolding namesRight
+  pub names-string : 5 ≤ k → k < 6 → names_right (kind_in a) c t ≡ valid (take c t)
+  unfolding names_right
   names-string g h = rw (← e, le-ltb k 5 g, lt-ltb k 6 h)
 
-  pub names-items : 6 ≤ k → k < 11 → true ≡ namesRight (kindIn a) c t
-  unfolding namesRight
+  pub names-items : 6 ≤ k → k < 11 → true ≡ names_right (kind_in a) c t
+  unfolding names_right
   names-items g h = rw (← e, le-ltb k 5 (omega arith), le-ltb k 6 g, lt-ltb k 11 h)
 
-  pub names-both : 11 ≤ k → namesRight (kindIn a) c t ≡ (valid (take (c / 2 ^ 32) t) && valid (take (c % 2 ^ 32) (drop (c / 2 ^ 32) t)))
-  unfolding namesRight
+  pub names-both : 11 ≤ k → names_right (kind_in a) c t ≡ (valid (take (c / 2 ^ 32) t) && valid (take (c % 2 ^ 32) (drop (c / 2 ^ 32) t)))
+  unfolding names_right
   names-both g = rw (← e, le-ltb k 5 (omega arith), le-ltb k 6 (omega arith), le-ltb k 11 g)
 
-module _ (a c k p : ℕ) (t : List ℕ) (e : k ≡ kindIn a) (late : 11 ≤ k) where
-  name-part : part_of (p + c / 2 ^ 32) (c % 2 ^ 32) t ≡ take (c % 2 ^ 32) (drop (c / 2 ^ 32) (drop p t))
-  name-part = part_at (p + c / 2 ^ 32) (c % 2 ^ 32) t ∙ ap (take (c % 2 ^ 32)) (sym (drop-drop (c / 2 ^ 32) p t))
+module _ (a c k p : ℕ) (t : List ℕ) (e : k ≡ kind_in a) (late : 11 ≤ k) where
+  name_part_lem : part_of (p + c / 2 ^ 32) (c % 2 ^ 32) t ≡ take (c % 2 ^ 32) (drop (c / 2 ^ 32) (drop p t))
+  name_part_lem = part_at (p + c / 2 ^ 32) (c % 2 ^ 32) t ∙ ap (take (c % 2 ^ 32)) (sym (drop-drop (c / 2 ^ 32) p t))
 
-  pub names-module : valid (part_of p (c / 2 ^ 32) t) ≡ false → false ≡ namesRight (kindIn a) c (drop p t)
-  names-module h = sym (names-both a c k (drop p t) e late ∙ rw (sym (ap valid (part_at p (c / 2 ^ 32) t)) ∙ h))
+  pub names_module : valid (part_of p (c / 2 ^ 32) t) ≡ false → false ≡ names_right (kind_in a) c (drop p t)
+  names_module h = sym (names-both a c k (drop p t) e late ∙ rw (sym (ap valid (part_at p (c / 2 ^ 32) t)) ∙ h))
 
-  pub names-name : valid (part_of p (c / 2 ^ 32) t) ≡ true → valid (part_of (p + c / 2 ^ 32) (c % 2 ^ 32) t) ≡ namesRight (kindIn a) c (drop p t)
-  names-name h = ap valid name-part ∙ sym (names-both a c k (drop p t) e late ∙ rw (sym (ap valid (part_at p (c / 2 ^ 32) t)) ∙ h))
+  pub names-name : valid (part_of p (c / 2 ^ 32) t) ≡ true → valid (part_of (p + c / 2 ^ 32) (c % 2 ^ 32) t) ≡ names_right (kind_in a) c (drop p t)
+  names-name h = ap valid name_part_lem ∙ sym (names-both a c k (drop p t) e late ∙ rw (sym (ap valid (part_at p (c / 2 ^ 32) t)) ∙ h))

@@ -8,25 +8,25 @@ use Rattle.std.proofs.Math.Seq.{take_at, drop-length}
 use native.Mathlib.Omega.{arith}
 use Rattle.value.specs.Value.{Forest, one, text, count, size, table, table-length, nil, node}
 use Rattle.value.specs.WellFormed.{WellFormed}
-use Rattle.table.specs.Find.{good, findMany, find}
-use Rattle.table.specs.Complete.{row-complete}
+use Rattle.table.specs.Find.{good, find_many, find}
+use Rattle.table.specs.Complete.{row_complete}
 use Rattle.table.specs.Sound.{ValuesPlaced, contents-placed}
-use Rattle.table.specs.Check.{Lent, checkedOf, was-good}
-use Rattle.table.specs.Decides.{YesIff, decides-no}
+use Rattle.table.specs.Check.{Lent, checked_of, was_good}
+use Rattle.table.specs.Decides.{YesIff, decides_no}
 use Rattle.table.specs.declared.Checked.TheVariants.{Bad, Good}
 
 module _ (w : List ℕ) (n : ℕ) (t : List ℕ) where
-  -- a well-formed table is found to be one
-  pub formed-found : WellFormed w n t → checkedOf (findMany (find w n t 64) 1 0 0) ≡ Good n (length t)
-  unfolding count checkedOf
-  formed-found a =
+  -- a well_formed_lem table is found to be one
+  pub formed_found : WellFormed w n t → checked_of (find_many (find w n t 64) 1 0 0) ≡ Good n (length t)
+  unfolding count checked_of
+  formed_found a =
       let f = one a.value in
       let e : drop (4 * 0) w ≡ table f 0 ++ drop (4 * n) w = sym (take-append-drop (4 * n) w) ∙ rw a.records in
       let d : drop 0 t ≡ text f ++ [] = a.texts ∙ sym (append-nil (text f)) in
       let s : 0 + size f ≡ n = let q = a.counted in omega arith in
       let u : 0 + length (text f) ≡ length t = let q = ap length a.texts in omega arith in
-      let r : findMany (find w n t 64) 1 0 0 ≡ good f n (length t) = row-complete w n t f 64 0 0 (drop (4 * n) w) [] a.shape a.settle a.shallow e d (omega arith) (omega arith) ∙ rw (s, u) in
-      ap checkedOf r
+      let r : find_many (find w n t 64) 1 0 0 ≡ good f n (length t) = row_complete w n t f 64 0 0 (drop (4 * n) w) [] a.shape a.settle a.shallow e d (omega arith) (omega arith) ∙ rw (s, u) in
+      ap checked_of r
 
   -- what is found and fills the table makes it well formed
   module _ (lent : Lent w n t) where
@@ -50,32 +50,32 @@ module _ (w : List ℕ) (n : ℕ) (t : List ℕ) where
           short = lent.short;
         }
 
-    pub found-formed : checkedOf (findMany (find w n t 64) 1 0 0) ≡ Good n (length t) → WellFormed w n t
-    found-formed h =
-        let a = was-good (findMany (find w n t 64) 1 0 0) h in
+    pub found_formed : checked_of (find_many (find w n t 64) 1 0 0) ≡ Good n (length t) → WellFormed w n t
+    found_formed h =
+        let a = was_good (find_many (find w n t 64) 1 0 0) h in
         single a.forest (contents-placed w n t lent.room 64 1 0 0 (omega arith) a.is)
 
   -- ---- the code's answers
 
   pub too_many : 2048 < n → YesIff false (WellFormed w n t)
-  too_many h = decides-no (λ a. let x = a.few in omega arith)
+  too_many h = decides_no (λ a. let x = a.few in omega arith)
 
   pub past_words : length w / 4 < n → YesIff false (WellFormed w n t)
-  past_words h = decides-no (λ a. let x = a.lent in omega arith)
+  past_words h = decides_no (λ a. let x = a.lent in omega arith)
 
   pub too_long : 65536 < length t → YesIff false (WellFormed w n t)
-  too_long h = decides-no (λ a. let x = a.short in omega arith)
+  too_long h = decides_no (λ a. let x = a.short in omega arith)
 
-  pub none_found : checkedOf (findMany (find w n t 64) 1 0 0) ≡ Bad → YesIff false (WellFormed w n t)
-  none_found e = decides-no (λ a. let x = formed-found a in let z : ◌≡◌ {A = ℕ} 0 1 = cc in omega arith)
+  pub none_found : checked_of (find_many (find w n t 64) 1 0 0) ≡ Bad → YesIff false (WellFormed w n t)
+  none_found e = decides_no (λ a. let x = formed_found a in let z : ◌≡◌ {A = ℕ} 0 1 = cc in omega arith)
 
-  module _ (lent : Lent w n t) (j e : ℕ) (found : checkedOf (findMany (find w n t 64) 1 0 0) ≡ Good j e) where
-    pub not-filled : j ≢ n → YesIff false (WellFormed w n t)
-    not-filled h = decides-no (λ a. let x = formed-found a in h (cc))
+  module _ (lent : Lent w n t) (j e : ℕ) (found : checked_of (find_many (find w n t 64) 1 0 0) ≡ Good j e) where
+    pub not_filled : j ≢ n → YesIff false (WellFormed w n t)
+    not_filled h = decides_no (λ a. let x = formed_found a in h (cc))
 
     pub filled : j ≡ n → YesIff (eqb e (length t)) (WellFormed w n t)
     filled q =
         record {
-          yes = λ h. found-formed lent (found ∙ rw (q, eqb-true e (length t) h));
-          always = λ a. let x = formed-found a in eq-eqb e (length t) (cc);
+          yes = λ h. found_formed lent (found ∙ rw (q, eqb-true e (length t) h));
+          always = λ a. let x = formed_found a in eq-eqb e (length t) (cc);
         }

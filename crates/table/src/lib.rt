@@ -3,19 +3,19 @@
 ghost use Rattle.std.specs.Prelude.{false, ◌≢◌, ◌≡◌, ◌+◌, ◌*◌, ◌<◌, ◌≤◌, min, length, drop};
 ghost use Rattle.value.specs.Value.{Forest, Value, one, count as count_of};
 ghost use Rattle.value.specs.Order.{order};
-ghost use Rattle.value.specs.Shape.{kindIn, stateIn, holding, arityOf};
+ghost use Rattle.value.specs.Shape.{kind_in, state_in, holding, arity_of};
 ghost use Rattle.value.specs.Stands.{word_at, Reads, Begins, Stands};
 ghost use Rattle.value.specs.WellFormed.{WellFormed, less, ascending};
-ghost use Rattle.table.specs.Find.{find, findMany};
+ghost use Rattle.table.specs.Find.{find, find_many};
 ghost use Rattle.table.specs.Record.{right0, right1, right2, right3, span_of, size_of};
 ghost use Rattle.table.specs.Sound.{size_at};
-ghost use Rattle.table.specs.Names.{namesRight};
-ghost use Rattle.table.specs.Items.{Held, ItemInside, next_at, picked, arrangedBy};
-ghost use Rattle.table.specs.Check.{Lent, HeadSays, LeafSays, Closes, sizesRight, checkedOf};
-ghost use Rattle.table.specs.Length.{hasText, end_of, textLength};
+ghost use Rattle.table.specs.Names.{names_right};
+ghost use Rattle.table.specs.Items.{Held, ItemInside, next_at, picked, arranged_by};
+ghost use Rattle.table.specs.Check.{Lent, HeadSays, LeafSays, Closes, sizes_right, checked_of};
+ghost use Rattle.table.specs.Length.{has_text, end_of, text_length};
 ghost use Rattle.table.specs.Decides.{YesIff};
 ghost use Rattle.value.specs.Told.{told};
-ghost use Rattle.table.specs.Compare.{badTable, ordered as orderedBy, Compares};
+ghost use Rattle.table.specs.Compare.{bad_table, ordered as orderedBy, Compares};
 
 use refusal::{Refusal, Which, detail, number};
 use utf8::valid;
@@ -40,14 +40,14 @@ enum Checked {
 }
 
 fn kind(a: u64) -> u64
-    ensures { result ≡ kindIn a }
+    ensures { result ≡ kind_in a }
 {
     let head = head_of(a);
     head.kind
 }
 
 fn state(a: u64) -> bool
-    ensures { result ≡ stateIn a }
+    ensures { result ≡ state_in a }
 {
     let head = head_of(a);
     head.state
@@ -74,7 +74,7 @@ fn word0(a: u64) -> u64
 }
 
 fn word1(a: u64, b: u64, at: u64) -> u64
-    ensures { result ≡ right1 (kindIn a) b at }
+    ensures { result ≡ right1 (kind_in a) b at }
 {
     let k = kind(a);
     if k < KIND_BYTES {
@@ -99,7 +99,7 @@ fn word1(a: u64, b: u64, at: u64) -> u64
 }
 
 fn word2(a: u64, c: u64, size: u64) -> u64
-    ensures { result ≡ right2 (kindIn a) c size }
+    ensures { result ≡ right2 (kind_in a) c size }
 {
     let k = kind(a);
     if k < KIND_BYTES {
@@ -115,7 +115,7 @@ fn word2(a: u64, c: u64, size: u64) -> u64
 }
 
 fn word3(a: u64, size: u64) -> u64
-    ensures { result ≡ right3 (kindIn a) size }
+    ensures { result ≡ right3 (kind_in a) size }
 {
     if kind(a) < KIND_OBJECT {
         return 0;
@@ -125,7 +125,7 @@ fn word3(a: u64, size: u64) -> u64
 
 // The length of a record's text.
 fn span(a: u64, c: u64) -> u64
-    ensures { result ≡ span_of (kindIn a) c }
+    ensures { result ≡ span_of (kind_in a) c }
 {
     let k = kind(a);
     if k < KIND_BYTES {
@@ -142,7 +142,7 @@ fn span(a: u64, c: u64) -> u64
 
 // How many records a record says that it has with itself.
 fn size(a: u64, c: u64, d: u64) -> u64
-    ensures { result ≡ size_of (kindIn a) c d }
+    ensures { result ≡ size_of (kind_in a) c d }
 {
     let k = kind(a);
     if k < KIND_LIST {
@@ -159,8 +159,8 @@ fn size(a: u64, c: u64, d: u64) -> u64
 
 // How many values are directly in a record, as far as 4,096: no table has as many.
 fn arity(a: u64, b: u64) -> u64
-    requires { kindIn a < 13 }
-    ensures { result ≡ min 4096 (arityOf a b) }
+    requires { kind_in a < 13 }
+    ensures { result ≡ min 4096 (arity_of a b) }
 {
     let k = kind(a);
     if k < KIND_LIST {
@@ -189,8 +189,8 @@ fn arity(a: u64, b: u64) -> u64
 
 // A String's text, and a name's module and name, are valid UTF-8.
 fn named(a: u64, c: u64, text: &[u8], at: usize) -> bool
-    requires { at + span_of (kindIn a) c ≤ length text.now }
-    ensures { result ≡ namesRight (kindIn a) c (drop at text.now) }
+    requires { at + span_of (kind_in a) c ≤ length text.now }
+    ensures { result ≡ names_right (kind_in a) c (drop at text.now) }
 {
     let k = kind(a);
     if k < KIND_STRING {
@@ -244,7 +244,7 @@ fn head(words: &[u64], count: usize, text: &[u8], i: usize, at: usize) -> Headed
 // Words 2 and 3 of record i are right for so many records.
 fn sized(words: &[u64], i: usize, size: u64) -> bool
     requires { 4 * i + 4 ≤ length words.now }
-    ensures { result ≡ sizesRight words.now i size }
+    ensures { result ≡ sizes_right words.now i size }
 {
     let a = words[4 * i];
     let c = words[4 * i + 2];
@@ -337,9 +337,9 @@ fn ascends(words: &[u64], text: &[u8], i: usize, m: usize, entry: usize) -> bool
 // The m values from record i on are in order, as a label with word 0 a wants them.
 fn arranged(words: &[u64], text: &[u8], a: u64, i: usize, m: usize) -> bool
     requires held { Held words.now text.now i m }
-    requires le_m { kindIn a ≡ 12 → 1 ≤ m }
-    requires a_bound { kindIn a < 13 }
-    ensures { (f : Forest) → Stands words.now text.now i f → count_of f ≡ m → result ≡ arrangedBy (kindIn a) f }
+    requires le_m { kind_in a ≡ 12 → 1 ≤ m }
+    requires a_bound { kind_in a < 13 }
+    ensures { (f : Forest) → Stands words.now text.now i f → count_of f ≡ m → result ≡ arranged_by (kind_in a) f }
 {
     let k = kind(a);
     if k < KIND_SET {
@@ -362,8 +362,8 @@ fn closes(words: &[u64], text: &[u8], i: usize, j: usize, m: usize) -> bool
     requires i_in_bounds { 4 * i + 4 ≤ length words.now }
     requires i_le_j { i ≤ j }
     requires held { Held words.now text.now (i + 1) m }
-    requires le_m { kindIn (word_at words.now i 0) ≡ 12 → 1 ≤ m }
-    requires i_bound { kindIn (word_at words.now i 0) < 13 }
+    requires le_m { kind_in (word_at words.now i 0) ≡ 12 → 1 ≤ m }
+    requires i_bound { kind_in (word_at words.now i 0) < 13 }
     ensures { Closes words.now text.now i j m result }
 {
     if !sized(words, i, (j - i) as u64) {
@@ -377,7 +377,7 @@ fn leaf(words: &[u64], text: &[u8], i: usize, at: usize) -> Checked
     requires i_in_bounds { 4 * i + 4 ≤ length words.now }
     requires at_in_bounds { at ≤ length text.now }
     requires text_len_bound { length text.now ≤ 65536 }
-    requires i_value { holding (kindIn (word_at words.now i 0)) ≡ false }
+    requires i_value { holding (kind_in (word_at words.now i 0)) ≡ false }
     ensures { LeafSays words.now text.now i at result }
 {
     let a = words[4 * i];
@@ -408,7 +408,7 @@ fn check(words: &[u64], count: usize, text: &[u8], i: usize, at: usize, levels: 
     requires lent { Lent words.now count text.now }
     requires i_le_count { i ≤ count }
     requires at_in_bounds { at ≤ length text.now }
-    ensures { result ≡ checkedOf (find words.now count text.now levels i at) }
+    ensures { result ≡ checked_of (find words.now count text.now levels i at) }
 {
     if levels == 0 {
         return Checked::Bad;
@@ -429,7 +429,7 @@ fn container(words: &[u64], count: usize, text: &[u8], i: usize, at: usize, leve
     requires i_lt_count { i < count }
     requires at_in_bounds { at ≤ length text.now }
     requires levels_nonzero { levels ≢ 0 }
-    ensures { result ≡ checkedOf (find words.now count text.now levels i at) }
+    ensures { result ≡ checked_of (find words.now count text.now levels i at) }
 {
     match head(words, count, text, i, at) {
         Headed::Wrong => Checked::Bad,
@@ -467,7 +467,7 @@ fn contents(
     requires lent { Lent words.now count text.now }
     requires i_le_count { i ≤ count }
     requires at_in_bounds { at ≤ length text.now }
-    ensures { result ≡ checkedOf (findMany (find words.now count text.now levels) m i at) }
+    ensures { result ≡ checked_of (find_many (find words.now count text.now levels) m i at) }
 {
     let mut j = i;
     let mut end = at;
@@ -487,7 +487,7 @@ fn contents(
 
 // Whether a record has text.
 fn has_text(a: u64) -> bool
-    ensures { result ≡ hasText (kindIn a) }
+    ensures { result ≡ has_text (kind_in a) }
 {
     let k = kind(a);
     if k < KIND_BYTES {
@@ -517,7 +517,7 @@ fn text_end(a: u64, b: u64, c: u64) -> usize
 // The length of a table's text, which a reading does not return: where the last text of its records ends, or 0. A count past the
 // words is held to them.
 pub fn text_len(words: &[u64], count: usize) -> usize
-    ensures { result ≡ textLength words.now count }
+    ensures { result ≡ text_length words.now count }
 {
     let mut left = least(count, words.len() / 4);
     while left > 0 {
@@ -563,7 +563,7 @@ pub struct Compared {
 }
 
 fn bad_table(which: Which) -> Compared
-    ensures { result ≡ badTable which }
+    ensures { result ≡ bad_table which }
 {
     Compared {
         number: number(Refusal::BadTable(which)),

@@ -6,62 +6,62 @@ use native.Mathlib.Numerals.{add-one}
 use native.Mathlib.Omega.{arith}
 use lib.ListN.{length, get_or, drop, set, drop_of_length-le}
 use Rattle.utf8.specs.Utf8.{trail, encode}
-use Rattle.utf8.specs.Encode.{encode_one, encode-two, encode-three, encode-four}
+use Rattle.utf8.specs.Encode.{encode_one, encode_two, encode-three, encode-four}
 use lib.Seq.{drop-cons, sets}
 use borrow.Author.Tests.{eq-eqb, ne_eqb}
 use Rattle.text.specs.declared.TextPiece.TheVariants.{One, Bad}
-use Rattle.text.specs.Escapes.{look, letters, hexEscape, octalEscape, stringEscape, stringHead, scalarPiece, unicodeEscape, unicodeHead}
-use Rattle.text.proofs.Digits.{within_in, within-out}
+use Rattle.text.specs.Escapes.{look, letters, hex_escape, octal_escape, string_escape, string_head, scalar_piece, unicode_escape, unicode_head}
+use Rattle.text.proofs.Digits.{within_in, within_out}
 
 module _ (s : List ℕ) (i : ℕ) (h : i < length s) where
-  pub string-plain : (get_or s i 0 ≡ 92 → ⊥) → One (get_or s i 0) 0 ≡ stringHead (drop i s)
-  unfolding stringHead
-  string-plain k = simp (drop-cons s i 0 h, ne_eqb _ _ k)
+  pub string_plain : (get_or s i 0 ≡ 92 → ⊥) → One (get_or s i 0) 0 ≡ string_head (drop i s)
+  unfolding string_head
+  string_plain k = simp (drop-cons s i 0 h, ne_eqb _ _ k)
 
-  pub string-slash : get_or s i 0 ≡ 92 → stringEscape (drop (i + 1) s) ≡ stringHead (drop i s)
-  unfolding stringHead
-  string-slash k = simp (drop-cons s i 0 h, eq-eqb _ _ k, add-one)
+  pub string_slash : get_or s i 0 ≡ 92 → string_escape (drop (i + 1) s) ≡ string_head (drop i s)
+  unfolding string_head
+  string_slash k = simp (drop-cons s i 0 h, eq-eqb _ _ k, add-one)
 
-  pub string-hex : get_or s i 0 ≡ 120 → hexEscape 2 (drop (i + 1) s) ≡ stringEscape (drop i s)
-  unfolding stringEscape
-  string-hex k = simp (drop-cons s i 0 h, eq-eqb _ _ k, add-one)
+  pub string_hex : get_or s i 0 ≡ 120 → hex_escape 2 (drop (i + 1) s) ≡ string_escape (drop i s)
+  unfolding string_escape
+  string_hex k = simp (drop-cons s i 0 h, eq-eqb _ _ k, add-one)
 
-  pub string-octal : (get_or s i 0 ≡ 120 → ⊥) → 48 ≤ get_or s i 0 → get_or s i 0 ≤ 55 → octalEscape (drop i s) ≡ stringEscape (drop i s)
-  unfolding stringEscape
-  string-octal k l m = simp (drop-cons s i 0 h, ne_eqb _ _ k, within_in 48 55 _ l m)
+  pub string_octal : (get_or s i 0 ≡ 120 → ⊥) → 48 ≤ get_or s i 0 → get_or s i 0 ≤ 55 → octal_escape (drop i s) ≡ string_escape (drop i s)
+  unfolding string_escape
+  string_octal k l m = simp (drop-cons s i 0 h, ne_eqb _ _ k, within_in 48 55 _ l m)
 
-  pub string-letter : (get_or s i 0 ≡ 120 → ⊥) → (48 ≤ get_or s i 0 → 55 < get_or s i 0) → One (look letters (get_or s i 0)) 1 ≡ stringEscape (drop i s)
-  unfolding stringEscape
-  string-letter k l = simp (drop-cons s i 0 h, ne_eqb _ _ k, within-out 48 55 _ l)
+  pub string_letter : (get_or s i 0 ≡ 120 → ⊥) → (48 ≤ get_or s i 0 → 55 < get_or s i 0) → One (look letters (get_or s i 0)) 1 ≡ string_escape (drop i s)
+  unfolding string_escape
+  string_letter k l = simp (drop-cons s i 0 h, ne_eqb _ _ k, within_out 48 55 _ l)
 
-  pub unicode-plain : (get_or s i 0 ≡ 92 → ⊥) → One (get_or s i 0) 0 ≡ unicodeHead (drop i s)
-  unfolding unicodeHead
-  unicode-plain k = simp (drop-cons s i 0 h, ne_eqb _ _ k)
+  pub unicode_plain : (get_or s i 0 ≡ 92 → ⊥) → One (get_or s i 0) 0 ≡ unicode_head (drop i s)
+  unfolding unicode_head
+  unicode_plain k = simp (drop-cons s i 0 h, ne_eqb _ _ k)
 
-  pub unicode-slash : get_or s i 0 ≡ 92 → unicodeEscape (drop (i + 1) s) ≡ unicodeHead (drop i s)
-  unfolding unicodeHead
-  unicode-slash k = simp (drop-cons s i 0 h, eq-eqb _ _ k, add-one)
+  pub unicode_slash : get_or s i 0 ≡ 92 → unicode_escape (drop (i + 1) s) ≡ unicode_head (drop i s)
+  unfolding unicode_head
+  unicode_slash k = simp (drop-cons s i 0 h, eq-eqb _ _ k, add-one)
 
-  pub unicode-four : get_or s i 0 ≡ 117 → scalarPiece (hexEscape 4 (drop (i + 1) s)) ≡ unicodeEscape (drop i s)
-  unfolding unicodeEscape
+  pub unicode-four : get_or s i 0 ≡ 117 → scalar_piece (hex_escape 4 (drop (i + 1) s)) ≡ unicode_escape (drop i s)
+  unfolding unicode_escape
   unicode-four k = simp (drop-cons s i 0 h, eq-eqb _ _ k, add-one)
 
-  pub unicode-eight : (get_or s i 0 ≡ 117 → ⊥) → get_or s i 0 ≡ 85 → scalarPiece (hexEscape 8 (drop (i + 1) s)) ≡ unicodeEscape (drop i s)
-  unfolding unicodeEscape
-  unicode-eight n k = simp (drop-cons s i 0 h, ne_eqb _ _ n, eq-eqb _ _ k, add-one)
+  pub unicode_eight : (get_or s i 0 ≡ 117 → ⊥) → get_or s i 0 ≡ 85 → scalar_piece (hex_escape 8 (drop (i + 1) s)) ≡ unicode_escape (drop i s)
+  unfolding unicode_escape
+  unicode_eight n k = simp (drop-cons s i 0 h, ne_eqb _ _ n, eq-eqb _ _ k, add-one)
 
-  pub unicode-lone : (get_or s i 0 ≡ 117 → ⊥) → (get_or s i 0 ≡ 85 → ⊥) → One 92 0 ≡ unicodeEscape (drop i s)
-  unfolding unicodeEscape
-  unicode-lone n k = simp (drop-cons s i 0 h, ne_eqb _ _ n, ne_eqb _ _ k)
+  pub unicode_lone : (get_or s i 0 ≡ 117 → ⊥) → (get_or s i 0 ≡ 85 → ⊥) → One 92 0 ≡ unicode_escape (drop i s)
+  unfolding unicode_escape
+  unicode_lone n k = simp (drop-cons s i 0 h, ne_eqb _ _ n, ne_eqb _ _ k)
 
 module _ (s : List ℕ) (i : ℕ) (h : length s ≤ i) where
-  pub string-end : Bad ≡ stringEscape (drop i s)
-  unfolding stringEscape
-  string-end = simp (drop_of_length-le s h)
+  pub string_end : Bad ≡ string_escape (drop i s)
+  unfolding string_escape
+  string_end = simp (drop_of_length-le s h)
 
-  pub unicode-end : One 92 0 ≡ unicodeEscape (drop i s)
-  unfolding unicodeEscape
-  unicode-end = simp (drop_of_length-le s h)
+  pub unicode_end : One 92 0 ≡ unicode_escape (drop i s)
+  unfolding unicode_escape
+  unicode_end = simp (drop_of_length-le s h)
 
 -- the code point c is written at `at` of l: its room, the next place, and what the stores are
 module _ (l : List ℕ) (at c : ℕ) where
@@ -73,7 +73,7 @@ module _ (l : List ℕ) (at c : ℕ) where
 
   pub put_two : 0x80 ≤ c → c < 0x800 → Put 2 (set (set l at (0xC0 + c / 64)) (at + 1) (0x80 + c % 64))
   unfolding trail
-  put_two h k = rw (encode-two c h k, add-one at) (refl, refl)
+  put_two h k = rw (encode_two c h k, add-one at) (refl, refl)
 
   pub put_three : 0x800 ≤ c → c < 0x10000
       → Put 3 (set (set (set l at (0xE0 + c / 4096)) (at + 1) (0x80 + c / 64 % 64)) (at + 2) (0x80 + c % 64))

@@ -7,59 +7,59 @@ use Rattle.text.specs.declared.TextPiece.{TextPiece}
 use Rattle.text.specs.declared.TextPiece.TheVariants.{One, Bad}
 
 -- c is one of the bytes from `least` to `greatest`
-unfoldable pub fromTo : ℕ → ℕ → ℕ → Bool
-fromTo least greatest c = leb least c && leb c greatest
+unfoldable pub from_to : ℕ → ℕ → ℕ → Bool
+from_to least greatest c = leb least c && leb c greatest
 
 -- a hex digit's value, in either letter case; 16 for any other byte
-unfoldable pub hexDigit : ℕ → ℕ
-hexDigit c =
-    cond (fromTo 48 57 c) (c - 48)
-    (cond (fromTo 65 70 c) (c - 55)
-    (cond (fromTo 97 102 c) (c - 87) 16))
+unfoldable pub hex_digit : ℕ → ℕ
+hex_digit c =
+    cond (from_to 48 57 c) (c - 48)
+    (cond (from_to 65 70 c) (c - 55)
+    (cond (from_to 97 102 c) (c - 87) 16))
 
 -- v followed by hex digits, as a number; none if a byte is no hex digit
-unfoldable pub hexFrom : ℕ → List ℕ → Option ℕ
-hexFrom v [] = some v
-hexFrom v (c ∷ s) = cond (ltb (hexDigit c) 16) (hexFrom (v * 16 + hexDigit c) s) none
+unfoldable pub hex_from : ℕ → List ℕ → Option ℕ
+hex_from v [] = some v
+hex_from v (c ∷ s) = cond (ltb (hex_digit c) 16) (hex_from (v * 16 + hex_digit c) s) none
 
 -- one or more hex digits
-unfoldable pub hexDigits : List ℕ → Option ℕ
-hexDigits [] = none
-hexDigits (c ∷ s) = hexFrom 0 (c ∷ s)
+unfoldable pub hex_digits : List ℕ → Option ℕ
+hex_digits [] = none
+hex_digits (c ∷ s) = hex_from 0 (c ∷ s)
 
 -- Rust's `from_str_radix` at 16, laxer than Python's readers: a `+` may stand before the digits
-unfoldable pub hexNumber : List ℕ → Option ℕ
-hexNumber [] = none
-hexNumber (c ∷ s) = cond (eqb c 43) (hexDigits s) (hexDigits (c ∷ s))
+unfoldable pub hex_number : List ℕ → Option ℕ
+hex_number [] = none
+hex_number (c ∷ s) = cond (eqb c 43) (hex_digits s) (hex_digits (c ∷ s))
 
 -- a number written with n characters, which stand after a backslash and a letter
-unfoldable pub hexPiece : ℕ → Option ℕ → TextPiece
-hexPiece n (some v) = One v (n + 1)
-hexPiece n none = Bad
+unfoldable pub hex_piece : ℕ → Option ℕ → TextPiece
+hex_piece n (some v) = One v (n + 1)
+hex_piece n none = Bad
 
 -- exactly n hex characters
-unfoldable pub hexEscape : ℕ → List ℕ → TextPiece
-hexEscape n s = cond (leb n (length s)) (hexPiece n (hexNumber (take n s))) Bad
+unfoldable pub hex_escape : ℕ → List ℕ → TextPiece
+hex_escape n s = cond (leb n (length s)) (hex_piece n (hex_number (take n s))) Bad
 
 -- the octal digit at the start of s; 8 where there is none
-unfoldable pub octalDigit : List ℕ → ℕ
-octalDigit [] = 8
-octalDigit (c ∷ s) = cond (fromTo 48 55 c) (c - 48) 8
+unfoldable pub octal_digit : List ℕ → ℕ
+octal_digit [] = 8
+octal_digit (c ∷ s) = cond (from_to 48 55 c) (c - 48) 8
 
 -- the octal digits at the start of s, n of them at most
 unfoldable pub octals : ℕ → List ℕ → List ℕ
 octals zero s = []
 octals (suc n) [] = []
-octals (suc n) (c ∷ s) = cond (ltb (octalDigit (c ∷ s)) 8) (octalDigit (c ∷ s) ∷ octals n s) []
+octals (suc n) (c ∷ s) = cond (ltb (octal_digit (c ∷ s)) 8) (octal_digit (c ∷ s) ∷ octals n s) []
 
 -- v followed by octal digits, as a number
-unfoldable pub octalFrom : ℕ → List ℕ → ℕ
-octalFrom v [] = v
-octalFrom v (d ∷ ds) = octalFrom (v * 8 + d) ds
+unfoldable pub octal_from : ℕ → List ℕ → ℕ
+octal_from v [] = v
+octal_from v (d ∷ ds) = octal_from (v * 8 + d) ds
 
 -- one to three octal digits modulo 256
-unfoldable pub octalEscape : List ℕ → TextPiece
-octalEscape s = One (octalFrom 0 (octals 3 s) % 256) (length (octals 3 s))
+unfoldable pub octal_escape : List ℕ → TextPiece
+octal_escape s = One (octal_from 0 (octals 3 s) % 256) (length (octals 3 s))
 
 -- n t r a b f v: newline, tab, return, bell, backspace, form feed, vertical tab
 abbrev pub letters : List (ℕ × ℕ)
@@ -71,36 +71,36 @@ look [] c = c
 look (e ∷ t) c = cond (eqb c e.0) e.1 (look t c)
 
 -- STRING, past a backslash: `x` with two hex characters, octal digits, a letter of the table, or a byte that stands for itself
-unfoldable pub stringEscape : List ℕ → TextPiece
-stringEscape [] = Bad
-stringEscape (c ∷ s) =
-    cond (eqb c 120) (hexEscape 2 s)
-    (cond (fromTo 48 55 c) (octalEscape (c ∷ s))
+unfoldable pub string_escape : List ℕ → TextPiece
+string_escape [] = Bad
+string_escape (c ∷ s) =
+    cond (eqb c 120) (hex_escape 2 s)
+    (cond (from_to 48 55 c) (octal_escape (c ∷ s))
     (One (look letters c) 1))
 
 -- STRING, between its quotes: a backslash starts an escape, any other byte is itself
-unfoldable pub stringHead : List ℕ → TextPiece
-stringHead [] = Bad
-stringHead (b ∷ s) = cond (eqb b 92) (stringEscape s) (One b 0)
+unfoldable pub string_head : List ℕ → TextPiece
+string_head [] = Bad
+string_head (b ∷ s) = cond (eqb b 92) (string_escape s) (One b 0)
 
 -- a surrogate or a number above 10FFFF, which is no scalar value, is U+FFFD
-unfoldable pub scalarOf : ℕ → ℕ
-scalarOf v = cond (scalar v) v 0xFFFD
+unfoldable pub scalar_of : ℕ → ℕ
+scalar_of v = cond (scalar v) v 0xFFFD
 
 -- so also for a piece
-unfoldable pub scalarPiece : TextPiece → TextPiece
-scalarPiece (One v more) = One (scalarOf v) more
-scalarPiece Bad = Bad
+unfoldable pub scalar_piece : TextPiece → TextPiece
+scalar_piece (One v more) = One (scalar_of v) more
+scalar_piece Bad = Bad
 
 -- UNICODE, past a backslash: `u` with four hex characters, `U` with eight; else the backslash stands for itself
-unfoldable pub unicodeEscape : List ℕ → TextPiece
-unicodeEscape [] = One 92 0
-unicodeEscape (c ∷ s) =
-    cond (eqb c 117) (scalarPiece (hexEscape 4 s))
-    (cond (eqb c 85) (scalarPiece (hexEscape 8 s))
+unfoldable pub unicode_escape : List ℕ → TextPiece
+unicode_escape [] = One 92 0
+unicode_escape (c ∷ s) =
+    cond (eqb c 117) (scalar_piece (hex_escape 4 s))
+    (cond (eqb c 85) (scalar_piece (hex_escape 8 s))
     (One 92 0))
 
 -- UNICODE: a backslash may start an escape, any other byte is the Latin-1 character of its value
-unfoldable pub unicodeHead : List ℕ → TextPiece
-unicodeHead [] = Bad
-unicodeHead (b ∷ s) = cond (eqb b 92) (unicodeEscape s) (One b 0)
+unfoldable pub unicode_head : List ℕ → TextPiece
+unicode_head [] = Bad
+unicode_head (b ∷ s) = cond (eqb b 92) (unicode_escape s) (One b 0)

@@ -6,25 +6,25 @@ use Rattle.text.specs.declared.TextPiece.{TextPiece}
 use Rattle.text.specs.declared.TextPiece.TheVariants.{One, Bad}
 
 -- bytes that stand before what is read after them
-unfoldable pub bytesBefore : List ℕ → Read (List ℕ) → Read (List ℕ)
-bytesBefore l (got v) = got (l ++ v)
-bytesBefore l (refused why at) = refused why at
+unfoldable pub bytes_before : List ℕ → Read (List ℕ) → Read (List ℕ)
+bytes_before l (got v) = got (l ++ v)
+bytes_before l (refused why at) = refused why at
 
 -- a piece and what `rest` reads after it; a bad piece is refused at its own place
-unfoldable pub pieceThen : (ℕ → List ℕ) → TextPiece → ℕ → (ℕ → Read (List ℕ)) → Read (List ℕ)
-pieceThen form (One value more) at rest = bytesBefore (form value) (rest more)
-pieceThen form Bad at rest = refused InvalidLiteral at
+unfoldable pub piece_then : (ℕ → List ℕ) → TextPiece → ℕ → (ℕ → Read (List ℕ)) → Read (List ℕ)
+piece_then form (One value more) at rest = bytes_before (form value) (rest more)
+piece_then form Bad at rest = refused InvalidLiteral at
 
 -- the whole text, whose first byte stands at `at` of the line; its first n bytes belong to a piece before it
 unfoldable pub texts : (List ℕ → TextPiece) → (ℕ → List ℕ) → ℕ → ℕ → List ℕ → Read (List ℕ)
 texts head form n at [] = got []
-texts head form zero at (b ∷ s) = pieceThen form (head (b ∷ s)) at (λ more. texts head form more (suc at) s)
+texts head form zero at (b ∷ s) = piece_then form (head (b ∷ s)) at (λ more. texts head form more (suc at) s)
 texts head form (suc n) at (b ∷ s) = texts head form n (suc at) s
 
 -- whether a reading is no refusal
-unfoldable pub isRead : Read (List ℕ) → Bool
-isRead (got v) = true
-isRead (refused why at) = false
+unfoldable pub is_read : Read (List ℕ) → Bool
+is_read (got v) = true
+is_read (refused why at) = false
 
 -- its bytes; none of a refusal
 unfoldable pub bytes_of : Read (List ℕ) → List ℕ
@@ -38,7 +38,7 @@ length_of (refused why at) = refused why at
 
 -- what a call that writes asks: that its text is no refusal, and that it has room
 pub record RoomForText (text : Read (List ℕ)) (out : List ℕ) : Type 0 where
-  pub is : isRead text ≡ true
+  pub is : is_read text ≡ true
   pub fits : length (bytes_of text) ≤ length out
 
 -- and what it does: the bytes stand at the start, n of them, and the rest is as it was

@@ -11,11 +11,11 @@ use Rattle.text.specs.declared.Decoded.{Decoded}
 use Rattle.text.specs.declared.Decoded.TheVariants as decoded
 use Rattle.utf8.specs.Utf8.{encode}
 use Rattle.text.specs.Pieces.{texts, length_of}
-use Rattle.text.specs.Escapes.{stringHead, unicodeHead}
+use Rattle.text.specs.Escapes.{string_head, unicode_head}
 
 -- at least two bytes, the first and the last the same quote, ' or "
-unfoldable pub hasQuotes : List ℕ → Bool
-hasQuotes line =
+unfoldable pub has_quotes : List ℕ → Bool
+has_quotes line =
     leb 2 (length line)
     && eqb (get_or line 0 0) (get_or line (length line - 1) 0)
     && (eqb (get_or line 0 0) 39 || eqb (get_or line 0 0) 34)
@@ -25,46 +25,46 @@ unfoldable pub inner : List ℕ → List ℕ
 inner line = take (length line - 2) (drop 1 line)
 
 -- a byte as itself
-unfoldable pub byteItself : ℕ → List ℕ
-byteItself b = b ∷ []
+unfoldable pub byte_itself : ℕ → List ℕ
+byte_itself b = b ∷ []
 
 -- STRING: the quotes are looked at before any escape, and a fault of theirs has place 0
-unfoldable pub unescapeString : List ℕ → Read (List ℕ)
-unescapeString line = cond (hasQuotes line) (texts stringHead byteItself 0 1 (inner line)) (refused InvalidLiteral 0)
+unfoldable pub unescape_string : List ℕ → Read (List ℕ)
+unescape_string line = cond (has_quotes line) (texts string_head byte_itself 0 1 (inner line)) (refused InvalidLiteral 0)
 
 -- whether a backslash is among the bytes
-unfoldable pub hasEscape : List ℕ → Bool
-hasEscape [] = false
-hasEscape (b ∷ s) = eqb b 92 || hasEscape s
+unfoldable pub has_escape : List ℕ → Bool
+has_escape [] = false
+has_escape (b ∷ s) = eqb b 92 || has_escape s
 
 -- UNICODE, as UTF-8
-unfoldable pub unescapeUnicode : List ℕ → Read (List ℕ)
-unescapeUnicode line = texts unicodeHead encode 0 0 line
+unfoldable pub unescape_unicode : List ℕ → Read (List ℕ)
+unescape_unicode line = texts unicode_head encode 0 0 line
 
 -- a number of bytes with the mark whether there was an escape
-unfoldable pub withMark : Bool → Read ℕ → Read (Bool × ℕ)
-withMark e (got n) = got (e, n)
-withMark e (refused why at) = refused why at
+unfoldable pub with_mark : Bool → Read ℕ → Read (Bool × ℕ)
+with_mark e (got n) = got (e, n)
+with_mark e (refused why at) = refused why at
 
 -- what is to be said of a line of STRING before its value is written: whether it has an escape, and how many bytes the value has
-unfoldable pub stringMeasured : List ℕ → Read (Bool × ℕ)
-stringMeasured line = withMark (hasEscape (inner line)) (length_of (unescapeString line))
+unfoldable pub string_measured : List ℕ → Read (Bool × ℕ)
+string_measured line = with_mark (has_escape (inner line)) (length_of (unescape_string line))
 
 -- the answers of the code, as values and refusals of RULES A7: of hex characters,
-unfoldable pub hexSays : Hex → Option ℕ
-hexSays (hex.Number v) = some v
-hexSays hex.Bad = none
+unfoldable pub hex_says : Hex → Option ℕ
+hex_says (hex.Number v) = some v
+hex_says hex.Bad = none
 
 -- of a line of STRING (number 8 is InvalidLiteral),
-unfoldable pub quotedSays : List ℕ → Quoted → Read (Bool × ℕ)
-quotedSays line quoted.Plain = got (false, length (inner line))
-quotedSays line (quoted.Escaped n) = got (true, n)
-quotedSays line (quoted.Refused at) = refused InvalidLiteral at
+unfoldable pub quoted_says : List ℕ → Quoted → Read (Bool × ℕ)
+quoted_says line quoted.Plain = got (false, length (inner line))
+quoted_says line (quoted.Escaped n) = got (true, n)
+quoted_says line (quoted.Refused at) = refused InvalidLiteral at
 
 -- and of a text that is measured
-unfoldable pub decodedSays : Decoded → Read ℕ
-decodedSays (decoded.Len n) = got n
-decodedSays (decoded.Refused at) = refused InvalidLiteral at
+unfoldable pub decoded_says : Decoded → Read ℕ
+decoded_says (decoded.Len n) = got n
+decoded_says (decoded.Refused at) = refused InvalidLiteral at
 
 -- whichever of two lists holds a value
 unfoldable pub pick : Bool → List ℕ → List ℕ → List ℕ

@@ -4,9 +4,9 @@ ghost use Rattle.std.specs.Prelude.{◌≡◌, ◌+◌, ◌-◌, ◌<◌, ◌≤
 ghost use Rattle.std.proofs.lemmas.List.Edits.{sets};
 ghost use Rattle.utf8.specs.Utf8.{encode};
 ghost use Rattle.text.specs.Pieces.{texts, length_of, RoomForText, WroteText};
-ghost use Rattle.text.specs.Escapes.{hexDigit, hexNumber, hexDigits, hexEscape, octalDigit, octalEscape};
-ghost use Rattle.text.specs.Escapes.{letters, look, stringEscape, stringHead, scalarOf, scalarPiece, unicodeEscape, unicodeHead};
-ghost use Rattle.text.specs.Text.{hasQuotes, byteItself, unescapeString, unescapeUnicode, stringMeasured, hexSays, quotedSays, decodedSays, pick};
+ghost use Rattle.text.specs.Escapes.{hex_digit, hex_number, hex_digits, hex_escape, octal_digit, octal_escape};
+ghost use Rattle.text.specs.Escapes.{letters, look, string_escape, string_head, scalar_of, scalar_piece, unicode_escape, unicode_head};
+ghost use Rattle.text.specs.Text.{has_quotes, byte_itself, unescape_string, unescape_unicode, string_measured, hex_says, quoted_says, decoded_says, pick};
 
 // What stands at a place of a text: one value, with how many bytes after the first belong to it, or an escape that is refused.
 #[derive(Drop)]
@@ -39,7 +39,7 @@ pub enum Decoded {
 
 // A hex digit's value, in either letter case; 16 for any other byte.
 fn hex_digit(c: u8) -> u32
-    ensures { result ≡ hexDigit c }
+    ensures { result ≡ hex_digit c }
 {
     match c {
         b'0'..=b'9' => (c - 48) as u32,
@@ -52,7 +52,7 @@ fn hex_digit(c: u8) -> u32
 // `from_str_radix` at 16: hex digits, with a `+` before them or not. Eight of them fit.
 fn hex_number(digits: &[u8]) -> Hex
     requires { length digits.now ≤ 8 }
-    ensures { hexSays result ≡ hexNumber digits.now }
+    ensures { hex_says result ≡ hex_number digits.now }
 {
     if digits.len() == 0 {
         return Hex::Bad;
@@ -65,7 +65,7 @@ fn hex_number(digits: &[u8]) -> Hex
 
 fn hex_digits(digits: &[u8]) -> Hex
     requires { length digits.now ≤ 8 }
-    ensures { hexSays result ≡ hexDigits digits.now }
+    ensures { hex_says result ≡ hex_digits digits.now }
 {
     if digits.len() == 0 {
         return Hex::Bad;
@@ -86,7 +86,7 @@ fn hex_digits(digits: &[u8]) -> Hex
 // Exactly `n` hex characters from `at` on, which is past the escape's letter.
 fn hex_escape(text: &[u8], at: usize, n: usize) -> TextPiece
     requires { (at ≤ length text.now) × (n ≤ 8) }
-    ensures { result ≡ hexEscape n (drop at text.now) }
+    ensures { result ≡ hex_escape n (drop at text.now) }
 {
     if text.len() - at < n {
         return TextPiece::Bad;
@@ -100,7 +100,7 @@ fn hex_escape(text: &[u8], at: usize, n: usize) -> TextPiece
 
 // The octal digit at `at`; 8 where there is none.
 fn octal_digit(text: &[u8], at: usize) -> u32
-    ensures { result ≡ octalDigit (drop at text.now) }
+    ensures { result ≡ octal_digit (drop at text.now) }
 {
     if text.len() <= at {
         return 8;
@@ -115,7 +115,7 @@ fn octal_digit(text: &[u8], at: usize) -> u32
 // One to three octal digits modulo 256.
 fn octal_escape(text: &[u8], at: usize) -> TextPiece
     requires { at ≤ length text.now }
-    ensures { result ≡ octalEscape (drop at text.now) }
+    ensures { result ≡ octal_escape (drop at text.now) }
 {
     let mut value: u32 = 0;
     let mut left: usize = 3;
@@ -154,7 +154,7 @@ fn letter(c: u8) -> u8
 // STRING: what the backslash before `at` starts.
 fn string_escape(text: &[u8], at: usize) -> TextPiece
     requires { at ≤ length text.now }
-    ensures { result ≡ stringEscape (drop at text.now) }
+    ensures { result ≡ string_escape (drop at text.now) }
 {
     if text.len() <= at {
         return TextPiece::Bad; // the escape breaks off
@@ -173,7 +173,7 @@ fn string_escape(text: &[u8], at: usize) -> TextPiece
 // STRING: what stands at `at` between the quotes.
 fn string_piece(text: &[u8], at: usize) -> TextPiece
     requires { at < length text.now }
-    ensures { result ≡ stringHead (drop at text.now) }
+    ensures { result ≡ string_head (drop at text.now) }
 {
     let b = text[at];
     if b == b'\\' {
@@ -188,7 +188,7 @@ fn string_piece(text: &[u8], at: usize) -> TextPiece
 
 // A surrogate or a number above 10FFFF is U+FFFD.
 fn scalar(v: u32) -> u32
-    ensures { result ≡ scalarOf v }
+    ensures { result ≡ scalar_of v }
 {
     if v < 0xD800 {
         return v;
@@ -205,7 +205,7 @@ fn scalar(v: u32) -> u32
 // UNICODE: `n` hex characters from `at` on, as a code point that UTF-8 can write.
 fn unicode_hex(text: &[u8], at: usize, n: usize) -> TextPiece
     requires { (at ≤ length text.now) × (n ≤ 8) }
-    ensures { result ≡ scalarPiece (hexEscape n (drop at text.now)) }
+    ensures { result ≡ scalar_piece (hex_escape n (drop at text.now)) }
 {
     match hex_escape(text, at, n) {
         TextPiece::One { value, more } => TextPiece::One {
@@ -219,7 +219,7 @@ fn unicode_hex(text: &[u8], at: usize, n: usize) -> TextPiece
 // UNICODE: what the backslash before `at` starts.
 fn unicode_escape(text: &[u8], at: usize) -> TextPiece
     requires { at ≤ length text.now }
-    ensures { result ≡ unicodeEscape (drop at text.now) }
+    ensures { result ≡ unicode_escape (drop at text.now) }
 {
     if text.len() <= at {
         return TextPiece::One { value: 92, more: 0 };
@@ -235,7 +235,7 @@ fn unicode_escape(text: &[u8], at: usize) -> TextPiece
 // UNICODE: what stands at `at` of the line.
 fn unicode_piece(text: &[u8], at: usize) -> TextPiece
     requires { at < length text.now }
-    ensures { result ≡ unicodeHead (drop at text.now) }
+    ensures { result ≡ unicode_head (drop at text.now) }
 {
     let b = text[at];
     if b == b'\\' {
@@ -250,7 +250,7 @@ fn unicode_piece(text: &[u8], at: usize) -> TextPiece
 
 // The first and the last byte of a STRING line are the same quote.
 fn has_quotes(line: &[u8]) -> bool
-    ensures { result ≡ hasQuotes line.now }
+    ensures { result ≡ has_quotes line.now }
 {
     if line.len() < 2 {
         return false;
@@ -270,7 +270,7 @@ fn has_quotes(line: &[u8]) -> bool
 // How many bytes the text between the quotes has once unescaped. A place counts the quote before it.
 // Most bytes are plain, and are passed without a call; so in each loop below.
 fn inner_len(text: &[u8]) -> Decoded
-    ensures { decodedSays result ≡ length_of (texts stringHead byteItself 0 1 text.now) }
+    ensures { decoded_says result ≡ length_of (texts string_head byte_itself 0 1 text.now) }
 {
     let mut n = 0;
     let mut i = 0;
@@ -293,7 +293,7 @@ fn inner_len(text: &[u8]) -> Decoded
 
 // STRING, decided: an escape is shorter unescaped, so a value as long as its text has none.
 pub fn string_len(line: &[u8]) -> Quoted
-    ensures { quotedSays line.now result ≡ stringMeasured line.now }
+    ensures { quoted_says line.now result ≡ string_measured line.now }
 {
     if has_quotes(line) {
         let last = line.len() - 1;
@@ -315,8 +315,8 @@ pub fn string_len(line: &[u8]) -> Quoted
 
 // The text between the quotes, unescaped, at the start of `out`; how many bytes that are.
 fn write_inner(text: &[u8], out: &mut [u8]) -> usize
-    requires { RoomForText (texts stringHead byteItself 0 1 text.now) out.old }
-    ensures { WroteText (texts stringHead byteItself 0 1 text.now) out.old out.new result }
+    requires { RoomForText (texts string_head byte_itself 0 1 text.now) out.old }
+    ensures { WroteText (texts string_head byte_itself 0 1 text.now) out.old out.new result }
 {
     let mut n = 0;
     let mut i = 0;
@@ -342,8 +342,8 @@ fn write_inner(text: &[u8], out: &mut [u8]) -> usize
 
 // STRING, written: for a line that `string_len` does not refuse.
 pub fn unescape_string(line: &[u8], out: &mut [u8]) -> usize
-    requires { RoomForText (unescapeString line.now) out.old }
-    ensures { WroteText (unescapeString line.now) out.old out.new result }
+    requires { RoomForText (unescape_string line.now) out.old }
+    ensures { WroteText (unescape_string line.now) out.old out.new result }
 {
     let last = line.len() - 1;
     write_inner(&line[1..last], out)
@@ -367,7 +367,7 @@ fn encoded_len(code: u32) -> usize
 
 // UNICODE, decided.
 pub fn unicode_len(line: &[u8]) -> Decoded
-    ensures { decodedSays result ≡ length_of (unescapeUnicode line.now) }
+    ensures { decoded_says result ≡ length_of (unescape_unicode line.now) }
 {
     let mut n = 0;
     let mut i = 0;
@@ -418,8 +418,8 @@ fn put(out: &mut [u8], at: usize, code: u32) -> usize
 
 // UNICODE, written: for a line that `unicode_len` does not refuse.
 pub fn unescape_unicode(line: &[u8], out: &mut [u8]) -> usize
-    requires { RoomForText (unescapeUnicode line.now) out.old }
-    ensures { WroteText (unescapeUnicode line.now) out.old out.new result }
+    requires { RoomForText (unescape_unicode line.now) out.old }
+    ensures { WroteText (unescape_unicode line.now) out.old out.new result }
 {
     let mut n = 0;
     let mut i = 0;

@@ -12,11 +12,11 @@ use lib.Dec.{ltb}
 use borrow.Author.Tests.{lt-ltb, le-ltb, ltb-true, ltb-false}
 use Rattle.utf8.specs.declared.Piece.{Piece}
 use Rattle.utf8.specs.declared.Piece.TheVariants.{Whole, Part}
-use Rattle.utf8.specs.Utf8.{ByteRow, inColumn, wholeRow, some, wellFormed, piece, valid, fffd, mend, repair, evaluates}
-use Rattle.utf8.specs.Rows.{Few, none, one, few, along, goes, piece-goes, well-formed-after, or-false}
-use Rattle.utf8.specs.Laws.{piece-pos, piece-within, piece-take, valid-step, repair-step}
-use Rattle.utf8.specs.Place.{Ascii, pieceIs, piece_of, second_of, nextIn}
-use Rattle.utf8.specs.Stores.{sets-append}
+use Rattle.utf8.specs.Utf8.{ByteRow, in_column, whole_row, some, well_formed, piece, valid, fffd, mend, repair, evaluates}
+use Rattle.utf8.specs.Rows.{Few, none, one, few, along, goes, piece-goes, well_formed-after, or-false}
+use Rattle.utf8.specs.Laws.{piece_pos, piece-within, piece-take, valid-step, repair-step}
+use Rattle.utf8.specs.Place.{Ascii, piece_is, piece_of, second_of, next_in}
+use Rattle.utf8.specs.Stores.{sets_append}
 use Rattle.utf8.proofs.Table.{more, lead, table-lead}
 
 -- ---- the piece, column by column
@@ -24,17 +24,17 @@ use Rattle.utf8.proofs.Table.{more, lead, table-lead}
 -- from n bytes on: along the row as far as the text does
 unfoldable run : ByteRow → ℕ → List ℕ → Piece
 run [] n t = Whole n
-run (e ∷ r) n t = cond (nextIn e t) (run r (n + 1) (drop 1 t)) (Part n)
+run (e ∷ r) n t = cond (next_in e t) (run r (n + 1) (drop 1 t)) (Part n)
 
-run_along : (r : ByteRow) (n : ℕ) (t : List ℕ) → pieceIs (wholeRow r (along r t)) (n + length (along r t)) ≡ run r n t
-unfolding run nextIn along wholeRow
+run_along : (r : ByteRow) (n : ℕ) (t : List ℕ) → piece_is (whole_row r (along r t)) (n + length (along r t)) ≡ run r n t
+unfolding run next_in along whole_row
 run_along [] n [] = rw (add-zero n)
 run_along [] n (c ∷ t) = rw (add-zero n)
 run_along (e ∷ r) n [] = rw (add-zero n)
-run_along (e ∷ r) n (c ∷ t) = go (inColumn e c) refl (run_along r (n + 1) t)
+run_along (e ∷ r) n (c ∷ t) = go (in_column e c) refl (run_along r (n + 1) t)
   where
-    go : (x : Bool) → inColumn e c ≡ x → pieceIs (wholeRow r (along r t)) ((n + 1) + length (along r t)) ≡ run r (n + 1) t
-        → pieceIs (wholeRow (e ∷ r) (cond x (c ∷ along r t) [])) (n + length (cond x (c ∷ along r t) []))
+    go : (x : Bool) → in_column e c ≡ x → piece_is (whole_row r (along r t)) ((n + 1) + length (along r t)) ≡ run r (n + 1) t
+        → piece_is (whole_row (e ∷ r) (cond x (c ∷ along r t) [])) (n + length (cond x (c ∷ along r t) []))
         ≡ cond x (run r (n + 1) t) (Part n)
     go true w h = let q : n + suc (length (along r t)) ≡ (n + 1) + length (along r t) = omega arith in rw (w, q) h
     go false w h = rw (add-zero n)
@@ -58,18 +58,18 @@ module _ (s : List ℕ) (at : ℕ) (h : at < length s) where
   piece-runs : first < 256 → piece_of (drop at s) ≡ runs (lead first) (drop (at + 1) s)
   unfolding piece_of runs goes some
   piece-runs f =
-      rw (here, piece-goes first (drop (at + 1) s), well-formed-after) (go (few first))
+      rw (here, piece-goes first (drop (at + 1) s), well_formed-after) (go (few first))
       ∙ ap (λ (x : List ByteRow). runs x (drop (at + 1) s)) (table-lead first f)
     where
       go : {x : List ByteRow} → Few x
-          → pieceIs (some (λ r. wholeRow r (goes x (drop (at + 1) s))) x) (suc (length (goes x (drop (at + 1) s)))) ≡ runs x (drop (at + 1) s)
+          → piece_is (some (λ r. whole_row r (goes x (drop (at + 1) s))) x) (suc (length (goes x (drop (at + 1) s)))) ≡ runs x (drop (at + 1) s)
       go none = refl
       go (one r l) = rw (or-false, ← one-add (length (along r (drop (at + 1) s)))) (run_along r 1 (drop (at + 1) s))
 
   -- the answers of `piece_at`, each from the tests that lead to it
-  pub one-whole : first < 0x80 → Whole 1 ≡ piece_of (drop at s)
+  pub one_whole : first < 0x80 → Whole 1 ≡ piece_of (drop at s)
   unfolding lead runs run
-  one-whole l = sym (rw (piece-runs (omega arith), lt-ltb first 0x80 l))
+  one_whole l = sym (rw (piece-runs (omega arith), lt-ltb first 0x80 l))
 
   pub never_first : 0x80 ≤ first → first < 0xC2 → Part 1 ≡ piece_of (drop at s)
   unfolding lead runs
@@ -84,25 +84,25 @@ module _ (s : List ℕ) (at : ℕ) (h : at < length s) where
     unfolding lead runs
     row = rw (piece-runs (omega arith), le-ltb first 0x80 (omega arith), le-ltb first 0xC2 l, le-ltb 0xF4 first u)
 
-    pub one-part : nextIn (second_of first) (drop (at + 1) s) ≡ false → Part 1 ≡ piece_of (drop at s)
+    pub one_part : next_in (second_of first) (drop (at + 1) s) ≡ false → Part 1 ≡ piece_of (drop at s)
     unfolding run
-    one-part n = sym (rw (row, n))
+    one_part n = sym (rw (row, n))
 
-    module _ (n₁ : nextIn (second_of first) (drop (at + 1) s) ≡ true) where
-      pub two-whole : first < 0xE0 → Whole 2 ≡ piece_of (drop at s)
+    module _ (n₁ : next_in (second_of first) (drop (at + 1) s) ≡ true) where
+      pub two_whole : first < 0xE0 → Whole 2 ≡ piece_of (drop at s)
       unfolding run
-      two-whole m = sym (rw (row, n₁, lt-ltb first 0xE0 m))
+      two_whole m = sym (rw (row, n₁, lt-ltb first 0xE0 m))
 
       module _ (m : 0xE0 ≤ first) where
         row₂ : piece_of (drop at s) ≡ run (more ∷ cond (ltb first 0xF0) [] (more ∷ [])) 2 (drop (at + 2) s)
         unfolding run
         row₂ = rw (row, n₁, le-ltb first 0xE0 m, hop (at + 1) (at + 2) (omega arith))
 
-        pub two-part : nextIn more (drop (at + 2) s) ≡ false → Part 2 ≡ piece_of (drop at s)
+        pub two_part : next_in more (drop (at + 2) s) ≡ false → Part 2 ≡ piece_of (drop at s)
         unfolding run
-        two-part n = sym (rw (row₂, n))
+        two_part n = sym (rw (row₂, n))
 
-        module _ (n₂ : nextIn more (drop (at + 2) s) ≡ true) where
+        module _ (n₂ : next_in more (drop (at + 2) s) ≡ true) where
           pub three-whole : first < 0xF0 → Whole 3 ≡ piece_of (drop at s)
           unfolding run
           three-whole o = sym (rw (row₂, n₂, lt-ltb first 0xF0 o))
@@ -112,11 +112,11 @@ module _ (s : List ℕ) (at : ℕ) (h : at < length s) where
             unfolding run
             row₃ = rw (row₂, n₂, le-ltb first 0xF0 o, hop (at + 2) (at + 3) (omega arith))
 
-            pub three-part : nextIn more (drop (at + 3) s) ≡ false → Part 3 ≡ piece_of (drop at s)
+            pub three_part : next_in more (drop (at + 3) s) ≡ false → Part 3 ≡ piece_of (drop at s)
             unfolding run
-            three-part n = sym (rw (row₃, n))
+            three_part n = sym (rw (row₃, n))
 
-            pub four-whole : nextIn more (drop (at + 3) s) ≡ true → Whole 4 ≡ piece_of (drop at s)
+            pub four-whole : next_in more (drop (at + 3) s) ≡ true → Whole 4 ≡ piece_of (drop at s)
             unfolding run
             four-whole n = sym (rw (row₃, n))
 
@@ -132,16 +132,16 @@ pub record Turn (s : List ℕ) (i : ℕ) (g : Bool) (len : ℕ) : Type 0 where
       → sets (sets out n (cond g (take len (drop i s)) fffd)) (n + cond g len 3) (repair (drop (i + len) s)) ≡ sets out n (repair (drop i s))
 
 -- a piece's answer tells its length, and whether it is well formed
-told : (g : Bool) (n : ℕ) (w : Bool) (m : ℕ) → pieceIs g n ≡ pieceIs w m → (g ≡ w) × (n ≡ m)
+told : (g : Bool) (n : ℕ) (w : Bool) (m : ℕ) → piece_is g n ≡ piece_is w m → (g ≡ w) × (n ≡ m)
 told true n true m e = (refl, (cc))
 told true n false m e = ((cc), (cc))
 told false n true m e = ((cc), (cc))
 told false n false m e = (refl, (cc))
 
-module _ (s : List ℕ) (i : ℕ) (h : i < length s) (g : Bool) (len : ℕ) (e : pieceIs g len ≡ piece_of (drop i s)) where
-  is : (g ≡ wellFormed (piece (drop i s))) × (len ≡ length (piece (drop i s)))
+module _ (s : List ℕ) (i : ℕ) (h : i < length s) (g : Bool) (len : ℕ) (e : piece_is g len ≡ piece_of (drop i s)) where
+  is : (g ≡ well_formed (piece (drop i s))) × (len ≡ length (piece (drop i s)))
   unfolding piece_of
-  is = told g len (wellFormed (piece (drop i s))) (length (piece (drop i s))) e
+  is = told g len (well_formed (piece (drop i s))) (length (piece (drop i s))) e
 
   left : 0 < length (drop i s)
   left = simp length-drop (omega arith)
@@ -153,8 +153,8 @@ module _ (s : List ℕ) (i : ℕ) (h : i < length s) (g : Bool) (len : ℕ) (e :
   unfolding mend
   mended = repair-step (drop i s) left ∙ rw (← is.0, rest, is.1, piece-take)
 
-  mended-length : length (cond g (take len (drop i s)) fffd) ≡ cond g len 3
-  mended-length = go g
+  mended_length : length (cond g (take len (drop i s)) fffd) ≡ cond g len 3
+  mended_length = go g
     where
       go : (x : Bool) → length (cond x (take len (drop i s)) fffd) ≡ cond x len 3
       go true = rw (is.1, piece-take)
@@ -162,22 +162,22 @@ module _ (s : List ℕ) (i : ℕ) (h : i < length s) (g : Bool) (len : ℕ) (e :
 
   pub turn : Turn s i g len
   turn = record {
-    pos = rw is.1 (piece-pos (drop i s) left);
+    pos = rw is.1 (piece_pos (drop i s) left);
     fits = rw is.1 (omega (arith, simp length-drop at (piece-within (drop i s))));
     judged = valid-step (drop i s) left ∙ rw (← is.0, rest);
-    sized = sym (rw (mended, length-append, mended-length));
-    stored = λ out n. rw (← mended-length, sets-append, mended);
+    sized = sym (rw (mended, length-append, mended_length));
+    stored = λ out n. rw (← mended_length, sets_append, mended);
   }
 
 -- an ASCII byte is a piece
 module _ (s : List ℕ) (i : ℕ) (h : i < length s) (a : get_or s i 0 < 0x80) where
-  pub turn-ascii : Turn s i true 1
-  turn-ascii = turn s i h true 1 (one-whole s i h a)
+  pub turn_ascii : Turn s i true 1
+  turn_ascii = turn s i h true 1 (one_whole s i h a)
 
-  pub stored-ascii : (out : List ℕ) (n : ℕ) → sets (set out n (get_or s i 0)) (n + 1) (repair (drop (i + 1) s)) ≡ sets out n (repair (drop i s))
-  stored-ascii out n =
+  pub stored_ascii : (out : List ℕ) (n : ℕ) → sets (set out n (get_or s i 0)) (n + 1) (repair (drop (i + 1) s)) ≡ sets out n (repair (drop i s))
+  stored_ascii out n =
       let m : take 1 (drop i s) ≡ get_or s i 0 ∷ [] = ap (λ (y : List ℕ). take 1 y) (here s i h) in
-      rw m at (turn-ascii.stored out n)
+      rw m at (turn_ascii.stored out n)
 
 -- n bytes behind m others
 pub ascii-join : (s : List ℕ) (i m j n : ℕ) → j ≡ i + m → Ascii s i m → Ascii s j n → Ascii s i (m + n)
@@ -192,15 +192,15 @@ pub after-ascii : (s : List ℕ) (n : ℕ) → n ≤ length s → Ascii s 0 n �
 after-ascii s zero l h = refl
 after-ascii s (suc n) l h =
     let e : 0 + n ≡ n = omega arith in
-    let t = turn-ascii s n (omega arith) (rw e at (h n (omega arith))) in
+    let t = turn_ascii s n (omega arith) (rw e at (h n (omega arith))) in
     rw (← add-one) (sym t.judged) ∙ after-ascii s n (omega arith) (λ k g. h k (omega arith))
 
 -- where nothing is left
 module _ (s : List ℕ) (i : ℕ) (l : length s ≤ i) where
-  pub valid-end : true ≡ valid (drop i s)
+  pub valid_end : true ≡ valid (drop i s)
   unfolding evaluates
-  valid-end = rw (drop_of_length-le s l)
+  valid_end = rw (drop_of_length-le s l)
 
-  pub repair-end : repair (drop i s) ≡ []
+  pub repair_end : repair (drop i s) ≡ []
   unfolding evaluates
-  repair-end = rw (drop_of_length-le s l)
+  repair_end = rw (drop_of_length-le s l)

@@ -16,5 +16,5 @@ module _ (s : List ℕ) (i len n k : ℕ) (out : List ℕ) where
       let g : i + (k + 1) ≡ suc (i + k) = omega arith in
       rw (drop-cons s (i + k) 0 h, e, f, g)
 
-  pub copy-none : len ≤ k → sets out (n + k) (take (len - k) (drop (i + k) s)) ≡ out
-  copy-none l = let e : len - k ≡ 0 = omega arith in rw e
+  pub copy_none : len ≤ k → sets out (n + k) (take (len - k) (drop (i + k) s)) ≡ out
+  copy_none l = let e : len - k ≡ 0 = omega arith in rw e

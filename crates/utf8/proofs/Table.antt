@@ -7,8 +7,8 @@ use mathlib.Core.List.{List, [], ◌∷◌}
 use mathlib.Core.Path.{◌≡◌, refl}
 use lib.Dec.{ltb, eqb}
 use borrow.Author.Tests.{eqb-true}
-use Rattle.utf8.specs.Utf8.{ByteRow, table37, inColumn}
-use Rattle.utf8.specs.Rows.{rowsAfter, and_left, and_right}
+use Rattle.utf8.specs.Utf8.{ByteRow, table37, in_column}
+use Rattle.utf8.specs.Rows.{rows_after, and_left, and_right}
 use Rattle.utf8.specs.Place.{second_of}
 
 -- the columns after the second
@@ -30,19 +30,19 @@ module _ {A : Type 0} (q : A → A → Bool) (sound : (a b : A) → q a b ≡ tr
   same (a ∷ x) [] = false
   same (a ∷ x) (b ∷ y) = q a b && same x y
 
-  same-sound : (x y : List A) → same x y ≡ true → x ≡ y
+  same_sound : (x y : List A) → same x y ≡ true → x ≡ y
   unfolding same
-  same-sound [] [] h = refl
-  same-sound [] (b ∷ y) h = cc
-  same-sound (a ∷ x) [] h = cc
-  same-sound (a ∷ x) (b ∷ y) h = rw (sound a b (and_left (q a b) (same x y) h), same-sound x y (and_right (q a b) (same x y) h))
+  same_sound [] [] h = refl
+  same_sound [] (b ∷ y) h = cc
+  same_sound (a ∷ x) [] h = cc
+  same_sound (a ∷ x) (b ∷ y) h = rw (sound a b (and_left (q a b) (same x y) h), same_sound x y (and_right (q a b) (same x y) h))
 
-same-column : ℕ × ℕ → ℕ × ℕ → Bool
-same-column e f = eqb e.0 f.0 && eqb e.1 f.1
+same_column : ℕ × ℕ → ℕ × ℕ → Bool
+same_column e f = eqb e.0 f.0 && eqb e.1 f.1
 
-column-sound : (e f : ℕ × ℕ) → same-column e f ≡ true → e ≡ f
-unfolding same-column
-column-sound e f h =
+column_sound : (e f : ℕ × ℕ) → same_column e f ≡ true → e ≡ f
+unfolding same_column
+column_sound e f h =
     let a = eqb-true e.0 f.0 (and_left _ (eqb e.1 f.1) h) in
     let b = eqb-true e.1 f.1 (and_right (eqb e.0 f.0) _ h) in
     λ i. (a i, b i)
@@ -52,23 +52,23 @@ unfoldable all : (ℕ → Bool) → ℕ → Bool
 all p zero = true
 all p (suc n) = p n && all p n
 
-all-at : (p : ℕ → Bool) (n : ℕ) → all p n ≡ true → (b : ℕ) → b < n → p b ≡ true
+all_at : (p : ℕ → Bool) (n : ℕ) → all p n ≡ true → (b : ℕ) → b < n → p b ≡ true
 unfolding all
-all-at p zero h b l = let z : ◌≡◌ {A = ℕ} 0 1 = omega arith in cc
-all-at p (suc n) h b l = elim (ℕ_discrete b n) [
+all_at p zero h b l = let z : ◌≡◌ {A = ℕ} 0 1 = omega arith in cc
+all_at p (suc n) h b l = elim (ℕ_discrete b n) [
   | yes e ↦ rw e (and_left (p n) (all p n) h)
-  | no d ↦ all-at p n (and_right (p n) (all p n) h) b (omega arith)
+  | no d ↦ all_at p n (and_right (p n) (all p n) h) b (omega arith)
 ]
 
 same_rows : List ByteRow → List ByteRow → Bool
-same_rows = same (same same-column column-sound) (same-sound same-column column-sound)
+same_rows = same (same same_column column_sound) (same_sound same_column column_sound)
 
-computed : all (λ b. same_rows (rowsAfter b table37) (lead b)) 256 ≡ true
-unfolding all same same-column same_rows rowsAfter inColumn lead second_of
+computed : all (λ b. same_rows (rows_after b table37) (lead b)) 256 ≡ true
+unfolding all same same_column same_rows rows_after in_column lead second_of
 computed = refl
 
-pub table-lead : (b : ℕ) → b < 256 → rowsAfter b table37 ≡ lead b
+pub table-lead : (b : ℕ) → b < 256 → rows_after b table37 ≡ lead b
 unfolding same_rows
 table-lead b l =
-    same-sound (same same-column column-sound) (same-sound same-column column-sound) (rowsAfter b table37) (lead b)
-    (all-at (λ (x : ℕ). same_rows (rowsAfter x table37) (lead x)) 256 computed b l)
+    same_sound (same same_column column_sound) (same_sound same_column column_sound) (rows_after b table37) (lead b)
+    (all_at (λ (x : ℕ). same_rows (rows_after x table37) (lead x)) 256 computed b l)

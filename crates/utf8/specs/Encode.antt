@@ -7,8 +7,8 @@ use Rattle.std.proofs.Math.Logic.{inl, inr}
 use Rattle.std.proofs.Math.Path.{refl}
 use Rattle.std.proofs.Math.Dec.{ltb}
 use borrow.Author.Tests.{le-leb, lt-leb, lt-ltb, le-ltb, ltb-true, leb-true}
-use Rattle.utf8.specs.Utf8.{ByteRow, table37, inColumn, wholeRow, some, wellFormed, scalar, trail, encode, valid}
-use Rattle.utf8.specs.Laws.{valid-one}
+use Rattle.utf8.specs.Utf8.{ByteRow, table37, in_column, whole_row, some, well_formed, scalar, trail, encode, valid}
+use Rattle.utf8.specs.Laws.{valid_one}
 use Rattle.utf8.specs.Rows.{and_left, and_right}
 
 module _ (c : ℕ) where
@@ -16,9 +16,9 @@ module _ (c : ℕ) where
   unfolding encode
   encode_one h = rw (lt-ltb c 0x80 h)
 
-  pub encode-two : 0x80 ≤ c → c < 0x800 → encode c ≡ (0xC0 + c / 0x40) ∷ trail c ∷ []
+  pub encode_two : 0x80 ≤ c → c < 0x800 → encode c ≡ (0xC0 + c / 0x40) ∷ trail c ∷ []
   unfolding encode
-  encode-two l h = rw (le-ltb c 0x80 l, lt-ltb c 0x800 h)
+  encode_two l h = rw (le-ltb c 0x80 l, lt-ltb c 0x800 h)
 
   pub encode-three : 0x800 ≤ c → c < 0x10000 → encode c ≡ (0xE0 + c / 0x1000) ∷ trail (c / 0x40) ∷ trail c ∷ []
   unfolding encode
@@ -39,61 +39,61 @@ some_at p (r ∷ t) (suc k) l h = go (p r) (some_at p t k (omega arith) h)
     go true e = refl
     go false e = e
 
-within-at : (e : ℕ × ℕ) (b : ℕ) → e.0 ≤ b → b ≤ e.1 → inColumn e b ≡ true
-unfolding inColumn
-within-at e b l h = rw (le-leb e.0 b l, le-leb b e.1 h)
+within_at : (e : ℕ × ℕ) (b : ℕ) → e.0 ≤ b → b ≤ e.1 → in_column e b ≡ true
+unfolding in_column
+within_at e b l h = rw (le-leb e.0 b l, le-leb b e.1 h)
 
-trail-within : (x : ℕ) → inColumn (0x80, 0xBF) (trail x) ≡ true
+trail-within : (x : ℕ) → in_column (0x80, 0xBF) (trail x) ≡ true
 unfolding trail
-trail-within x = within-at (0x80, 0xBF) (0x80 + x % 0x40) (omega arith) (omega arith)
+trail-within x = within_at (0x80, 0xBF) (0x80 + x % 0x40) (omega arith) (omega arith)
 
 -- bytes of row k: the first two in its first two columns, and the others as its others ask
 module _ (k : ℕ) {e f : ℕ × ℕ} {r : ByteRow} (q : get_or table37 k [] ≡ e ∷ f ∷ r) where
-  fits-row : (x y : ℕ) (u : List ℕ) → (k < 9) × (e.0 ≤ x) × (x ≤ e.1) × (f.0 ≤ y) × (y ≤ f.1)
-      → wholeRow r u ≡ true → wellFormed (x ∷ y ∷ u) ≡ true
-  unfolding wellFormed wholeRow
-  fits-row x y u b h = some_at _ table37 k b.0 (rw (q, within-at e x b.1 b.2, within-at f y b.3 b.4, h))
+  fits_row : (x y : ℕ) (u : List ℕ) → (k < 9) × (e.0 ≤ x) × (x ≤ e.1) × (f.0 ≤ y) × (y ≤ f.1)
+      → whole_row r u ≡ true → well_formed (x ∷ y ∷ u) ≡ true
+  unfolding well_formed whole_row
+  fits_row x y u b h = some_at _ table37 k b.0 (rw (q, within_at e x b.1 b.2, within_at f y b.3 b.4, h))
 
-pub by-lt : {A : Type 0} (c n : ℕ) → (c < n → A) → (n ≤ c → A) → A
-by-lt c n f g = elim (dec_lt c n) [ yes h ↦ f h | no h ↦ g (omega arith) ]
+pub by_lt : {A : Type 0} (c n : ℕ) → (c < n → A) → (n ≤ c → A) → A
+by_lt c n f g = elim (dec_lt c n) [ yes h ↦ f h | no h ↦ g (omega arith) ]
 
 module _ (c : ℕ) where
-  rest-two : wholeRow [] [] ≡ true
-  unfolding wholeRow
-  rest-two = refl
+  rest_two : whole_row [] [] ≡ true
+  unfolding whole_row
+  rest_two = refl
 
-  rest-three : wholeRow ((0x80, 0xBF) ∷ []) (trail c ∷ []) ≡ true
-  unfolding wholeRow
+  rest-three : whole_row ((0x80, 0xBF) ∷ []) (trail c ∷ []) ≡ true
+  unfolding whole_row
   rest-three = rw (trail-within c)
 
-  rest-four : wholeRow ((0x80, 0xBF) ∷ (0x80, 0xBF) ∷ []) (trail (c / 0x40) ∷ trail c ∷ []) ≡ true
-  unfolding wholeRow
+  rest-four : whole_row ((0x80, 0xBF) ∷ (0x80, 0xBF) ∷ []) (trail (c / 0x40) ∷ trail c ∷ []) ≡ true
+  unfolding whole_row
   rest-four = rw (trail-within (c / 0x40), trail-within c)
 
-  well-one : c < 0x80 → wellFormed (encode c) ≡ true
-  unfolding wellFormed wholeRow
-  well-one h = rw (encode_one c h) (some_at _ table37 0 (omega arith) (rw (within-at (0x00, 0x7F) c (omega arith) (omega arith))))
+  well_one : c < 0x80 → well_formed (encode c) ≡ true
+  unfolding well_formed whole_row
+  well_one h = rw (encode_one c h) (some_at _ table37 0 (omega arith) (rw (within_at (0x00, 0x7F) c (omega arith) (omega arith))))
 
-  well-two : 0x80 ≤ c → c < 0x800 → wellFormed (encode c) ≡ true
+  well_two : 0x80 ≤ c → c < 0x800 → well_formed (encode c) ≡ true
   unfolding trail
-  well-two l h = rw (encode-two c l h) (fits-row 1 refl _ _ _ (omega arith) rest-two)
+  well_two l h = rw (encode_two c l h) (fits_row 1 refl _ _ _ (omega arith) rest_two)
 
-  well-three : 0x800 ≤ c → c < 0x10000 → (c < 0xD800) ⊎ (0xE000 ≤ c) → wellFormed (encode c) ≡ true
+  well_three : 0x800 ≤ c → c < 0x10000 → (c < 0xD800) ⊎ (0xE000 ≤ c) → well_formed (encode c) ≡ true
   unfolding trail
-  well-three l h (inl s) =
+  well_three l h (inl s) =
       rw (encode-three c l h)
-      (by-lt c 0x1000 (λ m. fits-row 2 refl _ _ _ (omega arith) rest-three)
-      (λ m. by-lt c 0xD000 (λ n. fits-row 3 refl _ _ _ (omega arith) rest-three)
-      (λ n. fits-row 4 refl _ _ _ (omega arith) rest-three)))
-  well-three l h (inr s) = rw (encode-three c l h) (fits-row 5 refl _ _ _ (omega arith) rest-three)
+      (by_lt c 0x1000 (λ m. fits_row 2 refl _ _ _ (omega arith) rest-three)
+      (λ m. by_lt c 0xD000 (λ n. fits_row 3 refl _ _ _ (omega arith) rest-three)
+      (λ n. fits_row 4 refl _ _ _ (omega arith) rest-three)))
+  well_three l h (inr s) = rw (encode-three c l h) (fits_row 5 refl _ _ _ (omega arith) rest-three)
 
-  well-four : 0x10000 ≤ c → c < 0x110000 → wellFormed (encode c) ≡ true
+  well_four : 0x10000 ≤ c → c < 0x110000 → well_formed (encode c) ≡ true
   unfolding trail
-  well-four l h =
+  well_four l h =
       rw (encode-four c l)
-      (by-lt c 0x40000 (λ m. fits-row 6 refl _ _ _ (omega arith) rest-four)
-      (λ m. by-lt c 0x100000 (λ n. fits-row 7 refl _ _ _ (omega arith) rest-four)
-      (λ n. fits-row 8 refl _ _ _ (omega arith) rest-four)))
+      (by_lt c 0x40000 (λ m. fits_row 6 refl _ _ _ (omega arith) rest-four)
+      (λ m. by_lt c 0x100000 (λ n. fits_row 7 refl _ _ _ (omega arith) rest-four)
+      (λ n. fits_row 8 refl _ _ _ (omega arith) rest-four)))
 
   scalar_is : scalar c ≡ true → (c < 0x110000) × ((c < 0xD800) ⊎ (0xE000 ≤ c))
   unfolding scalar
@@ -104,28 +104,28 @@ module _ (c : ℕ) where
       go false e s = (ltb-true c 0x110000 (and_right (leb 0xE000 c) (ltb c 0x110000) s), inr (leb-true 0xE000 c (and_left _ (ltb c 0x110000) s)))
 
   -- the UTF-8 form of a scalar value is well formed
-  pub encode-well-formed : scalar c ≡ true → wellFormed (encode c) ≡ true
-  encode-well-formed s =
+  pub encode-well_formed : scalar c ≡ true → well_formed (encode c) ≡ true
+  encode-well_formed s =
       let t = scalar_is s in
-      by-lt c 0x80 (λ h. well-one h)
-      (λ l. by-lt c 0x800 (λ h. well-two l h)
-      (λ l. by-lt c 0x10000 (λ h. well-three l h t.1) (λ l. well-four l t.0)))
+      by_lt c 0x80 (λ h. well_one h)
+      (λ l. by_lt c 0x800 (λ h. well_two l h)
+      (λ l. by_lt c 0x10000 (λ h. well_three l h t.1) (λ l. well_four l t.0)))
 
   pub valid-encode : scalar c ≡ true → valid (encode c) ≡ true
-  valid-encode s = valid-one (encode c) (encode-well-formed s)
+  valid-encode s = valid_one (encode c) (encode-well_formed s)
 
   -- what a program tests
-  pub scalar-low : c < 0xD800 → scalar c ≡ true
+  pub scalar_low : c < 0xD800 → scalar c ≡ true
   unfolding scalar
-  scalar-low h = rw (lt-ltb c 0xD800 h)
+  scalar_low h = rw (lt-ltb c 0xD800 h)
 
   pub scalar-high : 0xE000 ≤ c → c < 0x110000 → scalar c ≡ true
   unfolding scalar
   scalar-high l h = rw (le-ltb c 0xD800 (omega arith), le-leb 0xE000 c l, lt-ltb c 0x110000 h)
 
-  pub scalar-surrogate : 0xD800 ≤ c → c < 0xE000 → scalar c ≡ false
+  pub scalar_surrogate : 0xD800 ≤ c → c < 0xE000 → scalar c ≡ false
   unfolding scalar
-  scalar-surrogate l h = rw (le-ltb c 0xD800 l, lt-leb 0xE000 c h)
+  scalar_surrogate l h = rw (le-ltb c 0xD800 l, lt-leb 0xE000 c h)
 
   pub scalar-above : 0x110000 ≤ c → scalar c ≡ false
   unfolding scalar

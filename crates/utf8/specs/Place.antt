@@ -2,16 +2,16 @@
 use Rattle.std.specs.Prelude.{ℕ, ◌+◌, ◌<◌, Bool, true, false, cond, List, [], ◌∷◌, length, get_or, eqb}
 use Rattle.utf8.specs.declared.Piece.{Piece}
 use Rattle.utf8.specs.declared.Piece.TheVariants.{Whole, Part}
-use Rattle.utf8.specs.Utf8.{inColumn, wellFormed, piece}
+use Rattle.utf8.specs.Utf8.{in_column, well_formed, piece}
 
 -- a piece of n bytes, well formed or not
-abbrev pub pieceIs : Bool → ℕ → Piece
-pieceIs true n = Whole n
-pieceIs false n = Part n
+abbrev pub piece_is : Bool → ℕ → Piece
+piece_is true n = Whole n
+piece_is false n = Part n
 
 -- the piece at the start of a text
 unfoldable pub piece_of : List ℕ → Piece
-piece_of s = pieceIs (wellFormed (piece s)) (length (piece s))
+piece_of s = piece_is (well_formed (piece s)) (length (piece s))
 
 -- Table 3-7's second column, for a first byte that has one
 unfoldable pub second_of : ℕ → ℕ × ℕ
@@ -23,9 +23,9 @@ second_of b =
     (0x80, 0xBF))))
 
 -- the text goes on with a byte in the range
-unfoldable pub nextIn : ℕ × ℕ → List ℕ → Bool
-nextIn e [] = false
-nextIn e (c ∷ t) = inColumn e c
+unfoldable pub next_in : ℕ × ℕ → List ℕ → Bool
+next_in e [] = false
+next_in e (c ∷ t) = in_column e c
 
 -- the n bytes from i on are ASCII
 abbrev pub Ascii : List ℕ → ℕ → ℕ → Type 0

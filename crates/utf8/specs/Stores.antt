@@ -3,8 +3,8 @@ use Rattle.std.specs.Prelude.{ℕ, suc, ◌+◌, List, [], ◌∷◌, ◌++◌, 
 use Rattle.std.proofs.Common.{arith, add-zero}
 use Rattle.std.proofs.lemmas.List.Edits.{sets}
 
-pub sets-append : (u v l : List ℕ) (n : ℕ) → sets (sets l n u) (n + length u) v ≡ sets l n (u ++ v)
-sets-append [] v l n = rw (add-zero n)
-sets-append (a ∷ u) v l n =
+pub sets_append : (u v l : List ℕ) (n : ℕ) → sets (sets l n u) (n + length u) v ≡ sets l n (u ++ v)
+sets_append [] v l n = rw (add-zero n)
+sets_append (a ∷ u) v l n =
     let e : n + suc (length u) ≡ suc n + length u = omega arith in
-    rw e (sets-append u v (set l n a) (suc n))
+    rw e (sets_append u v (set l n a) (suc n))

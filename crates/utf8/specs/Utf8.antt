@@ -1,4 +1,4 @@
--- Unicode chapter 3: which bytes are well-formed UTF-8 (D92, Table 3-7), and the replacement of each maximal subpart of what is
+-- Unicode chapter 3: which bytes are well_formed_lem UTF-8 (D92, Table 3-7), and the replacement of each maximal subpart of what is
 -- not (D93b, 'U+FFFD Substitution of Maximal Subparts'). Rust's `str::from_utf8` and `String::from_utf8_lossy` follow it.
 use Rattle.std.specs.Prelude.{ℕ, suc, zero, ◌+◌, ◌-◌, ◌/◌, ◌%◌, Bool, true, false, cond, ◌&&◌, ◌||◌, ◌≡◌, refl, length, take, replicate, leb, ltb}
 use mathlib.Core.List.{List, [], ◌∷◌, ◌++◌, map, flatten}
@@ -22,32 +22,32 @@ table37 =
     ∷ []
 
 -- a byte lies in a column's range
-unfoldable pub inColumn : ℕ × ℕ → ℕ → Bool
-inColumn e b = leb e.0 b && leb b e.1
+unfoldable pub in_column : ℕ × ℕ → ℕ → Bool
+in_column e b = leb e.0 b && leb b e.1
 
 -- the bytes are a whole sequence of the row: a byte for each column, in its range
-unfoldable pub wholeRow : ByteRow → List ℕ → Bool
-wholeRow [] [] = true
-wholeRow [] (b ∷ s) = false
-wholeRow (e ∷ r) [] = false
-wholeRow (e ∷ r) (b ∷ s) = inColumn e b && wholeRow r s
+unfoldable pub whole_row : ByteRow → List ℕ → Bool
+whole_row [] [] = true
+whole_row [] (b ∷ s) = false
+whole_row (e ∷ r) [] = false
+whole_row (e ∷ r) (b ∷ s) = in_column e b && whole_row r s
 
 -- the bytes are the beginning of a sequence of the row
 unfoldable pub begins : ByteRow → List ℕ → Bool
 begins r [] = true
 begins [] (b ∷ s) = false
-begins (e ∷ r) (b ∷ s) = inColumn e b && begins r s
+begins (e ∷ r) (b ∷ s) = in_column e b && begins r s
 
 -- some row has the property
 unfoldable pub some : (ByteRow → Bool) → List ByteRow → Bool
 some p [] = false
 some p (r ∷ t) = p r || some p t
 
--- D85a, D92: a minimal well-formed sequence, the bytes of one scalar value
-unfoldable pub wellFormed : List ℕ → Bool
-wellFormed s = some (λ r. wholeRow r s) table37
+-- D85a, D92: a minimal well_formed_lem sequence, the bytes of one scalar value
+unfoldable pub well_formed : List ℕ → Bool
+well_formed s = some (λ r. whole_row r s) table37
 
--- D93b a: the initial subsequence of a well-formed sequence
+-- D93b a: the initial subsequence of a well_formed_lem sequence
 unfoldable pub initial : List ℕ → Bool
 initial s = some (λ r. begins r s) table37
 
@@ -56,26 +56,26 @@ unfoldable pub longest : ℕ → List ℕ → List ℕ
 longest zero s = take 1 s
 longest (suc k) s = cond (initial (take (suc k) s)) (take (suc k) s) (longest k s)
 
--- the piece at the start of s: a well-formed sequence, or else a maximal subpart. No row is longer than four (`piece-longest`)
+-- the piece at the start of s: a well_formed_lem sequence, or else a maximal subpart. No row is longer than four (`piece-longest`)
 unfoldable pub piece : List ℕ → List ℕ
 piece s = longest 4 s
 
 -- s, less its first n bytes, in pieces
-unfoldable pub piecesAfter : ℕ → List ℕ → List (List ℕ)
-piecesAfter n [] = []
-piecesAfter zero (b ∷ s) = piece (b ∷ s) ∷ piecesAfter (length (piece (b ∷ s)) - 1) s
-piecesAfter (suc n) (b ∷ s) = piecesAfter n s
+unfoldable pub pieces_after : ℕ → List ℕ → List (List ℕ)
+pieces_after n [] = []
+pieces_after zero (b ∷ s) = piece (b ∷ s) ∷ pieces_after (length (piece (b ∷ s)) - 1) s
+pieces_after (suc n) (b ∷ s) = pieces_after n s
 
 -- s in pieces
 unfoldable pub pieces : List ℕ → List (List ℕ)
-pieces s = piecesAfter 0 s
+pieces s = pieces_after 0 s
 
--- each of the pieces is a well-formed sequence
+-- each of the pieces is a well_formed_lem sequence
 unfoldable pub every : List (List ℕ) → Bool
 every [] = true
-every (p ∷ t) = wellFormed p && every t
+every (p ∷ t) = well_formed p && every t
 
--- D85: the text is well formed, a run of well-formed sequences
+-- D85: the text is well formed, a run of well_formed_lem sequences
 unfoldable pub valid : List ℕ → Bool
 valid s = every (pieces s)
 
@@ -83,9 +83,9 @@ valid s = every (pieces s)
 abbrev pub fffd : List ℕ
 fffd = 0xEF ∷ 0xBF ∷ 0xBD ∷ []
 
--- a well-formed sequence is kept, a maximal subpart of an ill-formed one is replaced
+-- a well_formed_lem sequence is kept, a maximal subpart of an ill-formed one is replaced
 unfoldable pub mend : List ℕ → List ℕ
-mend p = cond (wellFormed p) p fffd
+mend p = cond (well_formed p) p fffd
 
 -- the text with each maximal subpart of an ill-formed sequence replaced by U+FFFD
 unfoldable pub repair : List ℕ → List ℕ
@@ -109,7 +109,7 @@ encode c =
 
 -- what computes on given bytes
 unfoldable pub evaluates : Unit {0}
-unfolding inColumn wholeRow begins some wellFormed initial longest piece piecesAfter pieces every valid flatten mend repair scalar trail encode
+unfolding in_column whole_row begins some well_formed initial longest piece pieces_after pieces every valid flatten mend repair scalar trail encode
 evaluates = tt
 
 -- n replacement characters
@@ -123,9 +123,9 @@ unfolding evaluates
 example = refl
 
 -- the newer editions have four tables: Table 3-8, U+FFFD for Non-Shortest Form Sequences
-pub non-shortest : repair (0xC0 ∷ 0xAF ∷ 0xE0 ∷ 0x80 ∷ 0xBF ∷ 0xF0 ∷ 0x81 ∷ 0x82 ∷ 0x41 ∷ []) ≡ fffds 8 ++ (0x41 ∷ [])
+pub non_shortest : repair (0xC0 ∷ 0xAF ∷ 0xE0 ∷ 0x80 ∷ 0xBF ∷ 0xF0 ∷ 0x81 ∷ 0x82 ∷ 0x41 ∷ []) ≡ fffds 8 ++ (0x41 ∷ [])
 unfolding evaluates
-non-shortest = refl
+non_shortest = refl
 
 -- Table 3-9, U+FFFD for Ill-Formed Sequences for Surrogates
 pub surrogates : repair (0xED ∷ 0xA0 ∷ 0x80 ∷ 0xED ∷ 0xBF ∷ 0xBF ∷ 0xED ∷ 0xAF ∷ 0x41 ∷ []) ≡ fffds 8 ++ (0x41 ∷ [])
@@ -147,19 +147,19 @@ pub surrogate : repair (0xED ∷ 0xA0 ∷ 0x80 ∷ []) ≡ fffds 3
 unfolding evaluates
 surrogate = refl
 
-pub surrogate-invalid : valid (0xED ∷ 0xA0 ∷ 0x80 ∷ []) ≡ false
+pub surrogate_invalid : valid (0xED ∷ 0xA0 ∷ 0x80 ∷ []) ≡ false
 unfolding evaluates
-surrogate-invalid = refl
+surrogate_invalid = refl
 
 -- Table 3-4, Examples of Unicode Encoding Forms: U+004D, U+0430, U+4E8C, U+10302
-pub good-encoded : encode 0x4D ++ encode 0x430 ++ encode 0x4E8C ++ encode 0x10302 ≡ 0x4D ∷ 0xD0 ∷ 0xB0 ∷ 0xE4 ∷ 0xBA ∷ 0x8C ∷ 0xF0 ∷ 0x90 ∷ 0x8C ∷ 0x82 ∷ []
+pub good_encoded : encode 0x4D ++ encode 0x430 ++ encode 0x4E8C ++ encode 0x10302 ≡ 0x4D ∷ 0xD0 ∷ 0xB0 ∷ 0xE4 ∷ 0xBA ∷ 0x8C ∷ 0xF0 ∷ 0x90 ∷ 0x8C ∷ 0x82 ∷ []
 unfolding evaluates
-good-encoded = refl
+good_encoded = refl
 
-pub good-valid : valid (0x4D ∷ 0xD0 ∷ 0xB0 ∷ 0xE4 ∷ 0xBA ∷ 0x8C ∷ 0xF0 ∷ 0x90 ∷ 0x8C ∷ 0x82 ∷ []) ≡ true
+pub good_valid : valid (0x4D ∷ 0xD0 ∷ 0xB0 ∷ 0xE4 ∷ 0xBA ∷ 0x8C ∷ 0xF0 ∷ 0x90 ∷ 0x8C ∷ 0x82 ∷ []) ≡ true
 unfolding evaluates
-good-valid = refl
+good_valid = refl
 
-pub good-kept : repair (0x4D ∷ 0xD0 ∷ 0xB0 ∷ 0xE4 ∷ 0xBA ∷ 0x8C ∷ 0xF0 ∷ 0x90 ∷ 0x8C ∷ 0x82 ∷ []) ≡ 0x4D ∷ 0xD0 ∷ 0xB0 ∷ 0xE4 ∷ 0xBA ∷ 0x8C ∷ 0xF0 ∷ 0x90 ∷ 0x8C ∷ 0x82 ∷ []
+pub good_kept : repair (0x4D ∷ 0xD0 ∷ 0xB0 ∷ 0xE4 ∷ 0xBA ∷ 0x8C ∷ 0xF0 ∷ 0x90 ∷ 0x8C ∷ 0x82 ∷ []) ≡ 0x4D ∷ 0xD0 ∷ 0xB0 ∷ 0xE4 ∷ 0xBA ∷ 0x8C ∷ 0xF0 ∷ 0x90 ∷ 0x8C ∷ 0x82 ∷ []
 unfolding evaluates
-good-kept = refl
+good_kept = refl

@@ -2,10 +2,10 @@
 // (`String::from_utf8_lossy`) with its length known before. One function decides the piece at a place, and the three go by it.
 ghost use Rattle.std.specs.Prelude.{true, ◌≡◌, ◌+◌, ◌≤◌, ◌<◌, length, take, drop};
 ghost use Rattle.std.proofs.lemmas.List.Edits.{sets};
-ghost use Rattle.utf8.specs.Utf8.{fffd, valid as validText, repair};
-ghost use Rattle.utf8.specs.Place.{Ascii, piece_of, second_of, nextIn};
+ghost use Rattle.utf8.specs.Utf8.{fffd, valid as valid_text, repair};
+ghost use Rattle.utf8.specs.Place.{Ascii, piece_of, second_of, next_in};
 
-// A well-formed sequence, or a maximal subpart of an ill-formed one, by its length.
+// A well_formed_lem sequence, or a maximal subpart of an ill-formed one, by its length.
 #[derive(Drop)]
 enum Piece {
     Whole(usize),
@@ -31,7 +31,7 @@ fn second(b: u8) -> ByteRange
 
 // Whether there is a byte at `at`, in the range.
 fn has(s: &[u8], at: usize, range: ByteRange) -> bool
-    ensures { result ≡ nextIn (range.0, range.1) (drop at s.now) }
+    ensures { result ≡ next_in (range.0, range.1) (drop at s.now) }
 {
     if s.len() <= at {
         return false;
@@ -118,7 +118,7 @@ fn ascii_len(s: &[u8]) -> usize
 
 // Whether the text is well formed.
 pub fn valid(s: &[u8]) -> bool
-    ensures { result ≡ validText s.now }
+    ensures { result ≡ valid_text s.now }
 {
     let mut i = ascii_len(s);
     while i < s.len() {

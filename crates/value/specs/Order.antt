@@ -18,13 +18,13 @@ lex (x ∷ xs) [] = Ordering.gt
 lex (x ∷ xs) (y ∷ ys) = compare x y then lex xs ys
 
 -- An integer of 64 bits by its value: the negative ones first. Two's complement keeps the order within each sign.
-abbrev pub byValue : ℕ → List ℕ
-byValue n = cond (ltb n (2 ^ 63)) (1 ∷ n ∷ []) (0 ∷ n ∷ [])
+abbrev pub by_value : ℕ → List ℕ
+by_value n = cond (ltb n (2 ^ 63)) (1 ∷ n ∷ []) (0 ∷ n ∷ [])
 
--- IEEE 754 totalOrder: sign, exponent, significand; the negative ones first and the other way round, NaNs at both ends. (The
+-- IEEE 754 total_order: sign, exponent, significand; the negative ones first and the other way round, NaNs at both ends. (The
 -- number at the end never decides below 2 ^ 64; with it, keys are equal for equal bits alone.)
-abbrev pub totalOrder : ℕ → List ℕ
-totalOrder n =
+abbrev pub total_order : ℕ → List ℕ
+total_order n =
     let exponent = n / 2 ^ 52 % 2 ^ 11 in
     let significand = n % 2 ^ 52 in
     cond (ltb n (2 ^ 63)) (1 ∷ exponent ∷ significand ∷ n ∷ []) (0 ∷ (2 ^ 11 - 1 - exponent) ∷ (2 ^ 52 - 1 - significand) ∷ n ∷ [])
@@ -33,8 +33,8 @@ totalOrder n =
 abbrev pub key : Label → List ℕ
 key NoneL = []
 key (BoolL b) = bit b ∷ []
-key (I64L n) = byValue n
-key (F64L n) = totalOrder n
+key (I64L n) = by_value n
+key (F64L n) = total_order n
 key (BytesL t) = t
 key (StringL t) = t
 key ListL = []

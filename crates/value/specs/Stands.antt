@@ -6,7 +6,7 @@ use Rattle.std.proofs.Math.Path.{refl, sym, subst}
 use Rattle.std.proofs.Common.{◌∙◌}
 use native.Mathlib.Omega.{arith}
 use Rattle.value.specs.Value.{Label, Forest, Value, one, count, size, nil, node}
-use Rattle.value.specs.Shape.{kindIn, label_of, arityOf, namesEnd}
+use Rattle.value.specs.Shape.{kind_in, label_of, arity_of, names_end}
 
 -- ---- forests one after the other
 
@@ -33,25 +33,25 @@ word_at w i k = get_or w (4 * i + k) 0
 unfoldable pub label_at : List ℕ → List ℕ → ℕ → Label
 label_at w t i = label_of (word_at w i 0) (word_at w i 1) (word_at w i 2) (drop (word_at w i 1) t)
 
-unfoldable pub arityAt : List ℕ → ℕ → ℕ
-arityAt w i = arityOf (word_at w i 0) (word_at w i 1)
+unfoldable pub arity_at : List ℕ → ℕ → ℕ
+arity_at w i = arity_of (word_at w i 0) (word_at w i 1)
 
 -- where the text of a record ends
-unfoldable pub textEnd : ℕ → ℕ → ℕ → ℕ
-textEnd a b c =
-    let names = namesEnd b c in
-    get_or (0 ∷ 0 ∷ 0 ∷ 0 ∷ (b + c) ∷ (b + c) ∷ 0 ∷ 0 ∷ 0 ∷ 0 ∷ 0 ∷ names ∷ names ∷ []) (kindIn a) 0
+unfoldable pub text_end : ℕ → ℕ → ℕ → ℕ
+text_end a b c =
+    let names = names_end b c in
+    get_or (0 ∷ 0 ∷ 0 ∷ 0 ∷ (b + c) ∷ (b + c) ∷ 0 ∷ 0 ∷ 0 ∷ 0 ∷ 0 ∷ names ∷ names ∷ []) (kind_in a) 0
 
 -- the record at i can be read: it is inside, of a known kind, its text inside
 pub record Reads (w t : List ℕ) (i : ℕ) : Type 0 where
   pub inside : 4 * i + 4 ≤ length w
-  pub known : kindIn (word_at w i 0) < 13
-  pub texts : textEnd (word_at w i 0) (word_at w i 1) (word_at w i 2) ≤ length t
+  pub known : kind_in (word_at w i 0) < 13
+  pub texts : text_end (word_at w i 0) (word_at w i 1) (word_at w i 2) ≤ length t
 
 pub record Says (w t : List ℕ) (i : ℕ) (l : Label) (n : ℕ) : Type 0 where
   pub reads : Reads w t i
   pub label : label_at w t i ≡ l
-  pub arity : arityAt w i ≡ n
+  pub arity : arity_at w i ≡ n
 
 -- values that stand one after the other from record i on
 unfoldable pub Stands : List ℕ → List ℕ → ℕ → Forest → Type 0
@@ -64,12 +64,12 @@ pub record Begins (w t : List ℕ) (i : ℕ) : Type 0 where
   pub stands : Stands w t i (one value)
 
 module _ (w t : List ℕ) where
-  pub stands-append : (f g : Forest) (i : ℕ) → Stands w t i f → Stands w t (i + size f) g → Stands w t i (f ⊕ g)
+  pub stands_append : (f g : Forest) (i : ℕ) → Stands w t i f → Stands w t (i + size f) g → Stands w t i (f ⊕ g)
   unfolding Stands ◌⊕◌ size
-  stands-append nil g i a b = let e : i + 0 ≡ i = omega arith in subst (λ (j : ℕ). Stands w t j g) e b
-  stands-append (node l c r) g i a b =
+  stands_append nil g i a b = let e : i + 0 ≡ i = omega arith in subst (λ (j : ℕ). Stands w t j g) e b
+  stands_append (node l c r) g i a b =
       let e : i + suc (size c + size r) ≡ i + 1 + size c + size r = omega arith in
-      (a.0, a.1, stands-append r g (i + 1 + size c) a.2 (subst (λ (j : ℕ). Stands w t j g) e b))
+      (a.0, a.1, stands_append r g (i + 1 + size c) a.2 (subst (λ (j : ℕ). Stands w t j g) e b))
 
   -- a table says one forest only
   pub stands_one : (f g : Forest) (i : ℕ) → Stands w t i f → Stands w t i g → count f ≡ count g → f ≡ g

@@ -125,8 +125,8 @@ words DictL p n z = half n ∷ z ∷ 0 ∷ []
 words (GlobalL m k) p n z = p ∷ (length m * 2 ^ 32 + length k) ∷ 0 ∷ []
 words (ObjectL m k b) p n z = p ∷ (length m * 2 ^ 32 + length k) ∷ z ∷ []
 
-abbrev pub recordOf : Label → ℕ → ℕ → ℕ → List ℕ
-recordOf l p n z = word0 l n ∷ words l p n z
+abbrev pub record_of : Label → ℕ → ℕ → ℕ → List ℕ
+record_of l p n z = word0 l n ∷ words l p n z
 
 -- the table of values whose texts begin at p: records in preorder
 unfoldable pub table : Forest → ℕ → List ℕ
@@ -134,7 +134,7 @@ unfolding text count size
 table nil p = []
 table (node l c r) p =
     let q = p + length (text_of l) in
-    recordOf l p (count c) (suc (size c)) ++ (table c q ++ table r (q + length (text c)))
+    record_of l p (count c) (suc (size c)) ++ (table c q ++ table r (q + length (text c)))
 
 -- a record has four words
 
@@ -153,8 +153,8 @@ words-length DictL p n z = refl
 words-length (GlobalL m k) p n z = refl
 words-length (ObjectL m k b) p n z = refl
 
-pub record-length : (l : Label) (p n z : ℕ) → length (recordOf l p n z) ≡ 4
-record-length l p n z = rw (words-length l p n z)
+pub record_length : (l : Label) (p n z : ℕ) → length (record_of l p n z) ≡ 4
+record_length l p n z = rw (words-length l p n z)
 
 pub table-length : (f : Forest) (p : ℕ) → length (table f p) ≡ 4 * size f
 unfolding table size
@@ -163,4 +163,4 @@ table-length (node l c r) p =
     let q = p + length (text_of l) in
     let a : length (table c q) ≡ 4 * size c = table-length c q in
     let b : length (table r (q + length (text c))) ≡ 4 * size r = table-length r (q + length (text c)) in
-    simp (length-append, record-length) (omega arith)
+    simp (length-append, record_length) (omega arith)

@@ -1,5 +1,5 @@
 -- RULES A2.4: when a lent table, its stated count and its text are well formed. One predicate, and it says
--- which value they are of; there is one at most (`well-formed-one`).
+-- which value they are of; there is one at most (`well_formed_one`).
 use Prim.Native.Nat.{ℕ, ◌*◌, ◌≤◌, Ordering}
 use Rattle.std.specs.Prelude.{Bool, true, false, ◌&&◌, List, ◌≡◌, refl, length, take, T}
 use Rattle.std.proofs.Common.{sym, ◌∙◌}
@@ -7,7 +7,7 @@ use Rattle.utf8.specs.Utf8.{valid}
 use Rattle.value.specs.Value.{Label, Forest, Value, one, text, count, size, depth, table, NoneL, BoolL, I64L, F64L, BytesL, StringL, ListL, TupleL, SetL, FrozenSetL, DictL, GlobalL, ObjectL, nil, node}
 use Rattle.value.specs.Order.{order}
 use Rattle.value.specs.Shape.{shaped, and_r}
-use Rattle.value.specs.Tabled.{table-one}
+use Rattle.value.specs.Tabled.{table_one}
 
 abbrev pub less : Ordering → Bool
 less Ordering.lt = true
@@ -31,24 +31,24 @@ keys nil = nil
 keys (node l c nil) = node l c nil
 keys (node l c (node m d r)) = node l c (keys r)
 
-abbrev pub isTuple : Label → Bool
-isTuple NoneL = false
-isTuple (BoolL b) = false
-isTuple (I64L n) = false
-isTuple (F64L n) = false
-isTuple (BytesL t) = false
-isTuple (StringL t) = false
-isTuple ListL = false
-isTuple TupleL = true
-isTuple SetL = false
-isTuple FrozenSetL = false
-isTuple DictL = false
-isTuple (GlobalL m n) = false
-isTuple (ObjectL m n b) = false
+abbrev pub is_tuple : Label → Bool
+is_tuple NoneL = false
+is_tuple (BoolL b) = false
+is_tuple (I64L n) = false
+is_tuple (F64L n) = false
+is_tuple (BytesL t) = false
+is_tuple (StringL t) = false
+is_tuple ListL = false
+is_tuple TupleL = true
+is_tuple SetL = false
+is_tuple FrozenSetL = false
+is_tuple DictL = false
+is_tuple (GlobalL m n) = false
+is_tuple (ObjectL m n b) = false
 
-abbrev pub firstIsTuple : Forest → Bool
-firstIsTuple nil = false
-firstIsTuple (node l c r) = isTuple l
+abbrev pub first_is_tuple : Forest → Bool
+first_is_tuple nil = false
+first_is_tuple (node l c r) = is_tuple l
 
 -- What a label asks of its contents and its text: set items and dict keys strictly ascending, an Object's arguments a Tuple,
 -- String and names valid UTF-8.
@@ -65,7 +65,7 @@ proper SetL c = ascending c
 proper FrozenSetL c = ascending c
 proper DictL c = ascending (keys c)
 proper (GlobalL m k) c = valid m && valid k
-proper (ObjectL m k b) c = firstIsTuple c && (valid m && valid k)
+proper (ObjectL m k b) c = first_is_tuple c && (valid m && valid k)
 
 unfoldable pub settled : Forest → Bool
 settled nil = true
@@ -84,6 +84,6 @@ pub record WellFormed (w : List ℕ) (n : ℕ) (t : List ℕ) : Type 0 where
   pub short : length t ≤ 65536
 
 -- table and text determine the value
-pub well-formed-one : (w : List ℕ) (n : ℕ) (t : List ℕ) (a b : WellFormed w n t) → one a.value ≡ one b.value
+pub well_formed_one : (w : List ℕ) (n : ℕ) (t : List ℕ) (a b : WellFormed w n t) → one a.value ≡ one b.value
 unfolding count
-well-formed-one w n t a b = table-one (one a.value) (one b.value) a.shape b.shape refl (sym a.records ∙ b.records) (sym a.texts ∙ b.texts)
+well_formed_one w n t a b = table_one (one a.value) (one b.value) a.shape b.shape refl (sym a.records ∙ b.records) (sym a.texts ∙ b.texts)

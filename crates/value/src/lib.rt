@@ -3,11 +3,11 @@
 ghost use Rattle.std.specs.Prelude.{◌≡◌, true, length, take, drop};
 ghost use Prim.Native.Nat.{◌+◌, ◌*◌, ◌^◌, ◌≤◌, ◌<◌, min, max, compare};
 ghost use Rattle.value.specs.Value.{Value, one};
-ghost use Rattle.value.specs.Order.{◌then◌, lex, byValue, totalOrder, labels, order};
-ghost use Rattle.value.specs.Shape.{head_of, word_of, holding, namesEnd, modulePart, namePart};
-ghost use Rattle.value.specs.Stands.{label_at, arityAt, Reads, Begins, Stands};
-ghost use Rattle.value.specs.Told.{told, Alike, lexFrom};
-ghost use Rattle.value.specs.Left.{newAt, Matched, NextToCompare};
+ghost use Rattle.value.specs.Order.{◌then◌, lex, by_value, total_order, labels, order};
+ghost use Rattle.value.specs.Shape.{head_of, word_of, holding, names_end, module_part, name_part};
+ghost use Rattle.value.specs.Stands.{label_at, arity_at, Reads, Begins, Stands};
+ghost use Rattle.value.specs.Told.{told, Alike, lex_from};
+ghost use Rattle.value.specs.Left.{new_at, Matched, NextToCompare};
 
 #[derive(Drop)]
 pub enum Order {
@@ -101,7 +101,7 @@ pub fn compare_numbers(x: u64, y: u64) -> Order
 
 // Integers by value, from their 64 bits.
 pub fn compare_ints(x: u64, y: u64) -> Order
-    ensures { told result ≡ lex (byValue x) (byValue y) }
+    ensures { told result ≡ lex (by_value x) (by_value y) }
 {
     if x == y {
         return Order::Equal;
@@ -118,9 +118,9 @@ pub fn compare_ints(x: u64, y: u64) -> Order
     compare_numbers(x, y)
 }
 
-// Floats by totalOrder, from their 64 bits: below the sign bit the patterns are in order, the negative ones the other way round.
+// Floats by total_order, from their 64 bits: below the sign bit the patterns are in order, the negative ones the other way round.
 pub fn compare_floats(x: u64, y: u64) -> Order
-    ensures { told result ≡ lex (totalOrder x) (totalOrder y) }
+    ensures { told result ≡ lex (total_order x) (total_order y) }
 {
     if x < 0x8000_0000_0000_0000 {
         if y < 0x8000_0000_0000_0000 {
@@ -167,7 +167,7 @@ fn same_eight(a: &[u8], b: &[u8], i: usize) -> bool
 
 // How far two texts are surely the same, by eight bytes at a time: what is left from there on decides.
 fn same_len(a: &[u8], b: &[u8]) -> usize
-    ensures { (result ≤ length a.now) × (lexFrom a.now b.now result ≡ lex a.now b.now) }
+    ensures { (result ≤ length a.now) × (lex_from a.now b.now result ≡ lex a.now b.now) }
 {
     let shorter = least(a.len(), b.len());
     let mut i = 0;
@@ -223,11 +223,11 @@ pub fn cut(text: &[u8], at: u64, len: u64) -> &[u8]
 
 // Two names: by module, then by name. A word holds both lengths.
 fn compare_names(s: &[u8], x: usize, p: u64, t: &[u8], y: usize, q: u64) -> Order
-    requires p_in_bounds { namesEnd x p ≤ length s.now }
-    requires q_in_bounds { namesEnd y q ≤ length t.now }
+    requires p_in_bounds { names_end x p ≤ length s.now }
+    requires q_in_bounds { names_end y q ≤ length t.now }
     ensures { told result
-        ≡ (lex (modulePart p (drop x s.now)) (modulePart q (drop y t.now))
-        then lex (namePart p (drop x s.now)) (namePart q (drop y t.now))) }
+        ≡ (lex (module_part p (drop x s.now)) (module_part q (drop y t.now))
+        then lex (name_part p (drop x s.now)) (name_part q (drop y t.now))) }
 {
     let m = (p / 0x1_0000_0000) as usize;
     let k = (q / 0x1_0000_0000) as usize;
@@ -282,8 +282,8 @@ fn compare_labels(a: &[u64], i: usize, s: &[u8], b: &[u64], j: usize, t: &[u8]) 
 // How many values stand directly in a record.
 pub fn arity(words: &[u64], i: usize) -> usize
     requires i_in_bounds { 4 * i + 4 ≤ length words.now }
-    requires i_in_bounds_2 { arityAt words.now i ≤ length words.now }
-    ensures { result ≡ arityAt words.now i }
+    requires i_in_bounds_2 { arity_at words.now i ≤ length words.now }
+    ensures { result ≡ arity_at words.now i }
 {
     let head = head_of(words[4 * i]);
     let kind = head.kind;
@@ -309,7 +309,7 @@ pub fn arity(words: &[u64], i: usize) -> usize
 // Whether a record is of an Object that is `new`.
 fn is_new(words: &[u64], i: usize) -> bool
     requires { 4 * i + 4 ≤ length words.now }
-    ensures { result ≡ newAt words.now i }
+    ensures { result ≡ new_at words.now i }
 {
     let head = head_of(words[4 * i]);
     head.kind == KIND_OBJECT && head.new
@@ -362,7 +362,7 @@ fn next(walk: Walk, n: usize, m: usize, new: bool, other: bool) -> Walk
 fn step(walk: Walk, a: &[u64], k: usize, b: &[u64], l: usize) -> Walk
     requires { Matched a.now b.now k l walk.left }
     ensures { NextToCompare walk.left (told walk.verdict)
-        (arityAt a.now k) (arityAt b.now l) (newAt a.now k) (newAt b.now l)
+        (arity_at a.now k) (arity_at b.now l) (new_at a.now k) (new_at b.now l)
         result.left (told result.verdict) }
 {
     if holds(head_of(a[4 * k]).kind) {

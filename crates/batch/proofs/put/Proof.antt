@@ -2,7 +2,7 @@
 use lib.ListN.{length-set}
 use native.Mathlib.Omega.{arith}
 use borrow.Author.Rules.{rules}
-use Rattle.batch.specs.Sheets.{store-four}
+use Rattle.batch.specs.Sheets.{store_four}
 use Rattle.batch.proofs.put.Statement.{statement}
 use Rattle.batch.proofs.put.Tie as tie
 
@@ -16,7 +16,7 @@ slice-write-answers-4 : tie.Need-slice-write-answers-4
 slice-write-answers-4 c = rw (length-set, length-set, length-set) (omega (arith, c.requires))
 
 returns : tie.Need-returns
-returns c = let a = c.args in store-four a.answers.now a.at a.a
+returns c = let a = c.args in store_four a.answers.now a.at a.a
 
 pub put_spec : {M : Type 1} → statement M
 put_spec =

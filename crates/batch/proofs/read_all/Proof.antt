@@ -5,7 +5,7 @@ use lib.ListN.{length, get_or}
 use native.Mathlib.Omega.{arith}
 use borrow.Author.Rules.{rules}
 use Rattle.rooms.specs.Stated.{Slices}
-use Rattle.batch.specs.Sheets.{ReadSoFar, going_start, going-inside, going_more, going_end, sheet-read, SlicesAsLong, slices-as-long, as-long-still}
+use Rattle.batch.specs.Sheets.{ReadSoFar, going_start, going_inside, going_more, going_end, sheet-read, SlicesAsLong, slices_as_long, as_long_still}
 use Rattle.batch.proofs.read_all.Statement.{statement}
 use Rattle.batch.proofs.read_all.Tie as tie
 
@@ -39,7 +39,7 @@ inside : (c : tie.In-loop invariant-loop decreases-loop) → c.before.loop.at + 
 inside c =
     let l = c.before in
     let s = start l in
-    going-inside s.args.sheets.now s.args.lengths.now s.args.answers.now (lent s) l.loop.at l.loop.i l.loop.answers (rooms l) l.loop.invariant.0 c.loop-test.true
+    going_inside s.args.sheets.now s.args.lengths.now s.args.answers.now (lent s) l.loop.at l.loop.i l.loop.answers (rooms l) l.loop.invariant.0 c.loop-test.true
 
 -- its four places lie in the answers
 placed : (c : tie.In-loop invariant-loop decreases-loop) → 4 * c.before.loop.i + 4 ≤ length c.before.loop.answers
@@ -51,7 +51,7 @@ placed c =
     omega (arith, h, k, e)
 
 loop-holds : tie.Need-loop-init invariant-loop decreases-loop
-loop-holds c = let s = c.before.before.before.before.before.before.before.before.before.before.before.before.before.before.before.before in (going_start s.args.sheets.now s.args.lengths.now s.args.answers.now (lent s) s.requires.0 s.requires.1.1, slices-as-long (lent s))
+loop-holds c = let s = c.before.before.before.before.before.before.before.before.before.before.before.before.before.before.before.before in (going_start s.args.sheets.now s.args.lengths.now s.args.answers.now (lent s) s.requires.0 s.requires.1.1, slices_as_long (lent s))
 
 add-end : tie.Need-overflow-add-end invariant-loop decreases-loop
 add-end c = omega (arith, inside c.before, (start c.before.before).good.0)
@@ -83,7 +83,7 @@ loop-again c =
     let n = turn r in
     let l = n.before in
     let s = start l in
-    (going_more s.args.sheets.now s.args.lengths.now s.args.answers.now (lent s) l.loop.at l.loop.i l.loop.answers (rooms l) l.loop.inv.0 n.loop-test.taken _ _ (left r) (sheet-read _ _ _ _ r.read.ensures) c.before.before.put.ensures, as-long-still (left r) (rooms l) (lent s) r.read.auto.1.1.1 l.loop.inv.1)
+    (going_more s.args.sheets.now s.args.lengths.now s.args.answers.now (lent s) l.loop.at l.loop.i l.loop.answers (rooms l) l.loop.inv.0 n.loop-test.taken _ _ (left r) (sheet-read _ _ _ _ r.read.ensures) c.before.before.put.ensures, as_long_still (left r) (rooms l) (lent s) r.read.auto.1.1.1 l.loop.inv.1)
 
 same_length : tie.Need-same-length invariant-loop decreases-loop
 same_length c = c.before.loop.invariant.0.room
@@ -133,8 +133,8 @@ returns c =
     let s = start l in
     going_end s.args.sheets.now s.args.lengths.now s.args.answers.now (lent s) l.loop.at l.loop.i l.loop.answers (rooms l) l.loop.invariant.0 c.loop-test.false s.pre.1.0
 
-pub read-all-spec : {M : Type 1} → statement M
-read-all-spec =
+pub read-all_spec : {M : Type 1} → statement M
+read-all_spec =
     tie.close
     (tie.spec
     invariant-loop decreases-loop loop-holds (λ c. omega arith) (λ c. omega arith) add-end sub_read (λ c. search rules) part-read-end read-requires

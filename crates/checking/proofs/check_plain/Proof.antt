@@ -12,5 +12,5 @@ show-plain-requires c κs =
     let s = c.before.before.before.before in
     eqb-true (length s.args.sheets.now) (sum s.args.lengths.now) (sym c.before.add-up.ensures ∙ not-false _ c.if1.false)
 
-pub check-plain-spec : {M : Type 1} → statement M
-check-plain-spec = tie.close (tie.spec (λ c κs. search rules) (λ c κs. search rules) (λ c. search rules) show-plain-requires (λ c. search rules))
+pub check_plain_spec : {M : Type 1} → statement M
+check_plain_spec = tie.close (tie.spec (λ c κs. search rules) (λ c κs. search rules) (λ c. search rules) show-plain-requires (λ c. search rules))

@@ -15,8 +15,8 @@ decreases-loop lengths₀ i₀ lengths i = length lengths₀ - i
 loop-again : tie.Need-loop-preserved invariant-loop decreases-loop
 loop-again c = search (rules, length-set)
 
-pub read-lengths-spec : {M : Type 1} → statement M
-read-lengths-spec =
+pub read_lengths_spec : {M : Type 1} → statement M
+read_lengths_spec =
     tie.close
     (tie.spec
     invariant-loop

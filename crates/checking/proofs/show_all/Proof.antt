@@ -12,8 +12,8 @@ invariant-loop answers i₀ i-end i = (i ≤ i-end) × (4 * i-end ≤ length ans
 abbrev decreases-loop : tie.decreases-loop
 decreases-loop answers i₀ i-end i = i-end - i
 
-pub show-all-spec : {M : Type 1} → statement M
-show-all-spec =
+pub show_all_spec : {M : Type 1} → statement M
+show_all_spec =
     tie.close
     (tie.spec
     invariant-loop

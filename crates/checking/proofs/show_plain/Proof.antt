@@ -36,8 +36,8 @@ part-read-plain-end c = omega (arith, sheet c.before)
 loop-again : tie.Need-loop-preserved invariant-loop decreases-loop
 loop-again c = sheet c.before.before.before.before
 
-pub show-plain-spec : {M : Type 1} → statement M
-show-plain-spec =
+pub show_plain_spec : {M : Type 1} → statement M
+show_plain_spec =
     tie.close
     (tie.spec
     invariant-loop

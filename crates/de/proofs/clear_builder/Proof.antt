@@ -1,6 +1,6 @@
 -- `de::clear_builder` meets its contract, room by room. Assumes nothing.
 use mathlib.Core.Path.{refl}
-use Rattle.rooms.specs.Stated.{same-slices, blank}
+use Rattle.rooms.specs.Stated.{same_slices, blank}
 use Rattle.de.proofs.clear_builder.Statement.{statement}
 use Rattle.de.proofs.clear_builder.Tie as tie
 
@@ -15,10 +15,10 @@ same_length c = c.before.before.before.before.before.before.before.before.before
 
 returns : tie.Need-returns
 unfolding blank
-returns c = same-slices c.before.before.before.before.before.before.before.before.before.before.before.before.before.before.zero-bytes.ensures (same-slices c.before.before.before.before.before.before.before.before.before.before.zero-shorts.ensures (same-slices c.before.before.before.before.before.before.zero-shorts2.ensures (same-slices c.before.before.zero-words.ensures refl)))
+returns c = same_slices c.before.before.before.before.before.before.before.before.before.before.before.before.before.before.zero-bytes.ensures (same_slices c.before.before.before.before.before.before.before.before.before.before.zero-shorts.ensures (same_slices c.before.before.before.before.before.before.zero-shorts2.ensures (same_slices c.before.before.zero-words.ensures refl)))
 
-pub clear-builder-spec : {M : Type 1} → statement M
-clear-builder-spec =
+pub clear_builder_spec : {M : Type 1} → statement M
+clear_builder_spec =
     tie.close
     (tie.spec
     (λ c κs. c.before.before.before.before.before.requires.0)

@@ -2,15 +2,15 @@
 use borrow.Author.Rules.{rules}
 use Rattle.de.proofs.counts.Statement.{statement}
 use Rattle.de.proofs.counts.Tie as tie
-use Rattle.machine.specs.Ran.{countsOf}
+use Rattle.machine.specs.Ran.{counts_of}
 
 returns : tie.Need-returns
-unfolding countsOf
+unfolding counts_of
 returns c = rw c.before.outcome.given.1
 
 returns-2 : tie.Need-returns-2
-unfolding countsOf
+unfolding counts_of
 returns-2 c = rw c.before.outcome2.given.1
 
-pub counts-spec : {M : Type 1} → statement M
-counts-spec = tie.close (tie.spec (λ c. search rules) (λ c. search rules) returns returns-2)
+pub counts_spec : {M : Type 1} → statement M
+counts_spec = tie.close (tie.spec (λ c. search rules) (λ c. search rules) returns returns-2)

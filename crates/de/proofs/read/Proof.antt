@@ -5,8 +5,8 @@ use mathlib.Core.Path.{◌≡◌, ◌∙◌, ap}
 use native.Mathlib.Omega.{arith}
 use Rattle.rooms.specs.Stated.{Slices}
 use Rattle.store.specs.declared.Counts.{Counts}
-use Rattle.machine.specs.Ran.{countsOf}
-use Rattle.de.specs.Inner.{Runs, reads-long, back_fits, back-again, begins, runs, machine-zero, working, reads_all}
+use Rattle.machine.specs.Ran.{counts_of}
+use Rattle.de.specs.Inner.{Runs, reads-long, back_fits, back_again, begins, runs, machine_zero, working, reads_all}
 use Rattle.de.proofs.read.Statement.{statement}
 use Rattle.de.proofs.read.Tie as tie
 
@@ -28,7 +28,7 @@ start c = begun c.before.before.before.before.before.before.before.before
 abbrev run : tie.After-counts → tie.After-run
 run c = c.before.before.before.before.before.before.before.before.before.before.before.before.before.before.before
 
-counted : (c : tie.After-counts) → c.counts.result ≡ countsOf (run c).run.result
+counted : (c : tie.After-counts) → c.counts.result ≡ counts_of (run c).run.result
 counted c = c.counts.ensures
 
 -- the list of the answer
@@ -48,7 +48,7 @@ ran : (c : tie.After-run)
     → let s = start c in
     Runs s.args.edition c.run.result s.args.pickle.now s.args.nodes.now s.args.owners.now s.args.children.now s.args.stack.now s.args.marks.now s.args.keys.now s.args.held.now
     c.run.new.1.1.0 c.run.new.1.1.1.0 c.run.new.1.1.1.1.0 c.run.new.1.1.1.1.1.0 c.run.new.1.1.1.1.1.1.0 c.run.new.1.1.1.1.1.1.1.0 c.run.new.1.1.1.1.1.1.1.1.0
-ran c = let s = start c in runs s.args.pickle.now s.args.nodes.now s.args.owners.now s.args.children.now s.args.stack.now s.args.marks.now s.args.keys.now s.args.held.now (machine-zero _ _ _ _ _ _ _ _ _ _ _ _ _ s.pre) _ _ _ _ _ _ _ _ _ c.run.ensures
+ran c = let s = start c in runs s.args.pickle.now s.args.nodes.now s.args.owners.now s.args.children.now s.args.stack.now s.args.marks.now s.args.keys.now s.args.held.now (machine_zero _ _ _ _ _ _ _ _ _ _ _ _ _ s.pre) _ _ _ _ _ _ _ _ _ c.run.ensures
 
 returns : tie.Need-returns
 returns c =
@@ -56,7 +56,7 @@ returns c =
     reads-long s.args.edition s.args.whole s.args.pickle.now (lent s) _ c.before.if1.true c.refused.ensures
 
 run-requires : tie.Need-run-requires
-run-requires c κs = let e = c.before.before.before.before.before.before.before in let s = begun e in begins _ _ _ _ _ _ _ _ (machine-zero _ _ _ _ _ _ _ _ _ _ _ _ _ s.pre) e.if1.false
+run-requires c κs = let e = c.before.before.before.before.before.before.before in let s = begun e in begins _ _ _ _ _ _ _ _ (machine_zero _ _ _ _ _ _ _ _ _ _ _ _ _ s.pre) e.if1.false
 
 -- ---- its answer
 
@@ -65,7 +65,7 @@ answer-requires c κs =
     let l = c.before.before.before.before.before.before.before.before.before.before.before.before.before in
     let k = counts l in
     let r = run k in
-    ((ran r).ran, working _ _ _ _ _ _ _ _ _ _ _ _ _ (start r).pre _ (back-again (ran r).keys-back _ (ap (λ (x : Counts). x.memo) (counted k)) _ l.clear-ints.ensures))
+    ((ran r).ran, working _ _ _ _ _ _ _ _ _ _ _ _ _ (start r).pre _ (back_again (ran r).keys_back _ (ap (λ (x : Counts). x.memo) (counted k)) _ l.clear-ints.ensures))
 
 -- ---- what was used cleared
 
@@ -73,13 +73,13 @@ mul-clear-words : tie.Need-overflow-mul-clear-words
 mul-clear-words c = let k = counts (listed c.before.before.before.before.before.before.before.before.before.before.before.before.before.before.before.before.before.before.before.before) in omega (arith, ap (λ (x : Counts). x.nodes) (counted k), (ran (run k)).ran.ran.sound.firm.nodes)
 
 clear-words-requires : tie.Need-clear-words-requires
-clear-words-requires c κs = let k = counts (listed c.before.before.before.before.before.before.before.before.before.before.before.before.before.before.before.before.before.before.before.before) in back_fits (ran (run k)).nodes-back _ (ap (λ (x : Counts). 2 * x.nodes) (counted k))
+clear-words-requires c κs = let k = counts (listed c.before.before.before.before.before.before.before.before.before.before.before.before.before.before.before.before.before.before.before.before) in back_fits (ran (run k)).nodes_back _ (ap (λ (x : Counts). 2 * x.nodes) (counted k))
 
 clear-shorts-requires : tie.Need-clear-shorts-requires
-clear-shorts-requires c κs = let k = counts (listed c.before.before.before.before.before.before.before.before.before.before.before.before.before.before.before.before.before.before.before.before.before.before.before.before) in back_fits (ran (run k)).stack-back _ (ap (λ (x : Counts). x.deepest) (counted k))
+clear-shorts-requires c κs = let k = counts (listed c.before.before.before.before.before.before.before.before.before.before.before.before.before.before.before.before.before.before.before.before.before.before.before.before) in back_fits (ran (run k)).stack_back _ (ap (λ (x : Counts). x.deepest) (counted k))
 
 clear-shorts-requires-2 : tie.Need-clear-shorts-requires-2
-clear-shorts-requires-2 c κs = let k = counts (listed c.before.before.before.before.before.before.before.before.before.before.before.before.before.before.before.before.before.before.before.before.before.before.before.before.before.before.before.before) in back_fits (ran (run k)).marks-back _ (ap (λ (x : Counts). x.most) (counted k))
+clear-shorts-requires-2 c κs = let k = counts (listed c.before.before.before.before.before.before.before.before.before.before.before.before.before.before.before.before.before.before.before.before.before.before.before.before.before.before.before.before) in back_fits (ran (run k)).marks_back _ (ap (λ (x : Counts). x.most) (counted k))
 
 clear-shorts-requires-3 : tie.Need-clear-shorts-requires-3
 clear-shorts-requires-3 c κs = let k = counts (listed c.before.before.before.before.before.before.before.before.before.before.before.before.before.before.before.before.before.before.before.before.before.before.before.before.before.before.before.before.before.before.before.before) in back_fits (ran (run k)).held_back _ (ap (λ (x : Counts). x.memo) (counted k))
@@ -92,21 +92,21 @@ returns-2 c =
     let e = (told c).answer.ensures in
     reads_all _ _
     e.0.answer
-    (back-again r.nodes-back _ (ap (λ (x : Counts). 2 * x.nodes) (counted k)) _ c.before.before.before.before.before.before.before.before.before.before.before.before.before.before.clear-words.ensures)
-    (e.1.0.0 ∙ r.owners-back.again)
-    (e.1.0.1 ∙ r.children-back.again)
-    (back-again r.stack-back _ (ap (λ (x : Counts). x.deepest) (counted k)) _ c.before.before.before.before.before.before.before.before.before.before.clear-shorts.ensures)
-    (back-again r.marks-back _ (ap (λ (x : Counts). x.most) (counted k)) _ c.before.before.before.before.before.before.clear-shorts2.ensures)
-    (e.1.1.0 ∙ back-again r.keys-back _ (ap (λ (x : Counts). x.memo) (counted k)) _ l.clear-ints.ensures)
-    (back-again r.held_back _ (ap (λ (x : Counts). x.memo) (counted k)) _ c.before.before.clear-shorts3.ensures)
-    e.1.1.1 e.1.1.2 e.1.1.3 e.1.1.4 e.0.table_is e.0.text-is
+    (back_again r.nodes_back _ (ap (λ (x : Counts). 2 * x.nodes) (counted k)) _ c.before.before.before.before.before.before.before.before.before.before.before.before.before.before.clear-words.ensures)
+    (e.1.0.0 ∙ r.owners_back.again)
+    (e.1.0.1 ∙ r.children_back.again)
+    (back_again r.stack_back _ (ap (λ (x : Counts). x.deepest) (counted k)) _ c.before.before.before.before.before.before.before.before.before.before.clear-shorts.ensures)
+    (back_again r.marks_back _ (ap (λ (x : Counts). x.most) (counted k)) _ c.before.before.before.before.before.before.clear-shorts2.ensures)
+    (e.1.1.0 ∙ back_again r.keys_back _ (ap (λ (x : Counts). x.memo) (counted k)) _ l.clear-ints.ensures)
+    (back_again r.held_back _ (ap (λ (x : Counts). x.memo) (counted k)) _ c.before.before.clear-shorts3.ensures)
+    e.1.1.1 e.1.1.2 e.1.1.3 e.1.1.4 e.0.table_is e.0.text_is
 
 pub read_spec : {M : Type 1} → statement M
 read_spec =
     tie.close
     (tie.spec
     (λ c κs. tt) returns run-requires (λ c κs. tt)
-    (λ c κs. let k = c.before in back_fits (ran (run k)).keys-back _ (ap (λ (x : Counts). x.memo) (counted k))) answer-requires mul-clear-words
+    (λ c κs. let k = c.before in back_fits (ran (run k)).keys_back _ (ap (λ (x : Counts). x.memo) (counted k))) answer-requires mul-clear-words
     clear-words-requires clear-shorts-requires clear-shorts-requires-2 clear-shorts-requires-3
     (λ c. c.before.before.before.before.before.before.before.before.before.before.before.before.before.before.clear-words.auto.0 ∙ (run (counts (listed (told c)))).run.auto.1.1.0)
     (λ c. (told c).answer.auto.1.1.1.1.1.1.0 ∙ (run (counts (listed (told c)))).run.auto.1.1.1.0)

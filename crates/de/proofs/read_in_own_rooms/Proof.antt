@@ -1,6 +1,6 @@
 -- `de::read_in_own_rooms` meets its contract: the reading, in rooms that are made zero and as long as stated. Assumes nothing.
 use mathlib.Core.Path.{refl}
-use Rattle.de.specs.Call.{ownRooms, own-calls}
+use Rattle.de.specs.Call.{own_rooms, own_calls}
 use Rattle.de.proofs.read_in_own_rooms.Statement.{statement}
 use Rattle.de.proofs.read_in_own_rooms.Tie as tie
 
@@ -8,11 +8,11 @@ abbrev called : tie.After-slice-known4 → tie.After-reading
 called c = c.before.before.before.before.before.before.before.before.before.before.before.before.before.before.before
 
 returns : tie.Need-returns
-unfolding ownRooms
-returns c = own-calls _ _ _ _ _ (called c).reading.ensures
+unfolding own_rooms
+returns c = own_calls _ _ _ _ _ (called c).reading.ensures
 
-pub read-in-own-rooms-spec : {M : Type 1} → statement M
-read-in-own-rooms-spec =
+pub read_in_own_rooms_spec : {M : Type 1} → statement M
+read_in_own_rooms_spec =
     tie.close
     (tie.spec
     (λ c. refl) (λ c. refl) (λ c. refl) (λ c. refl) (λ c. refl) (λ c. refl) (λ c. refl) (λ c. refl) (λ c. refl) (λ c. refl) (λ c. refl) (λ c κs. tt)

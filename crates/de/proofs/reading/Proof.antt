@@ -2,7 +2,7 @@
 use mathlib.Core.Bool.{false}
 use mathlib.Core.List.{[], ◌∷◌, ◌++◌}
 use mathlib.Core.Path.{◌≡◌, refl, sym, ◌∙◌, ap₂}
-use Rattle.rooms.specs.Stated.{Slices, roomLengths, stated, short, blank, long, ready}
+use Rattle.rooms.specs.Stated.{Slices, room_lengths, stated, short, blank, long, ready}
 use Rattle.de.specs.Given.{due}
 use Rattle.de.specs.Call.{call-short, call-reads}
 use Rattle.de.proofs.reading.Statement.{statement}
@@ -42,9 +42,9 @@ zeroed c =
     m.0 ∷ m.1.0 ∷ m.1.1.0 ∷ m.1.1.1.0 ∷ m.1.1.1.1.0 ∷ m.1.1.1.1.1.0 ∷ m.1.1.1.1.1.1.0
     ∷ b.0 ∷ b.1.0 ∷ b.1.1.0 ∷ b.1.1.1.0 ∷ (begun (else1 c)).args.table.now ∷ (begun (else1 c)).args.text.now ∷ []
 
-made-zero : (c : tie.After-clear-builder) → zeroed c ≡ blank roomLengths (lent (begun (else1 c)))
+made_zero : (c : tie.After-clear-builder) → zeroed c ≡ blank room_lengths (lent (begun (else1 c)))
 unfolding blank
-made-zero c = ap₂ (λ (m b : Slices). m ++ (b ++ ((begun (else1 c)).args.table.now ∷ (begun (else1 c)).args.text.now ∷ []))) (machine c).clear-machine.ensures c.clear-builder.ensures
+made_zero c = ap₂ (λ (m b : Slices). m ++ (b ++ ((begun (else1 c)).args.table.now ∷ (begun (else1 c)).args.text.now ∷ []))) (machine c).clear-machine.ensures c.clear-builder.ensures
 
 -- the reading's end
 abbrev called : tie.After-slice-known37 → tie.After-read
@@ -66,17 +66,17 @@ clear-builder-requires : tie.Need-clear-builder-requires
 clear-builder-requires c κs = let e = enter c.before.before.before.before.before.before.before.before.before.before.before.before.before.before.before.before.before.before in let h = long stated (lent (begun e)) (enough e) in (h.1.1.1.1.1.1.1.0, (h.1.1.1.1.1.1.1.1.0, (h.1.1.1.1.1.1.1.1.1.0, (h.1.1.1.1.1.1.1.1.1.1.0, tt))))
 
 read-requires : tie.Need-read-requires
-read-requires c κs = let z = c.before.before.before.before.before.before.before.before.before.before.before.before.before.before.before.before.before.before.before.before.before in ready (lent (begun (else1 z))) (zeroed z) (enough (else1 z)) (made-zero z)
+read-requires c κs = let z = c.before.before.before.before.before.before.before.before.before.before.before.before.before.before.before.before.before.before.before.before.before in ready (lent (begun (else1 z))) (zeroed z) (enough (else1 z)) (made_zero z)
 
 returns-2 : tie.Need-returns-2
 returns-2 c =
     let r = (called c).read in
     let z = builder (called c) in
     let s = begun (else1 z) in
-    call-reads (due s.args.edition s.args.whole s.args.pickle.now) (lent s) (zeroed z) (r.last.1.1.1.0 ∷ r.last.1.1.1.1.0 ∷ r.last.1.1.1.1.1.0 ∷ r.last.1.1.1.1.1.1.0 ∷ r.last.1.1.1.1.1.1.1.0 ∷ r.last.1.1.1.1.1.1.1.1.0 ∷ r.last.1.1.1.1.1.1.1.1.1.0 ∷ r.last.1.1.1.1.1.1.1.1.1.1.0 ∷ r.last.1.1.1.1.1.1.1.1.1.1.1.0 ∷ r.last.1.1.1.1.1.1.1.1.1.1.1.1.0 ∷ r.last.1.1.1.1.1.1.1.1.1.1.1.1.1.0 ∷ r.last.1.1.1.1.1.1.1.1.1.1.1.1.1.1.0 ∷ r.last.1.1.1.1.1.1.1.1.1.1.1.1.1.1.1.0 ∷ []) _ (enough (else1 z)) (made-zero z) r.ensures.answer r.ensures.slices
+    call-reads (due s.args.edition s.args.whole s.args.pickle.now) (lent s) (zeroed z) (r.last.1.1.1.0 ∷ r.last.1.1.1.1.0 ∷ r.last.1.1.1.1.1.0 ∷ r.last.1.1.1.1.1.1.0 ∷ r.last.1.1.1.1.1.1.1.0 ∷ r.last.1.1.1.1.1.1.1.1.0 ∷ r.last.1.1.1.1.1.1.1.1.1.0 ∷ r.last.1.1.1.1.1.1.1.1.1.1.0 ∷ r.last.1.1.1.1.1.1.1.1.1.1.1.0 ∷ r.last.1.1.1.1.1.1.1.1.1.1.1.1.0 ∷ r.last.1.1.1.1.1.1.1.1.1.1.1.1.1.0 ∷ r.last.1.1.1.1.1.1.1.1.1.1.1.1.1.1.0 ∷ r.last.1.1.1.1.1.1.1.1.1.1.1.1.1.1.1.0 ∷ []) _ (enough (else1 z)) (made_zero z) r.ensures.answer r.ensures.slices
 
-pub reading-spec : {M : Type 1} → statement M
-reading-spec =
+pub reading_spec : {M : Type 1} → statement M
+reading_spec =
     tie.close
     (tie.spec
     (λ c κs. tt) (λ c κs. tt) returns clear-machine-requires clear-builder-requires read-requires

@@ -5,22 +5,22 @@ use Rattle.decoder.proofs.above_mark.Tie as tie
 use Prim.Native.Nat.{◌-◌}
 use native.Mathlib.Omega.{arith}
 use Rattle.decoder.specs.Items.{TakesMark}
-use Rattle.decoder.specs.StackSteps.{marks-room, took-none, took-above, took_from}
+use Rattle.decoder.specs.StackSteps.{marks_room, took_none, took_above, took_from}
 
 returns : tie.Need-returns
 unfolding TakesMark
-returns c = λ r s q. took-none _ _ r s q c.if1.true
+returns c = λ r s q. took_none _ _ r s q c.if1.true
 
 shared-slice-read-m : tie.Need-shared-slice-read-m
-shared-slice-read-m c = let l = c.before.before.before.before.requires in omega (arith, marks-room _ l.rooms l.sound _ l.agrees, c.before.before.if1.false)
+shared-slice-read-m c = let l = c.before.before.before.before.requires in omega (arith, marks_room _ l.rooms l.sound _ l.agrees, c.before.before.if1.false)
 
 returns-2 : tie.Need-returns-2
 unfolding TakesMark
-returns-2 c = λ r s q. took-above _ _ r s q c.before.before.before.before.if1.false c.if2.true
+returns-2 c = λ r s q. took_above _ _ r s q c.before.before.before.before.if1.false c.if2.true
 
 returns-3 : tie.Need-returns-3
 unfolding TakesMark
 returns-3 c = λ r s q. took_from _ _ r s q c.before.before.before.before.if1.false c.if2.false
 
-pub above-mark-spec : {M : Type 1} → statement M
-above-mark-spec = tie.close (tie.spec returns (λ c. search rules) (λ c. search rules) shared-slice-read-m (λ c. omega (arith, c.shared-slice-known.given (c.before.before.before.before.args.c.marks - 1))) returns-2 returns-3)
+pub above-mark_spec : {M : Type 1} → statement M
+above-mark_spec = tie.close (tie.spec returns (λ c. search rules) (λ c. search rules) shared-slice-read-m (λ c. omega (arith, c.shared-slice-known.given (c.before.before.before.before.args.c.marks - 1))) returns-2 returns-3)

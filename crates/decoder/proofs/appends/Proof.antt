@@ -5,10 +5,10 @@ use Rattle.decoder.proofs.appends.Tie as tie
 use Prim.Native.Nat.{◌≤◌, ◌<◌}
 use mathlib.Core.Path.{refl}
 use native.Mathlib.Omega.{arith}
-use Rattle.store.specs.Effects.{Decides, says-refused}
+use Rattle.store.specs.Effects.{Decides, says_refused}
 use Rattle.decoder.specs.declared.Taken.TheVariants.{From}
 use Rattle.decoder.specs.Items.{TakesMark, Adds, lists}
-use Rattle.decoder.specs.StackSteps.{some-less, took-below, appends-underflow, appends-adds}
+use Rattle.decoder.specs.StackSteps.{some-less, took_below, appends_underflow, appends_adds}
 
 -- the mark that was found
 abbrev start : tie.After-m → tie.Start
@@ -18,21 +18,21 @@ taken : (c : tie.After-m) → let a = (start c).args in TakesMark a.c a.marks.no
 taken c = rw c.m.given.1 at c.before.before.above-mark.ensures
 
 below : (c : tie.After-m) → let a = (start c).args in (c.m.given.0.0 ≤ a.c.stack) × (0 < a.c.marks)
-below c = took-below _ _ _ (taken c) (some-less (λ r q. q.2) (start c).requires)
+below c = took_below _ _ _ (taken c) (some-less (λ r q. q.2) (start c).requires)
 
 grown-requires : tie.Need-grown-requires
 grown-requires c κs = (some-less (λ r q. (q.0, q.1)) (start c.before.before).requires, ((below c.before.before).0, omega arith, lists refl))
 
 returns : tie.Need-returns
 unfolding Decides TakesMark
-returns c = λ r s q. says-refused _ r _ _ (appends-underflow r _ s (rw c.enum_told.given.1 at c.before.before.above-mark.ensures r s q.2))
+returns c = λ r s q. says_refused _ r _ _ (appends_underflow r _ s (rw c.enum_told.given.1 at c.before.before.above-mark.ensures r s q.2))
 
 returns-2 : tie.Need-returns-2
 unfolding Decides Adds TakesMark
-returns-2 c = λ r s q. rw (appends-adds r _ s _ (taken c.before.before.before r s q.2)) at (c.grown.ensures r s q.0 q.1)
+returns-2 c = λ r s q. rw (appends_adds r _ s _ (taken c.before.before.before r s q.2)) at (c.grown.ensures r s q.0 q.1)
 
-pub appends-spec : {M : Type 1} → statement M
-appends-spec =
+pub appends_spec : {M : Type 1} → statement M
+appends_spec =
     tie.close
     (tie.spec
     (λ c κs. some-less (λ r q. q.2) c.before.before.before.requires) (λ c. search rules) (λ c. search rules)

@@ -6,7 +6,7 @@ use Prim.Native.Nat.{◌-◌}
 use mathlib.Core.Path.{refl, sym, ◌∙◌}
 use native.Mathlib.Omega.{arith}
 use Rattle.store.specs.Effects.{Decides}
-use Rattle.decoder.proofs.LawsCalls.{Two, lent_two, says-build-short, says-no-object, says-build}
+use Rattle.decoder.proofs.LawsCalls.{Two, lent_two, says-build-short, says_no_object, says-build}
 
 -- there are two values
 abbrev start : tie.Else1 → tie.Start
@@ -25,14 +25,14 @@ returns c = λ r s q. says-build-short r _ s _ _ q.0 q.1 c.if1.true
 
 returns-2 : tie.Need-returns-2
 unfolding Decides
-returns-2 c = λ r s q. says-no-object r _ s _ _ q.0 q.1 (omega arith) (λ e. c.if2.true (c.before.kind.ensures ∙ e))
+returns-2 c = λ r s q. says_no_object r _ s _ _ q.0 q.1 (omega arith) (λ e. c.if2.true (c.before.kind.ensures ∙ e))
 
 returns-3 : tie.Need-returns-3
 unfolding Decides
 returns-3 c = λ r s q. says-build r _ s _ _ q.0 q.1 (omega arith) _ _ _ refl refl (sym c.before.before.kind.ensures ∙ c.before.if2.false) c.cut-to.ensures
 
-pub build-state-spec : {M : Type 1} → statement M
-build-state-spec =
+pub build_state_spec : {M : Type 1} → statement M
+build_state_spec =
     tie.close
     (tie.spec
     returns (λ c. search rules) (λ c. search rules) (λ c. (two c.before.before.before).lower)

@@ -5,7 +5,7 @@ use Rattle.decoder.proofs.class_and_arguments.Tie as tie
 use Prim.Native.Nat.{◌-◌}
 use mathlib.Core.Path.{refl, sym, ◌∙◌}
 use native.Mathlib.Omega.{arith}
-use Rattle.decoder.proofs.LawsCalls.{Two, lent_two, reads_short, reads-no-class, reads-no-arguments, reads_both}
+use Rattle.decoder.proofs.LawsCalls.{Two, lent_two, reads_short, reads_no_class, reads_no_arguments, reads_both}
 
 -- there are two values
 abbrev start : tie.Else1 → tie.Start
@@ -22,16 +22,16 @@ returns : tie.Need-returns
 returns c = reads_short _ _ _ c.if1.true
 
 returns-2 : tie.Need-returns-2
-returns-2 c = reads-no-class _ _ _ (omega arith) (λ e. c.if2.true (c.before.kind.ensures ∙ e))
+returns-2 c = reads_no_class _ _ _ (omega arith) (λ e. c.if2.true (c.before.kind.ensures ∙ e))
 
 returns-3 : tie.Need-returns-3
-returns-3 c = reads-no-arguments _ _ _ (omega arith) (sym c.before.before.before.kind.ensures ∙ c.before.before.if2.false) (λ e. c.if3.true (c.before.kind2.ensures ∙ e))
+returns-3 c = reads_no_arguments _ _ _ (omega arith) (sym c.before.before.before.kind.ensures ∙ c.before.before.if2.false) (λ e. c.if3.true (c.before.kind2.ensures ∙ e))
 
 returns-4 : tie.Need-returns-4
 returns-4 c = reads_both _ _ _ (omega arith) (sym c.before.before.before.kind.ensures ∙ c.before.before.if2.false) _ _ refl refl (sym c.before.kind2.ensures ∙ c.if3.false)
 
-pub class-and-arguments-spec : {M : Type 1} → statement M
-class-and-arguments-spec =
+pub class_and_arguments_spec : {M : Type 1} → statement M
+class_and_arguments_spec =
     tie.close
     (tie.spec
     returns (λ c. search rules) (λ c. search rules) (λ c. (two c.before.before.before).lower)

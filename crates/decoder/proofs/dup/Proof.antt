@@ -4,19 +4,19 @@ use Rattle.decoder.proofs.dup.Statement.{statement}
 use Rattle.decoder.proofs.dup.Tie as tie
 use Prim.Native.Nat.{◌-◌}
 use native.Mathlib.Omega.{arith}
-use Rattle.store.specs.Effects.{Decides, says-refused}
-use Rattle.decoder.specs.StackSteps.{stack-room, dup-underflow, dup-lent}
+use Rattle.store.specs.Effects.{Decides, says_refused}
+use Rattle.decoder.specs.StackSteps.{stack_room, dup_underflow, dup_lent}
 
 returns : tie.Need-returns
 unfolding Decides
-returns c = λ r s q. says-refused _ r _ _ (dup-underflow r _ s c.if1.true)
+returns c = λ r s q. says_refused _ r _ _ (dup_underflow r _ s c.if1.true)
 
 shared-slice-read-t8 : tie.Need-shared-slice-read-t8
-shared-slice-read-t8 c = let l = c.before.before.before.before.requires in omega (arith, stack-room _ l.rooms l.sound _ l.agrees, c.before.before.if1.false)
+shared-slice-read-t8 c = let l = c.before.before.before.before.requires in omega (arith, stack_room _ l.rooms l.sound _ l.agrees, c.before.before.if1.false)
 
 returns-2 : tie.Need-returns-2
 unfolding Decides
-returns-2 c = λ r s q. dup-lent _ _ r s q c.before.before.if1.false
+returns-2 c = λ r s q. dup_lent _ _ r s q c.before.before.if1.false
 
-pub dup-spec : {M : Type 1} → statement M
-dup-spec = tie.close (tie.spec returns (λ c. search rules) (λ c. search rules) shared-slice-read-t8 (λ c. omega (arith, c.shared-slice-known.given (c.before.before.before.before.args.c.stack - 1))) returns-2)
+pub dup_spec : {M : Type 1} → statement M
+dup_spec = tie.close (tie.spec returns (λ c. search rules) (λ c. search rules) shared-slice-read-t8 (λ c. omega (arith, c.shared-slice-known.given (c.before.before.before.before.args.c.stack - 1))) returns-2)

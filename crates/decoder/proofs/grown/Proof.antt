@@ -4,9 +4,9 @@ use Rattle.decoder.proofs.grown.Statement.{statement}
 use Rattle.decoder.proofs.grown.Tie as tie
 use Prim.Native.Nat.{◌-◌}
 use native.Mathlib.Omega.{arith}
-use Rattle.store.specs.Effects.{says-refused}
+use Rattle.store.specs.Effects.{says_refused}
 use Rattle.decoder.specs.Items.{Adds}
-use Rattle.decoder.specs.StackSteps.{stack-room, words-room, added-underflow, wrong-lent, extends-lent}
+use Rattle.decoder.specs.StackSteps.{stack_room, words_room, added_underflow, wrong_lent, extends_lent}
 
 -- there is a container
 abbrev start : tie.Else1 → tie.Start
@@ -14,30 +14,30 @@ start c = c.before.before.before
 
 returns : tie.Need-returns
 unfolding Adds
-returns c = let p = c.before.before.before.requires.1 in λ r s a b. says-refused _ r _ _ (added-underflow r _ s _ _ _ _ _ p.2 p.0 p.1 c.if1.true)
+returns c = let p = c.before.before.before.requires.1 in λ r s a b. says_refused _ r _ _ (added_underflow r _ s _ _ _ _ _ p.2 p.0 p.1 c.if1.true)
 
 shared-slice-read-owner : tie.Need-shared-slice-read-owner
-shared-slice-read-owner c = let l = (start c.before).requires.0 in omega (arith, stack-room _ l.rooms l.sound _ l.agrees.1, c.before.if1.false, (start c.before).requires.1.0)
+shared-slice-read-owner c = let l = (start c.before).requires.0 in omega (arith, stack_room _ l.rooms l.sound _ l.agrees.1, c.before.if1.false, (start c.before).requires.1.0)
 
 kind-requires : tie.Need-kind-requires
-kind-requires c κs = let l = (start c.before).requires.0 in words-room _ l.rooms l.sound _ _ l.agrees.0 l.agrees.1 _ (omega (arith, c.before.if1.false, (start c.before).requires.1.0))
+kind-requires c κs = let l = (start c.before).requires.0 in words_room _ l.rooms l.sound _ _ l.agrees.0 l.agrees.1 _ (omega (arith, c.before.if1.false, (start c.before).requires.1.0))
 
 returns-2 : tie.Need-returns-2
 unfolding Adds
 returns-2 c =
     let e = c.before.before.before.before in
     let p = (start e).requires.1 in
-    λ r s a b. rw c.cut-to.ensures (extends-lent _ _ _ r s a b _ _ _ _ p.2 p.0 p.1 e.if1.false (rw c.before.before.kind.ensures at c.before.if2.true))
+    λ r s a b. rw c.cut-to.ensures (extends_lent _ _ _ r s a b _ _ _ _ p.2 p.0 p.1 e.if1.false (rw c.before.before.kind.ensures at c.before.if2.true))
 
 returns-3 : tie.Need-returns-3
 unfolding Adds
 returns-3 c =
     let e = c.before.before.before in
     let p = (start e).requires.1 in
-    λ r s a b. wrong-lent _ _ _ r s a b _ _ _ _ p.2 p.0 p.1 e.if1.false (rw c.before.kind.ensures at c.if2.false)
+    λ r s a b. wrong_lent _ _ _ r s a b _ _ _ _ p.2 p.0 p.1 e.if1.false (rw c.before.kind.ensures at c.if2.false)
 
-pub grown-spec : {M : Type 1} → statement M
-grown-spec =
+pub grown_spec : {M : Type 1} → statement M
+grown_spec =
     tie.close
     (tie.spec
     returns (λ c. search rules) (λ c. search rules) shared-slice-read-owner

@@ -3,14 +3,14 @@ use borrow.Author.Rules.{rules}
 use Rattle.decoder.proofs.int.Statement.{statement}
 use Rattle.decoder.proofs.int.Tie as tie
 use native.Mathlib.Omega.{arith}
-use Rattle.decoder.specs.ReadsPickle.{LineAt, line-found, line-ends, line-bad, line-push, makes-bool, makes-i64}
-use Rattle.number.specs.Number.{intLiteral}
-use Rattle.steps.specs.Opcodes.{int, intLabel}
-use Rattle.decoder.proofs.LawsPickle.{int-bool, int-whole, int-bad}
+use Rattle.decoder.specs.ReadsPickle.{LineAt, line_found, line_ends, line_bad, line-push, makes_bool, makes_i64}
+use Rattle.number.specs.Number.{int_literal}
+use Rattle.steps.specs.Opcodes.{int, int_label}
+use Rattle.decoder.proofs.LawsPickle.{int_bool, int_whole, int_bad}
 
 -- where the line ends
 ends : (c : tie.After-end) → let a = c.before.before.before.before.args in LineAt a.pickle.now a.c.at c.end.given.0.0
-ends c = line-found _ _ c.before.before.newline.ensures c.before.before.before.before.requires c.end.given.1
+ends c = line_found _ _ c.before.before.newline.ensures c.before.before.before.before.requires c.end.given.1
 
 -- the line that was read
 abbrev end : tie.After-int → tie.After-end
@@ -18,28 +18,28 @@ end c = c.before.before.before
 
 returns : tie.Need-returns
 unfolding int
-returns c = line-ends _ _ intLiteral intLabel c.before.before.newline.ensures c.enum_told.given.1
+returns c = line_ends _ _ int_literal int_label c.before.before.newline.ensures c.enum_told.given.1
 
 returns-2 : tie.Need-returns-2
 unfolding int
 returns-2 c =
     let r = c.before.before.before.before in
-    line-push _ _ intLiteral intLabel (ends (end r)) r.before.line.ensures (int-bool _ _ r.int.ensures _ c.before.before.b.given.1) (makes-bool _ _) c.read-to.ensures
+    line-push _ _ int_literal int_label (ends (end r)) r.before.line.ensures (int_bool _ _ r.int.ensures _ c.before.before.b.given.1) (makes_bool _ _) c.read-to.ensures
 
 returns-3 : tie.Need-returns-3
 unfolding int
 returns-3 c =
     let r = c.before.before.before.before in
-    line-push _ _ intLiteral intLabel (ends (end r)) r.before.line.ensures (int-whole _ _ r.int.ensures _ c.before.before.v.given.1) (makes-i64 _ _) c.read-to2.ensures
+    line-push _ _ int_literal int_label (ends (end r)) r.before.line.ensures (int_whole _ _ r.int.ensures _ c.before.before.v.given.1) (makes_i64 _ _) c.read-to2.ensures
 
 returns-4 : tie.Need-returns-4
 unfolding int
 returns-4 c =
     let r = c.before.before in
-    line-bad _ _ intLiteral intLabel (ends (end r)) r.before.line.ensures (int-bad _ _ r.int.ensures c.enum-told2.given.1)
+    line_bad _ _ int_literal int_label (ends (end r)) r.before.line.ensures (int_bad _ _ r.int.ensures c.enum-told2.given.1)
 
-pub int-spec : {M : Type 1} → statement M
-int-spec =
+pub int_spec : {M : Type 1} → statement M
+int_spec =
     tie.close
     (tie.spec
     (λ c κs. search rules) (λ c. search rules) (λ c. search rules) (λ c κs. let e = ends c.before in (e.low, e.inside)) (λ c κs. search rules)

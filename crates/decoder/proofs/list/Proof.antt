@@ -2,18 +2,18 @@
 use Rattle.decoder.proofs.list.Statement.{statement}
 use Rattle.decoder.proofs.list.Tie as tie
 use mathlib.Core.Path.{refl}
-use Rattle.value.specs.Shape.{kindIn}
+use Rattle.value.specs.Shape.{kind_in}
 use Rattle.steps.specs.Opcodes.{list}
-use Rattle.steps.specs.NodeWords.{nodeIs, aList}
+use Rattle.steps.specs.NodeWords.{node_is, a_list}
 use Rattle.decoder.specs.Items.{gathered}
 
 gather-requires : tie.Need-gather-requires
-unfolding kindIn
-gather-requires c κs = (c.before.requires, aList refl)
+unfolding kind_in
+gather-requires c κs = (c.before.requires, a_list refl)
 
 returns : tie.Need-returns
-unfolding list gathered nodeIs kindIn
+unfolding list gathered node_is kind_in
 returns c = c.gather.ensures
 
-pub list-spec : {M : Type 1} → statement M
-list-spec = tie.close (tie.spec gather-requires returns)
+pub list_spec : {M : Type 1} → statement M
+list_spec = tie.close (tie.spec gather-requires returns)

@@ -10,5 +10,5 @@ returns c = λ n p h. long-none _ _ n p h _ c.before.read.given.1
 returns-2 : tie.Need-returns-2
 returns-2 c = λ n p h. long-push _ _ n p h _ _ c.before.before.read2.given.1 _ c.read-to.ensures
 
-pub long-n-spec : {M : Type 1} → statement M
-long-n-spec = tie.close (tie.spec (λ c. search rules) (λ c. search rules) (λ c κs. search rules) returns returns-2)
+pub long_n_spec : {M : Type 1} → statement M
+long_n_spec = tie.close (tie.spec (λ c. search rules) (λ c. search rules) (λ c κs. search rules) returns returns-2)

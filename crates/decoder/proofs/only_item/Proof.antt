@@ -5,5 +5,5 @@ use Rattle.decoder.proofs.only_item.Tie as tie
 use native.Mathlib.Omega.{arith}
 use Prim.Native.Nat.{◌/◌}
 
-pub only-item-spec : {M : Type 1} → statement M
-only-item-spec = tie.close (tie.spec (λ c. search rules) (λ c. search rules) (λ c. omega (arith, c.shared-slice-known.given (c.before.args.word / 0x1_0000_0000))) (λ c. search rules))
+pub only_item_spec : {M : Type 1} → statement M
+only_item_spec = tie.close (tie.spec (λ c. search rules) (λ c. search rules) (λ c. omega (arith, c.shared-slice-known.given (c.before.args.word / 0x1_0000_0000))) (λ c. search rules))

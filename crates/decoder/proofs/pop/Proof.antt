@@ -2,12 +2,12 @@
 use borrow.Author.Rules.{rules}
 use Rattle.decoder.proofs.pop.Statement.{statement}
 use Rattle.decoder.proofs.pop.Tie as tie
-use Rattle.store.specs.Effects.{Decides, says-refused}
-use Rattle.decoder.specs.StackSteps.{pop-underflow, pop_goes}
+use Rattle.store.specs.Effects.{Decides, says_refused}
+use Rattle.decoder.specs.StackSteps.{pop_underflow, pop_goes}
 
 returns : tie.Need-returns
 unfolding Decides
-returns c = λ r s q. says-refused _ r _ _ (pop-underflow r _ s c.if1.true)
+returns c = λ r s q. says_refused _ r _ _ (pop_underflow r _ s c.if1.true)
 
 returns-2 : tie.Need-returns-2
 unfolding Decides

@@ -3,25 +3,25 @@ use borrow.Author.Rules.{rules}
 use Rattle.decoder.proofs.pop_mark.Statement.{statement}
 use Rattle.decoder.proofs.pop_mark.Tie as tie
 use native.Mathlib.Omega.{arith}
-use Rattle.store.specs.Effects.{Decides, says-refused}
+use Rattle.store.specs.Effects.{Decides, says_refused}
 use Rattle.decoder.specs.declared.Taken.TheVariants.{From}
 use Rattle.decoder.specs.Items.{TakesMark}
-use Rattle.decoder.specs.StackSteps.{took-below, pop-mark-underflow, pop-mark-goes}
+use Rattle.decoder.specs.StackSteps.{took_below, pop_mark_underflow, pop_mark-goes}
 
 -- the mark that was found
 taken : (c : tie.After-m) → let a = c.before.before.before.before.args in TakesMark a.c a.marks.now (From c.m.given.0.0)
 taken c = rw c.m.given.1 at c.before.before.above-mark.ensures
 
 sub-cut-to : tie.Need-overflow-sub-cut-to
-sub-cut-to c = let m = c.before.before in omega (arith, (took-below _ _ _ (taken m) m.before.before.before.before.requires).1)
+sub-cut-to c = let m = c.before.before in omega (arith, (took_below _ _ _ (taken m) m.before.before.before.before.requires).1)
 
 returns : tie.Need-returns
 unfolding Decides TakesMark
-returns c = λ r s q. says-refused _ r _ _ (pop-mark-underflow r _ s (rw c.enum_told.given.1 at c.before.before.above-mark.ensures r s q))
+returns c = λ r s q. says_refused _ r _ _ (pop_mark_underflow r _ s (rw c.enum_told.given.1 at c.before.before.above-mark.ensures r s q))
 
 returns-2 : tie.Need-returns-2
 unfolding Decides TakesMark
-returns-2 c = λ r s q. rw c.cut-to.ensures (pop-mark-goes r _ s _ (taken c.before.before.before r s q))
+returns-2 c = λ r s q. rw c.cut-to.ensures (pop_mark-goes r _ s _ (taken c.before.before.before r s q))
 
-pub pop-mark-spec : {M : Type 1} → statement M
-pop-mark-spec = tie.close (tie.spec (λ c κs. search rules) (λ c. search rules) (λ c. search rules) sub-cut-to (λ c κs. search rules) returns returns-2)
+pub pop_mark_spec : {M : Type 1} → statement M
+pop_mark_spec = tie.close (tie.spec (λ c κs. search rules) (λ c. search rules) (λ c. search rules) sub-cut-to (λ c κs. search rules) returns returns-2)

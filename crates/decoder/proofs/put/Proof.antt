@@ -7,12 +7,12 @@ use Prim.Native.Nat.{◌-◌}
 use mathlib.Core.Path.{sym, ap}
 use lib.ListN.{get_or}
 use Rattle.store.specs.Effects.{Decides}
-use Rattle.decoder.specs.StackSteps.{stack-room}
-use Rattle.decoder.proofs.LawsMemo.{put-none, put_some}
+use Rattle.decoder.specs.StackSteps.{stack_room}
+use Rattle.decoder.proofs.LawsMemo.{put_none, put_some}
 
 returns : tie.Need-returns
 unfolding Decides
-returns c = λ r s q. put-none r _ s _ c.if1.true
+returns c = λ r s q. put_none r _ s _ c.if1.true
 
 -- there is a value
 abbrev start : tie.After-shared-slice-known → tie.Start
@@ -27,5 +27,5 @@ put_spec =
     tie.close
     (tie.spec
     returns (λ c. search rules) (λ c. search rules)
-    (λ c. let l = (start c).requires in omega (arith, stack-room (start c).args.c l.rooms l.sound _ l.agrees))
+    (λ c. let l = (start c).requires in omega (arith, stack_room (start c).args.c l.rooms l.sound _ l.agrees))
     (λ c. omega (arith, c.shared-slice-known.given ((start c).args.c.stack - 1))) returns-2)

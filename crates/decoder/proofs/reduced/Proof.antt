@@ -7,11 +7,11 @@ use mathlib.Core.Path.{◌≡◌, refl, sym, ◌∙◌, ap}
 use native.Mathlib.Omega.{arith}
 use lib.ListN.{length, get_or}
 use Rattle.steps.specs.Opcodes.{reduce}
-use Rattle.store.specs.Rooms.{Rooms, kidsOf}
-use Rattle.steps.specs.NodeWords.{objectWord}
+use Rattle.store.specs.Rooms.{Rooms, kids_of}
+use Rattle.steps.specs.NodeWords.{object_word}
 use Rattle.store.specs.Effects.{Sound, Decides}
 use Rattle.decoder.specs.ReadsCalls.{CallOnTop}
-use Rattle.decoder.proofs.LawsCalls.{Found, call-rooms, found, item_room, item-there, first-none, reduce-object, reduce-set}
+use Rattle.decoder.proofs.LawsCalls.{Found, call-rooms, found, item_room, item_there, first-none, reduce-object, reduce-set}
 
 -- the words of both nodes
 words : (c : tie.Start) → let a = c.args in (suc (2 * a.class.0) < length a.nodes.now) × (suc (2 * a.arguments.0) < length a.nodes.now) × (a.class.0 < 4096)
@@ -33,16 +33,16 @@ abbrev set : tie.Else1 → tie.After-made-kind
 set c = c.before.before.before
 
 returns : tie.Need-returns
-unfolding Decides reduce objectWord
+unfolding Decides reduce object_word
 returns c = λ r s q. let f = read c.before.before.before r s q.0 q.1 q.3 in reduce-object r _ s _ _ f.call _ f.kind _ c.before.cut-to.ensures c.if1.true _ _ (omega arith) refl
 
 returns-2 : tie.Need-returns-2
-unfolding Decides reduce objectWord
+unfolding Decides reduce object_word
 returns-2 c =
     let a = (start (set c.before)).args in
     λ r s q.
     let f = read (set c.before) r s q.0 q.1 q.3 in
-    reduce-set r _ s _ _ f.call _ f.kind _ c.before.before.cut-to.ensures c.before.if1.false _ (first-none (kidsOf r a.c a.arguments.0) _ (sym f.count ∙ c.if2.true))
+    reduce-set r _ s _ _ f.call _ f.kind _ c.before.before.cut-to.ensures c.before.if1.false _ (first-none (kids_of r a.c a.arguments.0) _ (sym f.count ∙ c.if2.true))
 
 only-item-requires : tie.Need-only-item-requires
 only-item-requires c κs =
@@ -51,12 +51,12 @@ only-item-requires c κs =
     rw l.agrees.2 at (item_room l.rooms _ _ _ _ _ l.sound f c.before.if1.false c.if2.false)
 
 returns-3 : tie.Need-returns-3
-unfolding Decides reduce objectWord
+unfolding Decides reduce object_word
 returns-3 c =
     λ r s q.
     let e = c.before.before in
     let f = read (set e) r s q.0 q.1 q.3 in
-    reduce-set r _ s _ _ f.call _ f.kind _ e.before.cut-to.ensures e.if1.false _ (c.only_Item.ensures ∙ ap (λ l. get_or l ((set e).before.before.before.second_word.result / 0x1_0000_0000) 0) (sym q.2) ∙ item-there r _ _ _ _ _ s f e.if1.false c.before.if2.false)
+    reduce-set r _ s _ _ f.call _ f.kind _ e.before.cut-to.ensures e.if1.false _ (c.only_Item.ensures ∙ ap (λ l. get_or l ((set e).before.before.before.second_word.result / 0x1_0000_0000) 0) (sym q.2) ∙ item_there r _ _ _ _ _ s f e.if1.false c.before.if2.false)
 
-pub reduced-spec : {M : Type 1} → statement M
-reduced-spec = tie.close (tie.spec (λ c κs. let w = words c.before.before.before in omega arith) (λ c κs. let w = words c.before.before.before.before in omega arith) (λ c κs. let w = words c.before.before.before.before.before in omega arith) (λ c κs. search rules) (λ c. search rules) (λ c κs. search rules) (λ c. let w = words (start c.before.before.before) in omega arith) (λ c. let w = words (start c.before.before.before) in omega arith) returns returns-2 only-item-requires returns-3)
+pub reduced_spec : {M : Type 1} → statement M
+reduced_spec = tie.close (tie.spec (λ c κs. let w = words c.before.before.before in omega arith) (λ c κs. let w = words c.before.before.before.before in omega arith) (λ c κs. let w = words c.before.before.before.before.before in omega arith) (λ c κs. search rules) (λ c. search rules) (λ c κs. search rules) (λ c. let w = words (start c.before.before.before) in omega arith) (λ c. let w = words (start c.before.before.before) in omega arith) returns returns-2 only-item-requires returns-3)

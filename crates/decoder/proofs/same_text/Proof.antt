@@ -40,5 +40,5 @@ returns-3 c =
     let a = (start l).args in
     same_end a.text.now a.word.now l.loop.at (omega arith) l.loop.invariant.1 ∙ l.loop.invariant.2
 
-pub same-text-spec : {M : Type 1} → statement M
-same-text-spec = tie.close (tie.spec invariant-loop decreases-loop returns (λ c. (search rules, search rules, refl)) (λ c. search rules) (λ c. search rules) returns-2 (λ c. search rules) (λ c. search rules) loop-again returns-3)
+pub same-text_spec : {M : Type 1} → statement M
+same-text_spec = tie.close (tie.spec invariant-loop decreases-loop returns (λ c. (search rules, search rules, refl)) (λ c. search rules) (λ c. search rules) returns-2 (λ c. search rules) (λ c. search rules) loop-again returns-3)

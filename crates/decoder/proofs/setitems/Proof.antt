@@ -5,10 +5,10 @@ use Rattle.decoder.proofs.setitems.Tie as tie
 use Prim.Native.Nat.{◌≤◌, ◌<◌}
 use mathlib.Core.Path.{refl}
 use native.Mathlib.Omega.{arith}
-use Rattle.store.specs.Effects.{Decides, says-refused}
+use Rattle.store.specs.Effects.{Decides, says_refused}
 use Rattle.decoder.specs.declared.Taken.TheVariants.{From}
 use Rattle.decoder.specs.Items.{TakesMark, Adds, dicts}
-use Rattle.decoder.specs.StackSteps.{some-less, took-below, setitems-underflow, setitems-odd, setitems-adds}
+use Rattle.decoder.specs.StackSteps.{some-less, took_below, setitems_underflow, setitems_odd, setitems_adds}
 
 -- the mark that was found
 abbrev start : tie.After-m → tie.Start
@@ -18,7 +18,7 @@ taken : (c : tie.After-m) → let a = (start c).args in TakesMark a.c a.marks.no
 taken c = rw c.m.given.1 at c.before.before.above-mark.ensures
 
 below : (c : tie.After-m) → let a = (start c).args in (c.m.given.0.0 ≤ a.c.stack) × (0 < a.c.marks)
-below c = took-below _ _ _ (taken c) (some-less (λ r q. q.2) (start c).requires)
+below c = took_below _ _ _ (taken c) (some-less (λ r q. q.2) (start c).requires)
 
 -- what is above it comes in pairs
 abbrev mark : tie.After-struct-known2 → tie.After-m
@@ -26,18 +26,18 @@ mark c = c.before.before.before.before
 
 returns : tie.Need-returns
 unfolding Decides TakesMark
-returns c = λ r s q. says-refused _ r _ _ (setitems-underflow r _ s (rw c.enum_told.given.1 at c.before.before.above-mark.ensures r s q.2))
+returns c = λ r s q. says_refused _ r _ _ (setitems_underflow r _ s (rw c.enum_told.given.1 at c.before.before.above-mark.ensures r s q.2))
 
 returns-2 : tie.Need-returns-2
 unfolding Decides Adds TakesMark
-returns-2 c = λ r s q. rw (setitems-adds r _ s _ (taken (mark c.before) r s q.2) (omega (arith, c.before.before.if1.true))) at (c.grown.ensures r s q.0 q.1)
+returns-2 c = λ r s q. rw (setitems_adds r _ s _ (taken (mark c.before) r s q.2) (omega (arith, c.before.before.if1.true))) at (c.grown.ensures r s q.0 q.1)
 
 returns-3 : tie.Need-returns-3
 unfolding Decides TakesMark
-returns-3 c = λ r s q. says-refused _ r _ _ (setitems-odd r _ s _ (taken c.before.before.before r s q.2) (λ e. omega (arith, e, c.if1.false)))
+returns-3 c = λ r s q. says_refused _ r _ _ (setitems_odd r _ s _ (taken c.before.before.before r s q.2) (λ e. omega (arith, e, c.if1.false)))
 
-pub setitems-spec : {M : Type 1} → statement M
-setitems-spec =
+pub setitems_spec : {M : Type 1} → statement M
+setitems_spec =
     tie.close
     (tie.spec
     (λ c κs. some-less (λ r q. q.2) c.before.before.before.requires) (λ c. search rules) (λ c. search rules)

@@ -2,16 +2,16 @@
 use borrow.Author.Rules.{rules}
 use Rattle.decoder.proofs.small_tuple.Statement.{statement}
 use Rattle.decoder.proofs.small_tuple.Tie as tie
-use Rattle.store.specs.Effects.{Decides, says-refused}
-use Rattle.decoder.specs.StackSteps.{tuple-n-underflow, tuple-n-makes}
+use Rattle.store.specs.Effects.{Decides, says_refused}
+use Rattle.decoder.specs.StackSteps.{tuple_n_underflow, tuple_n_makes}
 
 returns : tie.Need-returns
 unfolding Decides
-returns c = λ r s q. says-refused _ r _ _ (tuple-n-underflow r _ s _ c.if1.true)
+returns c = λ r s q. says_refused _ r _ _ (tuple_n_underflow r _ s _ c.if1.true)
 
 returns-2 : tie.Need-returns-2
 unfolding Decides
-returns-2 c = λ r s q. rw c.cut-to.ensures (tuple-n-makes r _ s _ c.before.before.if1.false)
+returns-2 c = λ r s q. rw c.cut-to.ensures (tuple_n_makes r _ s _ c.before.before.if1.false)
 
-pub small-tuple-spec : {M : Type 1} → statement M
-small-tuple-spec = tie.close (tie.spec (λ c. search rules) (λ c. search rules) returns (λ c κs. search rules) returns-2)
+pub small-tuple_spec : {M : Type 1} → statement M
+small-tuple_spec = tie.close (tie.spec (λ c. search rules) (λ c. search rules) returns (λ c κs. search rules) returns-2)

@@ -3,16 +3,16 @@ use borrow.Author.Rules.{rules}
 use Rattle.decoder.proofs.string.Statement.{statement}
 use Rattle.decoder.proofs.string.Tie as tie
 use native.Mathlib.Omega.{arith}
-use Rattle.decoder.specs.ReadsPickle.{LineAt, line-found, line-ends, line-bad, line-push}
-use Rattle.text.specs.Text.{unescapeString}
+use Rattle.decoder.specs.ReadsPickle.{LineAt, line_found, line_ends, line_bad, line-push}
+use Rattle.text.specs.Text.{unescape_string}
 use Rattle.value.specs.Value.{BytesL}
 use Rattle.steps.specs.Opcodes.{string}
-use Rattle.text.specs.Answers.{quotes-two}
-use Rattle.decoder.proofs.LawsPickle.{line-size, string-plain, string-escaped, string-bad, plain_label, makes-inner, makes-string-line}
+use Rattle.text.specs.Answers.{quotes_two}
+use Rattle.decoder.proofs.LawsPickle.{line-size, string_plain, string_escaped, string_bad, plain_label, makes_inner, makes_string-line}
 
 -- where the line ends
 ends : (c : tie.After-end) → let a = c.before.before.before.before.args in LineAt a.pickle.now a.c.at c.end.given.0.0
-ends c = line-found _ _ c.before.before.newline.ensures c.before.before.before.before.requires c.end.given.1
+ends c = line_found _ _ c.before.before.newline.ensures c.before.before.before.before.requires c.end.given.1
 
 -- the line, whose text is measured
 abbrev end : tie.After-string-len → tie.After-end
@@ -29,13 +29,13 @@ escaped c = c.before.before
 sub-text-word : tie.Need-overflow-sub-text-word
 sub-text-word c =
     let t = c.before.before in
-    let q = quotes-two _ _ (string-plain _ _ (plain t).string_len.ensures t.enum-told2.given.1) in
+    let q = quotes_two _ _ (string_plain _ _ (plain t).string_len.ensures t.enum-told2.given.1) in
     omega arith
 
 text-word-requires : tie.Need-text-word-requires
 text-word-requires c κs =
     let t = c.before.before in
-    let q = quotes-two _ _ (string-plain _ _ (plain t).string_len.ensures t.enum-told2.given.1) in
+    let q = quotes_two _ _ (string_plain _ _ (plain t).string_len.ensures t.enum-told2.given.1) in
     let e = ends (end (plain t)) in
     let m = line-size e (plain t).before.line.ensures in
     omega arith
@@ -49,7 +49,7 @@ text-word-requires-2 c κs =
 
 returns : tie.Need-returns
 unfolding string
-returns c = line-ends _ _ unescapeString BytesL c.before.before.newline.ensures c.enum_told.given.1
+returns c = line_ends _ _ unescape_string BytesL c.before.before.newline.ensures c.enum_told.given.1
 
 returns-2 : tie.Need-returns-2
 unfolding string
@@ -57,8 +57,8 @@ returns-2 c =
     let t = c.before.before.before in
     let e = ends (end (plain t)) in
     let l = (plain t).before.line.ensures in
-    let q = string-plain _ _ (plain t).string_len.ensures t.enum-told2.given.1 in
-    line-push _ _ unescapeString BytesL e l (plain_label _ q) (makes-inner e l (quotes-two _ _ q) c.text-word.ensures) c.before.before.read-to.ensures
+    let q = string_plain _ _ (plain t).string_len.ensures t.enum-told2.given.1 in
+    line-push _ _ unescape_string BytesL e l (plain_label _ q) (makes_inner e l (quotes_two _ _ q) c.text-word.ensures) c.before.before.read-to.ensures
 
 returns-3 : tie.Need-returns-3
 unfolding string
@@ -66,16 +66,16 @@ returns-3 c =
     let t = c.before.before in
     let e = ends (end (escaped t)) in
     let l = (escaped t).before.line.ensures in
-    line-push _ _ unescapeString BytesL e l (string-escaped _ _ (escaped t).string_len.ensures _ t.enum-told3.given.1) (makes-string-line e l c.text-word2.ensures) c.before.read-to2.ensures
+    line-push _ _ unescape_string BytesL e l (string_escaped _ _ (escaped t).string_len.ensures _ t.enum-told3.given.1) (makes_string-line e l c.text-word2.ensures) c.before.read-to2.ensures
 
 returns-4 : tie.Need-returns-4
 unfolding string
 returns-4 c =
     let r = c.before.before in
-    line-bad _ _ unescapeString BytesL (ends (end r)) r.before.line.ensures (string-bad _ _ r.string_len.ensures _ c.enum-told4.given.1)
+    line_bad _ _ unescape_string BytesL (ends (end r)) r.before.line.ensures (string_bad _ _ r.string_len.ensures _ c.enum-told4.given.1)
 
-pub string-spec : {M : Type 1} → statement M
-string-spec =
+pub string_spec : {M : Type 1} → statement M
+string_spec =
     tie.close
     (tie.spec
     (λ c κs. search rules) (λ c. search rules) (λ c. search rules) (λ c κs. let e = ends c.before in (e.low, e.inside)) (λ c κs. search rules)

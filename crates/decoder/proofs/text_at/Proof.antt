@@ -10,5 +10,5 @@ returns c = let a = c.before.before.before.args in text-none a.pickle.now a.at a
 returns-2 : tie.Need-returns-2
 returns-2 c = let a = c.before.before.before.before.args in text-rest a.pickle.now a.at a.len c.before.if2.true
 
-pub text-at-spec : {M : Type 1} → statement M
-text-at-spec = tie.close (tie.spec (λ c. search rules) (λ c. search rules) (λ c. search rules) returns (λ c. search rules) (λ c. search rules) (λ c. search rules) (λ c. search rules) returns-2 (λ c κs. search rules) (λ c. search rules))
+pub text_at_spec : {M : Type 1} → statement M
+text_at_spec = tie.close (tie.spec (λ c. search rules) (λ c. search rules) (λ c. search rules) returns (λ c. search rules) (λ c. search rules) (λ c. search rules) (λ c. search rules) returns-2 (λ c κs. search rules) (λ c. search rules))

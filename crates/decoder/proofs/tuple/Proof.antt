@@ -2,18 +2,18 @@
 use Rattle.decoder.proofs.tuple.Statement.{statement}
 use Rattle.decoder.proofs.tuple.Tie as tie
 use mathlib.Core.Path.{refl}
-use Rattle.value.specs.Shape.{kindIn}
+use Rattle.value.specs.Shape.{kind_in}
 use Rattle.steps.specs.Opcodes.{tuple}
-use Rattle.steps.specs.NodeWords.{nodeIs, aTuple}
+use Rattle.steps.specs.NodeWords.{node_is, a_tuple}
 use Rattle.decoder.specs.Items.{gathered}
 
 gather-requires : tie.Need-gather-requires
-unfolding kindIn
-gather-requires c κs = (c.before.requires, aTuple refl)
+unfolding kind_in
+gather-requires c κs = (c.before.requires, a_tuple refl)
 
 returns : tie.Need-returns
-unfolding tuple gathered nodeIs kindIn
+unfolding tuple gathered node_is kind_in
 returns c = c.gather.ensures
 
-pub tuple-spec : {M : Type 1} → statement M
-tuple-spec = tie.close (tie.spec gather-requires returns)
+pub tuple_spec : {M : Type 1} → statement M
+tuple_spec = tie.close (tie.spec gather-requires returns)

@@ -3,15 +3,15 @@ use borrow.Author.Rules.{rules}
 use Rattle.decoder.proofs.unicode.Statement.{statement}
 use Rattle.decoder.proofs.unicode.Tie as tie
 use native.Mathlib.Omega.{arith}
-use Rattle.decoder.specs.ReadsPickle.{LineAt, line-found, line-ends, line-bad, line-push}
-use Rattle.text.specs.Text.{unescapeUnicode}
+use Rattle.decoder.specs.ReadsPickle.{LineAt, line_found, line_ends, line_bad, line-push}
+use Rattle.text.specs.Text.{unescape_unicode}
 use Rattle.value.specs.Value.{StringL}
 use Rattle.steps.specs.Opcodes.{unicode}
-use Rattle.decoder.proofs.LawsPickle.{line-size, unicode-some, unicode-bad, makes-line}
+use Rattle.decoder.proofs.LawsPickle.{line-size, unicode-some, unicode_bad, makes_line}
 
 -- where the line ends
 ends : (c : tie.After-end) → let a = c.before.before.before.before.args in LineAt a.pickle.now a.c.at c.end.given.0.0
-ends c = line-found _ _ c.before.before.newline.ensures c.before.before.before.before.requires c.end.given.1
+ends c = line_found _ _ c.before.before.newline.ensures c.before.before.before.before.requires c.end.given.1
 
 -- the line, whose text has a length
 abbrev line : tie.After-enum-told2 → tie.After-line
@@ -29,7 +29,7 @@ text-word-requires c κs =
 
 returns : tie.Need-returns
 unfolding unicode
-returns c = line-ends _ _ unescapeUnicode StringL c.before.before.newline.ensures c.enum_told.given.1
+returns c = line_ends _ _ unescape_unicode StringL c.before.before.newline.ensures c.enum_told.given.1
 
 returns-2 : tie.Need-returns-2
 unfolding unicode
@@ -37,16 +37,16 @@ returns-2 c =
     let t = c.before.before in
     let e = ends (end (line t)) in
     let l = (line t).line.ensures in
-    line-push _ _ unescapeUnicode StringL e l (unicode-some _ _ t.before.before.unicode-len.ensures _ t.enum-told2.given.1) (makes-line e l c.text-word.ensures) c.before.read-to.ensures
+    line-push _ _ unescape_unicode StringL e l (unicode-some _ _ t.before.before.unicode_len.ensures _ t.enum-told2.given.1) (makes_line e l c.text-word.ensures) c.before.read-to.ensures
 
 returns-3 : tie.Need-returns-3
 unfolding unicode
 returns-3 c =
     let r = c.before.before in
-    line-bad _ _ unescapeUnicode StringL (ends (end r.before)) r.before.line.ensures (unicode-bad _ _ r.unicode-len.ensures _ c.enum-told3.given.1)
+    line_bad _ _ unescape_unicode StringL (ends (end r.before)) r.before.line.ensures (unicode_bad _ _ r.unicode_len.ensures _ c.enum-told3.given.1)
 
-pub unicode-spec : {M : Type 1} → statement M
-unicode-spec =
+pub unicode_spec : {M : Type 1} → statement M
+unicode_spec =
     tie.close
     (tie.spec
     (λ c κs. search rules) (λ c. search rules) (λ c. search rules) (λ c κs. let e = ends c.before in (e.low, e.inside)) (λ c κs. search rules)

@@ -24,10 +24,10 @@ use mathlib.Core.Path.{◌≡◌, refl, sym, ◌∙◌}
 use mathlib.Core.Logic.{⊎_elim}
 use native.Mathlib.Omega.{arith}
 use lib.ListN.{length, length-set, get_or}
-use Rattle.resolve.specs.Shown.{nodeLabel}
-use Rattle.emit.specs.Leaves.{kindBelow, AtomPut, LeafPut, opened, atom-ready, atom-leaf}
-use Rattle.emit.specs.Calls.{Open, ReadyNode, FlatWrites, ready-most, ready-inside, below-kind, below-ready, not-below}
-use Rattle.emit.specs.Turns.{open-small, open-kind, open-text, open-behind, open-levels, open-listed, list-end, list-room, OpenWithText, text-entered, WrittenChildren, turn-start, turn-left, turn-over, turn-item, turn-finish, turn-ready, child-open, child-flat, next-walked, next-flat, next-leaf, turn-same, open_done, Writes}
+use Rattle.resolve.specs.Shown.{node_label}
+use Rattle.emit.specs.Leaves.{kind_below, AtomPut, LeafPut, opened, atom_ready, atom_leaf}
+use Rattle.emit.specs.Calls.{Open, ReadyNode, FlatWrites, ready_most, ready_inside, below-kind, below_ready, not_below}
+use Rattle.emit.specs.Turns.{open_small, open_kind, open_text, open_behind, open_levels, open_listed, list_end, list_room, OpenWithText, text_entered, WrittenChildren, turn_start, turn_left, turn_over, turn_item, turn_finish, turn_ready, child_open, child_flat, next_walked, next_flat, next_leaf, turn_same, open_done, Writes}
 
 abbrev μ : Measures 8 kinds.ps ℕ
 μ κs a = a.1.0
@@ -58,30 +58,30 @@ module _ {p d ws starts sorted log : List ℕ} {levels i to from : ℕ} {measure
 
   met : (measures₁ table₁ bytes₁ : List ℕ) (next₁ : ℕ) → measures' ≡ measures₁ → table' ≡ table₁ → bytes' ≡ bytes₁ → next' ≡ next₁
       → WrittenChildren E.walk.ready.t E.walk.ready.h E.walk.ready.v i to from measures₀ table₀ bytes₀ next₁ (j + 1) measures₁ table₁ bytes₁ → Next
-  met measures₁ table₁ bytes₁ next₁ x y z w = turn-same E.walk.ready.t E.walk.ready.h E.walk.ready.v i to from measures₀ table₀ bytes₀ next₁ next' (j + 1) measures₁ measures' table₁ table' bytes₁ bytes' x y z w
+  met measures₁ table₁ bytes₁ next₁ x y z w = turn_same E.walk.ready.t E.walk.ready.h E.walk.ready.v i to from measures₀ table₀ bytes₀ next₁ next' (j + 1) measures₁ measures' table₁ table' bytes₁ bytes' x y z w
 
   module _ (table₁ : List ℕ) (next₁ : ℕ) (b : Bool) (kept : length table₁ ≡ length table) where
-    atom : b ≡ kindBelow 4 ws c → b ≡ true → AtomPut ws c next table table₁ next₁ → measures' ≡ measures → table' ≡ table₁ → bytes' ≡ bytes → next' ≡ next₁ → Next
+    atom : b ≡ kind_below 4 ws c → b ≡ true → AtomPut ws c next table table₁ next₁ → measures' ≡ measures → table' ≡ table₁ → bytes' ≡ bytes → next' ≡ next₁ → Next
     atom g h a x y z w =
-        let r = turn-ready E T l c e in
-        let o : kindBelow 4 ws c ≡ true = sym g ∙ h in
+        let r = turn_ready E T l c e in
+        let o : kind_below 4 ws c ≡ true = sym g ∙ h in
         met measures table₁ bytes next₁ x y z w
-        (next-leaf E T l c e 4 (omega arith) o next₁ table₁ bytes kept refl (atom-leaf (below-ready r 4 (omega arith) o) (below-kind r 4 (omega arith) o) table₁ next₁ a))
+        (next_leaf E T l c e 4 (omega arith) o next₁ table₁ bytes kept refl (atom_leaf (below_ready r 4 (omega arith) o) (below-kind r 4 (omega arith) o) table₁ next₁ a))
 
     module _ (bytes₁ : List ℕ) (kept-bytes : length bytes₁ ≡ length bytes) where
-      leaf : b ≡ kindBelow 6 ws c → b ≡ true → LeafPut (nodeLabel p ws c) next table bytes table₁ bytes₁ next₁ → measures' ≡ measures → table' ≡ table₁ → bytes' ≡ bytes₁ → next' ≡ next₁ → Next
-      leaf g h a x y z w = met measures table₁ bytes₁ next₁ x y z w (next-leaf E T l c e 6 (omega arith) (sym g ∙ h) next₁ table₁ bytes₁ kept kept-bytes a)
+      leaf : b ≡ kind_below 6 ws c → b ≡ true → LeafPut (node_label p ws c) next table bytes table₁ bytes₁ next₁ → measures' ≡ measures → table' ≡ table₁ → bytes' ≡ bytes₁ → next' ≡ next₁ → Next
+      leaf g h a x y z w = met measures table₁ bytes₁ next₁ x y z w (next_leaf E T l c e 6 (omega arith) (sym g ∙ h) next₁ table₁ bytes₁ kept kept-bytes a)
 
       flat : b ≡ opened ws measures c → b ≡ false → FlatWrites p d ws c next measures table bytes table₁ bytes₁ next₁ → measures' ≡ measures → table' ≡ table₁ → bytes' ≡ bytes₁ → next' ≡ next₁ → Next
       flat g h a x y z w =
           let o : opened ws measures c ≡ false = sym g ∙ h in
-          met measures table₁ bytes₁ next₁ x y z w (next-flat E T l c e o next₁ table₁ bytes₁ kept kept-bytes (a (child-flat E T l c e o)))
+          met measures table₁ bytes₁ next₁ x y z w (next_flat E T l c e o next₁ table₁ bytes₁ kept kept-bytes (a (child_flat E T l c e o)))
 
       walked : (measures₁ : List ℕ) → length measures₁ ≡ length measures → b ≡ opened ws measures c → b ≡ true
           → Writes p d ws starts sorted log (levels - 1) c next measures table bytes measures₁ table₁ bytes₁ next₁ → measures' ≡ measures₁ → table' ≡ table₁ → bytes' ≡ bytes₁ → next' ≡ next₁ → Next
       walked measures₁ m g h a x y z w =
           let o : opened ws measures c ≡ true = sym g ∙ h in
-          met measures₁ table₁ bytes₁ next₁ x y z w (next-walked E T l c e o next₁ measures₁ table₁ bytes₁ m kept kept-bytes (a (child-open E T l c e o)))
+          met measures₁ table₁ bytes₁ next₁ x y z w (next_walked E T l c e o next₁ measures₁ table₁ bytes₁ m kept kept-bytes (a (child_open E T l c e o)))
 
 module _ (t : ℕ) where
   -- ---- the places that the needs look back to
@@ -131,21 +131,21 @@ module _ (t : ℕ) where
   Enters c = let a = (start (ranged c)).args in OpenWithText a.pickle.now a.decoded.now a.nodes.now a.starts.now a.sorted.now a.log.now a.levels a.node.0 a.to a.measures.now a.table.now c.put-class.new.1.1.1.1.1.0
 
   abbrev enters : (c : Classed) → Enters c
-  enters c = text-entered (opens (start (ranged c))) _ _ c.put-class.ensures
+  enters c = text_entered (opens (start (ranged c))) _ _ c.put-class.ensures
 
   -- a child is left
   left : (c : lts.In-loop (calls t) (own t) reads.Post invariant-loop decreases-loop) (E : Enters (classed c.before)) → (c.before.loop.invariant E).k < length (E.walk.ready.h (start (list c.before)).args.node.0)
-  left c E = turn-left E (c.before.loop.invariant E) _ (list c.before).range-of.ensures refl c.loop-test.true
+  left c E = turn_left E (c.before.loop.invariant E) _ (list c.before).range-of.ensures refl c.loop-test.true
 
   abbrev Ready : Item → Type 0
   Ready c = let l = (head c).loop in let a = (start (list (head c))).args in ReadyNode a.pickle.now a.decoded.now a.nodes.now a.starts.now a.sorted.now a.log.now c.item.result.0 l.next l.measures l.table l.text
 
   module _ (c : Item) (E : Enters (classed (head c))) where
     item : c.item.result.0 ≡ get_or (E.walk.ready.h (start (list (head c))).args.node.0) ((head c).loop.invariant E).k 0
-    item = turn-item E ((head c).loop.invariant E) _ (list (head c)).range-of.ensures refl (left c.before E) _ c.item.ensures
+    item = turn_item E ((head c).loop.invariant E) _ (list (head c)).range-of.ensures refl (left c.before E) _ c.item.ensures
 
     ready : Ready c
-    ready = turn-ready E ((head c).loop.invariant E) (left c.before E) _ item
+    ready = turn_ready E ((head c).loop.invariant E) (left c.before E) _ item
 
   -- from what the function was given
   given : (c : Item) → Ready c
@@ -168,28 +168,28 @@ module _ (t : ℕ) where
   -- ---- the needs
 
   range-of-requires : lts.Need-range-of-requires (calls t) (own t) reads.Post invariant-loop decreases-loop
-  range-of-requires c κs = open-listed (opens c.before.before.before.before.before.before.before.before.before.before)
+  range-of-requires c κs = open_listed (opens c.before.before.before.before.before.before.before.before.before.before)
 
   put-class-requires : lts.Need-put-class-requires (calls t) (own t) reads.Post invariant-loop decreases-loop
-  put-class-requires c κs = let o = opens (start c.before.before) in (open-text o, open-kind o)
+  put-class-requires c κs = let o = opens (start c.before.before) in (open_text o, open_kind o)
 
   behind-requires : lts.Need-behind-requires (calls t) (own t) reads.Post invariant-loop decreases-loop
-  behind-requires c κs = let p = c.before.before in open-behind (opens (start (ranged p))) _ p.put-class.ensures.lengths
+  behind-requires c κs = let p = c.before.before in open_behind (opens (start (ranged p))) _ p.put-class.ensures.lengths
 
   loop-holds : lts.Need-loop-init (calls t) (own t) reads.Post invariant-loop decreases-loop
-  loop-holds c E = turn-start E _ _ c.before.before.before.put-class.ensures.lengths c.behind.ensures
+  loop-holds c E = turn_start E _ _ c.before.before.before.put-class.ensures.lengths c.behind.ensures
 
   item-requires : lts.Need-item-requires (calls t) (own t) reads.Post invariant-loop decreases-loop
-  item-requires c κs = let r = list c.before in omega (arith, list-room (opens (start r)) _ r.range-of.ensures, c.loop-test.true)
+  item-requires c κs = let r = list c.before in omega (arith, list_room (opens (start r)) _ r.range-of.ensures, c.loop-test.true)
 
   is-below-requires : lts.Need-is-below-requires (calls t) (own t) reads.Post invariant-loop decreases-loop
-  is-below-requires c κs = (λ h. (ready-inside (given c) h).0, ready-most (given c))
+  is-below-requires c κs = (λ h. (ready_inside (given c) h).0, ready_most (given c))
 
   write-atom-requires : lts.Need-write-atom-requires (calls t) (own t) reads.Post invariant-loop decreases-loop
-  write-atom-requires c κs = let b = c.before.before in atom-ready (below-ready (given b.before) 4 (omega arith) (sym b.is_below.ensures ∙ c.before.if1.true))
+  write-atom-requires c κs = let b = c.before.before in atom_ready (below_ready (given b.before) 4 (omega arith) (sym b.is_below.ensures ∙ c.before.if1.true))
 
   is-below-requires-2 : lts.Need-is-below-requires-2 (calls t) (own t) reads.Post invariant-loop decreases-loop
-  is-below-requires-2 c κs = let n = given c.before.before in (λ h. (ready-inside n h).0, ready-most n)
+  is-below-requires-2 c κs = let n = given c.before.before in (λ h. (ready_inside n h).0, ready_most n)
 
   write-text-requires : lts.Need-write-text-requires (calls t) (own t) reads.Post invariant-loop decreases-loop
   write-text-requires c κs =
@@ -197,13 +197,13 @@ module _ (t : ℕ) where
       let b = d.before.before in
       let n = given b.before in
       let o = sym d.is-below2.ensures ∙ c.before.before.before.if2.true in
-      (below-ready n 6 (omega arith) o, (not-below n 6 (omega arith) o 4 (sym b.is_below.ensures ∙ d.before.if1.false), below-kind n 6 (omega arith) o))
+      (below_ready n 6 (omega arith) o, (not_below n 6 (omega arith) o 4 (sym b.is_below.ensures ∙ d.before.if1.false), below-kind n 6 (omega arith) o))
 
   is-open-requires : lts.Need-is-open-requires (calls t) (own t) reads.Post invariant-loop decreases-loop
-  is-open-requires c κs = let n = given c.before.before.before.before.before in (ready-inside n, ready-most n)
+  is-open-requires c κs = let n = given c.before.before.before.before.before in (ready_inside n, ready_most n)
 
   sub-write : lts.Need-overflow-sub-write (calls t) (own t) reads.Post invariant-loop decreases-loop
-  sub-write c = open-levels (opens (start (list (head c.before.before.before.before.before.before.before))))
+  sub-write c = open_levels (opens (start (list (head c.before.before.before.before.before.before.before))))
 
   write-requires : lts.Need-write-requires (calls t) (own t) reads.Post invariant-loop decreases-loop
   write-requires c κs =
@@ -211,13 +211,13 @@ module _ (t : ℕ) where
       let h = head i in
       let s = start (list h) in
       let E = enters (classed h) in
-      (omega (arith, open-levels (opens s), s.pre.0), child-open E (h.loop.inv E) (left i.before E) _ (item i E) (sym c.before.before.before.before.is_open.ensures ∙ c.before.before.before.if3.true))
+      (omega (arith, open_levels (opens s), s.pre.0), child_open E (h.loop.inv E) (left i.before E) _ (item i E) (sym c.before.before.before.before.is_open.ensures ∙ c.before.before.before.if3.true))
 
   write-flat-requires : lts.Need-write-flat-requires (calls t) (own t) reads.Post invariant-loop decreases-loop
   write-flat-requires c κs =
       let i = c.before.before.before.before.before.before.before.before.before.before in
       let E = enters (classed (head i)) in
-      child-flat E ((head i).loop.invariant E) (left i.before E) _ (item i E) (sym c.before.before.before.before.is_open.ensures ∙ c.before.before.before.if3.false)
+      child_flat E ((head i).loop.invariant E) (left i.before E) _ (item i E) (sym c.before.before.before.before.is_open.ensures ∙ c.before.before.before.if3.false)
 
   add-j : lts.Need-overflow-add-j (calls t) (own t) reads.Post invariant-loop decreases-loop
   add-j c = omega (arith, c.before.before.before.loop-test.true)
@@ -229,28 +229,28 @@ module _ (t : ℕ) where
   loop-again c E = arms c E
 
   sub-finish : lts.Need-overflow-sub-finish (calls t) (own t) reads.Post invariant-loop decreases-loop
-  sub-finish c = let r = list c.before in omega (arith, list-end (opens (start r)) _ r.range-of.ensures)
+  sub-finish c = let r = list c.before in omega (arith, list_end (opens (start r)) _ r.range-of.ensures)
 
   finish-requires : lts.Need-finish-requires (calls t) (own t) reads.Post invariant-loop decreases-loop
   finish-requires c κs =
       let h = c.before.before in
       let E = enters (classed h) in
-      turn-finish E (h.loop.invariant E) _ (list h).range-of.ensures refl _ refl
+      turn_finish E (h.loop.invariant E) _ (list h).range-of.ensures refl _ refl
 
   mul-measures : lts.Need-overflow-mul-measures (calls t) (own t) reads.Post invariant-loop decreases-loop
   mul-measures c =
       let h = c.before.before.before.before.before in
       let o = opens (start (list h)) in
-      omega (arith, open-small o, (h.loop.invariant (enters (classed h))).measures-long, (open-listed o).decreases)
+      omega (arith, open_small o, (h.loop.invariant (enters (classed h))).measures_long, (open_listed o).decreases)
 
   slice-write-measures : lts.Need-slice-write-measures (calls t) (own t) reads.Post invariant-loop decreases-loop
   slice-write-measures c =
       let h = c.before.before.before.before.before in
       let o = opens (start (list h)) in
-      omega (arith, open-small o, (h.loop.invariant (enters (classed h))).measures-long, (open-listed o).decreases)
+      omega (arith, open_small o, (h.loop.invariant (enters (classed h))).measures_long, (open_listed o).decreases)
 
   same_length : lts.Need-same-length (calls t) (own t) reads.Post invariant-loop decreases-loop
-  same_length c = let h = c.before.before.before.before.before in simp length-set (h.loop.invariant (enters (classed h))).measures-long
+  same_length c = let h = c.before.before.before.before.before in simp length-set (h.loop.invariant (enters (classed h))).measures_long
 
   same-length-2 : lts.Need-same-length-2 (calls t) (own t) reads.Post invariant-loop decreases-loop
   same-length-2 c = let h = c.before.before.before.before.before in c.before.before.finish.auto.1.1.1.1.1.1.0 ∙ (h.loop.invariant (enters (classed h))).table-long
@@ -263,11 +263,11 @@ module _ (t : ℕ) where
       let h = c.before.before.before.before.before in
       let g = (list h).range-of.ensures in
       let p = (classed h).put-class.ensures in
-      let E = text-entered O _ _ p in
-      open_done O _ _ p (h.loop.invariant E) (turn-over E (h.loop.invariant E) _ g refl c.before.before.before.before.loop-test.false) _ _ _ (omega (arith, list-end O _ g)) c.before.before.finish.ensures
+      let E = text_entered O _ _ p in
+      open_done O _ _ p (h.loop.invariant E) (turn_over E (h.loop.invariant E) _ g refl c.before.before.before.before.loop-test.false) _ _ _ (omega (arith, list_end O _ g)) c.before.before.finish.ensures
 
-pub +write-spec : {M : Type 1} → statement M
-+write-spec =
+pub +write_spec : {M : Type 1} → statement M
++write_spec =
     close μ
     λ t. lts.spec (calls t) (own t) reads.Post invariant-loop decreases-loop
     (range-of-requires t) (put-class-requires t) (behind-requires t) (loop-holds t) (item-requires t) (is-below-requires t) (write-atom-requires t)

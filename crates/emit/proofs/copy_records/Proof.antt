@@ -3,7 +3,7 @@ use borrow.Author.Rules.{rules}
 use Rattle.emit.proofs.copy_records.Statement.{statement}
 use Rattle.emit.proofs.copy_records.Tie as tie
 use Prim.Native.Nat.{◌-◌}
-use Rattle.emit.specs.Copies.{Copying, copying-none, copying-next, copying-all, moved-fits}
+use Rattle.emit.specs.Copies.{Copying, copying_none, copying_next, copying_all, moved_fits}
 
 abbrev invariant-loop : tie.invariant-loop
 invariant-loop table₀ from size at origin target k₀ table k = Copying table₀ from size at origin target k table
@@ -22,23 +22,23 @@ start c = c.before.before
 -- ---- the needs
 
 loop-holds : tie.Need-loop-init invariant-loop decreases-loop
-loop-holds c = copying-none _ _ _ _ _ _ c.before.requires
+loop-holds c = copying_none _ _ _ _ _ _ c.before.requires
 
 moved-word-requires : tie.Need-moved-word-requires invariant-loop decreases-loop
-moved-word-requires c κs = let t = c.before.before in let h = head t in moved-fits _ _ _ _ _ _ (start h).pre h.loop.k _ h.loop.inv t.loop-test.true
+moved-word-requires c κs = let t = c.before.before in let h = head t in moved_fits _ _ _ _ _ _ (start h).pre h.loop.k _ h.loop.inv t.loop-test.true
 
 loop-again : tie.Need-loop-preserved invariant-loop decreases-loop
 loop-again c =
     let m = c.before.before.before.before.before.before in
     let t = m.before.before.before in
     let h = head t in
-    copying-next _ _ _ _ _ _ (start h).pre h.loop.k _ h.loop.inv t.loop-test.true _ m.moved_word.result m.moved_word.ensures c.before.before.put_record.ensures
+    copying_next _ _ _ _ _ _ (start h).pre h.loop.k _ h.loop.inv t.loop-test.true _ m.moved_word.result m.moved_word.ensures c.before.before.put_record.ensures
 
 returns : tie.Need-returns invariant-loop decreases-loop
-returns c = let h = c.before in copying-all _ _ _ _ _ _ (start h).requires h.loop.k _ h.loop.invariant c.loop-test.false
+returns c = let h = c.before in copying_all _ _ _ _ _ _ (start h).requires h.loop.k _ h.loop.invariant c.loop-test.false
 
-pub copy-records-spec : {M : Type 1} → statement M
-copy-records-spec =
+pub copy_records_spec : {M : Type 1} → statement M
+copy_records_spec =
     tie.close
     (tie.spec
     invariant-loop decreases-loop loop-holds (λ c. search rules) (λ c. search rules) (λ c. search rules) (λ c. search rules) (λ c. search rules) (λ c. search rules)

@@ -4,17 +4,17 @@ use Rattle.emit.proofs.is_below.Statement.{statement}
 use Rattle.emit.proofs.is_below.Tie as tie
 use native.Mathlib.Omega.{arith}
 use borrow.Author.Tests.{ne_eqb}
-use Rattle.value.specs.Shape.{kindIn}
+use Rattle.value.specs.Shape.{kind_in}
 use Rattle.steps.specs.NodeWords.{first}
-use Rattle.emit.specs.Leaves.{kindBelow}
+use Rattle.emit.specs.Leaves.{kind_below}
 
 returns : tie.Need-returns
-unfolding kindBelow
+unfolding kind_below
 returns c = rw c.if1.true
 
 returns-2 : tie.Need-returns-2
-unfolding kindBelow first kindIn
+unfolding kind_below first kind_in
 returns-2 c = rw (ne_eqb _ 4096 c.before.if1.false)
 
-pub is-below-spec : {M : Type 1} → statement M
-is-below-spec = tie.close (tie.spec returns (λ c. search rules) (λ c. search rules) (λ c. c.before.before.requires.0 (omega (arith, c.before.before.requires.1, c.before.if1.false))) returns-2)
+pub is_below_spec : {M : Type 1} → statement M
+is_below_spec = tie.close (tie.spec returns (λ c. search rules) (λ c. search rules) (λ c. c.before.before.requires.0 (omega (arith, c.before.before.requires.1, c.before.if1.false))) returns-2)

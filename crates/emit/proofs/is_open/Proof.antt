@@ -26,5 +26,5 @@ returns-3 c =
     let b = rw k at (sym c.before.is-container.ensures ∙ c.if2.false) in
     rw (ne_eqb _ 4096 c.before.before.before.before.if1.false, b)
 
-pub is-open-spec : {M : Type 1} → statement M
-is-open-spec = tie.close (tie.spec returns (λ c. search rules) (λ c. search rules) (λ c. (c.before.before.before.before.requires.0 (omega (arith, c.before.before.before.before.requires.1, c.before.if1.false))).0) (λ c κs. search rules) (λ c κs. search rules) (λ c. search rules) (λ c. (c.before.before.before.before.before.before.before.before.requires.0 (omega (arith, c.before.before.before.before.before.before.before.before.requires.1, c.before.before.before.before.before.if1.false))).1) returns-2 returns-3)
+pub is_open_spec : {M : Type 1} → statement M
+is_open_spec = tie.close (tie.spec returns (λ c. search rules) (λ c. search rules) (λ c. (c.before.before.before.before.requires.0 (omega (arith, c.before.before.before.before.requires.1, c.before.if1.false))).0) (λ c κs. search rules) (λ c κs. search rules) (λ c. search rules) (λ c. (c.before.before.before.before.before.before.before.before.requires.0 (omega (arith, c.before.before.before.before.before.before.before.before.requires.1, c.before.before.before.before.before.if1.false))).1) returns-2 returns-3)

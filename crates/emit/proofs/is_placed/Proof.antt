@@ -3,20 +3,20 @@ use borrow.Author.Rules.{rules}
 use Rattle.emit.proofs.is_placed.Statement.{statement}
 use Rattle.emit.proofs.is_placed.Tie as tie
 use borrow.Author.Tests.{ne_eqb}
-use Rattle.value.specs.Shape.{kindIn}
-use Rattle.resolve.specs.Moved.{hasTextPlace}
+use Rattle.value.specs.Shape.{kind_in}
+use Rattle.resolve.specs.Moved.{has_text_place}
 
 returns : tie.Need-returns
-unfolding hasTextPlace kindIn
+unfolding has_text_place kind_in
 returns c = let h = c.before.head_of.ensures in let e = rw h at c.if1.true in rw e
 
 returns-2 : tie.Need-returns-2
-unfolding hasTextPlace kindIn
+unfolding has_text_place kind_in
 returns-2 c = let h = c.before.before.head_of.ensures in let e = rw h at c.if2.true in rw e
 
 returns-3 : tie.Need-returns-3
-unfolding hasTextPlace kindIn
+unfolding has_text_place kind_in
 returns-3 c = let h = c.before.before.head_of.ensures in let e₁ = rw h at c.before.if1.false in let e₂ = rw h at c.if2.false in rw (h, ne_eqb _ 4 e₁, ne_eqb _ 5 e₂)
 
-pub is-placed-spec : {M : Type 1} → statement M
-is-placed-spec = tie.close (tie.spec (λ c κs. search rules) returns returns-2 returns-3)
+pub is_placed_spec : {M : Type 1} → statement M
+is_placed_spec = tie.close (tie.spec (λ c κs. search rules) returns returns-2 returns-3)

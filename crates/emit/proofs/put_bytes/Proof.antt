@@ -4,7 +4,7 @@ use Rattle.emit.proofs.put_bytes.Statement.{statement}
 use Rattle.emit.proofs.put_bytes.Tie as tie
 use Prim.Native.Nat.{◌-◌}
 use lib.ListN.{length}
-use Rattle.emit.specs.Copies.{Putting, putting-none, putting-next, putting-all}
+use Rattle.emit.specs.Copies.{Putting, putting_none, putting_next, putting_all}
 
 abbrev invariant-loop : tie.invariant-loop
 invariant-loop bytes text₀ at i₀ text i = Putting bytes text₀ at i text
@@ -13,16 +13,16 @@ abbrev decreases-loop : tie.decreases-loop
 decreases-loop bytes text₀ at i₀ text i = length bytes - i
 
 loop-holds : tie.Need-loop-init invariant-loop decreases-loop
-loop-holds c = putting-none _ _ _
+loop-holds c = putting_none _ _ _
 
 loop-again : tie.Need-loop-preserved invariant-loop decreases-loop
-loop-again c = let h = c.before.before in putting-next _ _ _ h.loop.i _ h.loop.invariant c.before.loop-test.true
+loop-again c = let h = c.before.before in putting_next _ _ _ h.loop.i _ h.loop.invariant c.before.loop-test.true
 
 returns : tie.Need-returns invariant-loop decreases-loop
-returns c = let h = c.before in putting-all _ _ _ h.loop.i _ h.loop.invariant c.loop-test.false
+returns c = let h = c.before in putting_all _ _ _ h.loop.i _ h.loop.invariant c.loop-test.false
 
-pub put-bytes-spec : {M : Type 1} → statement M
-put-bytes-spec =
+pub put_bytes_spec : {M : Type 1} → statement M
+put_bytes_spec =
     tie.close
     (tie.spec
     invariant-loop decreases-loop loop-holds (λ c. search rules) (λ c. search rules) (λ c. search rules) (λ c. search rules) (λ c. search rules)

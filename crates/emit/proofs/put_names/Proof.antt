@@ -7,7 +7,7 @@ use mathlib.Core.Path.{refl, ap}
 use native.Mathlib.Omega.{arith}
 use lib.ListN.{length}
 use lib.Seq.{length-sets}
-use Rattle.emit.specs.Leaves.{names-room, texts-names}
+use Rattle.emit.specs.Leaves.{names_room, texts-names}
 
 abbrev start : tie.After-trail-part → tie.Start
 start c = c.before.before.before.before.before.before.before
@@ -21,7 +21,7 @@ second c = first c.before.before.before
 
 -- both texts have room
 room : (c : tie.After-trail-part) → let lead = c.before.lead-part.result.now in let trail = c.trail-part.result.now in ((start c).args.at + (length lead + length trail) ≤ length (start c).args.text.now) × (length lead + length trail ≤ 65536)
-room c = let s = start c in names-room _ _ _ _ _ _ _ s.pre.0 _ refl (omega (arith, s.pre.1)) (omega (arith, s.pre.1)) s.pre.1 _ _ c.before.lead-part.ensures c.trail-part.ensures
+room c = let s = start c in names_room _ _ _ _ _ _ _ s.pre.0 _ refl (omega (arith, s.pre.1)) (omega (arith, s.pre.1)) s.pre.1 _ _ c.before.lead-part.ensures c.trail-part.ensures
 
 put-bytes-requires-2 : tie.Need-put-bytes-requires-2
 put-bytes-requires-2 c κs = omega (arith, (room (first c)).0, simp length-sets at (ap length c.before.before.before.put-bytes.ensures))
@@ -32,8 +32,8 @@ returns c =
     let p = (start t).pre in
     texts-names _ _ _ _ _ _ _ p.0 _ refl (omega (arith, p.1)) (omega (arith, p.1)) p.1 _ _ t.before.lead-part.ensures t.trail-part.ensures _ _ c.before.before.before.before.before.before.put-bytes.ensures c.before.before.put-bytes2.ensures
 
-pub put-names-spec : {M : Type 1} → statement M
-put-names-spec =
+pub put_names_spec : {M : Type 1} → statement M
+put_names_spec =
     tie.close
     (tie.spec
     (λ c κs. search rules) (λ c κs. search rules) (λ c κs. omega (arith, (room c.before).0)) (λ c. search rules) put-bytes-requires-2

@@ -15,8 +15,8 @@ returns c =
     let e₃ : 4 * i + 3 ≡ suc (suc (suc (4 * i))) = omega arith in
     rw (e₁, e₂, e₃)
 
-pub put-record-spec : {M : Type 1} → statement M
-put-record-spec =
+pub put_record_spec : {M : Type 1} → statement M
+put_record_spec =
     tie.close
     (tie.spec
     (λ c. search rules) (λ c. search rules) (λ c. search rules) (λ c. search rules) (λ c. search rules) (λ c. search rules)

@@ -7,8 +7,8 @@ use Rattle.emit.proofs.write_again.Tie as tie
 returns : tie.Need-returns
 returns c = search rules
 
-pub write-again-spec : {M : Type 1} → statement M
-write-again-spec =
+pub write_again_spec : {M : Type 1} → statement M
+write_again_spec =
     tie.close
     (tie.spec
     (λ c κs. search rules) (λ c κs. search rules) (λ c. search rules) (λ c. search rules) (λ c. search rules) (λ c. search rules) (λ c. search rules)

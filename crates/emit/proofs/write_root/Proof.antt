@@ -4,9 +4,9 @@ use Rattle.emit.proofs.write_root.Statement.{statement}
 use Rattle.emit.proofs.write_root.Tie as tie
 use mathlib.Core.Path.{◌≡◌, sym, ◌∙◌}
 use mathlib.Core.Bool.{true, false}
-use Rattle.emit.specs.Calls.{ready-most, ready-inside}
+use Rattle.emit.specs.Calls.{ready_most, ready_inside}
 use Rattle.emit.specs.Leaves.{opened}
-use Rattle.emit.specs.Roots.{root-ready, root-open, root-flat, root-wrote, root-made}
+use Rattle.emit.specs.Roots.{root_ready, root_open, root_flat, root_wrote, root_made}
 
 -- what it was lent
 abbrev start : tie.After-is-open → tie.Start
@@ -27,18 +27,18 @@ abbrev flat : tie.After-write-flat → tie.Else1
 flat c = c.before.before.before.before
 
 is-open-requires : tie.Need-is-open-requires
-is-open-requires c κs = let R = root-ready c.before.before.before.before.before.before.before.before.before.before.requires in (ready-inside R, ready-most R)
+is-open-requires c κs = let R = root_ready c.before.before.before.before.before.before.before.before.before.before.requires in (ready_inside R, ready_most R)
 
 returns : tie.Need-returns
-returns c G = let w = c.before.before.before.before.before.before in root-wrote G (walked (walk w)) _ _ _ _ (w.write.ensures (root-open G (walked (walk w))))
+returns c G = let w = c.before.before.before.before.before.before in root_wrote G (walked (walk w)) _ _ _ _ (w.write.ensures (root_open G (walked (walk w))))
 
 returns-2 : tie.Need-returns-2
-returns-2 c G = let f = c.before.before.before.before in root-made G (closed (flat f)) _ _ _ (f.write-flat.ensures (root-flat G (closed (flat f))))
+returns-2 c G = let f = c.before.before.before.before in root_made G (closed (flat f)) _ _ _ (f.write-flat.ensures (root_flat G (closed (flat f))))
 
-pub write-root-spec : {M : Type 1} → statement M
-write-root-spec =
+pub write_root_spec : {M : Type 1} → statement M
+write_root_spec =
     tie.close
     (tie.spec
-    is-open-requires (λ c κs. let w = c.before.before.before in root-open (start w.before).requires (walked w)) (λ c. search rules)
-    (λ c. search rules) (λ c. search rules) returns (λ c κs. let f = c.before.before.before in root-flat (start f.before).requires (closed f))
+    is-open-requires (λ c κs. let w = c.before.before.before in root_open (start w.before).requires (walked w)) (λ c. search rules)
+    (λ c. search rules) (λ c. search rules) returns (λ c κs. let f = c.before.before.before in root_flat (start f.before).requires (closed f))
     (λ c. search rules) (λ c. search rules) (λ c. search rules) returns-2)

@@ -7,7 +7,7 @@ use mathlib.Core.Path.{◌≡◌, ◌∙◌}
 use native.Mathlib.Omega.{arith}
 use Rattle.steps.specs.NodeWords.{first}
 use Rattle.resolve.specs.Kinds.{kind-small}
-use Rattle.emit.specs.Leaves.{text-room, text-fits, text-leaf}
+use Rattle.emit.specs.Leaves.{text_room, text_fits, text-leaf}
 
 small : (r k : ℕ) → r ≡ k → k < 13 → r < 16
 small r k e h = omega arith
@@ -17,10 +17,10 @@ abbrev start : tie.After-lead-part → tie.Start
 start c = c.before.before.before.before.before.before.before
 
 mul-result : tie.Need-overflow-mul-result
-mul-result c = let l = c.before.before.before.before.before.before.before.before.before.before.before in let f = text-fits (start l).requires.0 (start l).requires.1 _ l.lead-part.ensures in omega arith
+mul-result c = let l = c.before.before.before.before.before.before.before.before.before.before.before in let f = text_fits (start l).requires.0 (start l).requires.1 _ l.lead-part.ensures in omega arith
 
 add-result-2 : tie.Need-overflow-add-result-2
-add-result-2 c = let l = c.before.before.before.before.before.before.before.before.before.before.before in let f = text-fits (start l).requires.0 (start l).requires.1 _ l.lead-part.ensures in omega arith
+add-result-2 c = let l = c.before.before.before.before.before.before.before.before.before.before.before in let f = text_fits (start l).requires.0 (start l).requires.1 _ l.lead-part.ensures in omega arith
 
 returns : tie.Need-returns
 unfolding first
@@ -29,10 +29,10 @@ returns c =
     let k = c.before.before.before.before.plain_word.ensures ∙ c.before.before.before.before.before.value-kind.ensures in
     text-leaf (start l).requires.0 (start l).requires.1 _ l.lead-part.ensures _ _ _ c.before.before.before.before.before.before.before.before.before.put-bytes.ensures (rw k at c.before.before.put_record.ensures) (omega arith)
 
-pub write-text-spec : {M : Type 1} → statement M
-write-text-spec =
+pub write_text_spec : {M : Type 1} → statement M
+write_text_spec =
     tie.close
     (tie.spec
-    (λ c κs. search rules) (λ c κs. let l = c.before in text-room (start l).requires.0 (start l).requires.1 _ l.lead-part.ensures) (λ c. search rules)
+    (λ c κs. search rules) (λ c κs. let l = c.before in text_room (start l).requires.0 (start l).requires.1 _ l.lead-part.ensures) (λ c. search rules)
     (λ c. search rules) (λ c. search rules) (λ c κs. search rules) (λ c κs. small _ _ c.value-kind.ensures (kind-small _)) (λ c κs. search rules)
     (λ c. search rules) mul-result add-result-2 (λ c. search rules) (λ c. search rules) returns)

@@ -13,5 +13,5 @@ sub-result c = digit_low _ c.before.requires
 returns : tie.Need-returns
 returns c = sym (min-eq_left (omega (arith, digit-high _ c.before.requires)))
 
-pub append-spec : {M : Type 1} → statement M
-append-spec = tie.close (tie.spec (λ c. search rules) sub-result (λ c. search rules) (λ c. search rules) returns (λ c. search rules))
+pub append_spec : {M : Type 1} → statement M
+append_spec = tie.close (tie.spec (λ c. search rules) sub-result (λ c. search rules) (λ c. search rules) returns (λ c. search rules))

@@ -8,7 +8,7 @@ use native.Mathlib.Nat.{min-le_right}
 use native.Mathlib.Omega.{arith}
 use lib.ListN.{length, get_or, drop}
 use Rattle.float.specs.Scan.{cap, run_of}
-use Rattle.float.proofs.Scans.{onward, run-start, run_more, run_end, lead-none}
+use Rattle.float.proofs.Scans.{onward, run_start, run_more, run_end, lead-none}
 
 abbrev invariant-loop : tie.invariant-loop
 invariant-loop text start value₀ at₀ value at = (at ≤ length text) × (value ≤ cap) × (onward value at (drop at text) ≡ run_of start text)
@@ -17,7 +17,7 @@ abbrev decreases-loop : tie.decreases-loop
 decreases-loop text start value₀ at₀ value at = length text - at
 
 loop-holds : tie.Need-loop-init invariant-loop decreases-loop
-loop-holds c = (search rules, search rules, run-start _ _)
+loop-holds c = (search rules, search rules, run_start _ _)
 
 append-requires : tie.Need-append-requires invariant-loop decreases-loop
 append-requires c κs = sym c.before.is_digit.ensures ∙ c.if1.true
@@ -44,8 +44,8 @@ returns-2 c =
     let l = c.before.loop in
     run_end l.value l.at (drop l.at t) l.invariant.1 (lead-none t l.at (λ h. absurd (omega arith))) ∙ l.invariant.2
 
-pub digit-run-spec : {M : Type 1} → statement M
-digit-run-spec =
+pub digit_run_spec : {M : Type 1} → statement M
+digit_run_spec =
     tie.close
     (tie.spec
     invariant-loop

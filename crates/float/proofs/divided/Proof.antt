@@ -2,17 +2,17 @@
 use borrow.Author.Rules.{rules}
 use Rattle.float.proofs.divided.Statement.{statement}
 use Rattle.float.proofs.divided.Tie as tie
-use Rattle.float.specs.Nearest.{whole-fits}
-use Rattle.float.proofs.Tens.{quotient-number, quotient-bits}
+use Rattle.float.specs.Nearest.{whole_fits}
+use Rattle.float.proofs.Tens.{quotient_number, quotient_bits}
 
 int-to-float-result : tie.Need-int-to-float-result
-int-to-float-result c = whole-fits c.before.args.w c.before.requires.1
+int-to-float-result c = whole_fits c.before.args.w c.before.requires.1
 
 float-to-bits-result : tie.Need-float-to-bits-result
-float-to-bits-result c = let s = c.before in quotient-number s.args.w s.args.e s.requires.0 s.requires.1 s.requires.2
+float-to-bits-result c = let s = c.before in quotient_number s.args.w s.args.e s.requires.0 s.requires.1 s.requires.2
 
 returns : tie.Need-returns
-returns c = let s = c.before in quotient-bits s.args.w s.args.e s.requires.0 s.requires.1 s.requires.2
+returns c = let s = c.before in quotient_bits s.args.w s.args.e s.requires.0 s.requires.1 s.requires.2
 
-pub divided-spec : {M : Type 1} → statement M
-divided-spec = tie.close (tie.spec int-to-float-result (λ c. search rules) (λ c. search rules) float-to-bits-result returns)
+pub divided_spec : {M : Type 1} → statement M
+divided_spec = tie.close (tie.spec int-to-float-result (λ c. search rules) (λ c. search rules) float-to-bits-result returns)

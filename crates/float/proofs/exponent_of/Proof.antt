@@ -4,10 +4,10 @@ use Rattle.float.proofs.exponent_of.Statement.{statement}
 use Rattle.float.proofs.exponent_of.Tie as tie
 use mathlib.Core.Path.{◌∙◌}
 use native.Mathlib.Omega.{arith}
-use Rattle.float.proofs.Scans.{exponent-empty, exponent-read, exponent-none}
+use Rattle.float.proofs.Scans.{exponent_empty, exponent-read, exponent-none}
 
 returns : tie.Need-returns
-returns c = exponent-empty c.before.before.args.text.now (omega arith)
+returns c = exponent_empty c.before.before.args.text.now (omega arith)
 
 returns-2 : tie.Need-returns-2
 returns-2 c =
@@ -19,8 +19,8 @@ returns-2 c =
 returns-3 : tie.Need-returns-3
 returns-3 c = exponent-none c.before.before.before.before.before.args.text.now (omega arith) c.match.rest.1
 
-pub exponent-of-spec : {M : Type 1} → statement M
-exponent-of-spec =
+pub exponent_of_spec : {M : Type 1} → statement M
+exponent_of_spec =
     tie.close
     (tie.spec
     returns

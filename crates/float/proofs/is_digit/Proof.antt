@@ -12,5 +12,5 @@ returns-2 : tie.Need-returns-2
 unfolding digit
 returns-2 c = rw (lt-leb _ _ c.if1.false)
 
-pub is-digit-spec : {M : Type 1} → statement M
-is-digit-spec = tie.close (tie.spec returns returns-2)
+pub is_digit_spec : {M : Type 1} → statement M
+is_digit_spec = tie.close (tie.spec returns returns-2)

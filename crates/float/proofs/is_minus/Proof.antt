@@ -10,5 +10,5 @@ returns c = minus-first c.before.before.args.text.now c.before.if1.true
 returns-2 : tie.Need-returns-2
 returns-2 c = minus-none c.before.args.text.now c.if1.false
 
-pub is-minus-spec : {M : Type 1} → statement M
-is-minus-spec = tie.close (tie.spec (λ c. search rules) returns returns-2)
+pub is_minus_spec : {M : Type 1} → statement M
+is_minus_spec = tie.close (tie.spec (λ c. search rules) returns returns-2)

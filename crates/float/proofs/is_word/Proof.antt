@@ -41,8 +41,8 @@ returns-3 c =
     let l = c.before.loop in
     same_end s.text.now s.word.now l.at (omega arith) l.invariant.1 ∙ l.invariant.2
 
-pub is-word-spec : {M : Type 1} → statement M
-is-word-spec =
+pub is_word_spec : {M : Type 1} → statement M
+is_word_spec =
     tie.close
     (tie.spec
     invariant-loop

@@ -2,17 +2,17 @@
 use borrow.Author.Rules.{rules}
 use Rattle.float.proofs.multiplied.Statement.{statement}
 use Rattle.float.proofs.multiplied.Tie as tie
-use Rattle.float.specs.Nearest.{whole-fits}
-use Rattle.float.proofs.Tens.{product-number, product-bits}
+use Rattle.float.specs.Nearest.{whole_fits}
+use Rattle.float.proofs.Tens.{product_number, product_bits}
 
 int-to-float-result : tie.Need-int-to-float-result
-int-to-float-result c = whole-fits c.before.args.w c.before.requires.1
+int-to-float-result c = whole_fits c.before.args.w c.before.requires.1
 
 float-to-bits-result : tie.Need-float-to-bits-result
-float-to-bits-result c = let s = c.before in product-number s.args.w s.args.e s.requires.0 s.requires.1 s.requires.2
+float-to-bits-result c = let s = c.before in product_number s.args.w s.args.e s.requires.0 s.requires.1 s.requires.2
 
 returns : tie.Need-returns
-returns c = let s = c.before in product-bits s.args.w s.args.e s.requires.0 s.requires.1 s.requires.2
+returns c = let s = c.before in product_bits s.args.w s.args.e s.requires.0 s.requires.1 s.requires.2
 
-pub multiplied-spec : {M : Type 1} → statement M
-multiplied-spec = tie.close (tie.spec int-to-float-result (λ c. search rules) (λ c. search rules) float-to-bits-result returns)
+pub multiplied_spec : {M : Type 1} → statement M
+multiplied_spec = tie.close (tie.spec int-to-float-result (λ c. search rules) (λ c. search rules) float-to-bits-result returns)

@@ -3,15 +3,15 @@ use borrow.Author.Rules.{rules}
 use Rattle.float.proofs.parse_f64.Statement.{statement}
 use Rattle.float.proofs.parse_f64.Tie as tie
 use mathlib.Core.Path.{sym, ap, ◌∙◌}
-use Rattle.float.specs.Literal.{f64Read, floatLiteral, parseF64}
+use Rattle.float.specs.Literal.{f64_read, float_literal, parse_f64}
 
 returns : tie.Need-returns
-unfolding parseF64
-returns c = rw (sym c.before.before.before.valid.ensures ∙ c.before.before.if1.true) (c.float-text.ensures ∙ ap floatLiteral c.before.trim.ensures)
+unfolding parse_f64
+returns c = rw (sym c.before.before.before.valid.ensures ∙ c.before.before.if1.true) (c.float-text.ensures ∙ ap float_literal c.before.trim.ensures)
 
 returns-2 : tie.Need-returns-2
-unfolding parseF64 f64Read
+unfolding parse_f64 f64_read
 returns-2 c = rw (sym c.before.valid.ensures ∙ c.if1.false)
 
-pub parse-f64-spec : {M : Type 1} → statement M
-parse-f64-spec = tie.close (tie.spec (λ c κs. search rules) (λ c κs. search rules) (λ c κs. search rules) returns returns-2)
+pub parse_f64_spec : {M : Type 1} → statement M
+parse_f64_spec = tie.close (tie.spec (λ c κs. search rules) (λ c κs. search rules) (λ c κs. search rules) returns returns-2)

@@ -4,21 +4,21 @@ use Rattle.float.proofs.power_of.Statement.{statement}
 use Rattle.float.proofs.power_of.Tie as tie
 use mathlib.Core.Path.{sym, ◌∙◌}
 use native.Mathlib.Omega.{arith}
-use Rattle.float.proofs.Scans.{run-count, power-none, power-more, power-read}
+use Rattle.float.proofs.Scans.{run_count, power-none, power_more, power-read}
 
 returns : tie.Need-returns
 returns c =
     let m = c.before.before.before.args.negative in
     let s = c.before.before.before.args.text.now in
     let r = c.before.digit-run.result in
-    power-none m s (sym (run-count 0 s r c.before.digit-run.ensures) ∙ c.if1.true)
+    power-none m s (sym (run_count 0 s r c.before.digit-run.ensures) ∙ c.if1.true)
 
 returns-2 : tie.Need-returns-2
 returns-2 c =
     let m = c.before.before.before.before.args.negative in
     let s = c.before.before.before.before.args.text.now in
     let r = c.before.before.digit-run.result in
-    power-more m s (omega (arith, run-count 0 s r c.before.before.digit-run.ensures))
+    power_more m s (omega (arith, run_count 0 s r c.before.before.digit-run.ensures))
 
 returns-3 : tie.Need-returns-3
 returns-3 c =
@@ -34,5 +34,5 @@ returns-4 c =
     let r = c.before.before.before.digit-run.result in
     rw c.if3.false (rw c.if3.false at (power-read m s r c.before.before.before.digit-run.ensures c.before.before.if1.false c.before.if2.false))
 
-pub power-of-spec : {M : Type 1} → statement M
-power-of-spec = tie.close (tie.spec (λ c κs. search rules) returns returns-2 returns-3 returns-4)
+pub power_of_spec : {M : Type 1} → statement M
+power_of_spec = tie.close (tie.spec (λ c κs. search rules) returns returns-2 returns-3 returns-4)

@@ -6,23 +6,23 @@ use mathlib.Core.Path.{sym, ap, ◌∙◌}
 use mathlib.Core.Logic.{inl, inr}
 use native.Mathlib.Omega.{arith}
 use Prim.Native.Nat.{◌-◌}
-use Rattle.float.specs.Literal.{f64Read, bits_up, bits-down}
-use Rattle.float.proofs.Values.{value-zero, value_out, settled_is, settled-below}
+use Rattle.float.specs.Literal.{f64_read, bits_up, bits_down}
+use Rattle.float.proofs.Values.{value_zero, value_out, settled_is, settled-below}
 
 returns : tie.Need-returns
-unfolding f64Read
+unfolding f64_read
 returns c =
     let a = c.before.before.args in
-    ap f64Read c.with-sign.ensures ∙ sym (value-zero a.negative a.w a.up a.down c.before.if1.true)
+    ap f64_read c.with-sign.ensures ∙ sym (value_zero a.negative a.w a.up a.down c.before.if1.true)
 
 returns-2 : tie.Need-returns-2
-unfolding f64Read
+unfolding f64_read
 returns-2 c =
     let a = c.before.before.args in
     sym (value_out a.negative a.w a.up a.down (omega arith) (inl (omega arith)))
 
 returns-3 : tie.Need-returns-3
-unfolding f64Read
+unfolding f64_read
 returns-3 c =
     let a = c.before.before.before.before.args in
     sym (value_out a.negative a.w a.up a.down (omega arith) (inr (inl (omega arith))))
@@ -30,18 +30,18 @@ returns-3 c =
 with-sign-requires-2 : tie.Need-with-sign-requires-2
 with-sign-requires-2 c κs =
     let a = c.before.before.before.before.before.args in
-    let e = c.divided.ensures ∙ sym (bits-down a.w a.up a.down (a.down - a.up) (omega arith)) in
+    let e = c.divided.ensures ∙ sym (bits_down a.w a.up a.down (a.down - a.up) (omega arith)) in
     settled-below a.negative a.w a.up a.down c.divided.result (omega arith) (omega arith) (omega arith) (omega arith) e
 
 returns-4 : tie.Need-returns-4
-unfolding f64Read
+unfolding f64_read
 returns-4 c =
     let a = c.before.before.before.before.before.before.args in
-    let e = c.before.divided.ensures ∙ sym (bits-down a.w a.up a.down (a.down - a.up) (omega arith)) in
-    ap f64Read c.with-sign2.ensures ∙ settled_is a.negative a.w a.up a.down c.before.divided.result (omega arith) (omega arith) (omega arith) (omega arith) e
+    let e = c.before.divided.ensures ∙ sym (bits_down a.w a.up a.down (a.down - a.up) (omega arith)) in
+    ap f64_read c.with-sign2.ensures ∙ settled_is a.negative a.w a.up a.down c.before.divided.result (omega arith) (omega arith) (omega arith) (omega arith) e
 
 returns-5 : tie.Need-returns-5
-unfolding f64Read
+unfolding f64_read
 returns-5 c =
     let a = c.before.before.before.before.args in
     sym (value_out a.negative a.w a.up a.down (omega arith) (inr (inr (omega arith))))
@@ -53,14 +53,14 @@ with-sign-requires-3 c κs =
     settled-below a.negative a.w a.up a.down c.multiplied.result (omega arith) (omega arith) (omega arith) (omega arith) e
 
 returns-6 : tie.Need-returns-6
-unfolding f64Read
+unfolding f64_read
 returns-6 c =
     let a = c.before.before.before.before.before.before.args in
     let e = c.before.multiplied.ensures ∙ sym (bits_up a.w a.up a.down (a.up - a.down) (omega arith)) in
-    ap f64Read c.with-sign3.ensures ∙ settled_is a.negative a.w a.up a.down c.before.multiplied.result (omega arith) (omega arith) (omega arith) (omega arith) e
+    ap f64_read c.with-sign3.ensures ∙ settled_is a.negative a.w a.up a.down c.before.multiplied.result (omega arith) (omega arith) (omega arith) (omega arith) e
 
-pub settled-spec : {M : Type 1} → statement M
-settled-spec =
+pub settled_spec : {M : Type 1} → statement M
+settled_spec =
     tie.close
     (tie.spec
     (λ c κs. search rules)

@@ -12,5 +12,5 @@ returns-2 : tie.Need-returns-2
 unfolding signed
 returns-2 c = rw c.if1.false
 
-pub with-sign-spec : {M : Type 1} → statement M
-with-sign-spec = tie.close (tie.spec (λ c. search rules) returns returns-2)
+pub with_sign_spec : {M : Type 1} → statement M
+with_sign_spec = tie.close (tie.spec (λ c. search rules) returns returns-2)

@@ -16,5 +16,5 @@ returns-2 c =
     let a = c.before.args in
     sym (get_or-eq_default a.bytes.now a.fill c.if1.false)
 
-pub byte-or-spec : {M : Type 1} → statement M
-byte-or-spec = tie.close (tie.spec (λ c. search rules) returns returns-2)
+pub byte_or_spec : {M : Type 1} → statement M
+byte_or_spec = tie.close (tie.spec (λ c. search rules) returns returns-2)

@@ -2,8 +2,8 @@
 use borrow.Author.Rules.{rules}
 use Rattle.input.proofs.fill_of.Statement.{statement}
 use Rattle.input.proofs.fill_of.Tie as tie
-use Rattle.input.specs.Bytes.{lastByte}
-use Rattle.input.specs.Rule01.{fillOf}
+use Rattle.input.specs.Bytes.{last_byte}
+use Rattle.input.specs.Rule01.{fill_of}
 use Rattle.input.proofs.Laws.{fill_none}
 use borrow.Author.Tests.{lt-ltb, le-ltb}
 
@@ -11,12 +11,12 @@ returns : tie.Need-returns
 returns c = fill_none _ c.if1.true
 
 returns-2 : tie.Need-returns-2
-unfolding fillOf lastByte
+unfolding fill_of last_byte
 returns-2 c = simp (lt-ltb _ _ c.if2.true)
 
 returns-3 : tie.Need-returns-3
-unfolding fillOf lastByte
+unfolding fill_of last_byte
 returns-3 c = simp (le-ltb _ _ c.if2.false)
 
-pub fill-of-spec : {M : Type 1} → statement M
-fill-of-spec = tie.close (tie.spec returns (λ c. search rules) (λ c. search rules) returns-2 returns-3)
+pub fill_of_spec : {M : Type 1} → statement M
+fill_of_spec = tie.close (tie.spec returns (λ c. search rules) (λ c. search rules) returns-2 returns-3)

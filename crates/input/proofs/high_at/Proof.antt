@@ -38,5 +38,5 @@ loop-again c = below_more _ _ _ _ _ c.before.loop-test.true c.before.before.befo
 returns : tie.Need-returns invariant-loop decreases-loop
 returns c = below_all _ _ _ _ _ c.loop-test.false c.before.loop.invariant
 
-pub high-at-spec : {M : Type 1} → statement M
-high-at-spec = tie.close (tie.spec invariant-loop decreases-loop loop-holds mul-value (λ c. omega arith) (λ c. omega arith) cast-value add-value-2 (λ c. omega arith) (λ c. omega arith) loop-again returns)
+pub high_at_spec : {M : Type 1} → statement M
+high_at_spec = tie.close (tie.spec invariant-loop decreases-loop loop-holds mul-value (λ c. omega arith) (λ c. omega arith) cast-value add-value-2 (λ c. omega arith) (λ c. omega arith) loop-again returns)

@@ -8,17 +8,17 @@ use borrow.Author.Rules.{rules}
 use borrow.Author.Tests.{not-true, not-false}
 use Rattle.refusal.specs.Read.{got, refused}
 use Rattle.refusal.specs.declared.Refusal.TheVariants.{IntegerTooLarge}
-use Rattle.input.specs.Long.{integerRead, longOf}
-use Rattle.input.proofs.Laws.{long-is}
+use Rattle.input.specs.Long.{integer_read, long_of}
+use Rattle.input.proofs.Laws.{long_is}
 use Rattle.input.proofs.long.Statement.{statement}
 use Rattle.input.proofs.long.Tie as tie
 
 returns : tie.Need-returns
-unfolding integerRead
+unfolding integer_read
 returns c =
     let f = c.before.before in
     let s = f.before in
-    long-is s.before.args.bytes.now (λ i. omega (arith, s.shared-slice-known.given i)) f.fill-of.result _ false _
+    long_is s.before.args.bytes.now (λ i. omega (arith, s.shared-slice-known.given i)) f.fill-of.result _ false _
     f.fill-of.ensures
     (sym (not-true _ c.if1.true) ∙ c.before.repeats.ensures)
     refl
@@ -27,23 +27,23 @@ returns c =
 -- where the bytes past the eighth are the sign's, the answer hangs on the second test
 ruled : (k : tie.After-low-first) (t : Bool)
     → beq (ltb k.low_first.result (2 ^ 63)) (eqb k.before.before.before.fill-of.result 0) ≡ t
-    → cond t (got k.low_first.result) (refused IntegerTooLarge 0) ≡ longOf k.before.before.before.before.before.args.bytes.now
+    → cond t (got k.low_first.result) (refused IntegerTooLarge 0) ≡ long_of k.before.before.before.before.before.args.bytes.now
 ruled k t h =
     let f = k.before.before.before in
     let s = f.before in
-    long-is s.before.args.bytes.now (λ i. omega (arith, s.shared-slice-known.given i)) f.fill-of.result _ true t
+    long_is s.before.args.bytes.now (λ i. omega (arith, s.shared-slice-known.given i)) f.fill-of.result _ true t
     f.fill-of.ensures
     (sym (not-false _ k.before.if1.false) ∙ k.before.before.repeats.ensures)
     k.low_first.ensures.0
     h
 
 returns-2 : tie.Need-returns-2
-unfolding integerRead
+unfolding integer_read
 returns-2 c = ruled c.before true c.if2.true
 
 returns-3 : tie.Need-returns-3
-unfolding integerRead
+unfolding integer_read
 returns-3 c = ruled c.before false c.if2.false
 
-pub long-spec : {M : Type 1} → statement M
-long-spec = tie.close (tie.spec (λ c κs. search rules) (λ c κs. search rules) returns (λ c κs. search rules) returns-2 returns-3)
+pub long_spec : {M : Type 1} → statement M
+long_spec = tie.close (tie.spec (λ c κs. search rules) (λ c κs. search rules) returns (λ c κs. search rules) returns-2 returns-3)

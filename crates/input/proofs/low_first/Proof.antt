@@ -37,5 +37,5 @@ loop-again c = above_more _ _ _ _ _ _ c.before.loop-test.true (omega (arith, c.b
 returns : tie.Need-returns invariant-loop decreases-loop
 returns c = above-all _ _ _ _ _ c.loop-test.false c.before.loop.invariant
 
-pub low-first-spec : {M : Type 1} → statement M
-low-first-spec = tie.close (tie.spec invariant-loop decreases-loop loop-holds (λ c. omega arith) mul-value (λ c κs. search rules) cast-value add-value (λ c. omega arith) loop-again returns)
+pub low_first_spec : {M : Type 1} → statement M
+low_first_spec = tie.close (tie.spec invariant-loop decreases-loop loop-holds (λ c. omega arith) mul-value (λ c κs. search rules) cast-value add-value (λ c. omega arith) loop-again returns)

@@ -6,25 +6,25 @@ use Prim.Native.Nat.{◌-◌}
 use native.Mathlib.Omega.{arith}
 use borrow.Author.Rules.{rules}
 use lib.ListN.{length}
-use Rattle.input.specs.Line.{newlineOf, lineEnd}
-use Rattle.input.proofs.Laws.{newline-end, newline-hit, newline-more}
+use Rattle.input.specs.Line.{newline_of, line_end}
+use Rattle.input.proofs.Laws.{newline_end, newline_hit, newline_more}
 
 abbrev invariant-loop : tie.invariant-loop
-invariant-loop pickle from i₀ i = newlineOf pickle i ≡ newlineOf pickle from
+invariant-loop pickle from i₀ i = newline_of pickle i ≡ newline_of pickle from
 
 abbrev decreases-loop : tie.decreases-loop
 decreases-loop pickle from i₀ i = length pickle - i
 
 returns : tie.Need-returns invariant-loop decreases-loop
-unfolding lineEnd
-returns c = sym (newline-end _ _ c.if1.true) ∙ c.before.loop.invariant
+unfolding line_end
+returns c = sym (newline_end _ _ c.if1.true) ∙ c.before.loop.invariant
 
 loop-again : tie.Need-loop-preserved invariant-loop decreases-loop
-loop-again c = newline-more _ _ c.before.before.if1.false c.if2.false ∙ c.before.before.before.loop.invariant
+loop-again c = newline_more _ _ c.before.before.if1.false c.if2.false ∙ c.before.before.before.loop.invariant
 
 returns-2 : tie.Need-returns-2 invariant-loop decreases-loop
-unfolding lineEnd
-returns-2 c = sym (newline-hit _ _ c.before.before.if1.false c.if2.true) ∙ c.before.before.before.loop.invariant
+unfolding line_end
+returns-2 c = sym (newline_hit _ _ c.before.before.if1.false c.if2.true) ∙ c.before.before.before.loop.invariant
 
-pub newline-spec : {M : Type 1} → statement M
-newline-spec = tie.close (tie.spec invariant-loop decreases-loop (λ c. refl) returns (λ c. search rules) (λ c. omega arith) (λ c. omega arith) loop-again returns-2)
+pub newline_spec : {M : Type 1} → statement M
+newline_spec = tie.close (tie.spec invariant-loop decreases-loop (λ c. refl) returns (λ c. search rules) (λ c. omega arith) (λ c. omega arith) loop-again returns-2)

@@ -4,7 +4,7 @@ use mathlib.Core.Path.{refl}
 use lib.ListN.{length}
 use native.Mathlib.Omega.{arith}
 use borrow.Author.Rules.{rules}
-use Rattle.lengths.specs.Sum.{Adding, adding-over, adding-more, adding-end}
+use Rattle.lengths.specs.Sum.{Adding, adding_over, adding_more, adding_end}
 use Rattle.lengths.proofs.add_up.Statement.{statement}
 use Rattle.lengths.proofs.add_up.Tie as tie
 
@@ -18,19 +18,19 @@ abbrev start : tie.At-loop invariant-loop decreases-loop → tie.Start invariant
 start l = l.before
 
 returns : tie.Need-returns invariant-loop decreases-loop
-returns c = let l = c.before.before.before in let a = (start l).args in adding-over a.lengths.now a.total l.loop.left l.loop.i l.loop.invariant c.before.before.loop-test.true (omega (arith, c.if1.true))
+returns c = let l = c.before.before.before in let a = (start l).args in adding_over a.lengths.now a.total l.loop.left l.loop.i l.loop.invariant c.before.before.loop-test.true (omega (arith, c.if1.true))
 
 loop-again : tie.Need-loop-preserved invariant-loop decreases-loop
 loop-again c =
     let l = c.before.before.before in
     let a = (start l).args in
-    adding-more a.lengths.now a.total l.loop.left l.loop.i l.loop.invariant c.before.before.loop-test.true c.if1.false
+    adding_more a.lengths.now a.total l.loop.left l.loop.i l.loop.invariant c.before.before.loop-test.true c.if1.false
 
 returns-2 : tie.Need-returns-2 invariant-loop decreases-loop
-returns-2 c = let l = c.before in let a = (start l).args in adding-end a.lengths.now a.total l.loop.left l.loop.i l.loop.invariant c.loop-test.false
+returns-2 c = let l = c.before in let a = (start l).args in adding_end a.lengths.now a.total l.loop.left l.loop.i l.loop.invariant c.loop-test.false
 
-pub add-up-spec : {M : Type 1} → statement M
-add-up-spec =
+pub add_up_spec : {M : Type 1} → statement M
+add_up_spec =
     tie.close
     (tie.spec
     invariant-loop decreases-loop (λ c. refl) (λ c. search rules) (λ c. search rules) returns (λ c. search rules) (λ c. search rules) loop-again returns-2)

@@ -11,16 +11,16 @@ use Rattle.value.proofs.arity.Reads as arity-reads
 use Rattle.list.proofs.+put_values.{statement}
 use Rattle.list.proofs.+put_values.Tie.{close}
 use native.Mathlib.Omega.{arith}
-use Rattle.list.proofs.Walk.{Going, going-all, going-none, turn, turn-line, turn-arity, turn-counted, turn_inside, turn-again}
+use Rattle.list.proofs.Walk.{Going, going-all, going-none, turn, turn_line, turn_arity, turn_counted, turn_inside, turn_again}
 
-abbrev μ-put-values : Measures 3 put-values-kinds.ps ℕ
-μ-put-values κs a = 64 - a.1.1.1.1.0
+abbrev μ_put_values : Measures 3 put-values-kinds.ps ℕ
+μ_put_values κs a = 64 - a.1.1.1.1.0
 
-abbrev put-values-at : ℕ → In 3 put-values-kinds.ps
-put-values-at t = and 3 put-values-kinds.ps (is 3 put-values-kinds.ps μ-put-values t) put-values.Pre
+abbrev put_values_at : ℕ → In 3 put-values-kinds.ps
+put_values_at t = and 3 put-values-kinds.ps (is 3 put-values-kinds.ps μ_put_values t) put-values.Pre
 
-abbrev put-values-below : ℕ → In 3 put-values-kinds.ps
-put-values-below t = and 3 put-values-kinds.ps (falls 3 put-values-kinds.ps ◌<◌ μ-put-values t) put-values.Pre
+abbrev put_values_below : ℕ → In 3 put-values-kinds.ps
+put_values_below t = and 3 put-values-kinds.ps (falls 3 put-values-kinds.ps ◌<◌ μ_put_values t) put-values.Pre
 
 abbrev put-values-Inv-loop : put-values-lts.invariant-loop
 put-values-Inv-loop words text from count depth output₀ at i₀ left₀ next₀ output i left next = Going words text from count depth output₀ at output i left next
@@ -28,17 +28,17 @@ put-values-Inv-loop words text from count depth output₀ at i₀ left₀ next�
 abbrev put-values-μ-loop : put-values-lts.decreases-loop
 put-values-μ-loop words text from count depth output₀ at i₀ left₀ next₀ output i left next = left
 
-pub +put-values-spec : {M : Type 1} → statement M
-+put-values-spec =
-    close μ-put-values
-    λ t. put-values-lts.spec (put-line-reads.Asked, put-line-reads.Learnt, arity-reads.Asked, arity-reads.Learnt, put-values-below t, put-values.Post) (put-values-at t) put-values.Post put-values-Inv-loop put-values-μ-loop
+pub +put_values_spec : {M : Type 1} → statement M
++put_values_spec =
+    close μ_put_values
+    λ t. put-values-lts.spec (put-line-reads.Asked, put-line-reads.Learnt, arity-reads.Asked, arity-reads.Learnt, put_values_below t, put-values.Post) (put_values_at t) put-values.Post put-values-Inv-loop put-values-μ-loop
     (λ c. going-all c.before.before.before.requires.1)
-    (λ c κs. turn-line (turn c.before.before.loop.invariant c.before.loop-test.true))
+    (λ c κs. turn_line (turn c.before.before.loop.invariant c.before.loop-test.true))
     (λ c.
     let test = c.before.before.before.before in
     let u = turn test.before.loop.invariant test.loop-test.true in
     omega (arith, u.says.reads.inside))
-    (λ c κs. let test = c.before.before.before.before in turn-arity (turn test.before.loop.invariant test.loop-test.true))
+    (λ c κs. let test = c.before.before.before.before in turn_arity (turn test.before.loop.invariant test.loop-test.true))
     (λ c.
     let test = c.before.before.before.before.before in
     let u = turn test.before.loop.invariant test.loop-test.true in
@@ -56,6 +56,6 @@ pub +put-values-spec : {M : Type 1} → statement M
     let lined = many.before.before.before in
     let test = lined.before.before in
     let u = turn test.before.loop.invariant test.loop-test.true in
-    turn-again u lined.put-line.ensures many.arity.ensures (inner.put-values.ensures u.c u.inside (turn-counted u many.arity.ensures)))
+    turn_again u lined.put-line.ensures many.arity.ensures (inner.put-values.ensures u.c u.inside (turn_counted u many.arity.ensures)))
     (λ c. c.before.loop.invariant.todo.kept)
     (λ c. going-none c.before.loop.invariant c.loop-test.false)

@@ -11,16 +11,16 @@ use Rattle.value.proofs.arity.Reads as arity-reads
 use Rattle.list.proofs.+values_len.{statement}
 use Rattle.list.proofs.+values_len.Tie.{close}
 use native.Mathlib.Omega.{arith}
-use Rattle.list.proofs.Walk.{Measuring, measuring-all, measuring-none, measuring-line, measuring-deeper, measuring-arity, measuring-inside, measuring-again}
+use Rattle.list.proofs.Walk.{Measuring, measuring_all, measuring_none, measuring_line, measuring_deeper, measuring_arity, measuring_inside, measuring_again}
 
-abbrev μ-values-len : Measures 2 values-len-kinds.ps ℕ
-μ-values-len κs a = 64 - a.1.1.1.1.0
+abbrev μ_values_len : Measures 2 values-len-kinds.ps ℕ
+μ_values_len κs a = 64 - a.1.1.1.1.0
 
-abbrev values-len-at : ℕ → In 2 values-len-kinds.ps
-values-len-at t = and 2 values-len-kinds.ps (is 2 values-len-kinds.ps μ-values-len t) values-len.Pre
+abbrev values_len_at : ℕ → In 2 values-len-kinds.ps
+values_len_at t = and 2 values-len-kinds.ps (is 2 values-len-kinds.ps μ_values_len t) values-len.Pre
 
-abbrev values-len-below : ℕ → In 2 values-len-kinds.ps
-values-len-below t = and 2 values-len-kinds.ps (falls 2 values-len-kinds.ps ◌<◌ μ-values-len t) values-len.Pre
+abbrev values_len_below : ℕ → In 2 values-len-kinds.ps
+values_len_below t = and 2 values-len-kinds.ps (falls 2 values-len-kinds.ps ◌<◌ μ_values_len t) values-len.Pre
 
 abbrev values-len-Inv-loop : values-len-lts.invariant-loop
 values-len-Inv-loop words text from count depth at i₀ left₀ next₀ i left next = Measuring words text from count depth at i left next
@@ -28,23 +28,23 @@ values-len-Inv-loop words text from count depth at i₀ left₀ next₀ i left n
 abbrev values-len-μ-loop : values-len-lts.decreases-loop
 values-len-μ-loop words text from count depth at i₀ left₀ next₀ i left next = left
 
-pub +values-len-spec : {M : Type 1} → statement M
-+values-len-spec =
-    close μ-values-len
-    λ t. values-len-lts.spec (line-len-reads.Asked, line-len-reads.Learnt, arity-reads.Asked, arity-reads.Learnt, values-len-below t, values-len.Post) (values-len-at t) values-len.Post values-len-Inv-loop values-len-μ-loop
-    (λ c. measuring-all c.before.before.requires.1)
-    (λ c κs. let x = measuring-line c.before.loop.invariant c.loop-test.true in (x.0, omega (arith, x.1)))
-    (λ c. let turn = c.before in omega (arith, (measuring-line turn.before.loop.invariant turn.loop-test.true).1, c.line-len.ensures))
-    (λ c. let turn = c.before in omega (arith, (measuring-arity turn.before.loop.invariant turn.loop-test.true).0))
-    (λ c κs. let turn = c.before in measuring-arity turn.before.loop.invariant turn.loop-test.true)
-    (λ c. let turn = c.before.before in omega (arith, measuring-deeper turn.before.loop.invariant turn.loop-test.true))
+pub +values_len_spec : {M : Type 1} → statement M
++values_len_spec =
+    close μ_values_len
+    λ t. values-len-lts.spec (line-len-reads.Asked, line-len-reads.Learnt, arity-reads.Asked, arity-reads.Learnt, values_len_below t, values-len.Post) (values_len_at t) values-len.Post values-len-Inv-loop values-len-μ-loop
+    (λ c. measuring_all c.before.before.requires.1)
+    (λ c κs. let x = measuring_line c.before.loop.invariant c.loop-test.true in (x.0, omega (arith, x.1)))
+    (λ c. let turn = c.before in omega (arith, (measuring_line turn.before.loop.invariant turn.loop-test.true).1, c.line-len.ensures))
+    (λ c. let turn = c.before in omega (arith, (measuring_arity turn.before.loop.invariant turn.loop-test.true).0))
+    (λ c κs. let turn = c.before in measuring_arity turn.before.loop.invariant turn.loop-test.true)
+    (λ c. let turn = c.before.before in omega (arith, measuring_deeper turn.before.loop.invariant turn.loop-test.true))
     (λ c κs.
     let turn = c.before.before in
     let going = turn.before.loop.invariant in
-    (omega (arith, measuring-deeper going turn.loop-test.true), measuring-inside going turn.loop-test.true c.before.line-len.ensures c.arity.ensures))
+    (omega (arith, measuring_deeper going turn.loop-test.true), measuring_inside going turn.loop-test.true c.before.line-len.ensures c.arity.ensures))
     (λ c. omega (arith, c.before.before.before.loop-test.true))
     (λ c. omega (arith, c.before.before.before.loop-test.true))
     (λ c.
     let lined = c.before.before in
-    measuring-again lined.before.before.loop.invariant lined.before.loop-test.true lined.line-len.ensures c.before.arity.ensures c.values-len.ensures)
-    (λ c. measuring-none c.before.loop.invariant c.loop-test.false)
+    measuring_again lined.before.before.loop.invariant lined.before.loop-test.true lined.line-len.ensures c.before.arity.ensures c.values-len.ensures)
+    (λ c. measuring_none c.before.loop.invariant c.loop-test.false)

@@ -4,7 +4,7 @@ use mathlib.Core.Path.{sym, ◌∙◌, ap}
 use native.Mathlib.Omega.{arith}
 use lib.ListN.{length}
 use Rattle.output.specs.Decimal.{figures-length}
-use Rattle.list.proofs.Laws.{listed-slash, listed-printable, listed-escape}
+use Rattle.list.proofs.Laws.{listed_slash, listed-printable, listed_escape}
 use Rattle.list.proofs.byte_len.Statement.{statement}
 use Rattle.list.proofs.byte_len.Tie as tie
 
@@ -14,7 +14,7 @@ returns c = let s = c.before in sym (ap length (listed-printable s.before.if1.tr
 returns-2 : tie.Need-returns-2
 returns-2 c =
     let s = c.before in
-    omega (arith, ap length (listed-escape s.before.if1.true (sym s.stands.ensures ∙ c.if2.false)), figures-length 16 2 s.before.before.args.byte)
+    omega (arith, ap length (listed_escape s.before.if1.true (sym s.stands.ensures ∙ c.if2.false)), figures-length 16 2 s.before.before.args.byte)
 
-pub byte-len-spec : {M : Type 1} → statement M
-byte-len-spec = tie.close (tie.spec (λ c κs. search rules) returns returns-2 (λ c. sym (ap length (listed-slash c.if1.false))))
+pub byte_len_spec : {M : Type 1} → statement M
+byte_len_spec = tie.close (tie.spec (λ c κs. search rules) returns returns-2 (λ c. sym (ap length (listed_slash c.if1.false))))

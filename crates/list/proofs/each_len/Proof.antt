@@ -4,13 +4,13 @@ use mathlib.Core.Path.{◌≡◌, ap}
 use native.Mathlib.Omega.{arith}
 use lib.ListN.{length, take, drop}
 use borrow.Author.Rules.{rules}
-use Rattle.list.specs.Listing.{listedText}
-use Rattle.list.proofs.Laws.{rest, rest_all, rest-none, rest-length, listed-one}
+use Rattle.list.specs.Listing.{listed_text}
+use Rattle.list.proofs.Laws.{rest, rest_all, rest-none, rest-length, listed_one}
 use Rattle.list.proofs.each_len.Statement.{statement}
 use Rattle.list.proofs.each_len.Tie as tie
 
 abbrev invariant-loop : tie.invariant-loop
-invariant-loop text from count end i₀ sum₀ i sum = (i ≤ from + count) × (sum + length (rest text (from + count) i) ≡ length (listedText (take count (drop from text))))
+invariant-loop text from count end i₀ sum₀ i sum = (i ≤ from + count) × (sum + length (rest text (from + count) i) ≡ length (listed_text (take count (drop from text))))
 
 abbrev decreases-loop : tie.decreases-loop
 decreases-loop text from count end i₀ sum₀ i sum = from + count - i
@@ -22,13 +22,13 @@ loop-again : tie.Need-loop-preserved invariant-loop decreases-loop
 loop-again c =
     let l = c.before.before.before in
     let a = l.before.before.args in
-    (omega arith, omega (arith, rest-length a.text.now (a.from + a.count) l.loop.i 1 (omega arith), ap length (listed-one a.text.now l.loop.i (omega arith))))
+    (omega arith, omega (arith, rest-length a.text.now (a.from + a.count) l.loop.i 1 (omega arith), ap length (listed_one a.text.now l.loop.i (omega arith))))
 
 returns : tie.Need-returns invariant-loop decreases-loop
 returns c = omega (arith, ap length (rest-none c.before.before.before.args.text.now _ _ c.loop-test.false))
 
-pub each-len-spec : {M : Type 1} → statement M
-each-len-spec =
+pub each_len_spec : {M : Type 1} → statement M
+each_len_spec =
     tie.close
     (tie.spec
     invariant-loop decreases-loop

@@ -10,5 +10,5 @@ returns c =
     let a = one.before.before.args in
     both a.text.now a.i 4 4 one.four-verbatim.ensures c.four-verbatim2.ensures
 
-pub eight-verbatim-spec : {M : Type 1} → statement M
-eight-verbatim-spec = tie.close (tie.spec (λ c κs. search rules) (λ c. search rules) (λ c κs. search rules) returns)
+pub eight_verbatim_spec : {M : Type 1} → statement M
+eight_verbatim_spec = tie.close (tie.spec (λ c κs. search rules) (λ c. search rules) (λ c κs. search rules) returns)

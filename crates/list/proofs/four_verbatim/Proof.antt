@@ -2,7 +2,7 @@
 use Prim.Native.Nat.{◌+◌}
 use native.Mathlib.Omega.{arith}
 use borrow.Author.Rules.{rules}
-use Rattle.list.proofs.Laws.{verbatim-one, both}
+use Rattle.list.proofs.Laws.{verbatim_one, both}
 use Rattle.list.proofs.four_verbatim.Statement.{statement}
 use Rattle.list.proofs.four_verbatim.Tie as tie
 
@@ -17,13 +17,13 @@ returns c =
     both t i 3 1
     (both t i 2 1
     (both t i 1 1
-    (verbatim-one t i (omega arith) one.verbatim.ensures)
-    (verbatim-one t (i + 1) (omega arith) two.verbatim2.ensures))
-    (verbatim-one t (i + 2) (omega arith) three.verbatim3.ensures))
-    (verbatim-one t (i + 3) (omega arith) c.verbatim4.ensures)
+    (verbatim_one t i (omega arith) one.verbatim.ensures)
+    (verbatim_one t (i + 1) (omega arith) two.verbatim2.ensures))
+    (verbatim_one t (i + 2) (omega arith) three.verbatim3.ensures))
+    (verbatim_one t (i + 3) (omega arith) c.verbatim4.ensures)
 
-pub four-verbatim-spec : {M : Type 1} → statement M
-four-verbatim-spec =
+pub four_verbatim_spec : {M : Type 1} → statement M
+four_verbatim_spec =
     tie.close
     (tie.spec
     (λ c. search rules) (λ c κs. search rules)

@@ -14,8 +14,8 @@ opened c = record { reads = (start c).requires.0; head = c.head_of.ensures }
 returns : tie.Need-returns
 returns c = let h = c.before.before.before in omega (arith, line-length (opened h) (start h).args.depth)
 
-pub line-len-spec : {M : Type 1} → statement M
-line-len-spec =
+pub line_len_spec : {M : Type 1} → statement M
+line_len_spec =
     tie.close
     (tie.spec
     (λ c. search rules) (λ c. search rules) (λ c. search rules) (λ c κs. search rules)

@@ -20,8 +20,8 @@ returns c =
     let a = start.args in
     omega (arith, run_length run.run-by-eight.ensures start.requires.0, ap length (rest_all a.text.now a.from a.count))
 
-pub listed-len-spec : {M : Type 1} → statement M
-listed-len-spec =
+pub listed_len_spec : {M : Type 1} → statement M
+listed_len_spec =
     tie.close
     (tie.spec
     (λ c. search rules) (λ c κs. search rules)

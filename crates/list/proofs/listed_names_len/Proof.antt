@@ -17,5 +17,5 @@ listed-len-requires-2 c κs = let a = c.before.before.args in (search rules, ome
 returns : tie.Need-returns
 returns c = let a = c.before.before.before.args in omega (arith, names-length a.text.now a.from a.lengths)
 
-pub listed-names-len-spec : {M : Type 1} → statement M
-listed-names-len-spec = tie.close (tie.spec listed-len-requires add-result (λ c. search rules) listed-len-requires-2 (λ c. omega (arith, returns c)) returns)
+pub listed-names_len_spec : {M : Type 1} → statement M
+listed-names_len_spec = tie.close (tie.spec listed-len-requires add-result (λ c. search rules) listed-len-requires-2 (λ c. omega (arith, returns c)) returns)

@@ -4,8 +4,8 @@ use Rattle.list.proofs.Record.{named}
 use Rattle.list.proofs.name_len.Statement.{statement}
 use Rattle.list.proofs.name_len.Tie as tie
 
-pub name-len-spec : {M : Type 1} → statement M
-name-len-spec =
+pub name_len_spec : {M : Type 1} → statement M
+name_len_spec =
     tie.close
     (tie.spec
     (λ c. search rules) (λ c. search rules) (λ c. search rules) (λ c. search rules) (λ c. search rules)

@@ -2,8 +2,8 @@
 use borrow.Author.Rules.{rules}
 use Prim.Native.Nat.{◌<◌}
 use native.Mathlib.Omega.{arith}
-use Rattle.output.specs.Put.{put_then, room-then}
-use Rattle.list.proofs.Record.{Opened, beyond, text-fits, names-fit, content-none, content-bool, content-int, content-float, content-text, content-count, content-global, content-object, names-room}
+use Rattle.output.specs.Put.{put_then, room_then}
+use Rattle.list.proofs.Record.{Opened, beyond, text_fits, names_fit, content-none, content_bool, content_int, content-float, content-text, content-count, content-global, content-object, names_room}
 use Rattle.list.proofs.put_content.Statement.{statement}
 use Rattle.list.proofs.put_content.Tie as tie
 
@@ -36,7 +36,7 @@ put-text-requires : tie.Need-put-text-requires
 put-text-requires c κs =
     let test = c.before in
     let h = not_float test.before in
-    (text-fits (opened h) (above-float test.before) test.if5.true, rw (content-text (opened h) (above-float test.before) test.if5.true) at (start h).pre.1)
+    (text_fits (opened h) (above-float test.before) test.if5.true, rw (content-text (opened h) (above-float test.before) test.if5.true) at (start h).pre.1)
 
 returns-5 : tie.Need-returns-5
 returns-5 c =
@@ -49,7 +49,7 @@ put-flags-requires : tie.Need-put-flags-requires
 put-flags-requires c κs =
     let put = c.before.before.before.before in
     let h = names put in
-    room-then _ put.put-listed-names.ensures (rw (content-object (opened h) (object c.before)) at (start h).pre.1)
+    room_then _ put.put-listed-names.ensures (rw (content-object (opened h) (object c.before)) at (start h).pre.1)
 
 returns-8 : tie.Need-returns-8
 returns-8 c =
@@ -58,8 +58,8 @@ returns-8 c =
     let h = names put in
     rw (content-object (opened h) (object flags.before.before)) (put_then put.put-listed-names.ensures flags.put-flags.ensures)
 
-pub put-content-spec : {M : Type 1} → statement M
-put-content-spec =
+pub put_content_spec : {M : Type 1} → statement M
+put_content_spec =
     tie.close
     (tie.spec
     (λ c. search rules) (λ c. search rules) (λ c. search rules) (λ c κs. search rules)
@@ -67,16 +67,16 @@ put-content-spec =
     (λ c. search rules) (λ c. search rules) (λ c. search rules) (λ c. search rules)
     (λ c κs. let h = head c.before.before in rw (content-none (opened h) (omega arith)) at (start h).pre.1) (λ c. search rules)
     (λ c. let put = c.before.before in rw (content-none (opened (head put.before.before.before)) (omega arith)) put.put_byte.ensures)
-    (λ c κs. let h = head c.before.before.before in rw (content-bool (opened h) (omega arith)) at (start h).pre.1) (λ c. search rules)
-    (λ c. let put = c.before.before in rw (content-bool (opened (head put.before.before.before.before)) (omega arith)) put.put-flag.ensures)
-    (λ c κs. let h = not_bool c.before.before in rw (content-int (opened h) (omega arith)) at (start h).pre.1) (λ c. search rules)
-    (λ c. let put = c.before.before in rw (content-int (opened (not_bool put.before.before.before)) (omega arith)) put.put-signed.ensures)
+    (λ c κs. let h = head c.before.before.before in rw (content_bool (opened h) (omega arith)) at (start h).pre.1) (λ c. search rules)
+    (λ c. let put = c.before.before in rw (content_bool (opened (head put.before.before.before.before)) (omega arith)) put.put-flag.ensures)
+    (λ c κs. let h = not_bool c.before.before in rw (content_int (opened h) (omega arith)) at (start h).pre.1) (λ c. search rules)
+    (λ c. let put = c.before.before in rw (content_int (opened (not_bool put.before.before.before)) (omega arith)) put.put-signed.ensures)
     (λ c κs. let h = not_bool c.before.before.before in (omega arith, (omega arith, rw (content-float (opened h) (omega arith)) at (start h).pre.1)))
     (λ c. search rules)
     (λ c. let put = c.before.before in rw (content-float (opened (not_bool put.before.before.before.before)) (omega arith)) put.put-figures.ensures)
     put-text-requires (λ c. search rules) returns-5
     (λ c κs. let h = not_float c.before.before.before in rw (content-count (opened h) (omega arith) (omega arith)) at (start h).pre.1) (λ c. search rules)
     (λ c. let put = c.before.before in rw (content-count (opened (not_float put.before.before.before.before)) (omega arith) (omega arith)) put.put-decimal.ensures)
-    (λ c κs. let h = not_float c.before.before.before in (names-fit (opened h) (omega arith), names-room (opened h) (omega arith) (start h).pre.1)) (λ c. search rules)
+    (λ c κs. let h = not_float c.before.before.before in (names_fit (opened h) (omega arith), names_room (opened h) (omega arith) (start h).pre.1)) (λ c. search rules)
     (λ c. let put = c.before.before.before in rw (content-global (opened (names put)) (omega arith)) put.put-listed-names.ensures)
     put-flags-requires (λ c. search rules) returns-8)

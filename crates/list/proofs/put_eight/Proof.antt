@@ -1,7 +1,7 @@
 -- `list::put_eight` meets its contract. Assumes nothing.
 use borrow.Author.Rules.{rules}
 use mathlib.Core.Path.{sym, ◌∙◌}
-use Rattle.output.specs.Put.{put_same, room-same}
+use Rattle.output.specs.Put.{put_same, room_same}
 use Rattle.list.proofs.put_eight.Statement.{statement}
 use Rattle.list.proofs.put_eight.Tie as tie
 
@@ -9,7 +9,7 @@ put-run-requires : tie.Need-put-run-requires
 put-run-requires c κs =
     let part = c.before in
     let test = part.before.before in
-    room-same (part.part.ensures ∙ sym (test.eight-verbatim.ensures part.before.if1.true)) test.before.before.before.requires.1
+    room_same (part.part.ensures ∙ sym (test.eight-verbatim.ensures part.before.if1.true)) test.before.before.before.requires.1
 
 returns : tie.Need-returns
 returns c =
@@ -17,8 +17,8 @@ returns c =
     let part = put.before.before in
     put_same (part.part.ensures ∙ sym (part.before.before.eight-verbatim.ensures part.before.if1.true)) put.put-run.ensures
 
-pub put-eight-spec : {M : Type 1} → statement M
-put-eight-spec =
+pub put_eight_spec : {M : Type 1} → statement M
+put_eight_spec =
     tie.close
     (tie.spec
     (λ c κs. search rules)

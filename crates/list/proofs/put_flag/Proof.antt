@@ -12,7 +12,7 @@ returns-2 : tie.Need-returns-2
 unfolding flag
 returns-2 c = let put = c.before.before in rw put.before.before.if1.false put.put-byte2.ensures
 
-pub put-flag-spec : {M : Type 1} → statement M
-put-flag-spec =
+pub put_flag_spec : {M : Type 1} → statement M
+put_flag_spec =
     tie.close
     (tie.spec (λ c κs. search rules) (λ c. search rules) returns (λ c κs. search rules) (λ c. search rules) returns-2)

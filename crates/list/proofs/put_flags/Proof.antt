@@ -12,7 +12,7 @@ returns c =
     let first = new.before.before.before.before in
     put_then first.put_byte.ensures (put_then new.put-flag.ensures (put_then tab.put-byte2.ensures state.put-flag2.ensures))
 
-pub put-flags-spec : {M : Type 1} → statement M
-put-flags-spec =
+pub put_flags_spec : {M : Type 1} → statement M
+put_flags_spec =
     tie.close
     (tie.spec (λ c κs. search rules) (λ c κs. search rules) (λ c κs. search rules) (λ c κs. search rules) (λ c. search rules) returns)

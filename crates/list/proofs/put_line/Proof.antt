@@ -1,7 +1,7 @@
 -- `list::put_line` meets its contract: depth, kind and content, one behind the other. Assumes nothing.
 use borrow.Author.Rules.{rules}
-use Rattle.output.specs.Put.{put_then, room-first, room-then}
-use Rattle.list.proofs.Record.{Opened, known, line-parts}
+use Rattle.output.specs.Put.{put_then, room_first, room_then}
+use Rattle.list.proofs.Record.{Opened, known, line_parts}
 use Rattle.list.proofs.put_line.Statement.{statement}
 use Rattle.list.proofs.put_line.Tie as tie
 
@@ -12,22 +12,22 @@ opened : (c : tie.After-head-of) → Opened (start c).args.words.now (start c).a
 opened c = record { reads = (start c).requires.0; head = c.head_of.ensures }
 
 put-decimal-requires : tie.Need-put-decimal-requires
-put-decimal-requires c κs = let h = c.before in room-first _ (rw (line-parts (opened h) (start h).args.depth) at (start h).requires.1)
+put-decimal-requires c κs = let h = c.before in room_first _ (rw (line_parts (opened h) (start h).args.depth) at (start h).requires.1)
 
 put-byte-requires : tie.Need-put-byte-requires
 put-byte-requires c κs =
     let d = c.before.before.before in
     let h = d.before.before in
-    let r = rw (line-parts (opened h) (start h).args.depth) at (start h).requires.1 in
-    room-first _ (room-then _ d.put-decimal.ensures r)
+    let r = rw (line_parts (opened h) (start h).args.depth) at (start h).requires.1 in
+    room_first _ (room_then _ d.put-decimal.ensures r)
 
 put-name-requires : tie.Need-put-name-requires
 put-name-requires c κs =
     let t = c.before.before.before in
     let d = t.before.before.before.before in
     let h = d.before.before in
-    let r = rw (line-parts (opened h) (start h).args.depth) at (start h).requires.1 in
-    (known (opened h), room-first _ (room-then _ t.put_byte.ensures (room-then _ d.put-decimal.ensures r)))
+    let r = rw (line_parts (opened h) (start h).args.depth) at (start h).requires.1 in
+    (known (opened h), room_first _ (room_then _ t.put_byte.ensures (room_then _ d.put-decimal.ensures r)))
 
 put-byte-requires-2 : tie.Need-put-byte-requires-2
 put-byte-requires-2 c κs =
@@ -35,8 +35,8 @@ put-byte-requires-2 c κs =
     let t = n.before.before.before.before in
     let d = t.before.before.before.before in
     let h = d.before.before in
-    let r = rw (line-parts (opened h) (start h).args.depth) at (start h).requires.1 in
-    room-first _ (room-then _ n.put-name.ensures (room-then _ t.put_byte.ensures (room-then _ d.put-decimal.ensures r)))
+    let r = rw (line_parts (opened h) (start h).args.depth) at (start h).requires.1 in
+    room_first _ (room_then _ n.put-name.ensures (room_then _ t.put_byte.ensures (room_then _ d.put-decimal.ensures r)))
 
 put-content-requires : tie.Need-put-content-requires
 put-content-requires c κs =
@@ -45,8 +45,8 @@ put-content-requires c κs =
     let t = n.before.before.before.before in
     let d = t.before.before.before.before in
     let h = d.before.before in
-    let r = rw (line-parts (opened h) (start h).args.depth) at (start h).requires.1 in
-    ((start h).requires.0, room-first _ (room-then _ u.put-byte2.ensures (room-then _ n.put-name.ensures (room-then _ t.put_byte.ensures (room-then _ d.put-decimal.ensures r)))))
+    let r = rw (line_parts (opened h) (start h).args.depth) at (start h).requires.1 in
+    ((start h).requires.0, room_first _ (room_then _ u.put-byte2.ensures (room_then _ n.put-name.ensures (room_then _ t.put_byte.ensures (room_then _ d.put-decimal.ensures r)))))
 
 put-byte-requires-3 : tie.Need-put-byte-requires-3
 put-byte-requires-3 c κs =
@@ -56,8 +56,8 @@ put-byte-requires-3 c κs =
     let t = n.before.before.before.before in
     let d = t.before.before.before.before in
     let h = d.before.before in
-    let r = rw (line-parts (opened h) (start h).args.depth) at (start h).requires.1 in
-    room-then _ x.put-content.ensures (room-then _ u.put-byte2.ensures (room-then _ n.put-name.ensures (room-then _ t.put_byte.ensures (room-then _ d.put-decimal.ensures r))))
+    let r = rw (line_parts (opened h) (start h).args.depth) at (start h).requires.1 in
+    room_then _ x.put-content.ensures (room_then _ u.put-byte2.ensures (room_then _ n.put-name.ensures (room_then _ t.put_byte.ensures (room_then _ d.put-decimal.ensures r))))
 
 returns : tie.Need-returns
 returns c =
@@ -68,11 +68,11 @@ returns c =
     let t = n.before.before.before.before in
     let d = t.before.before.before.before in
     let h = d.before.before in
-    rw (line-parts (opened h) (start h).args.depth)
+    rw (line_parts (opened h) (start h).args.depth)
     (put_then d.put-decimal.ensures (put_then t.put_byte.ensures (put_then n.put-name.ensures (put_then u.put-byte2.ensures (put_then x.put-content.ensures end.put-byte3.ensures)))))
 
-pub put-line-spec : {M : Type 1} → statement M
-put-line-spec =
+pub put_line_spec : {M : Type 1} → statement M
+put_line_spec =
     tie.close
     (tie.spec
     (λ c. search rules) (λ c. search rules) (λ c. search rules) (λ c κs. search rules)

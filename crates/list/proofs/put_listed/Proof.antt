@@ -2,25 +2,25 @@
 use borrow.Author.Rules.{rules}
 use mathlib.Core.Path.{◌∙◌, sym}
 use native.Mathlib.Omega.{arith}
-use Rattle.output.specs.Put.{put_then, room-first, room-then}
-use Rattle.list.proofs.Laws.{listed-slash, listed-printable, listed-escape}
+use Rattle.output.specs.Put.{put_then, room_first, room_then}
+use Rattle.list.proofs.Laws.{listed_slash, listed-printable, listed_escape}
 use Rattle.list.proofs.put_listed.Statement.{statement}
 use Rattle.list.proofs.put_listed.Tie as tie
 
 put-byte-requires : tie.Need-put-byte-requires
-put-byte-requires c κs = let slash = c.before in room-first _ (rw (listed-slash slash.if1.true) at slash.before.before.requires)
+put-byte-requires c κs = let slash = c.before in room_first _ (rw (listed_slash slash.if1.true) at slash.before.before.requires)
 
 put-byte-requires-2 : tie.Need-put-byte-requires-2
 put-byte-requires-2 c κs =
     let first = c.before.before.before in
     let slash = first.before.before in
-    room-then _ first.put_byte.ensures (rw (listed-slash slash.if1.true) at slash.before.before.requires)
+    room_then _ first.put_byte.ensures (rw (listed_slash slash.if1.true) at slash.before.before.requires)
 
 returns : tie.Need-returns
 returns c =
     let second = c.before.before in
     let first = second.before.before.before.before in
-    rw (listed-slash first.before.before.if1.true) (put_then first.put_byte.ensures second.put-byte2.ensures)
+    rw (listed_slash first.before.before.if1.true) (put_then first.put_byte.ensures second.put-byte2.ensures)
 
 put-byte-requires-3 : tie.Need-put-byte-requires-3
 put-byte-requires-3 c κs =
@@ -36,14 +36,14 @@ returns-2 c =
 put-byte-requires-4 : tie.Need-put-byte-requires-4
 put-byte-requires-4 c κs =
     let s = c.before.before in
-    room-first _ (rw (listed-escape s.before.if1.false (sym s.stands.ensures ∙ c.before.if2.false)) at s.before.before.before.requires)
+    room_first _ (rw (listed_escape s.before.if1.false (sym s.stands.ensures ∙ c.before.if2.false)) at s.before.before.before.requires)
 
 put-byte-requires-5 : tie.Need-put-byte-requires-5
 put-byte-requires-5 c κs =
     let slash = c.before.before.before in
     let other = slash.before.before in
     let s = other.before in
-    room-first _ (room-then _ slash.put-byte4.ensures (rw (listed-escape s.before.if1.false (sym s.stands.ensures ∙ other.if2.false)) at s.before.before.before.requires))
+    room_first _ (room_then _ slash.put-byte4.ensures (rw (listed_escape s.before.if1.false (sym s.stands.ensures ∙ other.if2.false)) at s.before.before.before.requires))
 
 put-figures-requires : tie.Need-put-figures-requires
 put-figures-requires c κs =
@@ -51,8 +51,8 @@ put-figures-requires c κs =
     let slash = x.before.before.before.before in
     let other = slash.before.before in
     let s = other.before in
-    let r = room-then _ slash.put-byte4.ensures (rw (listed-escape s.before.if1.false (sym s.stands.ensures ∙ other.if2.false)) at s.before.before.before.requires) in
-    (omega arith, (omega arith, room-then _ x.put-byte5.ensures r))
+    let r = room_then _ slash.put-byte4.ensures (rw (listed_escape s.before.if1.false (sym s.stands.ensures ∙ other.if2.false)) at s.before.before.before.requires) in
+    (omega arith, (omega arith, room_then _ x.put-byte5.ensures r))
 
 returns-3 : tie.Need-returns-3
 returns-3 c =
@@ -61,10 +61,10 @@ returns-3 c =
     let slash = x.before.before.before.before in
     let other = slash.before.before in
     let s = other.before in
-    rw (listed-escape s.before.if1.false (sym s.stands.ensures ∙ other.if2.false)) (put_then slash.put-byte4.ensures (put_then x.put-byte5.ensures figures.put-figures.ensures))
+    rw (listed_escape s.before.if1.false (sym s.stands.ensures ∙ other.if2.false)) (put_then slash.put-byte4.ensures (put_then x.put-byte5.ensures figures.put-figures.ensures))
 
-pub put-listed-spec : {M : Type 1} → statement M
-put-listed-spec =
+pub put_listed_spec : {M : Type 1} → statement M
+put_listed_spec =
     tie.close
     (tie.spec
     put-byte-requires put-byte-requires-2 (λ c. search rules) returns

@@ -1,7 +1,7 @@
 -- `list::put_listed_names` meets its contract: the module, a tab and the name, one behind the other. Assumes nothing.
 use borrow.Author.Rules.{rules}
-use Rattle.output.specs.Put.{put_then, room-first, room-then}
-use Rattle.list.proofs.Record.{names-parts}
+use Rattle.output.specs.Put.{put_then, room_first, room_then}
+use Rattle.list.proofs.Record.{names_parts}
 use Rattle.list.proofs.put_listed_names.Statement.{statement}
 use Rattle.list.proofs.put_listed_names.Tie as tie
 
@@ -9,14 +9,14 @@ put-text-requires : tie.Need-put-text-requires
 put-text-requires c κs =
     let start = c.before.before.before in
     let a = start.args in
-    (search rules, room-first _ (rw (names-parts a.text.now a.from a.lengths) at start.requires.1))
+    (search rules, room_first _ (rw (names_parts a.text.now a.from a.lengths) at start.requires.1))
 
 put-byte-requires : tie.Need-put-byte-requires
 put-byte-requires c κs =
     let first = c.before.before.before in
     let start = first.before.before.before.before in
     let a = start.args in
-    room-first _ (room-then _ first.put-text.ensures (rw (names-parts a.text.now a.from a.lengths) at start.requires.1))
+    room_first _ (room_then _ first.put-text.ensures (rw (names_parts a.text.now a.from a.lengths) at start.requires.1))
 
 put-text-requires-2 : tie.Need-put-text-requires-2
 put-text-requires-2 c κs =
@@ -24,7 +24,7 @@ put-text-requires-2 c κs =
     let first = tab.before.before.before.before in
     let start = first.before.before.before.before in
     let a = start.args in
-    (search rules, room-then _ tab.put_byte.ensures (room-then _ first.put-text.ensures (rw (names-parts a.text.now a.from a.lengths) at start.requires.1)))
+    (search rules, room_then _ tab.put_byte.ensures (room_then _ first.put-text.ensures (rw (names_parts a.text.now a.from a.lengths) at start.requires.1)))
 
 returns : tie.Need-returns
 returns c =
@@ -32,7 +32,7 @@ returns c =
     let tab = second.before.before.before.before in
     let first = tab.before.before.before.before in
     let a = first.before.before.before.before.args in
-    rw (names-parts a.text.now a.from a.lengths) (put_then first.put-text.ensures (put_then tab.put_byte.ensures second.put-text2.ensures))
+    rw (names_parts a.text.now a.from a.lengths) (put_then first.put-text.ensures (put_then tab.put_byte.ensures second.put-text2.ensures))
 
-pub put-listed-names-spec : {M : Type 1} → statement M
-put-listed-names-spec = tie.close (tie.spec put-text-requires put-byte-requires (λ c. search rules) put-text-requires-2 (λ c. search rules) returns)
+pub put_listed-names_spec : {M : Type 1} → statement M
+put_listed-names_spec = tie.close (tie.spec put-text-requires put-byte-requires (λ c. search rules) put-text-requires-2 (λ c. search rules) returns)

@@ -1,8 +1,8 @@
 -- `list::put_name` meets its contract: the name stands among the names, from where it begins on. Assumes nothing.
 use borrow.Author.Rules.{rules}
 use native.Mathlib.Omega.{arith}
-use Rattle.output.specs.Put.{put_same, room-same}
-use Rattle.list.proofs.Record.{named, name-part}
+use Rattle.output.specs.Put.{put_same, room_same}
+use Rattle.list.proofs.Record.{named, name_part_lem}
 use Rattle.list.proofs.put_name.Statement.{statement}
 use Rattle.list.proofs.put_name.Tie as tie
 
@@ -16,17 +16,17 @@ put-run-requires : tie.Need-put-run-requires
 put-run-requires c κs =
     let part = c.before in
     let start = part.before.before.before.before in
-    room-same (name-part start.args.kind start.requires.0 _ _ part.before.name-len.ensures part.part.ensures) start.requires.1
+    room_same (name_part_lem start.args.kind start.requires.0 _ _ part.before.name-len.ensures part.part.ensures) start.requires.1
 
 returns : tie.Need-returns
 returns c =
     let put = c.before.before in
     let part = put.before.before in
     let start = part.before.before.before.before in
-    put_same (name-part start.args.kind start.requires.0 _ _ part.before.name-len.ensures part.part.ensures) put.put-run.ensures
+    put_same (name_part_lem start.args.kind start.requires.0 _ _ part.before.name-len.ensures part.part.ensures) put.put-run.ensures
 
-pub put-name-spec : {M : Type 1} → statement M
-put-name-spec =
+pub put_name_spec : {M : Type 1} → statement M
+put_name_spec =
     tie.close
     (tie.spec
     (λ c. search rules) (λ c. search rules) (λ c. search rules) (λ c κs. search rules)

@@ -3,20 +3,20 @@ use Prim.Native.Nat.{◌≤◌, ◌+◌, ◌-◌}
 use lib.ListN.{take, drop}
 use borrow.Author.Rules.{rules}
 use native.Mathlib.Omega.{arith}
-use Rattle.output.specs.Put.{StillToPut, left-all, left-room}
-use Rattle.list.specs.Listing.{listedText}
-use Rattle.list.proofs.Laws.{rest, rest_all, part_room, part_left, left-last}
+use Rattle.output.specs.Put.{StillToPut, left_all, left_room}
+use Rattle.list.specs.Listing.{listed_text}
+use Rattle.list.proofs.Laws.{rest, rest_all, part_room, part_left, left_last}
 use Rattle.list.proofs.put_text.Statement.{statement}
 use Rattle.list.proofs.put_text.Tie as tie
 
 abbrev invariant-loop : tie.invariant-loop
-invariant-loop text from count output₀ at end i₀ next₀ output i next = (i ≤ from + count) × StillToPut output₀ at (listedText (take count (drop from text))) output next (rest text (from + count) i)
+invariant-loop text from count output₀ at end i₀ next₀ output i next = (i ≤ from + count) × StillToPut output₀ at (listed_text (take count (drop from text))) output next (rest text (from + count) i)
 
 abbrev decreases-loop : tie.decreases-loop
 decreases-loop text from count output₀ at end i₀ next₀ output i next = from + count - i
 
 loop-holds : tie.Need-loop-init invariant-loop decreases-loop
-loop-holds c = let a = c.before.before.args in (omega arith, rw (rest_all a.text.now a.from a.count) left-all)
+loop-holds c = let a = c.before.before.args in (omega arith, rw (rest_all a.text.now a.from a.count) left_all)
 
 put-eight-requires : tie.Need-put-eight-requires invariant-loop decreases-loop
 put-eight-requires c κs =
@@ -31,13 +31,13 @@ loop-again c =
     (omega arith, part_left l.before.before.before.args.text.now l.loop.i 8 (omega arith) l.loop.invariant.1 put.put-eight.ensures)
 
 put-each-requires : tie.Need-put-each-requires invariant-loop decreases-loop
-put-each-requires c κs = let l = c.before.before in (omega arith, left-room l.before.before.before.requires.1 l.loop.invariant.1)
+put-each-requires c κs = let l = c.before.before in (omega arith, left_room l.before.before.before.requires.1 l.loop.invariant.1)
 
 returns : tie.Need-returns invariant-loop decreases-loop
-returns c = let put = c.before.before in left-last put.before.before.before.loop.invariant.1 put.put-each.ensures
+returns c = let put = c.before.before in left_last put.before.before.before.loop.invariant.1 put.put-each.ensures
 
-pub put-text-spec : {M : Type 1} → statement M
-put-text-spec =
+pub put_text_spec : {M : Type 1} → statement M
+put_text_spec =
     tie.close
     (tie.spec
     invariant-loop decreases-loop

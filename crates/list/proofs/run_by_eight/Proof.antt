@@ -17,8 +17,8 @@ decreases-loop text from end i₀ i = end - i
 loop-again : tie.Need-loop-preserved invariant-loop decreases-loop
 loop-again c = let l = c.before.before.before.loop in run_more 8 (omega arith) (c.before.eight-verbatim.ensures (not-false _ c.if1.false)) l.invariant
 
-pub run-by-eight-spec : {M : Type 1} → statement M
-run-by-eight-spec =
+pub run_by_eight_spec : {M : Type 1} → statement M
+run_by_eight_spec =
     tie.close
     (tie.spec
     invariant-loop decreases-loop

@@ -8,5 +8,5 @@ returns : tie.Need-returns
 unfolding printable
 returns c = refl
 
-pub stands-spec : {M : Type 1} → statement M
-stands-spec = tie.close (tie.spec returns)
+pub stands_spec : {M : Type 1} → statement M
+stands_spec = tie.close (tie.spec returns)

@@ -15,5 +15,5 @@ returns c h =
     let s = c.stands in
     listed-printable (eqb-false b 0x5C (not-true _ (and_right s.result (not (eqb b 0x5C)) h))) (sym s.ensures ∙ and_left s.result (not (eqb b 0x5C)) h)
 
-pub verbatim-spec : {M : Type 1} → statement M
-verbatim-spec = tie.close (tie.spec (λ c κs. search rules) returns)
+pub verbatim_spec : {M : Type 1} → statement M
+verbatim_spec = tie.close (tie.spec (λ c κs. search rules) returns)

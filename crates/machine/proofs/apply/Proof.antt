@@ -10,7 +10,7 @@ use Rattle.machine.specs.Containers.{MakesNode, Extends}
 use Rattle.machine.specs.Memo.{Remembers}
 use Rattle.machine.specs.Words.{SetsState}
 use Rattle.machine.specs.RoomsOf.{rooms_of}
-use Rattle.machine.specs.Applied.{Applies, push-lengths, share-lengths, mark-lengths, makeable, extendable, rememberable, buildable, goes_on, stops, refusal-applied}
+use Rattle.machine.specs.Applied.{Applies, push_lengths, share_lengths, mark_lengths, makeable, extendable, rememberable, buildable, goes_on, stops, refusal_applied}
 
 -- from the match back to the beginning
 abbrev start : tie.After-slice-known7 → tie.Start
@@ -127,15 +127,15 @@ returns-9 c = λ l p f. let e = c.before.e9.given.1 in rw e (stops _ _ _ (rw e a
 
 returns-10 : tie.Need-returns-10
 unfolding Applies
-returns-10 c = λ l p f. rw c.before.e10.given.1 (refusal-applied _ _ _ _ _ _)
+returns-10 c = λ l p f. rw c.before.e10.given.1 (refusal_applied _ _ _ _ _ _)
 
-pub apply-spec : {M : Type 1} → statement M
-apply-spec =
+pub apply_spec : {M : Type 1} → statement M
+apply_spec =
     tie.close
     (tie.spec
-    (λ c. c.match.keys1) (λ c κs. push-lengths _ _ _ _ _ (fits (push c).before.before _ (push c).e.given.1)) (λ c. c.match.keys2)
-    (λ c κs. share-lengths _ _ _ _ (fits (share c).before.before _ (share c).e2.given.1)) (λ c. c.match.keys3)
-    (λ c κs. mark-lengths _ _ _ (fits (mark c).before.before _ (mark c).e3.given.1)) (λ c. c.match.keys4) (λ c. c.match.keys5)
+    (λ c. c.match.keys1) (λ c κs. push_lengths _ _ _ _ _ (fits (push c).before.before _ (push c).e.given.1)) (λ c. c.match.keys2)
+    (λ c κs. share_lengths _ _ _ _ (fits (share c).before.before _ (share c).e2.given.1)) (λ c. c.match.keys3)
+    (λ c κs. mark_lengths _ _ _ (fits (mark c).before.before _ (mark c).e3.given.1)) (λ c. c.match.keys4) (λ c. c.match.keys5)
     (λ c κs. makeable _ _ _ _ (fits (make c).before.before _ (make c).e5.given.1)) (λ c. c.match.keys6)
     (λ c κs. extendable _ _ _ _ (fits (extend c).before.before _ (extend c).e6.given.1)) (λ c. c.match.keys7)
     (λ c κs. rememberable _ _ _ _ _ _ (fits (remember c).before.before _ (remember c).e7.given.1)) (λ c. c.match.keys8)

@@ -7,8 +7,8 @@ use mathlib.Core.Path.{◌≡◌, refl, subst, ◌∙◌}
 use lib.ListN.{length}
 use Rattle.store.specs.Rooms.{LentAs, Rooms}
 use Rattle.machine.specs.declared.effects.Step.{Step}
-use Rattle.machine.specs.RoomsOf.{rooms_of, lent_of, lentRooms}
-use Rattle.machine.specs.Ran.{Stepped, StepTaken, AsLong, Running, lent-sound, running-start, running-next, running-less, ran-stopped, ran-refused}
+use Rattle.machine.specs.RoomsOf.{rooms_of, lent_of, lent_rooms}
+use Rattle.machine.specs.Ran.{Stepped, StepTaken, AsLong, Running, lent_sound, running-start, running_next, running-less, ran_stopped, ran_refused}
 
 abbrev invariant-loop : tie.invariant-loop
 invariant-loop edition pickle nodes₀ owners₀ children₀ stack₀ marks₀ keys₀ held₀ c₀ nodes owners children stack marks keys held c =
@@ -27,7 +27,7 @@ abbrev lent : tie.Start invariant-loop decreases-loop → LentAs
 lent s = lent_of s.args.nodes.now s.args.owners.now s.args.children.now s.args.stack.now s.args.marks.now s.args.keys.now s.args.held.now
 
 abbrev rooms : tie.After-slice-known7 invariant-loop decreases-loop → Rooms
-rooms c = lentRooms (start c).args.pickle.now (start c).args.nodes.now (start c).args.owners.now (start c).args.children.now (start c).args.stack.now (start c).args.marks.now (start c).args.keys.now (start c).args.held.now
+rooms c = lent_rooms (start c).args.pickle.now (start c).args.nodes.now (start c).args.owners.now (start c).args.children.now (start c).args.stack.now (start c).args.marks.now (start c).args.keys.now (start c).args.held.now
 
 -- from the end of a step back to its call
 abbrev stepped : tie.After-slice-known14 invariant-loop decreases-loop → tie.After-take-step invariant-loop decreases-loop
@@ -60,20 +60,20 @@ loop-less c = let s = stepped c.before.before.before in running-less _ _ _ _ _ (
 loop-again : tie.Need-loop-preserved invariant-loop decreases-loop
 loop-again c =
     let s = stepped c.before.before.before in
-    (running-next _ _ _ _ _ (head s).loop.inv.0 refl _ (took s _ c.before.t.given.1), lengths s)
+    (running_next _ _ _ _ _ (head s).loop.inv.0 refl _ (took s _ c.before.t.given.1), lengths s)
 
 returns : tie.Need-returns invariant-loop decreases-loop
-returns c = let s = stepped c.before.before.before in ran-stopped _ _ _ _ _ (head s).loop.inv.0 refl _ (took s _ c.before.t2.given.1)
+returns c = let s = stepped c.before.before.before in ran_stopped _ _ _ _ _ (head s).loop.inv.0 refl _ (took s _ c.before.t2.given.1)
 
 returns-2 : tie.Need-returns-2 invariant-loop decreases-loop
-returns-2 c = let s = stepped c.before.before.before in ran-refused _ _ _ _ _ (head s).loop.inv.0 refl _ _ (took s _ c.before.t3.given.1)
+returns-2 c = let s = stepped c.before.before.before in ran_refused _ _ _ _ _ (head s).loop.inv.0 refl _ _ (took s _ c.before.t3.given.1)
 
 pub run_spec : {M : Type 1} → statement M
 run_spec =
     tie.close
     (tie.spec
     invariant-loop decreases-loop
-    (λ c. (running-start _ (rooms c) (lent-sound _ _ _ _ _ _ _ _ (start c).requires), record { nodes = refl; owners = refl; children = refl; stack = refl; marks = refl; keys = refl; held = refl }))
+    (λ c. (running-start _ (rooms c) (lent_sound _ _ _ _ _ _ _ _ (start c).requires), record { nodes = refl; owners = refl; children = refl; stack = refl; marks = refl; keys = refl; held = refl }))
     (λ c κs. record { lent = _; sound = c.before.before.before.before.before.before.before.loop.invariant.0.sound }) (λ c. search rules)
     loop-less loop-again (λ c. search rules) (λ c. (lengths (stepped c.before.before.before)).nodes)
     (λ c. (lengths (stepped c.before.before.before)).owners) (λ c. (lengths (stepped c.before.before.before)).children)

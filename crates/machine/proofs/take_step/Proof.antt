@@ -48,8 +48,8 @@ returns c = λ l sound.
     let says = d.decide.ensures (rooms d.before l) sound (agrees _) in
     rw says.enacts at (done.apply.ensures l (start d.before).args.pickle.now says.fits)
 
-pub take-step-spec : {M : Type 1} → statement M
-take-step-spec =
+pub take-step_spec : {M : Type 1} → statement M
+take-step_spec =
     tie.close
     (tie.spec
     decide-requires apply-requires (λ c. (applied c).apply.auto.0) (λ c. (applied c).apply.auto.1.0) (λ c. (applied c).apply.auto.1.1.0) (λ c. (applied c).apply.auto.1.1.1.0) (λ c. (applied c).apply.auto.1.1.1.1.0) (λ c. (applied c).apply.auto.1.1.1.1.1.0)

@@ -6,8 +6,8 @@ use native.Mathlib.Omega.{arith}
 use lib.Dec.{leb}
 use lib.ListN.{length, drop}
 use Rattle.number.specs.Number.{only, natural}
-use Rattle.number.specs.Literal.{magnitudeRead}
-use Rattle.number.proofs.Number.{after, turn_low, turn-high, turn_more, turn-over, start_none, start-some, end-some}
+use Rattle.number.specs.Literal.{magnitude_read}
+use Rattle.number.proofs.Number.{after, turn_low, turn_high, turn_more, turn_over, start_none, start-some, end_some}
 use Rattle.number.proofs.natural.Statement.{statement}
 use Rattle.number.proofs.natural.Tie as tie
 
@@ -18,41 +18,41 @@ abbrev decreases-loop : tie.decreases-loop
 decreases-loop text from most tens n₀ i₀ n i = length text - i
 
 returns : tie.Need-returns invariant-loop decreases-loop
-unfolding magnitudeRead
+unfolding magnitude_read
 returns c = start_none c.before.args.text.now c.before.args.from _ (omega arith)
 
 loop-holds : tie.Need-loop-init invariant-loop decreases-loop
 loop-holds c = (ap (only (λ k. leb k c.before.args.most)) (start-some c.before.args.text.now c.before.args.from (omega arith)), omega arith)
 
 returns-2 : tie.Need-returns-2 invariant-loop decreases-loop
-unfolding magnitudeRead
+unfolding magnitude_read
 returns-2 c =
     let at-loop = c.before.before.before in
     let start = at-loop.before.before in
     turn_low start.args.text.now at-loop.loop.i at-loop.loop.n start.args.most c.before.before.loop-test.true (omega arith) ∙ at-loop.loop.invariant.0
 
 returns-3 : tie.Need-returns-3 invariant-loop decreases-loop
-unfolding magnitudeRead
+unfolding magnitude_read
 returns-3 c =
     let at-loop = c.before.before.before.before in
     let start = at-loop.before.before in
-    turn-high start.args.text.now at-loop.loop.i at-loop.loop.n start.args.most c.before.before.before.loop-test.true (omega arith) ∙ at-loop.loop.invariant.0
+    turn_high start.args.text.now at-loop.loop.i at-loop.loop.n start.args.most c.before.before.before.loop-test.true (omega arith) ∙ at-loop.loop.invariant.0
 
 returns-4 : tie.Need-returns-4 invariant-loop decreases-loop
-unfolding magnitudeRead
+unfolding magnitude_read
 returns-4 c =
     let at-loop-test = c.before.before.before.before in
     let at-loop = at-loop-test.before in
     let start = at-loop.before.before in
-    turn-over start.args.text.now at-loop.loop.i at-loop.loop.n start.args.most at-loop-test.loop-test.true (omega arith) (omega arith) (omega arith) ∙ at-loop.loop.invariant.0
+    turn_over start.args.text.now at-loop.loop.i at-loop.loop.n start.args.most at-loop-test.loop-test.true (omega arith) (omega arith) (omega arith) ∙ at-loop.loop.invariant.0
 
 returns-5 : tie.Need-returns-5 invariant-loop decreases-loop
-unfolding magnitudeRead
+unfolding magnitude_read
 returns-5 c =
     let at-loop-test = c.before.before.before.before.before in
     let at-loop = at-loop-test.before in
     let start = at-loop.before.before in
-    turn-over start.args.text.now at-loop.loop.i at-loop.loop.n start.args.most at-loop-test.loop-test.true (omega arith) (omega arith) (omega arith) ∙ at-loop.loop.invariant.0
+    turn_over start.args.text.now at-loop.loop.i at-loop.loop.n start.args.most at-loop-test.loop-test.true (omega arith) (omega arith) (omega arith) ∙ at-loop.loop.invariant.0
 
 loop-again : tie.Need-loop-preserved invariant-loop decreases-loop
 loop-again c =
@@ -62,13 +62,13 @@ loop-again c =
     (turn_more start.args.text.now at-loop.loop.i at-loop.loop.n start.args.most at-loop-test.loop-test.true (omega arith) (omega arith) ∙ at-loop.loop.invariant.0, omega arith)
 
 returns-6 : tie.Need-returns-6 invariant-loop decreases-loop
-unfolding magnitudeRead
+unfolding magnitude_read
 returns-6 c =
     let start = c.before.before.before in
-    end-some start.args.text.now c.before.loop.i c.before.loop.n start.args.most (omega arith) c.before.loop.invariant.1 ∙ c.before.loop.invariant.0
+    end_some start.args.text.now c.before.loop.i c.before.loop.n start.args.most (omega arith) c.before.loop.invariant.1 ∙ c.before.loop.invariant.0
 
-pub natural-spec : {M : Type 1} → statement M
-natural-spec =
+pub natural_spec : {M : Type 1} → statement M
+natural_spec =
     tie.close
     (tie.spec
     invariant-loop

@@ -3,7 +3,7 @@ use borrow.Author.Rules.{rules}
 use Prim.Native.Nat.{ℕ}
 use mathlib.Core.Bool.{Bool}
 use native.Mathlib.Omega.{arith}
-use Rattle.number.proofs.Space.{Behind, behind, tested, tested-yes, tested-no, no-space-out, no-space-all}
+use Rattle.number.proofs.Space.{Behind, behind, tested, tested_yes, tested_no, no_space_out, no_space-all}
 use Rattle.number.proofs.space_before.Statement.{statement}
 use Rattle.number.proofs.space_before.Tie as tie
 
@@ -17,25 +17,25 @@ one : (c : tie.After-space-one) → Tested (start c) 0 c.space-one.result
 one c = tested (behind _ _ (start c).requires) c.before.before.if1.false c.space-one.ensures
 
 two : (c : tie.After-space-two) → Tested (start c.before.before.before.before) 1 c.space-two.result
-two c = let no = c.before.before.before in tested (tested-no (one no.before) no.if2.false) c.before.before.if3.false c.space-two.ensures
+two c = let no = c.before.before.before in tested (tested_no (one no.before) no.if2.false) c.before.before.if3.false c.space-two.ensures
 
 three : (c : tie.After-space-three) → Tested (start c.before.before.before.before.before.before.before.before) 2 c.space-three.result
-three c = let no = c.before.before.before in tested (tested-no (two no.before) no.if4.false) c.before.before.if5.false c.space-three.ensures
+three c = let no = c.before.before.before in tested (tested_no (two no.before) no.if4.false) c.before.before.if5.false c.space-three.ensures
 
-pub space-before-spec : {M : Type 1} → statement M
-space-before-spec =
+pub space-before_spec : {M : Type 1} → statement M
+space-before_spec =
     tie.close
     (tie.spec
-    (λ c. no-space-out (behind _ _ c.before.before.requires) c.if1.true)
+    (λ c. no_space_out (behind _ _ c.before.before.requires) c.if1.true)
     (λ c. search rules)
     (λ c κs. tt)
-    (λ c. tested-yes (one c.before) (omega arith) c.if2.true)
-    (λ c. no-space-out (tested-no (one c.before.before) c.before.if2.false) c.if3.true)
+    (λ c. tested_yes (one c.before) (omega arith) c.if2.true)
+    (λ c. no_space_out (tested_no (one c.before.before) c.before.if2.false) c.if3.true)
     (λ c. search rules)
     (λ c κs. tt)
-    (λ c. tested-yes (two c.before) (omega arith) c.if4.true)
-    (λ c. no-space-out (tested-no (two c.before.before) c.before.if4.false) c.if5.true)
+    (λ c. tested_yes (two c.before) (omega arith) c.if4.true)
+    (λ c. no_space_out (tested_no (two c.before.before) c.before.if4.false) c.if5.true)
     (λ c. search rules)
     (λ c κs. tt)
-    (λ c. tested-yes (three c.before) (omega arith) c.if6.true)
-    (λ c. no-space-all (tested-no (three c.before) c.if6.false)))
+    (λ c. tested_yes (three c.before) (omega arith) c.if6.true)
+    (λ c. no_space-all (tested_no (three c.before) c.if6.false)))

@@ -1,21 +1,21 @@
 -- `number::space_one` meets its contract. Assumes nothing.
 use native.Mathlib.Omega.{arith}
 use borrow.Author.Tests.{eq-eqb, ne_eqb, le-leb, lt-leb}
-use Rattle.number.proofs.Space.{one-is}
+use Rattle.number.proofs.Space.{one_is}
 use Rattle.number.proofs.space_one.Statement.{statement}
 use Rattle.number.proofs.space_one.Tie as tie
 
 returns : tie.Need-returns
-returns c = simp (one-is c.before.args.a (omega arith), eq-eqb _ _ c.if1.true)
+returns c = simp (one_is c.before.args.a (omega arith), eq-eqb _ _ c.if1.true)
 
 returns-2 : tie.Need-returns-2
-returns-2 c = simp (one-is c.before.before.args.a (omega arith), ne_eqb _ _ c.before.if1.false, lt-leb _ _ c.if2.true)
+returns-2 c = simp (one_is c.before.before.args.a (omega arith), ne_eqb _ _ c.before.if1.false, lt-leb _ _ c.if2.true)
 
 returns-3 : tie.Need-returns-3
-returns-3 c = simp (one-is c.before.before.args.a (omega arith), ne_eqb _ _ c.before.if1.false, le-leb _ _ c.if2.false)
+returns-3 c = simp (one_is c.before.before.args.a (omega arith), ne_eqb _ _ c.before.if1.false, le-leb _ _ c.if2.false)
 
-pub space-one-spec : {M : Type 1} → statement M
-space-one-spec =
+pub space_one_spec : {M : Type 1} → statement M
+space_one_spec =
     tie.close
     (tie.spec
     returns

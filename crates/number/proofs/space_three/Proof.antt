@@ -3,7 +3,7 @@ use borrow.Author.Rules.{rules}
 use mathlib.Core.Bool.{or-false, and-false, and-true}
 use native.Mathlib.Omega.{arith}
 use borrow.Author.Tests.{eq-eqb, ne_eqb}
-use Rattle.number.proofs.Space.{three-e2, three-rest}
+use Rattle.number.proofs.Space.{three_e2, three-rest}
 use Rattle.number.proofs.space_three.Statement.{statement}
 use Rattle.number.proofs.space_three.Tie as tie
 
@@ -13,12 +13,12 @@ returns c = rw (c.before.before.if1.true, c.before.if2.true) c.space-general.ens
 returns-2 : tie.Need-returns-2
 returns-2 c =
     let start = c.before.before.before in
-    simp (three-e2 start.args.a start.args.b start.args.c c.before.before.if1.true c.before.if2.false, ne_eqb _ _ c.if3.true)
+    simp (three_e2 start.args.a start.args.b start.args.c c.before.before.if1.true c.before.if2.false, ne_eqb _ _ c.if3.true)
 
 returns-3 : tie.Need-returns-3
 returns-3 c =
     let start = c.before.before.before in
-    simp (three-e2 start.args.a start.args.b start.args.c c.before.before.if1.true c.before.if2.false, eq-eqb _ _ c.if3.false)
+    simp (three_e2 start.args.a start.args.b start.args.c c.before.before.if1.true c.before.if2.false, eq-eqb _ _ c.if3.false)
 
 returns-4 : tie.Need-returns-4
 returns-4 c =
@@ -40,8 +40,8 @@ returns-7 c =
     let start = c.before.before.before.before in
     simp (three-rest start.args.a start.args.b start.args.c c.before.before.before.if1.false, ne_eqb _ _ c.before.if5.false, eq-eqb _ _ c.if6.false, eq-eqb _ _ c.before.before.if4.false, and-true)
 
-pub space-three-spec : {M : Type 1} → statement M
-space-three-spec =
+pub space-three_spec : {M : Type 1} → statement M
+space-three_spec =
     tie.close
     (tie.spec
     (λ c κs. search rules)

@@ -1,11 +1,11 @@
 -- `number::space_two` meets its contract. Assumes nothing.
 use borrow.Author.Tests.{eq-eqb, ne_eqb}
-use Rattle.number.proofs.Space.{two-lead, two_is}
+use Rattle.number.proofs.Space.{two_lead, two_is}
 use Rattle.number.proofs.space_two.Statement.{statement}
 use Rattle.number.proofs.space_two.Tie as tie
 
 returns : tie.Need-returns
-returns c = two-lead _ _ c.if1.true
+returns c = two_lead _ _ c.if1.true
 
 returns-2 : tie.Need-returns-2
 returns-2 c =
@@ -17,8 +17,8 @@ returns-3 c =
     let start = c.before.before in
     simp (two_is start.args.a start.args.b c.before.if1.false, ne_eqb _ _ c.if2.false)
 
-pub space-two-spec : {M : Type 1} → statement M
-space-two-spec =
+pub space_two_spec : {M : Type 1} → statement M
+space_two_spec =
     tie.close
     (tie.spec
     returns

@@ -5,8 +5,8 @@ use mathlib.Core.Path.{◌≡◌, sym, ap, ◌∙◌}
 use native.Mathlib.Omega.{arith}
 use lib.ListN.{length, take}
 use lib.Seq.{take-length, length-take-le}
-use Rattle.number.specs.Space.{strip, trimEnd}
-use Rattle.number.proofs.Space.{end-in, end_more, end-stop}
+use Rattle.number.specs.Space.{strip, trim_end}
+use Rattle.number.proofs.Space.{end_in, end_more, end_stop}
 use Rattle.number.proofs.trim_end.Statement.{statement}
 use Rattle.number.proofs.trim_end.Tie as tie
 
@@ -29,24 +29,24 @@ slice-aggregate-result c =
     sym (length-take-le at-loop.loop.end start.args.line.now at-loop.loop.invariant.1)
 
 returns : tie.Need-returns invariant-loop decreases-loop
-unfolding trimEnd
+unfolding trim_end
 returns c =
     let at-space-before = c.before.before in
     let at-loop = at-space-before.before in
     let start = at-loop.before.before in
-    end-stop start.args.line.now at-loop.loop.end at-space-before.space-before.result at-space-before.space-before.ensures at-loop.loop.invariant.1 c.before.if1.true ∙ ap reverse at-loop.loop.invariant.0
+    end_stop start.args.line.now at-loop.loop.end at-space-before.space-before.result at-space-before.space-before.ensures at-loop.loop.invariant.1 c.before.if1.true ∙ ap reverse at-loop.loop.invariant.0
 
 sub-end : tie.Need-overflow-sub-end invariant-loop decreases-loop
 sub-end c =
     let at-loop = c.before.before in
     let start = at-loop.before.before in
-    end-in start.args.line.now at-loop.loop.end c.before.space-before.result c.before.space-before.ensures at-loop.loop.invariant.1
+    end_in start.args.line.now at-loop.loop.end c.before.space-before.result c.before.space-before.ensures at-loop.loop.invariant.1
 
 loop-less : tie.Need-loop-smaller invariant-loop decreases-loop
 loop-less c =
     let at-loop = c.before.before in
     let start = at-loop.before.before in
-    omega (arith, end-in start.args.line.now at-loop.loop.end c.before.space-before.result c.before.space-before.ensures at-loop.loop.invariant.1)
+    omega (arith, end_in start.args.line.now at-loop.loop.end c.before.space-before.result c.before.space-before.ensures at-loop.loop.invariant.1)
 
 loop-again : tie.Need-loop-preserved invariant-loop decreases-loop
 loop-again c =
@@ -54,8 +54,8 @@ loop-again c =
     let start = at-loop.before.before in
     (end_more start.args.line.now at-loop.loop.end c.before.space-before.result c.before.space-before.ensures at-loop.loop.invariant.1 (omega arith) ∙ at-loop.loop.invariant.0, omega arith)
 
-pub trim-end-spec : {M : Type 1} → statement M
-trim-end-spec =
+pub trim_end_spec : {M : Type 1} → statement M
+trim_end_spec =
     tie.close
     (tie.spec
     invariant-loop

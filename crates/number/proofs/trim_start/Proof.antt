@@ -4,8 +4,8 @@ use Prim.Native.Nat.{◌≤◌, ◌-◌}
 use mathlib.Core.Path.{◌≡◌, refl, ◌∙◌}
 use native.Mathlib.Omega.{arith}
 use lib.ListN.{length, drop}
-use Rattle.number.specs.Space.{strip, trimStart}
-use Rattle.number.proofs.Space.{start-in, start-more, start-stop}
+use Rattle.number.specs.Space.{strip, trim_start}
+use Rattle.number.proofs.Space.{start_in, start_more, start-stop}
 use Rattle.number.proofs.trim_start.Statement.{statement}
 use Rattle.number.proofs.trim_start.Tie as tie
 
@@ -22,7 +22,7 @@ space-at-requires : tie.Need-space-at-requires invariant-loop decreases-loop
 space-at-requires c κs = c.loop.invariant.1
 
 returns : tie.Need-returns invariant-loop decreases-loop
-unfolding trimStart
+unfolding trim_start
 returns c =
     let at-space-at = c.before.before in
     let at-loop = at-space-at.before in
@@ -33,22 +33,22 @@ add-i : tie.Need-overflow-add-i invariant-loop decreases-loop
 add-i c =
     let at-loop = c.before.before in
     let start = at-loop.before.before in
-    omega (arith, start-in start.args.line.now at-loop.loop.i c.before.space-at.result c.before.space-at.ensures at-loop.loop.invariant.1)
+    omega (arith, start_in start.args.line.now at-loop.loop.i c.before.space-at.result c.before.space-at.ensures at-loop.loop.invariant.1)
 
 loop-less : tie.Need-loop-smaller invariant-loop decreases-loop
 loop-less c =
     let at-loop = c.before.before in
     let start = at-loop.before.before in
-    omega (arith, start-in start.args.line.now at-loop.loop.i c.before.space-at.result c.before.space-at.ensures at-loop.loop.invariant.1)
+    omega (arith, start_in start.args.line.now at-loop.loop.i c.before.space-at.result c.before.space-at.ensures at-loop.loop.invariant.1)
 
 loop-again : tie.Need-loop-preserved invariant-loop decreases-loop
 loop-again c =
     let at-loop = c.before.before in
     let start = at-loop.before.before in
-    (start-more start.args.line.now at-loop.loop.i c.before.space-at.result c.before.space-at.ensures (omega arith) ∙ at-loop.loop.invariant.0, start-in start.args.line.now at-loop.loop.i c.before.space-at.result c.before.space-at.ensures at-loop.loop.invariant.1)
+    (start_more start.args.line.now at-loop.loop.i c.before.space-at.result c.before.space-at.ensures (omega arith) ∙ at-loop.loop.invariant.0, start_in start.args.line.now at-loop.loop.i c.before.space-at.result c.before.space-at.ensures at-loop.loop.invariant.1)
 
-pub trim-start-spec : {M : Type 1} → statement M
-trim-start-spec =
+pub trim_start_spec : {M : Type 1} → statement M
+trim_start_spec =
     tie.close
     (tie.spec
     invariant-loop

@@ -1,12 +1,12 @@
 -- `op::number` meets its contract: each arm knows its name, and the table's row of that name computes. Assumes nothing.
 use borrow.Author.Rules.{rules}
-use Rattle.op.specs.Table.{code_of, number_in, isNamed, place}
+use Rattle.op.specs.Table.{code_of, number_in, is_named, place}
 use Rattle.op.proofs.number.Statement.{statement}
 use Rattle.op.proofs.number.Tie as tie
 
-pub number-spec : {M : Type 1} → statement M
-unfolding code_of number_in isNamed place
-number-spec =
+pub number_spec : {M : Type 1} → statement M
+unfolding code_of number_in is_named place
+number_spec =
     tie.close
     (tie.spec
     (λ c. search rules)

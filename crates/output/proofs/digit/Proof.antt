@@ -13,8 +13,8 @@ returns-2 : tie.Need-returns-2
 unfolding figure
 returns-2 c = simp (le-ltb c.before.args.value 10 c.if1.false)
 
-pub digit-spec : {M : Type 1} → statement M
-digit-spec =
+pub digit_spec : {M : Type 1} → statement M
+digit_spec =
     tie.close
     (tie.spec
     (λ c. search rules)

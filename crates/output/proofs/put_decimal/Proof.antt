@@ -11,8 +11,8 @@ put-figures-requires c κs = let e = decimal-figures c.before.before.before.args
 returns : tie.Need-returns
 returns c = let e = decimal-figures c.before.before.before.before.before.before.args.n c.before.before.before.before.digits.result (omega arith) c.before.before.before.before.digits.ensures in rw e at c.before.before.put-figures.ensures
 
-pub put-decimal-spec : {M : Type 1} → statement M
-put-decimal-spec =
+pub put_decimal_spec : {M : Type 1} → statement M
+put_decimal_spec =
     tie.close
     (tie.spec
     (λ c κs. search rules)

@@ -6,7 +6,7 @@ use native.Mathlib.Nat.{mod-lt}
 use lib.ListN.{length, length-set}
 use lib.Seq.{sets}
 use Rattle.output.specs.Decimal.{figures, figures-length}
-use Rattle.output.proofs.Laws.{figures-turn, figures-done}
+use Rattle.output.proofs.Laws.{figures_turn, figures-done}
 use Rattle.output.proofs.put_figures.Statement.{statement}
 use Rattle.output.proofs.put_figures.Tie as tie
 
@@ -29,7 +29,7 @@ slice-write-output : tie.Need-slice-write-output invariant-loop decreases-loop
 slice-write-output c = omega (arith, c.before.before.before.before.requires.1.1.fits, figures-length c.before.before.before.before.args.base c.before.before.before.before.args.count c.before.before.before.before.args.n, c.before.before.loop.invariant.1, c.before.before.loop.invariant.2)
 
 loop-again : tie.Need-loop-preserved invariant-loop decreases-loop
-loop-again c = (figures-turn c.before.before.loop.output _ c.before.before.before.before.args.at c.before.before.before.before.args.base c.before.before.loop.places c.before.before.loop.rest _ c.before.loop-test.true c.digit.ensures refl ∙ c.before.before.loop.invariant.0, omega arith, length-set c.before.before.loop.output (c.before.before.before.before.args.at + (c.before.before.loop.places - 1)) _ ∙ c.before.before.loop.invariant.2)
+loop-again c = (figures_turn c.before.before.loop.output _ c.before.before.before.before.args.at c.before.before.before.before.args.base c.before.before.loop.places c.before.before.loop.rest _ c.before.loop-test.true c.digit.ensures refl ∙ c.before.before.loop.invariant.0, omega arith, length-set c.before.before.loop.output (c.before.before.before.before.args.at + (c.before.before.loop.places - 1)) _ ∙ c.before.before.loop.invariant.2)
 
 add-result : tie.Need-overflow-add-result invariant-loop decreases-loop
 add-result c = omega (arith, c.before.before.before.requires.1.1.fits, figures-length c.before.before.before.args.base c.before.before.before.args.count c.before.before.before.args.n)
@@ -40,8 +40,8 @@ same_length c = c.before.loop.invariant.2
 returns : tie.Need-returns invariant-loop decreases-loop
 returns c = figures-done c.before.before.before.args.output.now c.before.loop.output c.before.before.before.args.at c.before.before.before.args.base c.before.loop.places c.before.loop.rest c.before.before.before.args.count c.before.before.before.args.n c.loop-test.false c.before.loop.invariant.0
 
-pub put-figures-spec : {M : Type 1} → statement M
-put-figures-spec =
+pub put_figures_spec : {M : Type 1} → statement M
+put_figures_spec =
     tie.close
     (tie.spec
     invariant-loop

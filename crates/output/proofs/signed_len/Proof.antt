@@ -18,7 +18,7 @@ add-result c = omega (arith, c.digits2.ensures, decimal-short (0xFFFFFFFFFFFFFFF
 returns-2 : tie.Need-returns-2
 returns-2 c = omega (arith, c.digits2.ensures, ap length (signed_high c.before.before.args.bits (omega (arith, c.before.if1.false)) (omega arith)))
 
-pub signed-len-spec : {M : Type 1} → statement M
-signed-len-spec =
+pub signed_len_spec : {M : Type 1} → statement M
+signed_len_spec =
     tie.close
     (tie.spec (λ c κs. search rules) returns (λ c. search rules) (λ c. search rules) (λ c κs. search rules) add-result returns-2)

@@ -5,17 +5,17 @@ use Rattle.probe.proofs.string.Tie as tie
 use borrow.Author.Rules.{rules}
 use mathlib.Core.Path.{sym, ap, ◌∙◌}
 use native.Mathlib.Omega.{arith}
-use Rattle.text.specs.Text.{quotedSays}
-use Rattle.text.specs.Answers.{quoted-escaped}
+use Rattle.text.specs.Text.{quoted_says}
+use Rattle.text.specs.Answers.{quoted_escaped}
 
 unescape-string-requires : tie.Need-unescape-string-requires
 unescape-string-requires c κs =
     let l = c.before.before.before.before.before.before.before.before.args.line.now in
-    let h = quoted-escaped l c.before.before.before.len.given.0.0 (sym (ap (quotedSays l) c.before.before.before.len.given.1) ∙ c.before.before.before.before.before.string_len.ensures) in
+    let h = quoted_escaped l c.before.before.before.len.given.0.0 (sym (ap (quoted_says l) c.before.before.before.len.given.1) ∙ c.before.before.before.before.before.string_len.ensures) in
     record { is = h.0; fits = omega (arith, h.1) }
 
-pub string-spec : {M : Type 1} → statement M
-string-spec =
+pub string_spec : {M : Type 1} → statement M
+string_spec =
     tie.close
     (tie.spec
     (λ c κs. search rules) (λ c. search rules) (λ c κs. search rules) (λ c. search rules) (λ c. search rules) (λ c. search rules) (λ c. search rules)

@@ -5,16 +5,16 @@ use Rattle.probe.proofs.unicode.Tie as tie
 use borrow.Author.Rules.{rules}
 use mathlib.Core.Path.{sym, ap, ◌∙◌}
 use native.Mathlib.Omega.{arith}
-use Rattle.text.specs.Text.{decodedSays, unescapeUnicode}
-use Rattle.text.specs.Answers.{decoded-len}
+use Rattle.text.specs.Text.{decoded_says, unescape_unicode}
+use Rattle.text.specs.Answers.{decoded_len}
 
 unescape-unicode-requires : tie.Need-unescape-unicode-requires
 unescape-unicode-requires c κs =
-    let h = decoded-len (unescapeUnicode c.before.before.before.before.before.before.before.before.args.line.now) c.before.before.before.len.given.0.0 (sym (ap decodedSays c.before.before.before.len.given.1) ∙ c.before.before.before.before.before.unicode-len.ensures) in
+    let h = decoded_len (unescape_unicode c.before.before.before.before.before.before.before.before.args.line.now) c.before.before.before.len.given.0.0 (sym (ap decoded_says c.before.before.before.len.given.1) ∙ c.before.before.before.before.before.unicode_len.ensures) in
     record { is = h.0; fits = omega (arith, h.1) }
 
-pub unicode-spec : {M : Type 1} → statement M
-unicode-spec =
+pub unicode_spec : {M : Type 1} → statement M
+unicode_spec =
     tie.close
     (tie.spec
     (λ c κs. search rules) (λ c. search rules) (λ c κs. search rules) (λ c. search rules) unescape-unicode-requires (λ c κs. search rules)

@@ -7,8 +7,8 @@ use Rattle.machine.specs.Ran.{made-long}
 run-requires : tie.Need-run-requires
 run-requires c κs = made-long _ c.before.before.before.before.before.before.before.if1.false
 
-pub probe-machine-spec : {M : Type 1} → statement M
-probe-machine-spec =
+pub probe_machine_spec : {M : Type 1} → statement M
+probe_machine_spec =
     tie.close
     (tie.spec
     (λ c κs. search rules) (λ c. search rules) (λ c. search rules) (λ c. search rules) (λ c. search rules) (λ c. search rules) (λ c. search rules)

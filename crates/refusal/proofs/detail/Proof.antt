@@ -3,8 +3,8 @@ use borrow.Author.Rules.{rules}
 use Rattle.refusal.proofs.detail.Statement.{statement}
 use Rattle.refusal.proofs.detail.Tie as tie
 
-pub detail-spec : {M : Type 1} → statement M
-detail-spec =
+pub detail_spec : {M : Type 1} → statement M
+detail_spec =
     tie.close
     (tie.spec
     (λ c. search rules)

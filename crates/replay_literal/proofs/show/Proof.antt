@@ -9,8 +9,8 @@ use lib.ListN.{length-take}
 slice-aggregate-show-text : tie.Need-slice-aggregate-show-text
 slice-aggregate-show-text c = simp length-take (omega arith)
 
-pub show-spec : {M : Type 1} → statement M
-show-spec =
+pub show_spec : {M : Type 1} → statement M
+show_spec =
     tie.close
     (tie.spec
     (λ c κs. search rules) (λ c. search rules) (λ c κs. search rules) (λ c κs. search rules) (λ c κs. search rules) (λ c κs. search rules)

@@ -12,8 +12,8 @@ invariant-loop text i₀ i = i ≤ length text
 abbrev decreases-loop : tie.decreases-loop
 decreases-loop text i₀ i = length text - i
 
-pub show-text-spec : {M : Type 1} → statement M
-show-text-spec =
+pub show_text_spec : {M : Type 1} → statement M
+show_text_spec =
     tie.close
     (tie.spec
     invariant-loop

@@ -7,8 +7,8 @@ use Rattle.machine.specs.Ran.{made-long}
 show-requires : tie.Need-show-requires
 show-requires c κs = made-long _ c.before.before.before.before.before.before.before.before.requires
 
-pub in-rooms-spec : {M : Type 1} → statement M
-in-rooms-spec =
+pub in_rooms_spec : {M : Type 1} → statement M
+in_rooms_spec =
     tie.close
     (tie.spec
     (λ c. search rules)

@@ -15,8 +15,8 @@ decreases-loop numbers n i₀ i = length numbers - i
 cast-print-hex : tie.Need-overflow-cast-print-hex invariant-loop decreases-loop
 cast-print-hex c = omega (arith, c.shared-slice-known2.given c.before.before.before.loop.i)
 
-pub show-numbers-spec : {M : Type 1} → statement M
-show-numbers-spec =
+pub show_numbers_spec : {M : Type 1} → statement M
+show_numbers_spec =
     tie.close
     (tie.spec
     invariant-loop decreases-loop (λ c. search rules) (λ c. search rules) (λ c. search rules) (λ c. search rules) cast-print-hex (λ c κs. search rules)

@@ -11,8 +11,8 @@ invariant-loop words n i₀ i = i ≤ length words
 abbrev decreases-loop : tie.decreases-loop
 decreases-loop words n i₀ i = length words - i
 
-pub show-words-spec : {M : Type 1} → statement M
-show-words-spec =
+pub show_words_spec : {M : Type 1} → statement M
+show_words_spec =
     tie.close
     (tie.spec
     invariant-loop decreases-loop (λ c. search rules) (λ c. search rules) (λ c. search rules) (λ c. search rules) (λ c κs. search rules) (λ c. search rules)

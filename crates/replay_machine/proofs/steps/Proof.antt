@@ -10,7 +10,7 @@ use Rattle.store.specs.Rooms.{LentAs, Rooms}
 use Rattle.store.specs.Effects.{Sound}
 use Rattle.machine.specs.declared.effects.Step.{Step}
 use Rattle.machine.specs.RoomsOf.{rooms_of, lent_of}
-use Rattle.machine.specs.Ran.{Stepped, StepTaken, AsLong, lent-sound, step-sound, step-further}
+use Rattle.machine.specs.Ran.{Stepped, StepTaken, AsLong, lent_sound, step_sound, step_further}
 use Rattle.replay_machine.specs.Shown.{shown}
 
 abbrev invariant-loop : tie.invariant-loop
@@ -55,7 +55,7 @@ module _ (s : tie.After-take-step invariant-loop decreases-loop) where
   took t is = subst (λ (x : Step). Stepped Full x head.loop.c had left) is (s.take_step.ensures _ head.loop.inv.0)
 
 loop-holds : tie.Need-loop-init invariant-loop decreases-loop
-loop-holds c = (lent-sound _ _ _ _ _ _ _ _ (start c).requires, record { nodes = refl; owners = refl; children = refl; stack = refl; marks = refl; keys = refl; held = refl })
+loop-holds c = (lent_sound _ _ _ _ _ _ _ _ (start c).requires, record { nodes = refl; owners = refl; children = refl; stack = refl; marks = refl; keys = refl; held = refl })
 
 show-step-requires : tie.Need-show-step-requires invariant-loop decreases-loop
 show-step-requires c κs = shown _ _ c.loop.invariant.0
@@ -64,13 +64,13 @@ take-step-requires : tie.Need-take-step-requires invariant-loop decreases-loop
 take-step-requires c κs = record { lent = _; sound = c.before.before.before.before.before.before.before.before.loop.invariant.0 }
 
 loop-less : tie.Need-loop-smaller invariant-loop decreases-loop
-loop-less c = let s = stepped c.before.before.before in step-further _ _ _ _ (head s).loop.inv.0 _ (took s _ c.before.t.given.1) refl
+loop-less c = let s = stepped c.before.before.before in step_further _ _ _ _ (head s).loop.inv.0 _ (took s _ c.before.t.given.1) refl
 
 loop-again : tie.Need-loop-preserved invariant-loop decreases-loop
-loop-again c = let s = stepped c.before.before.before in (step-sound _ _ _ _ (head s).loop.inv.0 _ (took s _ c.before.t.given.1), lengths s)
+loop-again c = let s = stepped c.before.before.before in (step_sound _ _ _ _ (head s).loop.inv.0 _ (took s _ c.before.t.given.1), lengths s)
 
-pub steps-spec : {M : Type 1} → statement M
-steps-spec =
+pub steps_spec : {M : Type 1} → statement M
+steps_spec =
     tie.close
     (tie.spec
     invariant-loop decreases-loop loop-holds show-step-requires take-step-requires (λ c. search rules) loop-less loop-again (λ c. search rules)

@@ -12,8 +12,8 @@ invariant-loop room₀ i₀ room i = (i ≤ 1000000) × (length room ≡ length 
 abbrev decreases-loop : tie.decreases-loop
 decreases-loop room₀ i₀ room i = 1000000 - i
 
-pub all-spec : {M : Type 1} → statement M
-all-spec =
+pub all_spec : {M : Type 1} → statement M
+all_spec =
     tie.close
     (tie.spec
     invariant-loop

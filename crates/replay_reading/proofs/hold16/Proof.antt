@@ -5,8 +5,8 @@ use lib.ListN.{length}
 use Rattle.replay_reading.proofs.hold16.Statement.{statement}
 use Rattle.replay_reading.proofs.hold16.Tie as tie
 
-pub hold16-spec : {M : Type 1} → statement M
-hold16-spec =
+pub hold16_spec : {M : Type 1} → statement M
+hold16_spec =
     tie.close
     (tie.spec (λ room from value i₀ i. from ≤ i) (λ room from value i₀ i. length room - i)
     (λ c. search rules) (λ c. search rules) (λ c. search rules) (λ c κs. search rules) (λ c. search rules)

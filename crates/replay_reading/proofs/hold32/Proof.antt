@@ -5,8 +5,8 @@ use lib.ListN.{length}
 use Rattle.replay_reading.proofs.hold32.Statement.{statement}
 use Rattle.replay_reading.proofs.hold32.Tie as tie
 
-pub hold32-spec : {M : Type 1} → statement M
-hold32-spec =
+pub hold32_spec : {M : Type 1} → statement M
+hold32_spec =
     tie.close
     (tie.spec (λ room from value i₀ i. from ≤ i) (λ room from value i₀ i. length room - i)
     (λ c. search rules) (λ c. search rules) (λ c. search rules) (λ c κs. search rules) (λ c. search rules)

@@ -5,8 +5,8 @@ use lib.ListN.{length}
 use Rattle.replay_reading.proofs.hold8.Statement.{statement}
 use Rattle.replay_reading.proofs.hold8.Tie as tie
 
-pub hold8-spec : {M : Type 1} → statement M
-hold8-spec =
+pub hold8_spec : {M : Type 1} → statement M
+hold8_spec =
     tie.close
     (tie.spec (λ room from value i₀ i. from ≤ i) (λ room from value i₀ i. length room - i)
     (λ c. search rules) (λ c. search rules) (λ c κs. search rules) (λ c. search rules) (λ c. search rules)

@@ -43,8 +43,8 @@ slice-aggregate-hold16-7 c = sym c.before.before.before.before.before.before.bef
 slice-aggregate-hold64-2 : tie.Need-slice-aggregate-hold64-2
 slice-aggregate-hold64-2 c = sym c.before.before.before.before.before.before.before.before.before.before.before.before.before.before.before.before.before.before.before.before.before.before.before.before.before.before.before.before.before.before.before.before.before.before.before.before.before.reading.auto.1.1.1.1.1.1.1.1.1.1.1.1.1.0
 
-pub replay-spec : {M : Type 1} → statement M
-replay-spec =
+pub replay_spec : {M : Type 1} → statement M
+replay_spec =
     tie.close
     (tie.spec
     (λ c. search rules) (λ c. search rules) (λ c. search rules) (λ c. search rules) (λ c. search rules) (λ c. search rules) (λ c. search rules)

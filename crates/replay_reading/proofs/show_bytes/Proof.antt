@@ -5,8 +5,8 @@ use lib.ListN.{length}
 use Rattle.replay_reading.proofs.show_bytes.Statement.{statement}
 use Rattle.replay_reading.proofs.show_bytes.Tie as tie
 
-pub show-bytes-spec : {M : Type 1} → statement M
-show-bytes-spec =
+pub show_bytes_spec : {M : Type 1} → statement M
+show_bytes_spec =
     tie.close
     (tie.spec (λ bytes n i₀ i. i ≤ length bytes) (λ bytes n i₀ i. length bytes - i)
     (λ c. search rules) (λ c. search rules) (λ c. search rules) (λ c κs. search rules) (λ c κs. search rules)

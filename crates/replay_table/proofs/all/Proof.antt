@@ -12,8 +12,8 @@ invariant-loop bytes₀ first₀ second₀ output₀ counter₀ bytes first seco
 abbrev decreases-loop : tie.decreases-loop
 decreases-loop bytes₀ first₀ second₀ output₀ counter₀ bytes first second output counter = 1000000 - counter
 
-pub all-spec : {M : Type 1} → statement M
-all-spec =
+pub all_spec : {M : Type 1} → statement M
+all_spec =
     tie.close
     (tie.spec
     invariant-loop decreases-loop (λ c. search rules) (λ c κs. search rules) (λ c. search rules) (λ c. search rules) (λ c. search rules) (λ c. search rules)

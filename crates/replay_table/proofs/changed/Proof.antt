@@ -16,8 +16,8 @@ decreases-loop output from n₀ i₀ n i = length output - i
 loop-again : tie.Need-loop-preserved invariant-loop decreases-loop
 loop-again c = ⊎_elim (λ w. omega arith) (λ w. omega arith) c.if1.branch
 
-pub changed-spec : {M : Type 1} → statement M
-changed-spec =
+pub changed_spec : {M : Type 1} → statement M
+changed_spec =
     tie.close
     (tie.spec
     invariant-loop decreases-loop (λ c. search rules) (λ c. search rules) (λ c. search rules) (λ c. search rules) (λ c. search rules) loop-again (λ c. search rules))

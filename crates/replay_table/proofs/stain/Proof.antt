@@ -22,5 +22,5 @@ loop-less c = simp length-set (omega arith)
 loop-again : tie.Need-loop-preserved invariant-loop decreases-loop
 loop-again c = simp length-set (omega arith, omega arith)
 
-pub stain-spec : {M : Type 1} → statement M
-stain-spec = tie.close (tie.spec invariant-loop decreases-loop loop-holds (λ c. search rules) (λ c. search rules) loop-less loop-again (λ c. search rules) (λ c. search rules))
+pub stain_spec : {M : Type 1} → statement M
+stain_spec = tie.close (tie.spec invariant-loop decreases-loop loop-holds (λ c. search rules) (λ c. search rules) loop-less loop-again (λ c. search rules) (λ c. search rules))

@@ -29,10 +29,10 @@ use Rattle.resolve.specs.declared.Seen.TheVariants as seen
 use Rattle.resolve.specs.declared.WalkAnswer.{WalkAnswer}
 use Rattle.resolve.specs.declared.WalkAnswer.TheVariants as answer
 use Rattle.resolve.specs.Class.{Owns}
-use Rattle.resolve.specs.MeasureWord.{packW, deepW, valuesW, textsW}
-use Rattle.resolve.specs.Loop.{LoopBegins, Midway, mid_start, mid-room}
+use Rattle.resolve.specs.MeasureWord.{pack_w, deep_w, values_w, texts_w}
+use Rattle.resolve.specs.Loop.{LoopBegins, Midway, mid_start, mid_room}
 use Rattle.resolve.specs.Walk.{walk}
-use Rattle.resolve.specs.Ends.{Opens, WalkEnds, Walks, open_free, moved, own-len, open-words, open-starts, open-measured, open-owned, enter, ends-blocked, ends-too, ends-done, known-deep, known-word, known-empty, known-open, walk-deep, walk-word, walk-empty, child-at, open-end, open-first, arms-meet}
+use Rattle.resolve.specs.Ends.{Opens, WalkEnds, Walks, open_free, moved, own_len, open_words, open_starts, open_measured, open_owned, enter, ends_blocked, ends_too, ends_done, known_deep, known_word, known_empty, known_open, walk-deep, walk-word, walk_empty, child_at, open_end, open_first, arms_meet}
 
 abbrev μ : Measures 6 kinds.ps ℕ
 μ κs a = a.1.0
@@ -73,41 +73,41 @@ module _ {p ws starts measures sorted room : List ℕ} {n levels : ℕ} {after :
     into = enter moves
 
     -- the child is a node, and its measure is in the room
-    child-node : (get_or ss i 0 < length o.nodes) × (get_or ss i 0 < length ms)
-    child-node = let e = child-at into (levels - 1) (T.midway into) T.child in (e, omega (arith, e, (T.midway into).holds.fits.noted.long))
+    child_node : (get_or ss i 0 < length o.nodes) × (get_or ss i 0 < length ms)
+    child_node = let e = child_at into (levels - 1) (T.midway into) T.child in (e, omega (arith, e, (T.midway into).holds.fits.noted.long))
 
   -- the turn is done: d is the depth so far, and the sums go by the word w
   record Done (ms' ss' rs' : List ℕ) (w d : ℕ) : Type 0 where
-    sorted-long : length ss' ≡ length ss
+    sorted_long : length ss' ≡ length ss
     dues-long : length rs' ≡ length rs
-    measures-long : length ms' ≡ length ms
-    next : (I : LoopBegins p ws starts (set after n 1) sorted room n) → Midway I (levels - 1) len ms' ss' rs' d (values + valuesW w) (texts + textsW w) (i + 1)
+    measures_long : length ms' ≡ length ms
+    next : (I : LoopBegins p ws starts (set after n 1) sorted room n) → Midway I (levels - 1) len ms' ss' rs' d (values + values_w w) (texts + texts_w w) (i + 1)
 
   -- what is learnt of the child, for which a level is left
   module _ (left : (1 ≤ levels - 1) × (levels - 1 ≤ 64)) (ms₁ : List ℕ) (a : Seen) (learns : Learns p ws ms ms₁ (get_or ss i 0) a) where
-    learns-as : (b : Seen) → a ≡ b → Learns p ws ms ms₁ (get_or ss i 0) b
-    learns-as b e = subst (Learns p ws ms ms₁ (get_or ss i 0)) e learns
+    learns_as : (b : Seen) → a ≡ b → Learns p ws ms ms₁ (get_or ss i 0) b
+    learns_as b e = subst (Learns p ws ms ms₁ (get_or ss i 0)) e learns
 
-    to-walk : a ≡ seen.Open → Opens p ws starts measures sorted room n → Opens p ws starts ms₁ ss rs (get_or ss i 0)
-    to-walk e o = known-open (into o) (levels - 1) left (T.midway (into o)) T.child ms₁ (learns-as seen.Open e)
+    to_walk : a ≡ seen.Open → Opens p ws starts measures sorted room n → Opens p ws starts ms₁ ss rs (get_or ss i 0)
+    to_walk e o = known_open (into o) (levels - 1) left (T.midway (into o)) T.child ms₁ (learns_as seen.Open e)
 
-    module _ (kept : length ms₁ ≡ length ms) (ms' ss' rs' : List ℕ) (w d : ℕ) (most : d ≡ max deepest (deepW w)) where
-      word-known : (v : ℕ) → a ≡ seen.Word v → deepW v < levels → ss' ≡ ss → ms' ≡ ms₁ → rs' ≡ rs → w ≡ v → Done ms' ss' rs' w d
-      word-known v e l f g k x =
+    module _ (kept : length ms₁ ≡ length ms) (ms' ss' rs' : List ℕ) (w d : ℕ) (most : d ≡ max deepest (deep_w w)) where
+      word_known : (v : ℕ) → a ≡ seen.Word v → deep_w v < levels → ss' ≡ ss → ms' ≡ ms₁ → rs' ≡ rs → w ≡ v → Done ms' ss' rs' w d
+      word_known v e l f g k x =
           record {
-            sorted-long = ap length f;
+            sorted_long = ap length f;
             dues-long = ap length k;
-            measures-long = ap length g ∙ kept;
-            next = λ I. arms-meet I _ _ _ _ _ _ _ _ _ _ _ _ _ _ _ g f k x most (known-word I (levels - 1) left (T.midway I) T.child ms₁ v (learns-as (seen.Word v) e) (omega arith));
+            measures_long = ap length g ∙ kept;
+            next = λ I. arms_meet I _ _ _ _ _ _ _ _ _ _ _ _ _ _ _ g f k x most (known_word I (levels - 1) left (T.midway I) T.child ms₁ v (learns_as (seen.Word v) e) (omega arith));
           }
 
-      empty-known : a ≡ seen.Empty → ss' ≡ set ss i 4096 → ms' ≡ ms₁ → rs' ≡ rs → w ≡ 129 → Done ms' ss' rs' w d
-      empty-known e f g k x =
+      empty_known : a ≡ seen.Empty → ss' ≡ set ss i 4096 → ms' ≡ ms₁ → rs' ≡ rs → w ≡ 129 → Done ms' ss' rs' w d
+      empty_known e f g k x =
           record {
-            sorted-long = ap length f ∙ simp length-set;
+            sorted_long = ap length f ∙ simp length-set;
             dues-long = ap length k;
-            measures-long = ap length g ∙ kept;
-            next = λ I. arms-meet I _ _ _ _ _ _ _ _ _ _ _ _ _ _ _ g f k x most (known-empty I (levels - 1) left (T.midway I) T.child ms₁ (learns-as seen.Empty e));
+            measures_long = ap length g ∙ kept;
+            next = λ I. arms_meet I _ _ _ _ _ _ _ _ _ _ _ _ _ _ _ g f k x most (known_empty I (levels - 1) left (T.midway I) T.child ms₁ (learns_as seen.Empty e));
           }
 
       -- the child is walked
@@ -119,19 +119,19 @@ module _ {p ws starts measures sorted room : List ℕ} {n levels : ℕ} {after :
         word-walked : (v : ℕ) → r ≡ answer.Word v → ss' ≡ ss₂ → ms' ≡ ms₂ → rs' ≡ rs₂ → w ≡ v → Done ms' ss' rs' w d
         word-walked v q f g k x =
             record {
-              sorted-long = ap length f ∙ kept-ss;
+              sorted_long = ap length f ∙ kept-ss;
               dues-long = ap length k ∙ kept-rs;
-              measures-long = ap length g ∙ kept-ms ∙ kept;
-              next = λ I. arms-meet I _ _ _ _ _ _ _ _ _ _ _ _ _ _ _ g f k x most (walk-word I (levels - 1) left (T.midway I) T.child ms₁ (learns-as seen.Open fresh) ms₂ ss₂ rs₂ v (walked (answer.Word v) q));
+              measures_long = ap length g ∙ kept-ms ∙ kept;
+              next = λ I. arms_meet I _ _ _ _ _ _ _ _ _ _ _ _ _ _ _ g f k x most (walk-word I (levels - 1) left (T.midway I) T.child ms₁ (learns_as seen.Open fresh) ms₂ ss₂ rs₂ v (walked (answer.Word v) q));
             }
 
         empty_walked : r ≡ answer.Empty → ss' ≡ set ss₂ i 4096 → ms' ≡ ms₂ → rs' ≡ rs₂ → w ≡ 129 → Done ms' ss' rs' w d
         empty_walked q f g k x =
             record {
-              sorted-long = ap length f ∙ simp length-set kept-ss;
+              sorted_long = ap length f ∙ simp length-set kept-ss;
               dues-long = ap length k ∙ kept-rs;
-              measures-long = ap length g ∙ kept-ms ∙ kept;
-              next = λ I. arms-meet I _ _ _ _ _ _ _ _ _ _ _ _ _ _ _ g f k x most (walk-empty I (levels - 1) left (T.midway I) T.child ms₁ (learns-as seen.Open fresh) ms₂ ss₂ rs₂ (walked answer.Empty q));
+              measures_long = ap length g ∙ kept-ms ∙ kept;
+              next = λ I. arms_meet I _ _ _ _ _ _ _ _ _ _ _ _ _ _ _ g f k x most (walk_empty I (levels - 1) left (T.midway I) T.child ms₁ (learns_as seen.Open fresh) ms₂ ss₂ rs₂ (walked answer.Empty q));
             }
 
   -- the child is too deep
@@ -140,35 +140,35 @@ module _ {p ws starts measures sorted room : List ℕ} {n levels : ℕ} {after :
     Deep = WalkEnds o.nodes o.facts.beyond starts o.lent levels n (walk o.nodes 4096 levels n o.state) ms' ss' rs' answer.TooDeep
 
     level_out : levels ≡ 1 → Deep
-    level_out e = ends-too (moves o) levels T.level free (T.midway (into o)) ms' ss' rs' T.child (omega arith)
+    level_out e = ends_too (moves o) levels T.level free (T.midway (into o)) ms' ss' rs' T.child (omega arith)
 
     module _ (left : (1 ≤ levels - 1) × (levels - 1 ≤ 64)) (ms₁ : List ℕ) (a : Seen) (learns : Learns p ws ms ms₁ (get_or ss i 0) a) where
-      word-deep : (v : ℕ) → a ≡ seen.Word v → levels ≤ deepW v → Deep
+      word-deep : (v : ℕ) → a ≡ seen.Word v → levels ≤ deep_w v → Deep
       word-deep v e l =
-          let w = known-deep (into o) (levels - 1) left (T.midway (into o)) T.child ms₁ v (learns-as left ms₁ a learns (seen.Word v) e) in
-          ends-too (moves o) levels T.level free (T.midway (into o)) ms' ss' rs' T.child (omega (arith, w))
+          let w = known_deep (into o) (levels - 1) left (T.midway (into o)) T.child ms₁ v (learns_as left ms₁ a learns (seen.Word v) e) in
+          ends_too (moves o) levels T.level free (T.midway (into o)) ms' ss' rs' T.child (omega (arith, w))
 
-      walk-too : (ms₂ ss₂ rs₂ : List ℕ) (r : WalkAnswer) → Walks p ws starts (levels - 1) (get_or ss i 0) ms₁ ss rs ms₂ ss₂ rs₂ r → a ≡ seen.Open → r ≡ answer.TooDeep → Deep
-      walk-too ms₂ ss₂ rs₂ r b e q =
-          let w = walk-deep (into o) (levels - 1) left (T.midway (into o)) T.child ms₁ (learns-as left ms₁ a learns seen.Open e) ms₂ ss₂ rs₂ (subst (Walks p ws starts (levels - 1) (get_or ss i 0) ms₁ ss rs ms₂ ss₂ rs₂) q b) in
-          ends-too (moves o) levels T.level free (T.midway (into o)) ms' ss' rs' T.child (omega (arith, w, left))
+      walk_too : (ms₂ ss₂ rs₂ : List ℕ) (r : WalkAnswer) → Walks p ws starts (levels - 1) (get_or ss i 0) ms₁ ss rs ms₂ ss₂ rs₂ r → a ≡ seen.Open → r ≡ answer.TooDeep → Deep
+      walk_too ms₂ ss₂ rs₂ r b e q =
+          let w = walk-deep (into o) (levels - 1) left (T.midway (into o)) T.child ms₁ (learns_as left ms₁ a learns seen.Open e) ms₂ ss₂ rs₂ (subst (Walks p ws starts (levels - 1) (get_or ss i 0) ms₁ ss rs ms₂ ss₂ rs₂) q b) in
+          ends_too (moves o) levels T.level free (T.midway (into o)) ms' ss' rs' T.child (omega (arith, w, left))
 
 -- the sums so far stay small: w is a word, of which x and y are the higher parts
 sums : (values x texts y i deepest w d : ℕ) → values ≤ 1 + 4096 * i → texts ≤ 131072 * (i + 1) → deepest ≤ 127 → d ≡ max deepest (w % 128)
     → (values + x % 4096 ≤ 1 + 4096 * (i + 1)) × (texts + y % 131072 ≤ 131072 * (i + 1 + 1)) × (d ≤ 127)
 sums values x texts y i deepest w d a b e f = (omega arith, omega arith, omega arith)
 
-fits-values : (values x i end : ℕ) → values ≤ 1 + 4096 * i → i < end → end < 65536 → Fits w64 (values + x % 4096)
-fits-values values x i end a b e = omega arith
+fits_values : (values x i end : ℕ) → values ≤ 1 + 4096 * i → i < end → end < 65536 → Fits w64 (values + x % 4096)
+fits_values values x i end a b e = omega arith
 
-fits-texts : (texts x i end : ℕ) → texts ≤ 131072 * (i + 1) → i < end → end < 65536 → Fits w64 (texts + x % 131072)
-fits-texts texts x i end a b e = omega arith
+fits_texts : (texts x i end : ℕ) → texts ≤ 131072 * (i + 1) → i < end → end < 65536 → Fits w64 (texts + x % 131072)
+fits_texts texts x i end a b e = omega arith
 
 fits_next : (i end : ℕ) → i < end → end < 65536 → Fits w64 (i + 1)
 fits_next i end a b = omega arith
 
-falls-by-one : (i end : ℕ) → i < end → end - (i + 1) < end - i
-falls-by-one i end a = omega arith
+falls_by_one : (i end : ℕ) → i < end → end - (i + 1) < end - i
+falls_by_one i end a = omega arith
 
 module _ (t : ℕ) where
   -- ---- the places that the needs look back to
@@ -241,8 +241,8 @@ module _ (t : ℕ) where
   few : (c : Head) → end (begin c) < 65536
   few c = let a = (texted c).before.before.before.before.before.before in omega (arith, a.shared-slice-known6.given ((start (rooms (texted c))).args.node.0 + 1))
 
-  measures-long : (c : Head) → length c.loop.measures ≡ length (begin c).args.measures.now
-  measures-long c = c.loop.invariant.2 ∙ simp length-set (texted c).own-text-len.auto.1.1.1.1.0
+  measures_long : (c : Head) → length c.loop.measures ≡ length (begin c).args.measures.now
+  measures_long c = c.loop.invariant.2 ∙ simp length-set (texted c).own-text-len.auto.1.1.1.1.0
 
   -- the loop has come to a child
   turn : (c : lts.In-loop (calls t) (own t) reads.Post invariant-loop decreases-loop) → let h = c.before in let a = (begin h).args in let x = (texted h).own-text-len in
@@ -262,7 +262,7 @@ module _ (t : ℕ) where
   levels c = let l = (begin (head c)).pre.1.0 in (omega (arith, l, c.if2.false), omega (arith, l))
 
   -- where the arms of a turn meet
-  arms : (c : lts.After-row-known (calls t) (own t) reads.Post invariant-loop decreases-loop) (d : ℕ) → d ≡ max (head (deeper c.before.before.before.before)).loop.deepest (deepW c.before.match.w)
+  arms : (c : lts.After-row-known (calls t) (own t) reads.Post invariant-loop decreases-loop) (d : ℕ) → d ≡ max (head (deeper c.before.before.before.before)).loop.deepest (deep_w c.before.match.w)
       → let m = c.before.match in Done (turn (deeper c.before.before.before.before).before) m.measures m.sorted m.dues m.w d
   arms c deep most =
       let k = c.before.before.before.before in
@@ -270,8 +270,8 @@ module _ (t : ℕ) where
       let m = c.before.match in
       let T = turn d.before in
       let kept = k.known.auto.1.1.1.0 in
-      ⊎_elim (λ x. word-known T (levels d) (looked k) k.known.result (learns k) kept m.measures m.sorted m.dues m.w deep most x.1.given.0.0 x.1.given.1 x.3.left x.4 x.5 x.6 x.7)
-      (⊎_elim (λ x. empty-known T (levels d) (looked k) k.known.result (learns k) kept m.measures m.sorted m.dues m.w deep most x.1.given.1 x.2 x.3 x.4 x.5)
+      ⊎_elim (λ x. word_known T (levels d) (looked k) k.known.result (learns k) kept m.measures m.sorted m.dues m.w deep most x.1.given.0.0 x.1.given.1 x.3.left x.4 x.5 x.6 x.7)
+      (⊎_elim (λ x. empty_known T (levels d) (looked k) k.known.result (learns k) kept m.measures m.sorted m.dues m.w deep most x.1.given.1 x.2 x.3 x.4 x.5)
       (⊎_elim (λ x. let r = x.5 in let l = r.last.1.1.1 in let z = r.kept.1.1.1 in empty_walked T (levels d) (looked k) k.known.result (learns k) kept m.measures m.sorted m.dues m.w deep most l.1.1.1.0 l.0 l.1.1.1.1.0 r.result r.ensures x.1.given.1 z.1.1.1.0 z.0 z.1.1.1.1.0 x.13.given.1 x.14 x.15 x.16 x.17)
       (λ x. let r = x.5 in let l = r.last.1.1.1 in let z = r.kept.1.1.1 in word-walked T (levels d) (looked k) k.known.result (learns k) kept m.measures m.sorted m.dues m.w deep most l.1.1.1.0 l.0 l.1.1.1.1.0 r.result r.ensures x.1.given.1 z.1.1.1.0 z.0 z.1.1.1.1.0 x.13.given.0.0 x.13.given.1 x.15 x.16 x.17 x.18)))
       m.branch
@@ -279,67 +279,67 @@ module _ (t : ℕ) where
   -- ---- the needs
 
   mul-kind : lts.Need-overflow-mul-kind (calls t) (own t) reads.Post invariant-loop decreases-loop
-  mul-kind c = omega (arith, open-words (opens (start c)))
+  mul-kind c = omega (arith, open_words (opens (start c)))
 
   mul-kind-2 : lts.Need-overflow-mul-kind-2 (calls t) (own t) reads.Post invariant-loop decreases-loop
-  mul-kind-2 c = omega (arith, open-words (opens (start c)))
+  mul-kind-2 c = omega (arith, open_words (opens (start c)))
 
   shared-slice-read-kind : lts.Need-shared-slice-read-kind (calls t) (own t) reads.Post invariant-loop decreases-loop
-  shared-slice-read-kind c = omega (arith, open-words (opens (start c.before)))
+  shared-slice-read-kind c = omega (arith, open_words (opens (start c.before)))
 
   mul_at : lts.Need-overflow-mul-at (calls t) (own t) reads.Post invariant-loop decreases-loop
-  mul_at c = omega (arith, open-starts (opens (start c.before)))
+  mul_at c = omega (arith, open_starts (opens (start c.before)))
 
   shared-slice-read-at : lts.Need-shared-slice-read-at (calls t) (own t) reads.Post invariant-loop decreases-loop
-  shared-slice-read-at c = omega (arith, open-starts (opens (start c.before.before)))
+  shared-slice-read-at c = omega (arith, open_starts (opens (start c.before.before)))
 
   cast-at : lts.Need-overflow-cast-at (calls t) (own t) reads.Post invariant-loop decreases-loop
   cast-at c = omega (arith, c.shared-slice-known5.given (start c.before.before).args.node.0)
 
   add-end : lts.Need-overflow-add-end (calls t) (own t) reads.Post invariant-loop decreases-loop
-  add-end c = omega (arith, open-starts (opens (start c.before.before)))
+  add-end c = omega (arith, open_starts (opens (start c.before.before)))
 
   mul-end : lts.Need-overflow-mul-end (calls t) (own t) reads.Post invariant-loop decreases-loop
-  mul-end c = omega (arith, open-starts (opens (start c.before.before)))
+  mul-end c = omega (arith, open_starts (opens (start c.before.before)))
 
   shared-slice-read-end : lts.Need-shared-slice-read-end (calls t) (own t) reads.Post invariant-loop decreases-loop
-  shared-slice-read-end c = omega (arith, open-starts (opens (start c.before.before.before)))
+  shared-slice-read-end c = omega (arith, open_starts (opens (start c.before.before.before)))
 
   cast-end : lts.Need-overflow-cast-end (calls t) (own t) reads.Post invariant-loop decreases-loop
   cast-end c = omega (arith, c.shared-slice-known6.given ((start c.before.before.before).args.node.0 + 1))
 
   blocked-requires : lts.Need-blocked-requires (calls t) (own t) reads.Post invariant-loop decreases-loop
-  blocked-requires c κs = let f = opens (start c.before.before.before.before.before) in (open-end f, open-first f)
+  blocked-requires c κs = let f = opens (start c.before.before.before.before.before) in (open_end f, open_first f)
 
   mul-measures : lts.Need-overflow-mul-measures (calls t) (own t) reads.Post invariant-loop decreases-loop
-  mul-measures c = omega (arith, open-measured (opens (start c.before.before.before.before.before.before.before)))
+  mul-measures c = omega (arith, open_measured (opens (start c.before.before.before.before.before.before.before)))
 
   slice-write-measures : lts.Need-slice-write-measures (calls t) (own t) reads.Post invariant-loop decreases-loop
-  slice-write-measures c = omega (arith, open-measured (opens (start c.before.before.before.before.before.before.before)))
+  slice-write-measures c = omega (arith, open_measured (opens (start c.before.before.before.before.before.before.before)))
 
   returns : lts.Need-returns (calls t) (own t) reads.Post invariant-loop decreases-loop
   unfolding Walks
-  returns c o = ends-blocked o _ (start c.before.before.before.before.before.before.before).pre.1.0.0 c.before.blocked.ensures c.if1.true
+  returns c o = ends_blocked o _ (start c.before.before.before.before.before.before.before).pre.1.0.0 c.before.blocked.ensures c.if1.true
 
   own-text-len-requires : lts.Need-own-text-len-requires (calls t) (own t) reads.Post invariant-loop decreases-loop
-  own-text-len-requires c κs = open-owned (opens (start c.before.before.before.before.before.before.before.before))
+  own-text-len-requires c κs = open_owned (opens (start c.before.before.before.before.before.before.before.before))
 
   mul-measures-2 : lts.Need-overflow-mul-measures-2 (calls t) (own t) reads.Post invariant-loop decreases-loop
-  mul-measures-2 c = omega (arith, open-measured (opens (start (rooms c.before.before))), c.before.before.own-text-len.auto.1.1.1.1.0)
+  mul-measures-2 c = omega (arith, open_measured (opens (start (rooms c.before.before))), c.before.before.own-text-len.auto.1.1.1.1.0)
 
   slice-write-measures-2 : lts.Need-slice-write-measures-2 (calls t) (own t) reads.Post invariant-loop decreases-loop
-  slice-write-measures-2 c = omega (arith, open-measured (opens (start (rooms c.before.before))), c.before.before.own-text-len.auto.1.1.1.1.0)
+  slice-write-measures-2 c = omega (arith, open_measured (opens (start (rooms c.before.before))), c.before.before.own-text-len.auto.1.1.1.1.0)
 
   loop-holds : lts.Need-loop-init (calls t) (own t) reads.Post invariant-loop decreases-loop
   loop-holds c =
       let x = c.before.before in
-      (refl, refl, refl, omega arith, omega (arith, own-len (opens (start (rooms x))) _ _ x.own-text-len.ensures), omega arith, λ I. mid_start I _ _)
+      (refl, refl, refl, omega arith, omega (arith, own_len (opens (start (rooms x))) _ _ x.own-text-len.ensures), omega arith, λ I. mid_start I _ _)
 
   same-length-3 : lts.Need-same-length-3 (calls t) (own t) reads.Post invariant-loop decreases-loop
   same-length-3 c = c.before.before.loop.invariant.0
 
   same-length-4 : lts.Need-same-length-4 (calls t) (own t) reads.Post invariant-loop decreases-loop
-  same-length-4 c = measures-long c.before.before
+  same-length-4 c = measures_long c.before.before
 
   same-length-5 : lts.Need-same-length-5 (calls t) (own t) reads.Post invariant-loop decreases-loop
   same-length-5 c = c.before.before.loop.invariant.1
@@ -349,10 +349,10 @@ module _ (t : ℕ) where
   returns-2 c o = level_out (turn c.before) o (free (texted c.before.before) o) _ _ _ c.if2.true
 
   mul-t40 : lts.Need-overflow-mul-t40 (calls t) (own t) reads.Post invariant-loop decreases-loop
-  mul-t40 c = omega (arith, open-end (opens (begin (head c))), c.before.loop-test.true, (head c).loop.invariant.0)
+  mul-t40 c = omega (arith, open_end (opens (begin (head c))), c.before.loop-test.true, (head c).loop.invariant.0)
 
   slice-read-t42 : lts.Need-slice-read-t42 (calls t) (own t) reads.Post invariant-loop decreases-loop
-  slice-read-t42 c = let d = c.before in omega (arith, open-end (opens (begin (head d))), d.before.loop-test.true, (head d).loop.invariant.0)
+  slice-read-t42 c = let d = c.before in omega (arith, open_end (opens (begin (head d))), d.before.loop-test.true, (head d).loop.invariant.0)
 
   cast-t43 : lts.Need-overflow-cast-t43 (calls t) (own t) reads.Post invariant-loop decreases-loop
   cast-t43 c = omega (arith, c.slice-known5.given (head c.before).loop.i)
@@ -361,14 +361,14 @@ module _ (t : ℕ) where
   known-requires c κs =
       let d = c.before.before in
       let o = opens (begin (head d)) in
-      let b = child-node (turn d.before) o in
+      let b = child_node (turn d.before) o in
       (o.facts.readable _ b.0, b.1)
 
   same-length-6 : lts.Need-same-length-6 (calls t) (own t) reads.Post invariant-loop decreases-loop
   same-length-6 c = (head (deeper c.before.before.before.before.before.before)).loop.inv.0
 
   same-length-7 : lts.Need-same-length-7 (calls t) (own t) reads.Post invariant-loop decreases-loop
-  same-length-7 c = let k = c.before.before.before.before.before.before in k.known.auto.1.1.1.0 ∙ measures-long (head (deeper k))
+  same-length-7 c = let k = c.before.before.before.before.before.before in k.known.auto.1.1.1.0 ∙ measures_long (head (deeper k))
 
   same-length-8 : lts.Need-same-length-8 (calls t) (own t) reads.Post invariant-loop decreases-loop
   same-length-8 c = (head (deeper c.before.before.before.before.before.before)).loop.inv.1
@@ -381,10 +381,10 @@ module _ (t : ℕ) where
       word-deep (turn d.before) o (free (texted (head d)) o) _ _ _ (levels d) (looked k) k.known.result (learns k) c.before.before.k.given.0.0 c.before.before.k.given.1 c.if3.true
 
   mul-sorted : lts.Need-overflow-mul-sorted (calls t) (own t) reads.Post invariant-loop decreases-loop
-  mul-sorted c = let d = deeper c.before.before.before.before in let h = head d in omega (arith, open-end (opens (begin h)), d.before.loop-test.taken, h.loop.inv.0, few h)
+  mul-sorted c = let d = deeper c.before.before.before.before in let h = head d in omega (arith, open_end (opens (begin h)), d.before.loop-test.taken, h.loop.inv.0, few h)
 
   slice-write-sorted : lts.Need-slice-write-sorted (calls t) (own t) reads.Post invariant-loop decreases-loop
-  slice-write-sorted c = let d = deeper c.before.before.before.before in let h = head d in omega (arith, open-end (opens (begin h)), d.before.loop-test.taken, h.loop.inv.0)
+  slice-write-sorted c = let d = deeper c.before.before.before.before in let h = head d in omega (arith, open_end (opens (begin h)), d.before.loop-test.taken, h.loop.inv.0)
 
   sub-measure : lts.Need-overflow-sub-measure (calls t) (own t) reads.Post invariant-loop decreases-loop
   sub-measure c = omega (arith, (begin (head (deeper c.before.before.before.before))).pre.1.0)
@@ -394,13 +394,13 @@ module _ (t : ℕ) where
       let k = c.before.before.before.before.before.before.before in
       let d = deeper k in
       let s = begin (head d) in
-      (omega (arith, s.pre.0, s.pre.1.0), (levels d, to-walk (turn d.before) (levels d) (looked k) k.known.result (learns k) c.before.before.before.enum-told2.given.1 (opens s)))
+      (omega (arith, s.pre.0, s.pre.1.0), (levels d, to_walk (turn d.before) (levels d) (looked k) k.known.result (learns k) c.before.before.before.enum-told2.given.1 (opens s)))
 
   same-length-9 : lts.Need-same-length-9 (calls t) (own t) reads.Post invariant-loop decreases-loop
   same-length-9 c = let m = measured c.before.before in m.measure.kept.1.1.1.0 ∙ (head (deeper (known m))).loop.inv.0
 
   same-length-10 : lts.Need-same-length-10 (calls t) (own t) reads.Post invariant-loop decreases-loop
-  same-length-10 c = let m = measured c.before.before in let k = known m in m.measure.kept.1.1.1.1.1.1.0 ∙ k.known.kept.1.1.1.0 ∙ measures-long (head (deeper k))
+  same-length-10 c = let m = measured c.before.before in let k = known m in m.measure.kept.1.1.1.1.1.1.0 ∙ k.known.kept.1.1.1.0 ∙ measures_long (head (deeper k))
 
   same-length-11 : lts.Need-same-length-11 (calls t) (own t) reads.Post invariant-loop decreases-loop
   same-length-11 c = let m = measured c.before.before in m.measure.kept.1.1.1.1.1.1.1.0 ∙ (head (deeper (known m))).loop.inv.1
@@ -412,7 +412,7 @@ module _ (t : ℕ) where
       let k = known x in
       let d = deeper k in
       let m = x.measure.last.1.1.1 in
-      walk-too (turn d.before) o (free (texted (head d)) o) _ _ _ (levels d) (looked k) k.known.result (learns k) m.1.1.1.0 m.0 m.1.1.1.1.0 x.measure.result x.measure.ensures
+      walk_too (turn d.before) o (free (texted (head d)) o) _ _ _ (levels d) (looked k) k.known.result (learns k) m.1.1.1.0 m.0 m.1.1.1.1.0 x.measure.result x.measure.ensures
       x.before.before.before.before.enum-told2.given.1 c.enum-told3.given.1
 
   mul-sorted-2 : lts.Need-overflow-mul-sorted-2 (calls t) (own t) reads.Post invariant-loop decreases-loop
@@ -420,26 +420,26 @@ module _ (t : ℕ) where
       let m = measured c.before.before in
       let d = deeper (known m) in
       let h = head d in
-      omega (arith, open-end (opens (begin h)), d.before.loop-test.taken, h.loop.inv.0, few h, m.measure.kept.1.1.1.0)
+      omega (arith, open_end (opens (begin h)), d.before.loop-test.taken, h.loop.inv.0, few h, m.measure.kept.1.1.1.0)
 
   slice-write-sorted-2 : lts.Need-slice-write-sorted-2 (calls t) (own t) reads.Post invariant-loop decreases-loop
   slice-write-sorted-2 c =
       let m = measured c.before.before in
       let d = deeper (known m) in
       let h = head d in
-      omega (arith, open-end (opens (begin h)), d.before.loop-test.taken, h.loop.inv.0, m.measure.kept.1.1.1.0)
+      omega (arith, open_end (opens (begin h)), d.before.loop-test.taken, h.loop.inv.0, m.measure.kept.1.1.1.0)
 
   add-values : lts.Need-overflow-add-values (calls t) (own t) reads.Post invariant-loop decreases-loop
-  add-values c = let d = deeper c.before.before.before.before.before in let l = (head d).loop in fits-values l.values (c.before.before.match.w / 128) l.i _ l.inv.3 d.before.loop-test.taken (few (head d))
+  add-values c = let d = deeper c.before.before.before.before.before in let l = (head d).loop in fits_values l.values (c.before.before.match.w / 128) l.i _ l.inv.3 d.before.loop-test.taken (few (head d))
 
   add-texts : lts.Need-overflow-add-texts (calls t) (own t) reads.Post invariant-loop decreases-loop
-  add-texts c = let d = deeper c.before.before.before.before.before in let l = (head d).loop in fits-texts l.texts (c.before.before.match.w / 524288) l.i _ l.inv.4 d.before.loop-test.taken (few (head d))
+  add-texts c = let d = deeper c.before.before.before.before.before in let l = (head d).loop in fits_texts l.texts (c.before.before.match.w / 524288) l.i _ l.inv.4 d.before.loop-test.taken (few (head d))
 
   add-i : lts.Need-overflow-add-i (calls t) (own t) reads.Post invariant-loop decreases-loop
   add-i c = let d = deeper c.before.before.before.before.before in fits_next (head d).loop.i _ d.before.loop-test.taken (few (head d))
 
   loop-less : lts.Need-loop-smaller (calls t) (own t) reads.Post invariant-loop decreases-loop
-  loop-less c = let d = deeper c.before.before.before.before.before in falls-by-one (head d).loop.i _ d.before.loop-test.taken
+  loop-less c = let d = deeper c.before.before.before.before.before in falls_by_one (head d).loop.i _ d.before.loop-test.taken
 
   loop-again : lts.Need-loop-preserved (calls t) (own t) reads.Post invariant-loop decreases-loop
   loop-again c =
@@ -447,13 +447,13 @@ module _ (t : ℕ) where
       let w = c.before.before.match.w in
       let s = sums l.values (w / 128) l.texts (w / 524288) l.i l.deepest w c.most.result l.inv.3 l.inv.4 l.inv.5 c.most.ensures in
       let r = arms c.before c.most.result c.most.ensures in
-      (r.sorted-long ∙ l.inv.0, r.dues-long ∙ l.inv.1, r.measures-long ∙ l.inv.2, s.0, s.1, s.2, r.next)
+      (r.sorted_long ∙ l.inv.0, r.dues-long ∙ l.inv.1, r.measures_long ∙ l.inv.2, s.0, s.1, s.2, r.next)
 
   note-requires : lts.Need-note-requires (calls t) (own t) reads.Post invariant-loop decreases-loop
   note-requires c κs =
       let h = c.before.before in
       let I = enter (moved (opens (begin h)) _ _ (texted h).own-text-len.ensures) in
-      mid-room I _ (h.loop.invariant.6 I)
+      mid_room I _ (h.loop.invariant.6 I)
 
   add-measure-word : lts.Need-overflow-add-measure-word (calls t) (own t) reads.Post invariant-loop decreases-loop
   add-measure-word c = omega (arith, c.before.before.before.before.before.loop.invariant.5)
@@ -465,23 +465,23 @@ module _ (t : ℕ) where
   abbrev over : lts.After-measure-word (calls t) (own t) reads.Post invariant-loop decreases-loop → Head
   over c = c.before.before.before.before.before.before
 
-  measured-still : (c : lts.After-measure-word (calls t) (own t) reads.Post invariant-loop decreases-loop) → (begin (over c)).args.node.0 < length (over c).loop.measures
-  measured-still c = omega (arith, open-measured (opens (begin (over c))), measures-long (over c))
+  measured_still : (c : lts.After-measure-word (calls t) (own t) reads.Post invariant-loop decreases-loop) → (begin (over c)).args.node.0 < length (over c).loop.measures
+  measured_still c = omega (arith, open_measured (opens (begin (over c))), measures_long (over c))
 
   same-length-13 : lts.Need-same-length-13 (calls t) (own t) reads.Post invariant-loop decreases-loop
-  same-length-13 c = length-set (over c).loop.measures (begin (over c)).args.node.0 c.measure-word.result ∙ measures-long (over c)
+  same-length-13 c = length-set (over c).loop.measures (begin (over c)).args.node.0 c.measure-word.result ∙ measures_long (over c)
 
   returns-5 : lts.Need-returns-5 (calls t) (own t) reads.Post invariant-loop decreases-loop
-  unfolding Walks packW
+  unfolding Walks pack_w
   returns-5 c o =
       let h = over c in
       let x = texted h in
       let m = moved o _ _ x.own-text-len.ensures in
-      ends-done m _ (begin h).pre.1.0.0 (free x o) (h.loop.inv.6 (enter m)) _ _ (begin h).pre.1.0.1 c.before.before.before.before.before.loop-test.false c.before.before.before.note.ensures
-      (own-len o _ _ x.own-text-len.ensures) c.measure-word.ensures
+      ends_done m _ (begin h).pre.1.0.0 (free x o) (h.loop.inv.6 (enter m)) _ _ (begin h).pre.1.0.1 c.before.before.before.before.before.loop-test.false c.before.before.before.note.ensures
+      (own_len o _ _ x.own-text-len.ensures) c.measure-word.ensures
 
-pub +measure-spec : {M : Type 1} → statement M
-+measure-spec =
+pub +measure_spec : {M : Type 1} → statement M
++measure_spec =
     close μ
     λ t. lts.spec (calls t) (own t) reads.Post invariant-loop decreases-loop
     (mul-kind t) (mul-kind-2 t) (shared-slice-read-kind t) (mul_at t) (shared-slice-read-at t) (cast-at t) (add-end t) (mul-end t)
@@ -491,5 +491,5 @@ pub +measure-spec : {M : Type 1} → statement M
     (same-length-8 t) (returns-3 t) (λ c. c.match.keys2) (mul-sorted t) (slice-write-sorted t) (λ c. c.match.keys3) (sub-measure t)
     (measure-requires t) (λ c. c.match2.keys1) (same-length-9 t) (same-length-10 t) (same-length-11 t) (returns-4 t) (λ c. c.match2.keys2)
     (mul-sorted-2 t) (slice-write-sorted-2 t) (λ c. c.match2.keys3) (λ c κs. tt) (add-values t) (add-texts t) (add-i t) (loop-less t)
-    (loop-again t) (note-requires t) (add-measure-word t) (measure-word-requires t) (λ c. omega (arith, measured-still t c)) (measured-still t)
+    (loop-again t) (note-requires t) (add-measure-word t) (measure-word-requires t) (λ c. omega (arith, measured_still t c)) (measured_still t)
     (λ c. (over t c).loop.invariant.0) (same-length-13 t) (λ c. c.before.before.before.note.auto.1.1.0 ∙ (over t c).loop.invariant.1) (returns-5 t)

@@ -6,7 +6,7 @@ use mathlib.Core.Path.{sym}
 use native.Mathlib.Omega.{arith}
 use Prim.Native.Nat.{◌<◌}
 use lib.ListN.{get_or}
-use Rattle.resolve.specs.Blocked.{held-other, held_none, arguments-taken-first}
+use Rattle.resolve.specs.Blocked.{held_other, held_none, arguments_taken-first}
 
 -- what the room gives is a short
 short : (c : tie.After-shared-slice-known) → get_or c.before.before.before.args.sorted.now c.before.before.before.args.at 0 < 65536
@@ -18,16 +18,16 @@ shared-slice-read-result c =
     s.requires.1 (omega arith)
 
 returns : tie.Need-returns
-returns c = sym (held-other _ _ _ c.if1.true)
+returns c = sym (held_other _ _ _ c.if1.true)
 
 returns-2 : tie.Need-returns-2
 returns-2 c =
     let s = c.before.before.before.before in
     let a = s.args in
-    sym (arguments-taken-first a.kind a.at a.end a.sorted.now a.measures.now c.before.before.before.if1.false (omega arith) s.requires.0)
+    sym (arguments_taken-first a.kind a.at a.end a.sorted.now a.measures.now c.before.before.before.if1.false (omega arith) s.requires.0)
 
 returns-3 : tie.Need-returns-3
 returns-3 c = sym (held_none _ _ _ _ _ c.if2.false)
 
-pub blocked-spec : {M : Type 1} → statement M
-blocked-spec = tie.close (tie.spec (λ c. search rules) (λ c. search rules) (λ c. omega (arith, short c)) (λ c. omega (arith, short c)) shared-slice-read-result returns returns-2 returns-3)
+pub blocked_spec : {M : Type 1} → statement M
+blocked_spec = tie.close (tie.spec (λ c. search rules) (λ c. search rules) (λ c. omega (arith, short c)) (λ c. omega (arith, short c)) shared-slice-read-result returns returns-2 returns-3)

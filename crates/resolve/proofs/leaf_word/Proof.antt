@@ -4,7 +4,7 @@ use Rattle.resolve.proofs.leaf_word.Statement.{statement}
 use Rattle.resolve.proofs.leaf_word.Tie as tie
 use Prim.Native.Nat.{ℕ}
 use mathlib.Core.Path.{◌∙◌, ap}
-use Rattle.resolve.specs.MeasureWord.{packW}
+use Rattle.resolve.specs.MeasureWord.{pack_w}
 
-pub leaf-word-spec : {M : Type 1} → statement M
-leaf-word-spec = tie.close (tie.spec (λ c κs. search rules) (λ c κs. search rules) (λ c. c.measure-word.ensures ∙ ap (λ (n : ℕ). packW 1 1 n) c.before.node-text-len.ensures))
+pub leaf-word_spec : {M : Type 1} → statement M
+leaf-word_spec = tie.close (tie.spec (λ c κs. search rules) (λ c κs. search rules) (λ c. c.measure-word.ensures ∙ ap (λ (n : ℕ). pack_w 1 1 n) c.before.node-text-len.ensures))

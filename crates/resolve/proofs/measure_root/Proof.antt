@@ -3,33 +3,33 @@ use borrow.Author.Rules.{rules}
 use Rattle.resolve.proofs.measure_root.Statement.{statement}
 use Rattle.resolve.proofs.measure_root.Tie as tie
 use native.Mathlib.Omega.{arith}
-use Rattle.resolve.specs.Rooted.{Roots, root-reads, root-open, root-word, root-empty, root-walk}
+use Rattle.resolve.specs.Rooted.{Roots, root_reads, root_open, root_word, root_empty, root_walk}
 
 known-requires : tie.Need-known-requires
 known-requires c κs =
     let b = c.before.before.before.before.before.before.before.requires in
-    (root-reads b, omega (arith, b.below, b.many))
+    (root_reads b, omega (arith, b.below, b.many))
 
 measure-requires : tie.Need-measure-requires
 measure-requires c κs =
     let b = c.before.before.before.before.before.before.before.before.before.before.before.before.before.before.before.requires in
     let r = c.before.before.before.enum-told2.given.1 in
-    ((omega arith, omega arith), root-open b _ (rw r at c.before.before.before.before.before.before.before.known.ensures))
+    ((omega arith, omega arith), root_open b _ (rw r at c.before.before.before.before.before.before.before.known.ensures))
 
 returns : tie.Need-returns
 unfolding Roots
-returns c = λ b. let r = c.before.w.given.1 in root-word b _ _ (rw r at c.before.before.before.before.before.known.ensures)
+returns c = λ b. let r = c.before.w.given.1 in root_word b _ _ (rw r at c.before.before.before.before.before.known.ensures)
 
 returns-2 : tie.Need-returns-2
 unfolding Roots
-returns-2 c = λ b. let r = c.enum_told.given.1 in absurd (root-empty b _ (rw r at c.before.before.before.before.known.ensures))
+returns-2 c = λ b. let r = c.enum_told.given.1 in absurd (root_empty b _ (rw r at c.before.before.before.before.known.ensures))
 
 returns-3 : tie.Need-returns-3
 unfolding Roots
-returns-3 c = λ b. let r = c.before.before.before.before.before.before.before.before.before.before.enum-told2.given.1 in root-walk b _ (rw r at c.before.before.before.before.before.before.before.before.before.before.before.before.before.before.known.ensures) _ _ _ _ c.before.before.before.before.before.before.measure.ensures
+returns-3 c = λ b. let r = c.before.before.before.before.before.before.before.before.before.before.enum-told2.given.1 in root_walk b _ (rw r at c.before.before.before.before.before.before.before.before.before.before.before.before.before.before.known.ensures) _ _ _ _ c.before.before.before.before.before.before.measure.ensures
 
-pub measure-root-spec : {M : Type 1} → statement M
-measure-root-spec =
+pub measure_root_spec : {M : Type 1} → statement M
+measure_root_spec =
     tie.close
     (tie.spec
     known-requires (λ c. search rules) (λ c. search rules) (λ c. search rules) measure-requires (λ c. search rules) returns (λ c. search rules) returns-2

@@ -2,11 +2,11 @@
 use borrow.Author.Rules.{rules}
 use Rattle.resolve.proofs.measure_word.Statement.{statement}
 use Rattle.resolve.proofs.measure_word.Tie as tie
-use Rattle.resolve.specs.MeasureWord.{packW}
+use Rattle.resolve.specs.MeasureWord.{pack_w}
 
 returns : tie.Need-returns
-unfolding packW
+unfolding pack_w
 returns c = search rules
 
-pub measure-word-spec : {M : Type 1} → statement M
-measure-word-spec = tie.close (tie.spec (λ c κs. tt) (λ c. search rules) (λ c. search rules) (λ c κs. tt) (λ c. search rules) (λ c. search rules) returns)
+pub measure-word_spec : {M : Type 1} → statement M
+measure-word_spec = tie.close (tie.spec (λ c κs. tt) (λ c. search rules) (λ c. search rules) (λ c κs. tt) (λ c. search rules) (λ c. search rules) returns)

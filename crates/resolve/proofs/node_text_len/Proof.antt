@@ -4,8 +4,8 @@ use Rattle.resolve.proofs.node_text_len.Tie as tie
 use Prim.Native.Nat.{◌+◌, ◌*◌, ◌^◌, ◌/◌, ◌<◌}
 use lib.ListN.{length, get_or}
 use mathlib.Core.Path.{refl}
-use Rattle.resolve.specs.Length.{within-short, len-bytes, len-string, len-global, len-object, len-escaped, len-unicode, len-nothing, class-words}
-use Rattle.store.specs.NodeFits.{fits-first, fits-first-at, first-in, fits-second, fits-second-at}
+use Rattle.resolve.specs.Length.{within-short, len_bytes, len_string, len_global, len_object, len_escaped, len_unicode, len_nothing, class_words}
+use Rattle.store.specs.NodeFits.{fits_first, fits_first_at, first_in, fits_second, fits_second_at}
 
 -- ---- the places: the node's words are read, and the tests behind that
 
@@ -20,55 +20,55 @@ object c = second c.before.before.before
 
 -- an Object's class is one of the nodes
 class : (c : tie.After-struct-known) → let s = object c in 2 * (get_or s.args.nodes.now (2 * s.args.node.0) 0 / 64) + 1 < length s.args.nodes.now
-class c = class-words _ _ _ _ _ refl refl (object c).requires c.before.if4.true
+class c = class_words _ _ _ _ _ refl refl (object c).requires c.before.if4.true
 
 abbrev room : (s : tie.Start) → length s.args.nodes.now * 8 < 2 ^ 63
-room s = s.well-formed.1.0.1
+room s = s.well_formed_lem.1.0.1
 
 -- ---- the needs
 
 returns : tie.Need-returns
-returns c = len-bytes _ _ _ _ _ refl refl _ c.before.if1.true c.raw-text.ensures
+returns c = len_bytes _ _ _ _ _ refl refl _ c.before.if1.true c.raw-text.ensures
 
 returns-2 : tie.Need-returns-2
-returns-2 c = len-string _ _ _ _ _ refl refl _ _ c.before.before.if2.true c.before.raw-text2.ensures c.repaired-len.ensures
+returns-2 c = len_string _ _ _ _ _ refl refl _ _ c.before.before.if2.true c.before.raw-text2.ensures c.repaired-len.ensures
 
 returns-3 : tie.Need-returns-3
-returns-3 c = len-global _ _ _ _ _ refl refl _ c.before.if3.true c.global-text-len.ensures
+returns-3 c = len_global _ _ _ _ _ refl refl _ c.before.if3.true c.global-text-len.ensures
 
 mul-global-text-len-4 : tie.Need-overflow-mul-global-text-len-4
-mul-global-text-len-4 c = let s = object c.before.before in fits-second-at _ s.args.nodes.now (class c.before.before) (room s)
+mul-global-text-len-4 c = let s = object c.before.before in fits_second_at _ s.args.nodes.now (class c.before.before) (room s)
 
 returns-4 : tie.Need-returns-4
-returns-4 c = len-object _ _ _ _ _ refl refl _ c.before.before.before.before.before.if4.true c.global-text-len2.ensures
+returns-4 c = len_object _ _ _ _ _ refl refl _ c.before.before.before.before.before.if4.true c.global-text-len2.ensures
 
 returns-5 : tie.Need-returns-5
-returns-5 c = len-escaped _ _ _ _ _ refl refl _ _ c.before.before.if5.true c.before.raw-text3.ensures c.string-text-len.ensures
+returns-5 c = len_escaped _ _ _ _ _ refl refl _ _ c.before.before.if5.true c.before.raw-text3.ensures c.string-text-len.ensures
 
 returns-6 : tie.Need-returns-6
-returns-6 c = len-unicode _ _ _ _ _ refl refl _ _ c.before.before.if6.true c.before.raw-text4.ensures c.unicode-text-len.ensures
+returns-6 c = len_unicode _ _ _ _ _ refl refl _ _ c.before.before.if6.true c.before.raw-text4.ensures c.unicode-text-len.ensures
 
 returns-7 : tie.Need-returns-7
 returns-7 c =
     let e = c.before.before in
-    len-nothing _ _ _ _ _ refl refl e.before.before.before.if1.false e.before.before.if2.false e.before.if3.false e.if4.false c.before.if5.false c.if6.false
+    len_nothing _ _ _ _ _ refl refl e.before.before.before.if1.false e.before.before.if2.false e.before.if3.false e.if4.false c.before.if5.false c.if6.false
 
-pub node-text-len-spec : {M : Type 1} → statement M
-node-text-len-spec =
+pub node_text_len_spec : {M : Type 1} → statement M
+node_text_len_spec =
     tie.close
     (tie.spec
-    (λ c. let s = c.before.before in fits-first s.args.node.0 s.args.nodes.now s.requires.words (room s))
-    (λ c. let s = c.before.before in fits-first-at s.args.node.0 s.args.nodes.now s.requires.words (room s))
-    (λ c. let s = c.before.before.before in first-in s.args.node.0 s.args.nodes.now s.requires.words (room s))
-    (λ c. let s = c.before.before.before in fits-first s.args.node.0 s.args.nodes.now s.requires.words (room s))
-    (λ c. let s = c.before.before.before in fits-second s.args.node.0 s.args.nodes.now s.requires.words (room s))
-    (λ c. let s = c.before.before.before in fits-second-at s.args.node.0 s.args.nodes.now s.requires.words (room s))
+    (λ c. let s = c.before.before in fits_first s.args.node.0 s.args.nodes.now s.requires.words (room s))
+    (λ c. let s = c.before.before in fits_first_at s.args.node.0 s.args.nodes.now s.requires.words (room s))
+    (λ c. let s = c.before.before.before in first_in s.args.node.0 s.args.nodes.now s.requires.words (room s))
+    (λ c. let s = c.before.before.before in fits_first s.args.node.0 s.args.nodes.now s.requires.words (room s))
+    (λ c. let s = c.before.before.before in fits_second s.args.node.0 s.args.nodes.now s.requires.words (room s))
+    (λ c. let s = c.before.before.before in fits_second_at s.args.node.0 s.args.nodes.now s.requires.words (room s))
     (λ c. (start c).requires.words) (λ c κs. tt) returns (λ c κs. tt)
     (λ c κs. within-short _ _ 32 _ 65536 (start c.before.before.before).requires.short c.raw-text2.ensures) returns-2
-    (λ c κs. (start c.before.before.before).requires.short) returns-3 (λ c. let s = object c in fits-first _ s.args.nodes.now (class c) (room s))
-    (λ c. let s = object c in fits-first-at _ s.args.nodes.now (class c) (room s))
-    (λ c. let s = object c.before in first-in _ s.args.nodes.now (class c.before) (room s))
-    (λ c. let s = object c.before.before in fits-first _ s.args.nodes.now (class c.before.before) (room s))
-    (λ c. let s = object c.before.before in fits-second _ s.args.nodes.now (class c.before.before) (room s)) mul-global-text-len-4
+    (λ c κs. (start c.before.before.before).requires.short) returns-3 (λ c. let s = object c in fits_first _ s.args.nodes.now (class c) (room s))
+    (λ c. let s = object c in fits_first_at _ s.args.nodes.now (class c) (room s))
+    (λ c. let s = object c.before in first_in _ s.args.nodes.now (class c.before) (room s))
+    (λ c. let s = object c.before.before in fits_first _ s.args.nodes.now (class c.before.before) (room s))
+    (λ c. let s = object c.before.before in fits_second _ s.args.nodes.now (class c.before.before) (room s)) mul-global-text-len-4
     (λ c. class c.before.before.before) (λ c κs. (object c.before.before.before).requires.short) returns-4 (λ c κs. tt) (λ c κs. tt) returns-5
     (λ c κs. tt) (λ c κs. tt) returns-6 returns-7)

@@ -6,16 +6,16 @@ use mathlib.Core.Path.{refl, sym, ◌∙◌}
 use borrow.Author.Tests.{not-true, not-false}
 use native.Mathlib.Omega.{arith}
 use lib.ListN.{length-set}
-use Rattle.resolve.specs.DuesRoom.{note-other, note-due}
+use Rattle.resolve.specs.DuesRoom.{note_other, note_due}
 
 returns : tie.Need-returns
-returns c = note-other _ _ _ (sym c.before.is_sorted.ensures ∙ not-true _ c.if1.true)
+returns c = note_other _ _ _ (sym c.before.is_sorted.ensures ∙ not-true _ c.if1.true)
 
 returns-2 : tie.Need-returns-2
-returns-2 c = note-due _ _ _ _ refl (sym c.before.before.before.is_sorted.ensures ∙ not-false _ c.before.before.if1.false)
+returns-2 c = note_due _ _ _ _ refl (sym c.before.before.before.is_sorted.ensures ∙ not-false _ c.before.before.if1.false)
 
-pub note-spec : {M : Type 1} → statement M
-note-spec =
+pub note_spec : {M : Type 1} → statement M
+note_spec =
     tie.close
     (tie.spec
     (λ c κs. tt) returns (λ c. search rules) (λ c. search rules) (λ c. search rules) (λ c. search rules) (λ c. search rules) (λ c. search rules)

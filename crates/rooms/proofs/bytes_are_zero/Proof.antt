@@ -1,13 +1,13 @@
 -- One number after the other into `any`, which is zero only where all of them are.
 use Prim.Native.Nat.{◌-◌}
 use native.Mathlib.Omega.{arith}
-use Rattle.rooms.specs.Cleared.{Looked, looked-none, looked-more, looked-all}
+use Rattle.rooms.specs.Cleared.{Looked, looked_none, looked_more, looked_all}
 use Rattle.rooms.proofs.bytes_are_zero.Statement.{statement}
 use Rattle.rooms.proofs.bytes_are_zero.Tie as tie
 
-pub bytes-are-zero-spec : {M : Type 1} → statement M
-bytes-are-zero-spec =
+pub bytes_are_zero_spec : {M : Type 1} → statement M
+bytes_are_zero_spec =
     tie.close
     (tie.spec
-    (λ room n any₀ i₀ any i. Looked room n i any) (λ room n any₀ i₀ any i. n - i) (λ c. looked-none) (λ c. omega arith) (λ c. omega arith) (λ c. omega arith)
-    (λ c. looked-more c.before.before.loop.invariant c.before.loop-test.true c.before.before.before.requires) (λ c. looked-all c.before.loop.invariant c.loop-test.false))
+    (λ room n any₀ i₀ any i. Looked room n i any) (λ room n any₀ i₀ any i. n - i) (λ c. looked_none) (λ c. omega arith) (λ c. omega arith) (λ c. omega arith)
+    (λ c. looked_more c.before.before.loop.invariant c.before.loop-test.true c.before.before.before.requires) (λ c. looked_all c.before.loop.invariant c.loop-test.false))

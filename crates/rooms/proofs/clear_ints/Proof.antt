@@ -2,13 +2,13 @@
 use Prim.Native.Nat.{◌-◌}
 use native.Mathlib.Omega.{arith}
 use borrow.Author.Rules.{rules}
-use Rattle.rooms.specs.Cleared.{Clearing, clearing-none, clearing-more, clearing-end}
+use Rattle.rooms.specs.Cleared.{Clearing, clearing_none, clearing_more, clearing_end}
 use Rattle.rooms.proofs.clear_ints.Statement.{statement}
 use Rattle.rooms.proofs.clear_ints.Tie as tie
 
-pub clear-ints-spec : {M : Type 1} → statement M
-clear-ints-spec =
+pub clear_ints_spec : {M : Type 1} → statement M
+clear_ints_spec =
     tie.close
     (tie.spec
-    (λ room₀ n i₀ room i. Clearing room₀ n i room) (λ room₀ n i₀ room i. n - i) (λ c. clearing-none) (λ c. search rules) (λ c. omega arith) (λ c. omega arith) (λ c. omega arith)
-    (λ c. clearing-more c.before.loop.invariant c.loop-test.true c.before.before.requires) (λ c. search rules) (λ c. clearing-end c.before.loop.invariant c.loop-test.false))
+    (λ room₀ n i₀ room i. Clearing room₀ n i room) (λ room₀ n i₀ room i. n - i) (λ c. clearing_none) (λ c. search rules) (λ c. omega arith) (λ c. omega arith) (λ c. omega arith)
+    (λ c. clearing_more c.before.loop.invariant c.loop-test.true c.before.before.requires) (λ c. search rules) (λ c. clearing_end c.before.loop.invariant c.loop-test.false))

@@ -2,13 +2,13 @@
 use Prim.Native.Nat.{◌-◌}
 use native.Mathlib.Omega.{arith}
 use borrow.Author.Rules.{rules}
-use Rattle.rooms.specs.Cleared.{Looked, looked-none, looked-more, looked-all}
+use Rattle.rooms.specs.Cleared.{Looked, looked_none, looked_more, looked_all}
 use Rattle.rooms.proofs.ints_are_zero.Statement.{statement}
 use Rattle.rooms.proofs.ints_are_zero.Tie as tie
 
-pub ints-are-zero-spec : {M : Type 1} → statement M
-ints-are-zero-spec =
+pub ints_are_zero_spec : {M : Type 1} → statement M
+ints_are_zero_spec =
     tie.close
     (tie.spec
-    (λ room n any₀ i₀ any i. Looked room n i any) (λ room n any₀ i₀ any i. n - i) (λ c. looked-none) (λ c. search rules) (λ c. omega arith) (λ c. omega arith) (λ c. omega arith)
-    (λ c. looked-more c.before.before.loop.invariant c.before.loop-test.true c.before.before.before.requires) (λ c. looked-all c.before.loop.invariant c.loop-test.false))
+    (λ room n any₀ i₀ any i. Looked room n i any) (λ room n any₀ i₀ any i. n - i) (λ c. looked_none) (λ c. search rules) (λ c. omega arith) (λ c. omega arith) (λ c. omega arith)
+    (λ c. looked_more c.before.before.loop.invariant c.before.loop-test.true c.before.before.before.requires) (λ c. looked_all c.before.loop.invariant c.loop-test.false))

@@ -4,5 +4,5 @@ use mathlib.Core.Path.{sym}
 use Rattle.rooms.proofs.zero_bytes.Statement.{statement}
 use Rattle.rooms.proofs.zero_bytes.Tie as tie
 
-pub zero-bytes-spec : {M : Type 1} → statement M
-zero-bytes-spec = tie.close (tie.spec (λ c κs. search rules) (λ c. search rules) (λ c. sym (c.before.bytes-are-zero.ensures c.if1.true)) (λ c κs. search rules) (λ c. search rules) (λ c. search rules))
+pub zero_bytes_spec : {M : Type 1} → statement M
+zero_bytes_spec = tie.close (tie.spec (λ c κs. search rules) (λ c. search rules) (λ c. sym (c.before.bytes-are-zero.ensures c.if1.true)) (λ c κs. search rules) (λ c. search rules) (λ c. search rules))

@@ -9,9 +9,9 @@ use lib.ListN.{length}
 use borrow.Author.Tests.{not-true, not-false}
 use Rattle.value.specs.Value.{Value, kind}
 use Rattle.value.specs.WellFormed.{WellFormed}
-use Rattle.scorer.specs.Sheet.{answers, reverse, flipped, highestAnswer}
-use Rattle.scorer.specs.Steps.{Sought, between-says, answer-most, narrower}
-use Rattle.scorer.specs.Root.{off-answers, off-reverse, off-flipped, off-highest, off-range, sought-inside, sought-says, root-inside, root-off, root-dict, entries-lie, entries-count, entries-lain, both-lie, few-answers, assessed}
+use Rattle.scorer.specs.Sheet.{answers, reverse, flipped, highest_answer}
+use Rattle.scorer.specs.Steps.{Sought, between-says, answer_most, narrower}
+use Rattle.scorer.specs.Root.{off_answers, off_reverse, off_flipped, off_highest, off_range, sought_inside, sought_says, root_inside, root_off, root_dict, entries_lie, entries-count, entries_lain, both_lie, few_answers, assessed}
 
 -- ---- the places: a Dict, and each of the four that was found in it
 
@@ -45,128 +45,128 @@ abbrev Inside : tie.Else1 → ℕ → Type 0
 Inside c r = 4 * r + 4 ≤ length (start c).args.words.now
 
 dict : (c : tie.Else1) {n : ℕ} (f : Formed c n) → kind f.value.label ≡ 10
-dict c f = root-dict f _ c.before.before.head_of.ensures c.if1.false
+dict c f = root_dict f _ c.before.before.head_of.ensures c.if1.false
 
-the-answers : (c : tie.After-seek) {n : ℕ} (f : Formed c.before.before.before n) → Found c.before.before.before (answers f.value) 10 c.seek.result
-the-answers c f = let d = dict c.before.before.before f in c.seek.ensures _ (entries-lie f d) (entries-count f d)
+the_answers : (c : tie.After-seek) {n : ℕ} (f : Formed c.before.before.before n) → Found c.before.before.before (answers f.value) 10 c.seek.result
+the_answers c f = let d = dict c.before.before.before f in c.seek.ensures _ (entries_lie f d) (entries-count f d)
 
-the-reverse : (c : tie.After-seek2) {n : ℕ} (f : Formed (root c.before.before) n) → Found (root c.before.before) (reverse f.value) 8 c.seek2.result
-the-reverse c f = let d = dict (root c.before.before) f in c.seek2.ensures _ (entries-lie f d) (entries-count f d)
+the_reverse : (c : tie.After-seek2) {n : ℕ} (f : Formed (root c.before.before) n) → Found (root c.before.before) (reverse f.value) 8 c.seek2.result
+the_reverse c f = let d = dict (root c.before.before) f in c.seek2.ensures _ (entries_lie f d) (entries-count f d)
 
-the-flipped : (c : tie.After-seek3) {n : ℕ} (f : Formed (root (first c.before.before)) n) → Found (root (first c.before.before)) (flipped f.value) 1 c.seek3.result
-the-flipped c f = let d = dict (root (first c.before.before)) f in c.seek3.ensures _ (entries-lie f d) (entries-count f d)
+the_flipped : (c : tie.After-seek3) {n : ℕ} (f : Formed (root (first c.before.before)) n) → Found (root (first c.before.before)) (flipped f.value) 1 c.seek3.result
+the_flipped c f = let d = dict (root (first c.before.before)) f in c.seek3.ensures _ (entries_lie f d) (entries-count f d)
 
-the-highest : (c : tie.After-seek4) {n : ℕ} (f : Formed (root (first (second c.before.before))) n) → Found (root (first (second c.before.before))) (highestAnswer f.value) 2 c.seek4.result
-the-highest c f = let d = dict (root (first (second c.before.before))) f in c.seek4.ensures _ (entries-lie f d) (entries-count f d)
+the_highest : (c : tie.After-seek4) {n : ℕ} (f : Formed (root (first (second c.before.before))) n) → Found (root (first (second c.before.before))) (highest_answer f.value) 2 c.seek4.result
+the_highest c f = let d = dict (root (first (second c.before.before))) f in c.seek4.ensures _ (entries_lie f d) (entries-count f d)
 
-in-answers : (c : tie.Else2) → Inside (root c) c.before.seek.result
-in-answers c = sought-inside (the-answers c.before (start (root c)).requires.formed) (omega arith)
+in_answers : (c : tie.Else2) → Inside (root c) c.before.seek.result
+in_answers c = sought_inside (the_answers c.before (start (root c)).requires.formed) (omega arith)
 
-in-reverse : (c : tie.Else3) → Inside (root (first c)) c.before.seek2.result
-in-reverse c = sought-inside (the-reverse c.before (start (root (first c))).requires.formed) (omega arith)
+in_reverse : (c : tie.Else3) → Inside (root (first c)) c.before.seek2.result
+in_reverse c = sought_inside (the_reverse c.before (start (root (first c))).requires.formed) (omega arith)
 
-in-flipped : (c : tie.Else4) → Inside (root (first (second c))) c.before.seek3.result
-in-flipped c = sought-inside (the-flipped c.before (start (root (first (second c)))).requires.formed) (omega arith)
+in_flipped : (c : tie.Else4) → Inside (root (first (second c))) c.before.seek3.result
+in_flipped c = sought_inside (the_flipped c.before (start (root (first (second c)))).requires.formed) (omega arith)
 
-in-highest : (c : tie.Else5) → Inside (root (first (second (third c)))) c.before.seek4.result
-in-highest c = sought-inside (the-highest c.before (back c).requires.formed) (omega arith)
+in_highest : (c : tie.Else5) → Inside (root (first (second (third c)))) c.before.seek4.result
+in_highest c = sought_inside (the_highest c.before (back c).requires.formed) (omega arith)
 
 -- ---- the needs
 
 shared-slice-read-head-of : tie.Need-shared-slice-read-head-of
-shared-slice-read-head-of c = omega (arith, root-inside c.before.before.before.requires.formed)
+shared-slice-read-head-of c = omega (arith, root_inside c.before.before.before.requires.formed)
 
 returns : tie.Need-returns
-returns c n f = root-off f _ c.before.before.head_of.ensures c.if1.true
+returns c n f = root_off f _ c.before.before.head_of.ensures c.if1.true
 
 shared-slice-read-entries : tie.Need-shared-slice-read-entries
-shared-slice-read-entries c = omega (arith, root-inside (start c.before).requires.formed)
+shared-slice-read-entries c = omega (arith, root_inside (start c.before).requires.formed)
 
 seek-requires : tie.Need-seek-requires
-seek-requires c κs = let d = c.before.before in let f = (start d).requires.formed in (entries-lain f (dict d f), omega arith)
+seek-requires c κs = let d = c.before.before in let f = (start d).requires.formed in (entries_lain f (dict d f), omega arith)
 
 returns-2 : tie.Need-returns-2
-returns-2 c n f = off-answers f.value ((the-answers c.before f).missing c.if2.true)
+returns-2 c n f = off_answers f.value ((the_answers c.before f).missing c.if2.true)
 
 seek-requires-2 : tie.Need-seek-requires-2
-seek-requires-2 c κs = let d = root c.before in let f = (start d).pre.formed in (entries-lain f (dict d f), omega arith)
+seek-requires-2 c κs = let d = root c.before in let f = (start d).pre.formed in (entries_lain f (dict d f), omega arith)
 
 returns-3 : tie.Need-returns-3
-returns-3 c n f = off-reverse f.value ((the-reverse c.before f).missing c.if3.true)
+returns-3 c n f = off_reverse f.value ((the_reverse c.before f).missing c.if3.true)
 
 seek-requires-3 : tie.Need-seek-requires-3
-seek-requires-3 c κs = let d = root (first c.before) in let f = (start d).pre.formed in (entries-lain f (dict d f), omega arith)
+seek-requires-3 c κs = let d = root (first c.before) in let f = (start d).pre.formed in (entries_lain f (dict d f), omega arith)
 
 returns-4 : tie.Need-returns-4
-returns-4 c n f = off-flipped f.value ((the-flipped c.before f).missing c.if4.true)
+returns-4 c n f = off_flipped f.value ((the_flipped c.before f).missing c.if4.true)
 
 seek-requires-4 : tie.Need-seek-requires-4
-seek-requires-4 c κs = let d = root (first (second c.before)) in let f = (start d).pre.formed in (entries-lain f (dict d f), omega arith)
+seek-requires-4 c κs = let d = root (first (second c.before)) in let f = (start d).pre.formed in (entries_lain f (dict d f), omega arith)
 
 returns-5 : tie.Need-returns-5
-returns-5 c n f = off-highest f.value ((the-highest c.before f).missing c.if5.true)
+returns-5 c n f = off_highest f.value ((the_highest c.before f).missing c.if5.true)
 
 is-between-requires : tie.Need-is-between-requires
-is-between-requires c κs = in-highest c
+is-between-requires c κs = in_highest c
 
 returns-6 : tie.Need-returns-6
 returns-6 c n f =
     let h = c.before.before in
-    off-range f.value (sym (between-says 1 100 (sought-says (the-highest h.before f) (omega arith))) ∙ narrower _ _ 1 100 _ (omega arith) (sym c.before.is-between.ensures ∙ not-true _ c.if6.true))
+    off_range f.value (sym (between-says 1 100 (sought_says (the_highest h.before f) (omega arith))) ∙ narrower _ _ 1 100 _ (omega arith) (sym c.before.is-between.ensures ∙ not-true _ c.if6.true))
 
 mul-max : tie.Need-overflow-mul-max
-mul-max c = let h = c.before.before in let g = (back h).well-formed.0 in omega (arith, in-highest h, g.0, g.1)
+mul-max c = let h = c.before.before in let g = (back h).well_formed_lem.0 in omega (arith, in_highest h, g.0, g.1)
 
 add-max : tie.Need-overflow-add-max
-add-max c = let h = c.before.before in let g = (back h).well-formed.0 in omega (arith, in-highest h, g.0, g.1)
+add-max c = let h = c.before.before in let g = (back h).well_formed_lem.0 in omega (arith, in_highest h, g.0, g.1)
 
 mul-max-2 : tie.Need-overflow-mul-max-2
-mul-max-2 c = let h = c.before.before in let g = (back h).well-formed.0 in omega (arith, in-highest h, g.0, g.1)
+mul-max-2 c = let h = c.before.before in let g = (back h).well_formed_lem.0 in omega (arith, in_highest h, g.0, g.1)
 
 shared-slice-read-max : tie.Need-shared-slice-read-max
-shared-slice-read-max c = let h = c.before.before.before in let g = (back h).well-formed.0 in omega (arith, in-highest h, g.0, g.1)
+shared-slice-read-max c = let h = c.before.before.before in let g = (back h).well_formed_lem.0 in omega (arith, in_highest h, g.0, g.1)
 
 mul-mark : tie.Need-overflow-mul-mark
-mul-mark c = let h = c.before.before.before in let g = (back h).well-formed.0 in omega (arith, in-flipped (third h), g.0, g.1)
+mul-mark c = let h = c.before.before.before in let g = (back h).well_formed_lem.0 in omega (arith, in_flipped (third h), g.0, g.1)
 
 add-mark : tie.Need-overflow-add-mark
-add-mark c = let h = c.before.before.before in let g = (back h).well-formed.0 in omega (arith, in-flipped (third h), g.0, g.1)
+add-mark c = let h = c.before.before.before in let g = (back h).well_formed_lem.0 in omega (arith, in_flipped (third h), g.0, g.1)
 
 mul-mark-2 : tie.Need-overflow-mul-mark-2
-mul-mark-2 c = let h = c.before.before.before in let g = (back h).well-formed.0 in omega (arith, in-flipped (third h), g.0, g.1)
+mul-mark-2 c = let h = c.before.before.before in let g = (back h).well_formed_lem.0 in omega (arith, in_flipped (third h), g.0, g.1)
 
 shared-slice-read-mark : tie.Need-shared-slice-read-mark
-shared-slice-read-mark c = let h = c.before.before.before.before in let g = (back h).well-formed.0 in omega (arith, in-flipped (third h), g.0, g.1)
+shared-slice-read-mark c = let h = c.before.before.before.before in let g = (back h).well_formed_lem.0 in omega (arith, in_flipped (third h), g.0, g.1)
 
 add-tally-answers : tie.Need-overflow-add-tally-answers
-add-tally-answers c = let h = c.before.before.before.before in let g = (back h).well-formed.0 in omega (arith, in-answers (first (second (third h))), g.0, g.1)
+add-tally-answers c = let h = c.before.before.before.before in let g = (back h).well_formed_lem.0 in omega (arith, in_answers (first (second (third h))), g.0, g.1)
 
 mul-tally-answers : tie.Need-overflow-mul-tally-answers
-mul-tally-answers c = let h = c.before.before.before.before in let g = (back h).well-formed.0 in omega (arith, in-answers (first (second (third h))), g.0, g.1)
+mul-tally-answers c = let h = c.before.before.before.before in let g = (back h).well_formed_lem.0 in omega (arith, in_answers (first (second (third h))), g.0, g.1)
 
 add-tally-answers-2 : tie.Need-overflow-add-tally-answers-2
-add-tally-answers-2 c = let h = c.before.before.before.before in let g = (back h).well-formed.0 in omega (arith, in-answers (first (second (third h))), g.0, g.1)
+add-tally-answers-2 c = let h = c.before.before.before.before in let g = (back h).well_formed_lem.0 in omega (arith, in_answers (first (second (third h))), g.0, g.1)
 
 mul-tally-answers-2 : tie.Need-overflow-mul-tally-answers-2
-mul-tally-answers-2 c = let h = c.before.before.before.before in let g = (back h).well-formed.0 in omega (arith, in-answers (first (second (third h))), g.0, g.1)
+mul-tally-answers-2 c = let h = c.before.before.before.before in let g = (back h).well_formed_lem.0 in omega (arith, in_answers (first (second (third h))), g.0, g.1)
 
 shared-slice-read-tally-answers : tie.Need-shared-slice-read-tally-answers
-shared-slice-read-tally-answers c = let h = c.before.before.before.before.before in let g = (back h).well-formed.0 in omega (arith, in-answers (first (second (third h))), g.0, g.1)
+shared-slice-read-tally-answers c = let h = c.before.before.before.before.before in let g = (back h).well_formed_lem.0 in omega (arith, in_answers (first (second (third h))), g.0, g.1)
 
 add-tally-answers-3 : tie.Need-overflow-add-tally-answers-3
-add-tally-answers-3 c = let h = c.before.before.before.before.before in let g = (back h).well-formed.0 in omega (arith, in-reverse (second (third h)), g.0, g.1)
+add-tally-answers-3 c = let h = c.before.before.before.before.before in let g = (back h).well_formed_lem.0 in omega (arith, in_reverse (second (third h)), g.0, g.1)
 
 mul-tally-answers-3 : tie.Need-overflow-mul-tally-answers-3
-mul-tally-answers-3 c = let h = c.before.before.before.before.before in let g = (back h).well-formed.0 in omega (arith, in-reverse (second (third h)), g.0, g.1)
+mul-tally-answers-3 c = let h = c.before.before.before.before.before in let g = (back h).well_formed_lem.0 in omega (arith, in_reverse (second (third h)), g.0, g.1)
 
 add-tally-answers-4 : tie.Need-overflow-add-tally-answers-4
-add-tally-answers-4 c = let h = c.before.before.before.before.before in let g = (back h).well-formed.0 in omega (arith, in-reverse (second (third h)), g.0, g.1)
+add-tally-answers-4 c = let h = c.before.before.before.before.before in let g = (back h).well_formed_lem.0 in omega (arith, in_reverse (second (third h)), g.0, g.1)
 
 mul-tally-answers-4 : tie.Need-overflow-mul-tally-answers-4
-mul-tally-answers-4 c = let h = c.before.before.before.before.before in let g = (back h).well-formed.0 in omega (arith, in-reverse (second (third h)), g.0, g.1)
+mul-tally-answers-4 c = let h = c.before.before.before.before.before in let g = (back h).well_formed_lem.0 in omega (arith, in_reverse (second (third h)), g.0, g.1)
 
 shared-slice-read-tally-answers-2 : tie.Need-shared-slice-read-tally-answers-2
-shared-slice-read-tally-answers-2 c = let h = c.before.before.before.before.before.before in let g = (back h).well-formed.0 in omega (arith, in-reverse (second (third h)), g.0, g.1)
+shared-slice-read-tally-answers-2 c = let h = c.before.before.before.before.before.before in let g = (back h).well_formed_lem.0 in omega (arith, in_reverse (second (third h)), g.0, g.1)
 
 tally-answers-requires : tie.Need-tally-answers-requires
 tally-answers-requires c κs =
@@ -176,9 +176,9 @@ tally-answers-requires c κs =
     let a = first r in
     let f = (start (root a)).requires.formed in
     let d = dict (root a) f in
-    let x = the-answers a.before f in
-    let y = the-reverse r.before f in
-    (both-lie f d x (omega arith) y (omega arith), (answer-most _ _ 1 100 (sym i.before.is-between.ensures ∙ not-false _ i.if6.false), few-answers f d x (omega arith) y (omega arith)))
+    let x = the_answers a.before f in
+    let y = the_reverse r.before f in
+    (both_lie f d x (omega arith) y (omega arith), (answer_most _ _ 1 100 (sym i.before.is-between.ensures ∙ not-false _ i.if6.false), few_answers f d x (omega arith) y (omega arith)))
 
 returns-7 : tie.Need-returns-7
 returns-7 c n f =
@@ -187,11 +187,11 @@ returns-7 c n f =
     let l = third h in
     let r = second l in
     let a = first r in
-    assessed f (dict (root a) f) (the-answers a.before f) (omega arith) (the-reverse r.before f) (omega arith) (the-flipped l.before f) (omega arith) (the-highest h.before f) (omega arith)
+    assessed f (dict (root a) f) (the_answers a.before f) (omega arith) (the_reverse r.before f) (omega arith) (the_flipped l.before f) (omega arith) (the_highest h.before f) (omega arith)
     (sym i.before.is-between.ensures ∙ not-false _ i.if6.false) _ c.tally-answers.ensures
 
-pub assess-spec : {M : Type 1} → statement M
-assess-spec =
+pub assess_spec : {M : Type 1} → statement M
+assess_spec =
     tie.close
     (tie.spec
     shared-slice-read-head-of (λ c κs. search rules) returns shared-slice-read-entries (λ c. search rules) seek-requires returns-2 (λ c. search rules)

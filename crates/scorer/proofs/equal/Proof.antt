@@ -4,9 +4,9 @@ use Rattle.value.specs.Told.{told}
 use Rattle.scorer.proofs.equal.Statement.{statement}
 use Rattle.scorer.proofs.equal.Tie as tie
 
-pub equal-spec : {M : Type 1} → statement M
+pub equal_spec : {M : Type 1} → statement M
 unfolding told
-equal-spec =
+equal_spec =
     tie.close
     (tie.spec
     (λ c. search rules) (λ c. search rules) (λ c. search rules)

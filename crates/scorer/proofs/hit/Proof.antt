@@ -3,10 +3,10 @@ use borrow.Author.Rules.{rules}
 use Rattle.scorer.proofs.hit.Statement.{statement}
 use Rattle.scorer.proofs.hit.Tie as tie
 use native.Mathlib.Omega.{arith}
-use Rattle.scorer.specs.Steps.{hitAt, hit_other, hit-yes, hit-no}
+use Rattle.scorer.specs.Steps.{hit_at, hit_other, hit_yes, hit_no}
 
 returns : tie.Need-returns
-unfolding hitAt
+unfolding hit_at
 returns c = rw c.if1.true
 
 mul-head-of : tie.Need-overflow-mul-head-of
@@ -40,16 +40,16 @@ returns-3 : tie.Need-returns-3
 returns-3 c =
     let args = c.before.before.before.before.before.before.before.before.args in
     let head_of = c.before.before.before.before.head_of in
-    hit-yes args.words.now args.j head_of.result head_of.ensures args.left args.item c.before.before.before.before.before.before.if1.false c.before.before.if2.false c.if3.true
+    hit_yes args.words.now args.j head_of.result head_of.ensures args.left args.item c.before.before.before.before.before.before.if1.false c.before.before.if2.false c.if3.true
 
 returns-4 : tie.Need-returns-4
 returns-4 c =
     let args = c.before.before.before.before.before.before.before.before.args in
     let head_of = c.before.before.before.before.head_of in
-    hit-no args.words.now args.j head_of.result head_of.ensures args.left args.item c.before.before.before.before.before.before.if1.false c.before.before.if2.false c.if3.false
+    hit_no args.words.now args.j head_of.result head_of.ensures args.left args.item c.before.before.before.before.before.before.if1.false c.before.before.if2.false c.if3.false
 
-pub hit-spec : {M : Type 1} → statement M
-hit-spec =
+pub hit_spec : {M : Type 1} → statement M
+hit_spec =
     tie.close
     (tie.spec
     returns mul-head-of mul-head-of-2 shared-slice-read-head-of (λ c κs. search rules) returns-2 mul-if3 add-if3 mul-if3-2 shared-slice-read-if3 returns-3

@@ -3,7 +3,7 @@ use borrow.Author.Rules.{rules}
 use Rattle.scorer.proofs.is_between.Statement.{statement}
 use Rattle.scorer.proofs.is_between.Tie as tie
 use native.Mathlib.Omega.{arith}
-use Rattle.scorer.specs.Steps.{not_int, too-low, not_low}
+use Rattle.scorer.specs.Steps.{not_int, too_low, not_low}
 
 returns : tie.Need-returns
 returns c =
@@ -15,7 +15,7 @@ returns-2 : tie.Need-returns-2
 returns-2 c =
     let args = c.before.before.before.before.before.before.before.args in
     let head_of = c.before.before.before.before.head_of in
-    too-low args.words.now args.i head_of.result head_of.ensures args.low args.high c.if2.true
+    too_low args.words.now args.i head_of.result head_of.ensures args.low args.high c.if2.true
 
 returns-3 : tie.Need-returns-3
 returns-3 c =
@@ -23,8 +23,8 @@ returns-3 c =
     let head_of = c.before.before.before.before.head_of in
     not_low args.words.now args.i head_of.result head_of.ensures args.low args.high (omega arith) c.if2.false
 
-pub is-between-spec : {M : Type 1} → statement M
-is-between-spec =
+pub is_between_spec : {M : Type 1} → statement M
+is_between_spec =
     tie.close
     (tie.spec
     (λ c. search rules) (λ c. search rules) (λ c. search rules) (λ c κs. search rules) returns (λ c. search rules) (λ c. search rules) (λ c. search rules)

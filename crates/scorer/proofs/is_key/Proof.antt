@@ -5,7 +5,7 @@ use Rattle.scorer.proofs.is_key.Tie as tie
 use mathlib.Core.Path.{◌∙◌, ap}
 use lib.Dec.{compare_is_eq}
 use Rattle.value.specs.Order.{lex}
-use Rattle.scorer.specs.Steps.{not_key, key-inside, key-by}
+use Rattle.scorer.specs.Steps.{not_key, key_inside, key_by_lem}
 
 returns : tie.Need-returns
 returns c =
@@ -17,16 +17,16 @@ part-requires : tie.Need-part-requires
 part-requires c κs =
     let args = c.before.before.before.before.before.before.before.before.args in
     let head_of = c.before.before.before.head_of in
-    key-inside args.words.now args.i head_of.result head_of.ensures args.text.now c.before.before.before.before.before.before.before.before.requires args.name.now c.before.before.if1.false
+    key_inside args.words.now args.i head_of.result head_of.ensures args.text.now c.before.before.before.before.before.before.before.before.requires args.name.now c.before.before.if1.false
 
 returns-2 : tie.Need-returns-2
 returns-2 c =
     let args = c.before.before.before.before.before.before.before.before.before.before.before.args in
     let head_of = c.before.before.before.before.before.before.head_of in
-    c.equal.ensures ∙ ap compare_is_eq (c.before.compare-bytes.ensures ∙ ap (lex args.name.now) c.before.before.part.ensures) ∙ key-by args.words.now args.i head_of.result head_of.ensures args.text.now c.before.before.before.before.before.before.before.before.before.before.before.requires args.name.now c.before.before.before.before.before.if1.false
+    c.equal.ensures ∙ ap compare_is_eq (c.before.compare-bytes.ensures ∙ ap (lex args.name.now) c.before.before.part.ensures) ∙ key_by_lem args.words.now args.i head_of.result head_of.ensures args.text.now c.before.before.before.before.before.before.before.before.before.before.before.requires args.name.now c.before.before.before.before.before.if1.false
 
-pub is-key-spec : {M : Type 1} → statement M
-is-key-spec =
+pub is_key_spec : {M : Type 1} → statement M
+is_key_spec =
     tie.close
     (tie.spec
     (λ c. search rules) (λ c. search rules) (λ c. search rules) (λ c κs. search rules) returns (λ c. search rules) (λ c. search rules) (λ c. search rules)

@@ -6,9 +6,9 @@ use Prim.Native.Nat.{◌+◌}
 use mathlib.Core.Path.{◌≡◌, refl, sym, ◌∙◌, ap}
 use native.Mathlib.Omega.{arith}
 use Rattle.value.specs.Value.{Forest, count}
-use Rattle.scorer.specs.Sheet.{isKey, under}
+use Rattle.scorer.specs.Sheet.{is_key, under}
 use Rattle.scorer.specs.Place.{Lies}
-use Rattle.scorer.specs.Steps.{Seeking, KeyStep, entry, seek_found, seek-other, seek-end}
+use Rattle.scorer.specs.Steps.{Seeking, KeyStep, entry, seek_found, seek_other, seek_end}
 
 abbrev invariant-loop : tie.invariant-loop
 invariant-loop words text entries name kind i₀ left₀ i left = (f : Forest) → Lies words text 1 f → count f ≡ entries + entries → Seeking words text name i left (under name f)
@@ -63,23 +63,23 @@ returns-2 c f h e =
     let d = c.before.before in
     let k = keyed d in
     let a = k.before.before in
-    seek-other _ _ _ d.head_of.ensures (entry (a.before.before.loop.inv f h e) a.before.loop-test.taken) a.after.ensures (sym k.before.is_key.ensures ∙ k.if1.taken) _ c.if2.false
+    seek_other _ _ _ d.head_of.ensures (entry (a.before.before.loop.inv f h e) a.before.loop-test.taken) a.after.ensures (sym k.before.is_key.ensures ∙ k.if1.taken) _ c.if2.false
 
 after-requires-2 : tie.Need-after-requires-2 invariant-loop decreases-loop
-after-requires-2 c κs = let a = c.before.before in rw a.after.ensures ((next a.before).inside, (next a.before).value-ends)
+after-requires-2 c κs = let a = c.before.before in rw a.after.ensures ((next a.before).inside, (next a.before).value_ends)
 
 loop-again : tie.Need-loop-preserved invariant-loop decreases-loop
 loop-again c f h e =
     let k = c.before.before in
     let a = k.before in
     let n = entry (a.before.before.loop.invariant f h e) a.before.loop-test.true in
-    rw (c.after2.ensures, a.after.ensures) (n.no (ap (isKey (start a.before.before).args.name.now) (sym n.label) ∙ (sym k.is_key.ensures ∙ c.before.if1.false)))
+    rw (c.after2.ensures, a.after.ensures) (n.no (ap (is_key (start a.before.before).args.name.now) (sym n.label) ∙ (sym k.is_key.ensures ∙ c.before.if1.false)))
 
 returns-3 : tie.Need-returns-3 invariant-loop decreases-loop
-returns-3 c f h e = seek-end _ (c.before.loop.invariant f h e) (omega arith) (start c.before).pre.1
+returns-3 c f h e = seek_end _ (c.before.loop.invariant f h e) (omega arith) (start c.before).pre.1
 
-pub seek-spec : {M : Type 1} → statement M
-seek-spec =
+pub seek_spec : {M : Type 1} → statement M
+seek_spec =
     tie.close
     (tie.spec
     invariant-loop decreases-loop loop-holds after-requires is-key-requires mul-head-of mul-head-of-2 shared-slice-read-head-of (λ c κs. search rules) returns returns-2

@@ -47,35 +47,35 @@ use mathlib.Core.Path.{refl, sym, ◌∙◌}
 use borrow.Author.Tests.{not-true, not-false}
 use native.Mathlib.Omega.{arith}
 use lib.ListN.{length}
-use Rattle.output.specs.Put.{put_then, room-first, room-then}
+use Rattle.output.specs.Put.{put_then, room_first, room_then}
 use Rattle.value.specs.Value.{bit}
-use Rattle.value.specs.Stands.{Reads, arityAt, label_at}
-use Rattle.ser.specs.Image.{joined, batches, itemsImage, stateImage, contents}
+use Rattle.value.specs.Stands.{Reads, arity_at, label_at}
+use Rattle.ser.specs.Image.{joined, batches, items_image, state_image, contents}
 use Rattle.ser.specs.Walk.{ReadyToWrite}
-use Rattle.ser.specs.Parts.{Same, Cuts, followedBy, WrittenSoFar, ready-cut, ready-rest, wrote-cut, ready-as, wrote_as, ready-front, ready-after, wrote_after, ready-before, ready-end, wrote-before, wrote-later, wrote_none, going-all, going-again, going-none, value-reads, value_room, value-inside, value-wrote, value-arity, joined-none, joined-cuts, batches-cuts, batches-none, size-some}
-use Rattle.ser.proofs.Laws.{batch-entry, batch-entries, batch-items, appends-one, appends-many, tuple-parts, object-cuts, built-one, built-none, bit-one, bit-none}
-use Rattle.ser.proofs.Record.{leaf-wrote, object-arity, makes-object, makes-list, makes-tuple, makes-dict, makes_set}
+use Rattle.ser.specs.Parts.{Same, Cuts, followed_by, WrittenSoFar, ready_cut, ready_rest, wrote_cut, ready_as, wrote_as, ready_front, ready_after, wrote_after, ready_before, ready_end, wrote_before, wrote_later, wrote_none, going-all, going_again, going-none, value-reads, value_room, value_inside, value_wrote, value_arity, joined-none, joined_cuts, batches_cuts, batches-none, size-some}
+use Rattle.ser.proofs.Laws.{batch_entry, batch-entries, batch-items, appends_one, appends-many, tuple_parts, object_cuts, built_one, built-none, bit_one, bit_none}
+use Rattle.ser.proofs.Record.{leaf_wrote, object_arity, makes_object, makes_list, makes_tuple, makes_dict, makes_set}
 
-abbrev μ-encode : Measures 3 encode-kinds.ps ℕ
-μ-encode κs a = 5 * (length a.0.now - a.1.1.0)
+abbrev μ_encode : Measures 3 encode-kinds.ps ℕ
+μ_encode κs a = 5 * (length a.0.now - a.1.1.0)
 
-abbrev μ-encode-appends : Measures 3 encode-appends-kinds.ps ℕ
-μ-encode-appends κs a = 5 * (length a.0.now - a.1.1.0) + 4
+abbrev μ_encode-appends : Measures 3 encode-appends-kinds.ps ℕ
+μ_encode-appends κs a = 5 * (length a.0.now - a.1.1.0) + 4
 
-abbrev μ-encode-batch : Measures 3 encode-batch-kinds.ps ℕ
-μ-encode-batch κs a = 5 * (length a.0.now - a.1.1.0) + 2
+abbrev μ_encode-batch : Measures 3 encode-batch-kinds.ps ℕ
+μ_encode-batch κs a = 5 * (length a.0.now - a.1.1.0) + 2
 
-abbrev μ-encode-batches : Measures 3 encode-batches-kinds.ps ℕ
-μ-encode-batches κs a = 5 * (length a.0.now - a.1.1.0) + 3
+abbrev μ_encode-batches : Measures 3 encode-batches-kinds.ps ℕ
+μ_encode-batches κs a = 5 * (length a.0.now - a.1.1.0) + 3
 
-abbrev μ-encode-items : Measures 3 encode-items-kinds.ps ℕ
-μ-encode-items κs a = 5 * (length a.0.now - a.1.1.0) + 1
+abbrev μ_encode-items : Measures 3 encode-items-kinds.ps ℕ
+μ_encode-items κs a = 5 * (length a.0.now - a.1.1.0) + 1
 
-abbrev μ-encode-object : Measures 3 encode-object-kinds.ps ℕ
-μ-encode-object κs a = 5 * (length a.0.now - a.1.1.0) + 1
+abbrev μ_encode-object : Measures 3 encode-object-kinds.ps ℕ
+μ_encode-object κs a = 5 * (length a.0.now - a.1.1.0) + 1
 
-abbrev μ-encode-tuple : Measures 3 encode-tuple-kinds.ps ℕ
-μ-encode-tuple κs a = 5 * (length a.0.now - a.1.1.0) + 2
+abbrev μ_encode-tuple : Measures 3 encode-tuple-kinds.ps ℕ
+μ_encode-tuple κs a = 5 * (length a.0.now - a.1.1.0) + 2
 
 abbrev encode-batches-Inv-loop : encode-batches-lts.invariant-loop
 encode-batches-Inv-loop words text from count entries output₀ at i₀ left₀ next₀ output i left next = WrittenSoFar (batches entries) words text from count output₀ at output i left next
@@ -96,74 +96,74 @@ module _ (t : ℕ) where
   abbrev below : (ps : List (ParamKind 3)) → Measures 3 ps ℕ → In 3 ps → In 3 ps
   below ps μ pre = and 3 ps (falls 3 ps ◌<◌ μ t) pre
 
-  abbrev encode-at : In 3 encode-kinds.ps
-  encode-at = at encode-kinds.ps μ-encode encode.Pre
+  abbrev encode_at : In 3 encode-kinds.ps
+  encode_at = at encode-kinds.ps μ_encode encode.Pre
 
-  abbrev encode-appends-at : In 3 encode-appends-kinds.ps
-  encode-appends-at = at encode-appends-kinds.ps μ-encode-appends encode-appends.Pre
+  abbrev encode-appends_at : In 3 encode-appends-kinds.ps
+  encode-appends_at = at encode-appends-kinds.ps μ_encode-appends encode-appends.Pre
 
-  abbrev encode-batch-at : In 3 encode-batch-kinds.ps
-  encode-batch-at = at encode-batch-kinds.ps μ-encode-batch encode-batch.Pre
+  abbrev encode-batch_at : In 3 encode-batch-kinds.ps
+  encode-batch_at = at encode-batch-kinds.ps μ_encode-batch encode-batch.Pre
 
-  abbrev encode-batches-at : In 3 encode-batches-kinds.ps
-  encode-batches-at = at encode-batches-kinds.ps μ-encode-batches encode-batches.Pre
+  abbrev encode-batches_at : In 3 encode-batches-kinds.ps
+  encode-batches_at = at encode-batches-kinds.ps μ_encode-batches encode-batches.Pre
 
-  abbrev encode-items-at : In 3 encode-items-kinds.ps
-  encode-items-at = at encode-items-kinds.ps μ-encode-items encode-items.Pre
+  abbrev encode-items_at : In 3 encode-items-kinds.ps
+  encode-items_at = at encode-items-kinds.ps μ_encode-items encode-items.Pre
 
-  abbrev encode-object-at : In 3 encode-object-kinds.ps
-  encode-object-at = at encode-object-kinds.ps μ-encode-object encode-object.Pre
+  abbrev encode-object_at : In 3 encode-object-kinds.ps
+  encode-object_at = at encode-object-kinds.ps μ_encode-object encode-object.Pre
 
-  abbrev encode-tuple-at : In 3 encode-tuple-kinds.ps
-  encode-tuple-at = at encode-tuple-kinds.ps μ-encode-tuple encode-tuple.Pre
+  abbrev encode-tuple_at : In 3 encode-tuple-kinds.ps
+  encode-tuple_at = at encode-tuple-kinds.ps μ_encode-tuple encode-tuple.Pre
 
-  abbrev encode-claims : encode-lts.Claims
-  encode-claims = (head-of-reads.Asked, head-of-reads.Learnt, encode-opening-reads.Asked, encode-opening-reads.Learnt, holds-reads.Asked, holds-reads.Learnt, below encode-object-kinds.ps μ-encode-object encode-object.Pre, encode-object.Post, arity-reads.Asked, arity-reads.Learnt, below encode-appends-kinds.ps μ-encode-appends encode-appends.Pre, encode-appends.Post, below encode-tuple-kinds.ps μ-encode-tuple encode-tuple.Pre, encode-tuple.Post, below encode-batches-kinds.ps μ-encode-batches encode-batches.Pre, encode-batches.Post, put-byte-reads.Asked, put-byte-reads.Learnt)
+  abbrev encode_claims : encode-lts.Claims
+  encode_claims = (head-of-reads.Asked, head-of-reads.Learnt, encode-opening-reads.Asked, encode-opening-reads.Learnt, holds-reads.Asked, holds-reads.Learnt, below encode-object-kinds.ps μ_encode-object encode-object.Pre, encode-object.Post, arity-reads.Asked, arity-reads.Learnt, below encode-appends-kinds.ps μ_encode-appends encode-appends.Pre, encode-appends.Post, below encode-tuple-kinds.ps μ_encode-tuple encode-tuple.Pre, encode-tuple.Post, below encode-batches-kinds.ps μ_encode-batches encode-batches.Pre, encode-batches.Post, put-byte-reads.Asked, put-byte-reads.Learnt)
 
-  abbrev encode-appends-claims : encode-appends-lts.Claims
-  encode-appends-claims = (below encode-items-kinds.ps μ-encode-items encode-items.Pre, encode-items.Post, put-byte-reads.Asked, put-byte-reads.Learnt, below encode-batches-kinds.ps μ-encode-batches encode-batches.Pre, encode-batches.Post)
+  abbrev encode-appends_claims : encode-appends-lts.Claims
+  encode-appends_claims = (below encode-items-kinds.ps μ_encode-items encode-items.Pre, encode-items.Post, put-byte-reads.Asked, put-byte-reads.Learnt, below encode-batches-kinds.ps μ_encode-batches encode-batches.Pre, encode-batches.Post)
 
-  abbrev encode-batch-claims : encode-batch-lts.Claims
-  encode-batch-claims = (below encode-items-kinds.ps μ-encode-items encode-items.Pre, encode-items.Post, put-byte-reads.Asked, put-byte-reads.Learnt)
+  abbrev encode-batch_claims : encode-batch-lts.Claims
+  encode-batch_claims = (below encode-items-kinds.ps μ_encode-items encode-items.Pre, encode-items.Post, put-byte-reads.Asked, put-byte-reads.Learnt)
 
-  abbrev encode-batches-claims : encode-batches-lts.Claims
-  encode-batches-claims = (batch-of-reads.Asked, batch-of-reads.Learnt, below encode-batch-kinds.ps μ-encode-batch encode-batch.Pre, encode-batch.Post)
+  abbrev encode-batches_claims : encode-batches-lts.Claims
+  encode-batches_claims = (batch-of-reads.Asked, batch-of-reads.Learnt, below encode-batch-kinds.ps μ_encode-batch encode-batch.Pre, encode-batch.Post)
 
-  abbrev encode-items-claims : encode-items-lts.Claims
-  encode-items-claims = (head-of-reads.Asked, head-of-reads.Learnt, holds-reads.Asked, holds-reads.Learnt, below encode-kinds.ps μ-encode encode.Pre, encode.Post, encode-opening-reads.Asked, encode-opening-reads.Learnt)
+  abbrev encode-items_claims : encode-items-lts.Claims
+  encode-items_claims = (head-of-reads.Asked, head-of-reads.Learnt, holds-reads.Asked, holds-reads.Learnt, below encode-kinds.ps μ_encode encode.Pre, encode.Post, encode-opening-reads.Asked, encode-opening-reads.Learnt)
 
-  abbrev encode-object-claims : encode-object-lts.Claims
-  encode-object-claims = (below encode-kinds.ps μ-encode encode.Pre, encode.Post, object-opcode-reads.Asked, object-opcode-reads.Learnt, put-byte-reads.Asked, put-byte-reads.Learnt)
+  abbrev encode-object_claims : encode-object-lts.Claims
+  encode-object_claims = (below encode-kinds.ps μ_encode encode.Pre, encode.Post, object-opcode-reads.Asked, object-opcode-reads.Learnt, put-byte-reads.Asked, put-byte-reads.Learnt)
 
-  abbrev encode-tuple-claims : encode-tuple-lts.Claims
-  encode-tuple-claims = (tuple-mark-reads.Asked, tuple-mark-reads.Learnt, below encode-items-kinds.ps μ-encode-items encode-items.Pre, encode-items.Post, tuple-opcode-reads.Asked, tuple-opcode-reads.Learnt, put-byte-reads.Asked, put-byte-reads.Learnt)
+  abbrev encode-tuple_claims : encode-tuple-lts.Claims
+  encode-tuple_claims = (tuple-mark-reads.Asked, tuple-mark-reads.Learnt, below encode-items-kinds.ps μ_encode-items encode-items.Pre, encode-items.Post, tuple-opcode-reads.Asked, tuple-opcode-reads.Learnt, put-byte-reads.Asked, put-byte-reads.Learnt)
 
   -- `encode` where it knows whether values are in the record: the start, the head read, the opening written
   abbrev Known : Type 0
-  Known = encode-lts.After-holds encode-claims encode-at encode.Post
+  Known = encode-lts.After-holds encode_claims encode_at encode.Post
 
-  abbrev start : Known → encode-lts.Start encode-claims encode-at encode.Post
+  abbrev start : Known → encode-lts.Start encode_claims encode_at encode.Post
   start v = v.before.before.before.before.before.before.before.before.before.before
 
-  abbrev headed : Known → encode-lts.After-head-of encode-claims encode-at encode.Post
+  abbrev headed : Known → encode-lts.After-head-of encode_claims encode_at encode.Post
   headed v = v.before.before.before.before.before
 
-  abbrev opened : Known → encode-lts.After-encode-opening encode-claims encode-at encode.Post
+  abbrev opened : Known → encode-lts.After-encode-opening encode_claims encode_at encode.Post
   opened v = v.before.before.before
 
   reads : (v : Known) → let a = (start v).args in Reads a.words.now a.text.now a.i
   reads v = value-reads (start v).pre.1
 
   -- what is in it is to be written
-  inside : (v : Known) → let a = (start v).args in ReadyToWrite (contents (label_at a.words.now a.text.now a.i)) a.words.now a.text.now (a.i + 1) (arityAt a.words.now a.i) (opened v).encode-opening.last.1.1.1.0 (opened v).encode-opening.result
-  inside v = value-inside (start v).pre.1 (opened v).encode-opening.ensures
+  inside : (v : Known) → let a = (start v).args in ReadyToWrite (contents (label_at a.words.now a.text.now a.i)) a.words.now a.text.now (a.i + 1) (arity_at a.words.now a.i) (opened v).encode-opening.last.1.1.1.0 (opened v).encode-opening.result
+  inside v = value_inside (start v).pre.1 (opened v).encode-opening.ensures
 
   -- and how many values
-  abbrev known : encode-lts.After-arity encode-claims encode-at encode.Post → Known
+  abbrev known : encode-lts.After-arity encode_claims encode_at encode.Post → Known
   known a = a.before.before.before
 
   -- and that the value is a set
-  set-made : (e : encode-lts.Else5 encode-claims encode-at encode.Post) {n : ℕ} → let a = (start (known e.before.before.before)).args in Same n (contents (label_at a.words.now a.text.now a.i)) (followedBy itemsImage ((0x85 ∷ []) ++ (0x52 ∷ [])))
+  set-made : (e : encode-lts.Else5 encode_claims encode_at encode.Post) {n : ℕ} → let a = (start (known e.before.before.before)).args in Same n (contents (label_at a.words.now a.text.now a.i)) (followed_by items_image ((0x85 ∷ []) ++ (0x52 ∷ [])))
   set-made e =
       let x = e.before.before.before.before in
       let v = x.before.before in
@@ -171,176 +171,176 @@ module _ (t : ℕ) where
 
   -- in the needs o is where the branch is taken, s the start, and b, w, p, q where the calls have written, from the first to the last
 
-  encode-returns : encode-lts.Need-returns encode-claims encode-at encode.Post
-  encode-returns c = let v = c.before in leaf-wrote (reads v) (headed v).head_of.ensures (sym v.holds.ensures ∙ not-true _ c.if1.true) (opened v).encode-opening.ensures
+  encode-returns : encode-lts.Need-returns encode_claims encode_at encode.Post
+  encode-returns c = let v = c.before in leaf_wrote (reads v) (headed v).head_of.ensures (sym v.holds.ensures ∙ not-true _ c.if1.true) (opened v).encode-opening.ensures
 
-  encode-encode-object-requires : encode-lts.Need-encode-object-requires encode-claims encode-at encode.Post
-  encode-encode-object-requires c κs = let o = c.before in let v = o.before.before in (omega (arith, (start v).requires.0, (reads v).inside), ready-as (makes-object (reads v) (headed v).head_of.ensures o.if2.true) (rw (object-arity (reads v) (headed v).head_of.ensures o.if2.true) at (inside v)))
+  encode-encode-object-requires : encode-lts.Need-encode-object-requires encode_claims encode_at encode.Post
+  encode-encode-object-requires c κs = let o = c.before in let v = o.before.before in (omega (arith, (start v).requires.0, (reads v).inside), ready_as (makes_object (reads v) (headed v).head_of.ensures o.if2.true) (rw (object_arity (reads v) (headed v).head_of.ensures o.if2.true) at (inside v)))
 
-  encode-returns-2 : encode-lts.Need-returns-2 encode-claims encode-at encode.Post
-  encode-returns-2 c = let w = c.before.before in let o = w.before.before in let v = o.before.before in value-wrote (opened v).encode-opening.ensures (rw (object-arity (reads v) (headed v).head_of.ensures o.if2.true) (wrote_as (makes-object (reads v) (headed v).head_of.ensures o.if2.true) w.encode-object.ensures))
+  encode-returns-2 : encode-lts.Need-returns-2 encode_claims encode_at encode.Post
+  encode-returns-2 c = let w = c.before.before in let o = w.before.before in let v = o.before.before in value_wrote (opened v).encode-opening.ensures (rw (object_arity (reads v) (headed v).head_of.ensures o.if2.true) (wrote_as (makes_object (reads v) (headed v).head_of.ensures o.if2.true) w.encode-object.ensures))
 
-  encode-encode-appends-requires : encode-lts.Need-encode-appends-requires encode-claims encode-at encode.Post
-  encode-encode-appends-requires c κs = let o = c.before in let a = o.before in let v = known a in (omega (arith, (start v).pre.0, (reads v).inside), rw a.arity.ensures (ready-as (makes-list (reads v) (headed v).head_of.ensures o.if3.true) (inside v)))
+  encode-encode-appends-requires : encode-lts.Need-encode-appends-requires encode_claims encode_at encode.Post
+  encode-encode-appends-requires c κs = let o = c.before in let a = o.before in let v = known a in (omega (arith, (start v).pre.0, (reads v).inside), rw a.arity.ensures (ready_as (makes_list (reads v) (headed v).head_of.ensures o.if3.true) (inside v)))
 
-  encode-returns-3 : encode-lts.Need-returns-3 encode-claims encode-at encode.Post
-  encode-returns-3 c = let w = c.before.before in let o = w.before.before in let a = o.before in let v = known a in value-wrote (opened v).encode-opening.ensures (wrote_as (makes-list (reads v) (headed v).head_of.ensures o.if3.true) (rw a.arity.ensures at w.encode-appends.ensures))
+  encode-returns-3 : encode-lts.Need-returns-3 encode_claims encode_at encode.Post
+  encode-returns-3 c = let w = c.before.before in let o = w.before.before in let a = o.before in let v = known a in value_wrote (opened v).encode-opening.ensures (wrote_as (makes_list (reads v) (headed v).head_of.ensures o.if3.true) (rw a.arity.ensures at w.encode-appends.ensures))
 
-  encode-encode-tuple-requires : encode-lts.Need-encode-tuple-requires encode-claims encode-at encode.Post
-  encode-encode-tuple-requires c κs = let o = c.before in let a = o.before.before in let v = known a in (omega (arith, (start v).pre.0, (reads v).inside), rw a.arity.ensures (ready-as (makes-tuple (reads v) (headed v).head_of.ensures o.if4.true) (inside v)))
+  encode-encode-tuple-requires : encode-lts.Need-encode-tuple-requires encode_claims encode_at encode.Post
+  encode-encode-tuple-requires c κs = let o = c.before in let a = o.before.before in let v = known a in (omega (arith, (start v).pre.0, (reads v).inside), rw a.arity.ensures (ready_as (makes_tuple (reads v) (headed v).head_of.ensures o.if4.true) (inside v)))
 
-  encode-returns-4 : encode-lts.Need-returns-4 encode-claims encode-at encode.Post
-  encode-returns-4 c = let w = c.before.before in let o = w.before.before in let a = o.before.before in let v = known a in value-wrote (opened v).encode-opening.ensures (wrote_as (makes-tuple (reads v) (headed v).head_of.ensures o.if4.true) (rw a.arity.ensures at w.encode-tuple.ensures))
+  encode-returns-4 : encode-lts.Need-returns-4 encode_claims encode_at encode.Post
+  encode-returns-4 c = let w = c.before.before in let o = w.before.before in let a = o.before.before in let v = known a in value_wrote (opened v).encode-opening.ensures (wrote_as (makes_tuple (reads v) (headed v).head_of.ensures o.if4.true) (rw a.arity.ensures at w.encode-tuple.ensures))
 
-  encode-encode-batches-requires : encode-lts.Need-encode-batches-requires encode-claims encode-at encode.Post
-  encode-encode-batches-requires c κs = let o = c.before in let a = o.before.before.before in let v = known a in (omega (arith, (start v).pre.0, (reads v).inside), rw a.arity.ensures (ready-as (makes-dict (reads v) (headed v).head_of.ensures o.if5.true) (inside v)))
+  encode-encode-batches-requires : encode-lts.Need-encode-batches-requires encode_claims encode_at encode.Post
+  encode-encode-batches-requires c κs = let o = c.before in let a = o.before.before.before in let v = known a in (omega (arith, (start v).pre.0, (reads v).inside), rw a.arity.ensures (ready_as (makes_dict (reads v) (headed v).head_of.ensures o.if5.true) (inside v)))
 
-  encode-returns-5 : encode-lts.Need-returns-5 encode-claims encode-at encode.Post
-  encode-returns-5 c = let w = c.before.before in let o = w.before.before in let a = o.before.before.before in let v = known a in value-wrote (opened v).encode-opening.ensures (wrote_as (makes-dict (reads v) (headed v).head_of.ensures o.if5.true) (rw a.arity.ensures at w.encode-batches.ensures))
+  encode-returns-5 : encode-lts.Need-returns-5 encode_claims encode_at encode.Post
+  encode-returns-5 c = let w = c.before.before in let o = w.before.before in let a = o.before.before.before in let v = known a in value_wrote (opened v).encode-opening.ensures (wrote_as (makes_dict (reads v) (headed v).head_of.ensures o.if5.true) (rw a.arity.ensures at w.encode-batches.ensures))
 
-  encode-encode-appends-requires-2 : encode-lts.Need-encode-appends-requires-2 encode-claims encode-at encode.Post
-  encode-encode-appends-requires-2 c κs = let o = c.before in let a = o.before.before.before in let v = known a in (omega (arith, (start v).pre.0, (reads v).inside), rw a.arity.ensures (ready-before _ _ (ready-as (set-made o) (inside v))))
+  encode-encode-appends-requires-2 : encode-lts.Need-encode-appends-requires-2 encode_claims encode_at encode.Post
+  encode-encode-appends-requires-2 c κs = let o = c.before in let a = o.before.before.before in let v = known a in (omega (arith, (start v).pre.0, (reads v).inside), rw a.arity.ensures (ready_before _ _ (ready_as (set-made o) (inside v))))
 
-  encode-put-byte-requires : encode-lts.Need-put-byte-requires encode-claims encode-at encode.Post
-  encode-put-byte-requires c κs = let w = c.before.before.before in let o = w.before.before in let a = o.before.before.before in room-first _ (ready-end _ _ (ready-as (set-made o) (inside (known a))) (rw a.arity.ensures at w.encode-appends2.ensures))
+  encode-put-byte-requires : encode-lts.Need-put-byte-requires encode_claims encode_at encode.Post
+  encode-put-byte-requires c κs = let w = c.before.before.before in let o = w.before.before in let a = o.before.before.before in room_first _ (ready_end _ _ (ready_as (set-made o) (inside (known a))) (rw a.arity.ensures at w.encode-appends2.ensures))
 
-  encode-put-byte-requires-2 : encode-lts.Need-put-byte-requires-2 encode-claims encode-at encode.Post
-  encode-put-byte-requires-2 c κs = let p = c.before.before.before in let w = p.before.before.before.before in let o = w.before.before in let a = o.before.before.before in room-then _ p.put_byte.ensures (ready-end _ _ (ready-as (set-made o) (inside (known a))) (rw a.arity.ensures at w.encode-appends2.ensures))
+  encode-put-byte-requires-2 : encode-lts.Need-put-byte-requires-2 encode_claims encode_at encode.Post
+  encode-put-byte-requires-2 c κs = let p = c.before.before.before in let w = p.before.before.before.before in let o = w.before.before in let a = o.before.before.before in room_then _ p.put_byte.ensures (ready_end _ _ (ready_as (set-made o) (inside (known a))) (rw a.arity.ensures at w.encode-appends2.ensures))
 
-  encode-returns-6 : encode-lts.Need-returns-6 encode-claims encode-at encode.Post
-  encode-returns-6 c = let q = c.before.before in let p = q.before.before.before.before in let w = p.before.before.before.before in let o = w.before.before in let a = o.before.before.before in value-wrote (opened (known a)).encode-opening.ensures (wrote_as (set-made o) (wrote-before _ _ (rw a.arity.ensures at w.encode-appends2.ensures) (put_then p.put_byte.ensures q.put-byte2.ensures)))
+  encode-returns-6 : encode-lts.Need-returns-6 encode_claims encode_at encode.Post
+  encode-returns-6 c = let q = c.before.before in let p = q.before.before.before.before in let w = p.before.before.before.before in let o = w.before.before in let a = o.before.before.before in value_wrote (opened (known a)).encode-opening.ensures (wrote_as (set-made o) (wrote_before _ _ (rw a.arity.ensures at w.encode-appends2.ensures) (put_then p.put_byte.ensures q.put-byte2.ensures)))
 
-  encode-appends-encode-items-requires : encode-appends-lts.Need-encode-items-requires encode-appends-claims encode-appends-at encode-appends.Post
-  encode-appends-encode-items-requires c κs = let o = c.before in let s = o.before.before.before.before in (omega (arith, s.requires.0), ready-before _ _ (ready-as (appends-one o.if1.true) s.requires.1))
+  encode-appends-encode-items-requires : encode-appends-lts.Need-encode-items-requires encode-appends_claims encode-appends_at encode-appends.Post
+  encode-appends-encode-items-requires c κs = let o = c.before in let s = o.before.before.before.before in (omega (arith, s.requires.0), ready_before _ _ (ready_as (appends_one o.if1.true) s.requires.1))
 
-  encode-appends-put-byte-requires : encode-appends-lts.Need-put-byte-requires encode-appends-claims encode-appends-at encode-appends.Post
-  encode-appends-put-byte-requires c κs = let w = c.before.before.before in let o = w.before.before in ready-end _ _ (ready-as (appends-one o.if1.true) o.before.before.before.before.requires.1) w.encode-items.ensures
+  encode-appends-put-byte-requires : encode-appends-lts.Need-put-byte-requires encode-appends_claims encode-appends_at encode-appends.Post
+  encode-appends-put-byte-requires c κs = let w = c.before.before.before in let o = w.before.before in ready_end _ _ (ready_as (appends_one o.if1.true) o.before.before.before.before.requires.1) w.encode-items.ensures
 
-  encode-appends-returns : encode-appends-lts.Need-returns encode-appends-claims encode-appends-at encode-appends.Post
-  encode-appends-returns c = let p = c.before.before in let w = p.before.before.before.before in wrote_as (appends-one w.before.before.if1.true) (wrote-before _ _ w.encode-items.ensures p.put_byte.ensures)
+  encode-appends-returns : encode-appends-lts.Need-returns encode-appends_claims encode-appends_at encode-appends.Post
+  encode-appends-returns c = let p = c.before.before in let w = p.before.before.before.before in wrote_as (appends_one w.before.before.if1.true) (wrote_before _ _ w.encode-items.ensures p.put_byte.ensures)
 
-  encode-appends-encode-batches-requires : encode-appends-lts.Need-encode-batches-requires encode-appends-claims encode-appends-at encode-appends.Post
-  encode-appends-encode-batches-requires c κs = let o = c.before in let s = o.before.before.before.before in (omega (arith, s.requires.0), ready-as (appends-many o.if1.false) s.requires.1)
+  encode-appends-encode-batches-requires : encode-appends-lts.Need-encode-batches-requires encode-appends_claims encode-appends_at encode-appends.Post
+  encode-appends-encode-batches-requires c κs = let o = c.before in let s = o.before.before.before.before in (omega (arith, s.requires.0), ready_as (appends-many o.if1.false) s.requires.1)
 
-  encode-appends-returns-2 : encode-appends-lts.Need-returns-2 encode-appends-claims encode-appends-at encode-appends.Post
+  encode-appends-returns-2 : encode-appends-lts.Need-returns-2 encode-appends_claims encode-appends_at encode-appends.Post
   encode-appends-returns-2 c = let w = c.before.before in wrote_as (appends-many w.before.before.if1.false) w.encode-batches.ensures
 
-  encode-batch-encode-items-requires : encode-batch-lts.Need-encode-items-requires encode-batch-claims encode-batch-at encode-batch.Post
-  encode-batch-encode-items-requires c κs = let o = c.before in let s = o.before.before.before.before.before in (omega (arith, s.requires.0), ready-before _ _ (ready-as (batch-entry _ o.before.if1.true o.if2.true) s.requires.1))
+  encode-batch-encode-items-requires : encode-batch-lts.Need-encode-items-requires encode-batch_claims encode-batch_at encode-batch.Post
+  encode-batch-encode-items-requires c κs = let o = c.before in let s = o.before.before.before.before.before in (omega (arith, s.requires.0), ready_before _ _ (ready_as (batch_entry _ o.before.if1.true o.if2.true) s.requires.1))
 
-  encode-batch-put-byte-requires : encode-batch-lts.Need-put-byte-requires encode-batch-claims encode-batch-at encode-batch.Post
-  encode-batch-put-byte-requires c κs = let w = c.before.before.before in let o = w.before.before in ready-end _ _ (ready-as (batch-entry _ o.before.if1.true o.if2.true) o.before.before.before.before.before.requires.1) w.encode-items.ensures
+  encode-batch-put-byte-requires : encode-batch-lts.Need-put-byte-requires encode-batch_claims encode-batch_at encode-batch.Post
+  encode-batch-put-byte-requires c κs = let w = c.before.before.before in let o = w.before.before in ready_end _ _ (ready_as (batch_entry _ o.before.if1.true o.if2.true) o.before.before.before.before.before.requires.1) w.encode-items.ensures
 
-  encode-batch-returns : encode-batch-lts.Need-returns encode-batch-claims encode-batch-at encode-batch.Post
-  encode-batch-returns c = let p = c.before.before in let w = p.before.before.before.before in let o = w.before.before in wrote_as (batch-entry _ o.before.if1.true o.if2.true) (wrote-before _ _ w.encode-items.ensures p.put_byte.ensures)
+  encode-batch-returns : encode-batch-lts.Need-returns encode-batch_claims encode-batch_at encode-batch.Post
+  encode-batch-returns c = let p = c.before.before in let w = p.before.before.before.before in let o = w.before.before in wrote_as (batch_entry _ o.before.if1.true o.if2.true) (wrote_before _ _ w.encode-items.ensures p.put_byte.ensures)
 
-  encode-batch-put-byte-requires-2 : encode-batch-lts.Need-put-byte-requires-2 encode-batch-claims encode-batch-at encode-batch.Post
-  encode-batch-put-byte-requires-2 c κs = let o = c.before in ready-front _ _ (ready-as (batch-entries _ o.before.if1.true o.if2.false) o.before.before.before.before.before.requires.1)
+  encode-batch-put-byte-requires-2 : encode-batch-lts.Need-put-byte-requires-2 encode-batch_claims encode-batch_at encode-batch.Post
+  encode-batch-put-byte-requires-2 c κs = let o = c.before in ready_front _ _ (ready_as (batch-entries _ o.before.if1.true o.if2.false) o.before.before.before.before.before.requires.1)
 
-  encode-batch-encode-items-requires-2 : encode-batch-lts.Need-encode-items-requires-2 encode-batch-claims encode-batch-at encode-batch.Post
-  encode-batch-encode-items-requires-2 c κs = let b = c.before.before.before in let o = b.before.before in let s = o.before.before.before.before.before in (omega (arith, s.requires.0), ready-before _ _ (ready-after _ _ (ready-as (batch-entries _ o.before.if1.true o.if2.false) s.requires.1) b.put-byte2.ensures))
+  encode-batch-encode-items-requires-2 : encode-batch-lts.Need-encode-items-requires-2 encode-batch_claims encode-batch_at encode-batch.Post
+  encode-batch-encode-items-requires-2 c κs = let b = c.before.before.before in let o = b.before.before in let s = o.before.before.before.before.before in (omega (arith, s.requires.0), ready_before _ _ (ready_after _ _ (ready_as (batch-entries _ o.before.if1.true o.if2.false) s.requires.1) b.put-byte2.ensures))
 
-  encode-batch-put-byte-requires-3 : encode-batch-lts.Need-put-byte-requires-3 encode-batch-claims encode-batch-at encode-batch.Post
-  encode-batch-put-byte-requires-3 c κs = let w = c.before.before.before in let b = w.before.before.before.before in let o = b.before.before in ready-end _ _ (ready-after _ _ (ready-as (batch-entries _ o.before.if1.true o.if2.false) o.before.before.before.before.before.requires.1) b.put-byte2.ensures) w.encode-items2.ensures
+  encode-batch-put-byte-requires-3 : encode-batch-lts.Need-put-byte-requires-3 encode-batch_claims encode-batch_at encode-batch.Post
+  encode-batch-put-byte-requires-3 c κs = let w = c.before.before.before in let b = w.before.before.before.before in let o = b.before.before in ready_end _ _ (ready_after _ _ (ready_as (batch-entries _ o.before.if1.true o.if2.false) o.before.before.before.before.before.requires.1) b.put-byte2.ensures) w.encode-items2.ensures
 
-  encode-batch-returns-2 : encode-batch-lts.Need-returns-2 encode-batch-claims encode-batch-at encode-batch.Post
-  encode-batch-returns-2 c = let p = c.before.before in let w = p.before.before.before.before in let b = w.before.before.before.before in let o = b.before.before in wrote_as (batch-entries _ o.before.if1.true o.if2.false) (wrote_after _ _ b.put-byte2.ensures (wrote-before _ _ w.encode-items2.ensures p.put-byte3.ensures))
+  encode-batch-returns-2 : encode-batch-lts.Need-returns-2 encode-batch_claims encode-batch_at encode-batch.Post
+  encode-batch-returns-2 c = let p = c.before.before in let w = p.before.before.before.before in let b = w.before.before.before.before in let o = b.before.before in wrote_as (batch-entries _ o.before.if1.true o.if2.false) (wrote_after _ _ b.put-byte2.ensures (wrote_before _ _ w.encode-items2.ensures p.put-byte3.ensures))
 
-  encode-batch-put-byte-requires-4 : encode-batch-lts.Need-put-byte-requires-4 encode-batch-claims encode-batch-at encode-batch.Post
-  encode-batch-put-byte-requires-4 c κs = let o = c.before in ready-front _ _ (ready-as (batch-items _ o.if1.false) o.before.before.before.before.requires.1)
+  encode-batch-put-byte-requires-4 : encode-batch-lts.Need-put-byte-requires-4 encode-batch_claims encode-batch_at encode-batch.Post
+  encode-batch-put-byte-requires-4 c κs = let o = c.before in ready_front _ _ (ready_as (batch-items _ o.if1.false) o.before.before.before.before.requires.1)
 
-  encode-batch-encode-items-requires-3 : encode-batch-lts.Need-encode-items-requires-3 encode-batch-claims encode-batch-at encode-batch.Post
-  encode-batch-encode-items-requires-3 c κs = let b = c.before.before.before in let o = b.before.before in let s = o.before.before.before.before in (omega (arith, s.requires.0), ready-before _ _ (ready-after _ _ (ready-as (batch-items _ o.if1.false) s.requires.1) b.put-byte4.ensures))
+  encode-batch-encode-items-requires-3 : encode-batch-lts.Need-encode-items-requires-3 encode-batch_claims encode-batch_at encode-batch.Post
+  encode-batch-encode-items-requires-3 c κs = let b = c.before.before.before in let o = b.before.before in let s = o.before.before.before.before in (omega (arith, s.requires.0), ready_before _ _ (ready_after _ _ (ready_as (batch-items _ o.if1.false) s.requires.1) b.put-byte4.ensures))
 
-  encode-batch-put-byte-requires-5 : encode-batch-lts.Need-put-byte-requires-5 encode-batch-claims encode-batch-at encode-batch.Post
-  encode-batch-put-byte-requires-5 c κs = let w = c.before.before.before in let b = w.before.before.before.before in let o = b.before.before in ready-end _ _ (ready-after _ _ (ready-as (batch-items _ o.if1.false) o.before.before.before.before.requires.1) b.put-byte4.ensures) w.encode-items3.ensures
+  encode-batch-put-byte-requires-5 : encode-batch-lts.Need-put-byte-requires-5 encode-batch_claims encode-batch_at encode-batch.Post
+  encode-batch-put-byte-requires-5 c κs = let w = c.before.before.before in let b = w.before.before.before.before in let o = b.before.before in ready_end _ _ (ready_after _ _ (ready_as (batch-items _ o.if1.false) o.before.before.before.before.requires.1) b.put-byte4.ensures) w.encode-items3.ensures
 
-  encode-batch-returns-3 : encode-batch-lts.Need-returns-3 encode-batch-claims encode-batch-at encode-batch.Post
-  encode-batch-returns-3 c = let p = c.before.before in let w = p.before.before.before.before in let b = w.before.before.before.before in let o = b.before.before in wrote_as (batch-items _ o.if1.false) (wrote_after _ _ b.put-byte4.ensures (wrote-before _ _ w.encode-items3.ensures p.put-byte5.ensures))
+  encode-batch-returns-3 : encode-batch-lts.Need-returns-3 encode-batch_claims encode-batch_at encode-batch.Post
+  encode-batch-returns-3 c = let p = c.before.before in let w = p.before.before.before.before in let b = w.before.before.before.before in let o = b.before.before in wrote_as (batch-items _ o.if1.false) (wrote_after _ _ b.put-byte4.ensures (wrote_before _ _ w.encode-items3.ensures p.put-byte5.ensures))
 
-  encode-batches-encode-batch-requires : encode-batches-lts.Need-encode-batch-requires encode-batches-claims encode-batches-at encode-batches.Post encode-batches-Inv-loop encode-batches-μ-loop
-  encode-batches-encode-batch-requires c κs = let b = c.before in let h = b.before.before in let s = h.before.before.before.before in (omega (arith, s.requires.0, h.loop.invariant.later), rw b.batch-of.ensures (ready-cut (batches-cuts s.args.entries h.loop.left b.before.loop-test.true) h.loop.invariant.ready))
+  encode-batches-encode-batch-requires : encode-batches-lts.Need-encode-batch-requires encode-batches_claims encode-batches_at encode-batches.Post encode-batches-Inv-loop encode-batches-μ-loop
+  encode-batches-encode-batch-requires c κs = let b = c.before in let h = b.before.before in let s = h.before.before.before.before in (omega (arith, s.requires.0, h.loop.invariant.later), rw b.batch-of.ensures (ready_cut (batches_cuts s.args.entries h.loop.left b.before.loop-test.true) h.loop.invariant.ready))
 
-  encode-batches-loop-less : encode-batches-lts.Need-loop-smaller encode-batches-claims encode-batches-at encode-batches.Post encode-batches-Inv-loop encode-batches-μ-loop
+  encode-batches-loop-less : encode-batches-lts.Need-loop-smaller encode-batches_claims encode-batches_at encode-batches.Post encode-batches-Inv-loop encode-batches-μ-loop
   encode-batches-loop-less c = let b = c.before.before.before.before in omega (arith, b.batch-of.ensures, size-some b.before.before.before.before.before.before.args.entries, b.before.loop-test.true)
 
-  encode-batches-loop-again : encode-batches-lts.Need-loop-preserved encode-batches-claims encode-batches-at encode-batches.Post encode-batches-Inv-loop encode-batches-μ-loop
-  encode-batches-loop-again c = let w = c.before.before in let b = w.before.before in let h = b.before.before in rw b.batch-of.ensures (going-again (batches-cuts h.before.before.before.before.args.entries h.loop.left b.before.loop-test.true) h.loop.invariant (rw b.batch-of.ensures at w.encode-batch.ensures))
+  encode-batches-loop-again : encode-batches-lts.Need-loop-preserved encode-batches_claims encode-batches_at encode-batches.Post encode-batches-Inv-loop encode-batches-μ-loop
+  encode-batches-loop-again c = let w = c.before.before in let b = w.before.before in let h = b.before.before in rw b.batch-of.ensures (going_again (batches_cuts h.before.before.before.before.args.entries h.loop.left b.before.loop-test.true) h.loop.invariant (rw b.batch-of.ensures at w.encode-batch.ensures))
 
   -- `encode_items` has a value left
-  module _ (l : encode-items-lts.In-loop encode-items-claims encode-items-at encode-items.Post encode-items-Inv-loop encode-items-μ-loop) where
-    abbrev turn : encode-items-lts.At-loop encode-items-claims encode-items-at encode-items.Post encode-items-Inv-loop encode-items-μ-loop
+  module _ (l : encode-items-lts.In-loop encode-items_claims encode-items_at encode-items.Post encode-items-Inv-loop encode-items-μ-loop) where
+    abbrev turn : encode-items-lts.At-loop encode-items_claims encode-items_at encode-items.Post encode-items-Inv-loop encode-items-μ-loop
     turn = l.before
 
-    abbrev lent : encode-items-lts.Start encode-items-claims encode-items-at encode-items.Post encode-items-Inv-loop encode-items-μ-loop
+    abbrev lent : encode-items-lts.Start encode-items_claims encode-items_at encode-items.Post encode-items-Inv-loop encode-items-μ-loop
     lent = l.before.before.before.before.before
 
     cuts : Cuts 1 turn.loop.left (turn.loop.left - 1) joined joined joined
-    cuts = joined-cuts turn.loop.left l.loop-test.taken
+    cuts = joined_cuts turn.loop.left l.loop-test.taken
 
     due : ReadyToWrite joined lent.args.words.now lent.args.text.now turn.loop.i 1 turn.loop.output turn.loop.next
-    due = ready-cut cuts turn.loop.inv.ready
+    due = ready_cut cuts turn.loop.inv.ready
 
-  encode-items-encode-requires : encode-items-lts.Need-encode-requires encode-items-claims encode-items-at encode-items.Post encode-items-Inv-loop encode-items-μ-loop
+  encode-items-encode-requires : encode-items-lts.Need-encode-requires encode-items_claims encode-items_at encode-items.Post encode-items-Inv-loop encode-items-μ-loop
   encode-items-encode-requires c κs = let l = c.before.before.before.before.before in (omega (arith, (lent l).requires.0, (turn l).loop.invariant.later), due l)
 
-  encode-items-loop-again : encode-items-lts.Need-loop-preserved encode-items-claims encode-items-at encode-items.Post encode-items-Inv-loop encode-items-μ-loop
+  encode-items-loop-again : encode-items-lts.Need-loop-preserved encode-items_claims encode-items_at encode-items.Post encode-items-Inv-loop encode-items-μ-loop
   encode-items-loop-again c =
       let h = c.before.before in
       let l = h.before.before in
       ⊎_elim
-      (λ y. rw (y.5, y.6, y.7) (going-again (cuts l) (turn l).loop.invariant y.2.ensures))
-      (λ y. rw (y.5, y.6, y.7) (going-again (cuts l) (turn l).loop.invariant (leaf-wrote (value-reads (due l)) h.head_of.ensures (sym c.before.holds.ensures ∙ y.0.left) y.2.ensures)))
+      (λ y. rw (y.5, y.6, y.7) (going_again (cuts l) (turn l).loop.invariant y.2.ensures))
+      (λ y. rw (y.5, y.6, y.7) (going_again (cuts l) (turn l).loop.invariant (leaf_wrote (value-reads (due l)) h.head_of.ensures (sym c.before.holds.ensures ∙ y.0.left) y.2.ensures)))
       c.if1.branch
 
   -- `encode_object` has written its opcode: what it was lent, the arguments before
-  module _ (p : encode-object-lts.After-put-byte encode-object-claims encode-object-at encode-object.Post) where
-    abbrev object : encode-object-lts.Start encode-object-claims encode-object-at encode-object.Post
+  module _ (p : encode-object-lts.After-put-byte encode-object_claims encode-object_at encode-object.Post) where
+    abbrev object : encode-object-lts.Start encode-object_claims encode-object_at encode-object.Post
     object = p.before.before.before.before.before.before.before.before.before.before
 
-    abbrev arguments : encode-object-lts.After-encode encode-object-claims encode-object-at encode-object.Post
+    abbrev arguments : encode-object-lts.After-encode encode-object_claims encode-object_at encode-object.Post
     arguments = p.before.before.before.before.before
 
-    built-due : ReadyToWrite stateImage object.args.words.now object.args.text.now arguments.encode.result.record (bit object.args.state) p.put_byte.last.1.0 p.put_byte.result
-    built-due = ready-after _ _ (ready-rest (object-cuts object.args.new _ _ p.before.before.object-opcode.ensures) arguments.encode.ensures object.pre.1) p.put_byte.ensures
+    built_due : ReadyToWrite state_image object.args.words.now object.args.text.now arguments.encode.result.record (bit object.args.state) p.put_byte.last.1.0 p.put_byte.result
+    built_due = ready_after _ _ (ready_rest (object_cuts object.args.new _ _ p.before.before.object-opcode.ensures) arguments.encode.ensures object.pre.1) p.put_byte.ensures
 
-  encode-object-encode-requires : encode-object-lts.Need-encode-requires encode-object-claims encode-object-at encode-object.Post
-  encode-object-encode-requires c κs = let s = c.before.before.before.before in (omega (arith, s.requires.0), ready-cut (object-cuts s.args.new _ _ refl) s.requires.1)
+  encode-object-encode-requires : encode-object-lts.Need-encode-requires encode-object_claims encode-object_at encode-object.Post
+  encode-object-encode-requires c κs = let s = c.before.before.before.before in (omega (arith, s.requires.0), ready_cut (object_cuts s.args.new _ _ refl) s.requires.1)
 
-  encode-object-put-byte-requires : encode-object-lts.Need-put-byte-requires encode-object-claims encode-object-at encode-object.Post
-  encode-object-put-byte-requires c κs = let e = c.before.before.before.before in let s = e.before.before.before.before.before in ready-front _ _ (ready-rest (object-cuts s.args.new _ _ c.before.object-opcode.ensures) e.encode.ensures s.requires.1)
+  encode-object-put-byte-requires : encode-object-lts.Need-put-byte-requires encode-object_claims encode-object_at encode-object.Post
+  encode-object-put-byte-requires c κs = let e = c.before.before.before.before in let s = e.before.before.before.before.before in ready_front _ _ (ready_rest (object_cuts s.args.new _ _ c.before.object-opcode.ensures) e.encode.ensures s.requires.1)
 
-  encode-object-encode-requires-2 : encode-object-lts.Need-encode-requires-2 encode-object-claims encode-object-at encode-object.Post
-  encode-object-encode-requires-2 c κs = let o = c.before in let p = o.before.before.before in let s = object p in (omega (arith, s.pre.0, wrote-later (ready-cut (object-cuts s.args.new _ _ refl) s.pre.1) (arguments p).encode.ensures), ready-before _ _ (ready-as built-one (rw (bit-one s.args.state o.if1.true) at (built-due p))))
+  encode-object-encode-requires-2 : encode-object-lts.Need-encode-requires-2 encode-object_claims encode-object_at encode-object.Post
+  encode-object-encode-requires-2 c κs = let o = c.before in let p = o.before.before.before in let s = object p in (omega (arith, s.pre.0, wrote_later (ready_cut (object_cuts s.args.new _ _ refl) s.pre.1) (arguments p).encode.ensures), ready_before _ _ (ready_as built_one (rw (bit_one s.args.state o.if1.true) at (built_due p))))
 
-  encode-object-put-byte-requires-2 : encode-object-lts.Need-put-byte-requires-2 encode-object-claims encode-object-at encode-object.Post
-  encode-object-put-byte-requires-2 c κs = let e = c.before.before.before in let o = e.before.before in let p = o.before.before.before in ready-end _ _ (ready-as built-one (rw (bit-one (object p).args.state o.if1.true) at (built-due p))) e.encode2.ensures
+  encode-object-put-byte-requires-2 : encode-object-lts.Need-put-byte-requires-2 encode-object_claims encode-object_at encode-object.Post
+  encode-object-put-byte-requires-2 c κs = let e = c.before.before.before in let o = e.before.before in let p = o.before.before.before in ready_end _ _ (ready_as built_one (rw (bit_one (object p).args.state o.if1.true) at (built_due p))) e.encode2.ensures
 
-  encode-object-returns : encode-object-lts.Need-returns encode-object-claims encode-object-at encode-object.Post
-  encode-object-returns c = let q = c.before.before in let e = q.before.before.before.before in let o = e.before.before in let p = o.before.before.before in let s = object p in wrote-cut (object-cuts s.args.new _ _ p.before.before.object-opcode.ensures) (arguments p).encode.ensures (wrote_after _ _ p.put_byte.ensures (rw (bit-one s.args.state o.if1.true) (wrote_as built-one (wrote-before _ _ e.encode2.ensures q.put-byte2.ensures))))
+  encode-object-returns : encode-object-lts.Need-returns encode-object_claims encode-object_at encode-object.Post
+  encode-object-returns c = let q = c.before.before in let e = q.before.before.before.before in let o = e.before.before in let p = o.before.before.before in let s = object p in wrote_cut (object_cuts s.args.new _ _ p.before.before.object-opcode.ensures) (arguments p).encode.ensures (wrote_after _ _ p.put_byte.ensures (rw (bit_one s.args.state o.if1.true) (wrote_as built_one (wrote_before _ _ e.encode2.ensures q.put-byte2.ensures))))
 
-  encode-object-returns-2 : encode-object-lts.Need-returns-2 encode-object-claims encode-object-at encode-object.Post
-  encode-object-returns-2 c = let p = c.before.before.before in let s = object p in wrote-cut (object-cuts s.args.new _ _ p.before.before.object-opcode.ensures) (arguments p).encode.ensures (wrote_after _ _ p.put_byte.ensures (wrote_none (bit-none s.args.state c.if1.false) built-none))
+  encode-object-returns-2 : encode-object-lts.Need-returns-2 encode-object_claims encode-object_at encode-object.Post
+  encode-object-returns-2 c = let p = c.before.before.before in let s = object p in wrote_cut (object_cuts s.args.new _ _ p.before.before.object-opcode.ensures) (arguments p).encode.ensures (wrote_after _ _ p.put_byte.ensures (wrote_none (bit_none s.args.state c.if1.false) built-none))
 
-  encode-tuple-tuple-mark-requires : encode-tuple-lts.Need-tuple-mark-requires encode-tuple-claims encode-tuple-at encode-tuple.Post
-  encode-tuple-tuple-mark-requires c κs = let s = c.before.before.before.before in ready-front _ _ (ready-as (tuple-parts s.args.count _ refl) s.requires.1)
+  encode-tuple-tuple-mark-requires : encode-tuple-lts.Need-tuple-mark-requires encode-tuple_claims encode-tuple_at encode-tuple.Post
+  encode-tuple-tuple-mark-requires c κs = let s = c.before.before.before.before in ready_front _ _ (ready_as (tuple_parts s.args.count _ refl) s.requires.1)
 
-  encode-tuple-encode-items-requires : encode-tuple-lts.Need-encode-items-requires encode-tuple-claims encode-tuple-at encode-tuple.Post
-  encode-tuple-encode-items-requires c κs = let b = c.before.before.before in let s = b.before.before.before.before.before in (omega (arith, s.requires.0), ready-before _ _ (ready-after _ _ (ready-as (tuple-parts s.args.count _ refl) s.requires.1) b.tuple-mark.ensures))
+  encode-tuple-encode-items-requires : encode-tuple-lts.Need-encode-items-requires encode-tuple_claims encode-tuple_at encode-tuple.Post
+  encode-tuple-encode-items-requires c κs = let b = c.before.before.before in let s = b.before.before.before.before.before in (omega (arith, s.requires.0), ready_before _ _ (ready_after _ _ (ready_as (tuple_parts s.args.count _ refl) s.requires.1) b.tuple-mark.ensures))
 
-  encode-tuple-put-byte-requires : encode-tuple-lts.Need-put-byte-requires encode-tuple-claims encode-tuple-at encode-tuple.Post
-  encode-tuple-put-byte-requires c κs = let w = c.before.before.before.before in let b = w.before.before.before.before in let s = b.before.before.before.before.before in ready-end _ _ (ready-after _ _ (ready-as (tuple-parts s.args.count _ c.before.tuple-opcode.ensures) s.requires.1) b.tuple-mark.ensures) w.encode-items.ensures
+  encode-tuple-put-byte-requires : encode-tuple-lts.Need-put-byte-requires encode-tuple_claims encode-tuple_at encode-tuple.Post
+  encode-tuple-put-byte-requires c κs = let w = c.before.before.before.before in let b = w.before.before.before.before in let s = b.before.before.before.before.before in ready_end _ _ (ready_after _ _ (ready_as (tuple_parts s.args.count _ c.before.tuple-opcode.ensures) s.requires.1) b.tuple-mark.ensures) w.encode-items.ensures
 
-  encode-tuple-returns : encode-tuple-lts.Need-returns encode-tuple-claims encode-tuple-at encode-tuple.Post
-  encode-tuple-returns c = let w = c.before.before.before.before.before.before.before in let b = w.before.before.before.before in wrote_as (tuple-parts b.before.before.before.before.before.args.count _ c.before.before.before.before.tuple-opcode.ensures) (wrote_after _ _ b.tuple-mark.ensures (wrote-before _ _ w.encode-items.ensures c.before.before.put_byte.ensures))
+  encode-tuple-returns : encode-tuple-lts.Need-returns encode-tuple_claims encode-tuple_at encode-tuple.Post
+  encode-tuple-returns c = let w = c.before.before.before.before.before.before.before in let b = w.before.before.before.before in wrote_as (tuple_parts b.before.before.before.before.before.args.count _ c.before.before.before.before.tuple-opcode.ensures) (wrote_after _ _ b.tuple-mark.ensures (wrote_before _ _ w.encode-items.ensures c.before.before.put_byte.ensures))
 
-pub +encode-encode-appends-encode-batch-encode-batches-encode-items-encode-object-encode-tuple-spec : {M : Type 1} → statement M
-+encode-encode-appends-encode-batch-encode-batches-encode-items-encode-object-encode-tuple-spec =
-    close μ-encode μ-encode-appends μ-encode-batch μ-encode-batches μ-encode-items μ-encode-object μ-encode-tuple
-    (λ t. encode-lts.spec (encode-claims t) (encode-at t) encode.Post (λ c. let r = value-reads c.before.before.before.requires.1 in search rules) (λ c. let r = value-reads c.before.before.before.requires.1 in search rules) (λ c. let r = value-reads c.before.before.before.before.requires.1 in search rules) (λ c κs. search rules) (λ c κs. let y = c.before.before.before.before.before.before.requires.1 in (value-reads y, value_room y)) (λ c κs. search rules) (λ c. let v = c.before in omega (arith, (reads t v).inside)) (λ c. search rules) (encode-returns t) (λ c. let v = c.before.before in omega (arith, (reads t v).inside)) (encode-encode-object-requires t) (λ c. search rules) (encode-returns-2 t) (λ c κs. let v = c.before.before in ((reads t v).inside, value-arity (start t v).requires.1)) (λ c. let v = c.before.before.before.before in omega (arith, (reads t v).inside)) (encode-encode-appends-requires t) (λ c. search rules) (encode-returns-3 t) (λ c. let v = c.before.before.before.before.before in omega (arith, (reads t v).inside)) (encode-encode-tuple-requires t) (λ c. search rules) (encode-returns-4 t) (λ c. let v = c.before.before.before.before.before.before in omega (arith, (reads t v).inside)) (encode-encode-batches-requires t) (λ c. search rules) (encode-returns-5 t) (λ c. let v = c.before.before.before.before.before.before in omega (arith, (reads t v).inside)) (encode-encode-appends-requires-2 t) (encode-put-byte-requires t) (encode-put-byte-requires-2 t) (λ c. search rules) (encode-returns-6 t))
-    (λ t. encode-appends-lts.spec (encode-appends-claims t) (encode-appends-at t) encode-appends.Post (encode-appends-encode-items-requires t) (encode-appends-put-byte-requires t) (λ c. search rules) (encode-appends-returns t) (encode-appends-encode-batches-requires t) (λ c. search rules) (encode-appends-returns-2 t))
-    (λ t. encode-batch-lts.spec (encode-batch-claims t) (encode-batch-at t) encode-batch.Post (encode-batch-encode-items-requires t) (encode-batch-put-byte-requires t) (λ c. search rules) (encode-batch-returns t) (encode-batch-put-byte-requires-2 t) (encode-batch-encode-items-requires-2 t) (encode-batch-put-byte-requires-3 t) (λ c. search rules) (encode-batch-returns-2 t) (encode-batch-put-byte-requires-4 t) (encode-batch-encode-items-requires-3 t) (encode-batch-put-byte-requires-5 t) (λ c. search rules) (encode-batch-returns-3 t))
-    (λ t. encode-batches-lts.spec (encode-batches-claims t) (encode-batches-at t) encode-batches.Post encode-batches-Inv-loop encode-batches-μ-loop (λ c. going-all c.before.before.before.requires.1) (λ c κs. search rules) (encode-batches-encode-batch-requires t) (λ c. omega (arith, c.before.before.before.before.batch-of.ensures)) (encode-batches-loop-less t) (encode-batches-loop-again t) (λ c. c.before.loop.invariant.kept) (λ c. going-none (batches-none c.before.before.before.before.before.args.entries) c.loop-test.false c.before.loop.invariant))
-    (λ t. encode-items-lts.spec (encode-items-claims t) (encode-items-at t) encode-items.Post encode-items-Inv-loop encode-items-μ-loop (λ c. going-all c.before.before.before.requires.1) (λ c. let r = value-reads (due t c) in search rules) (λ c. let r = value-reads (due t c) in search rules) (λ c. let r = value-reads (due t c.before) in search rules) (λ c κs. search rules) (λ c κs. search rules) (encode-items-encode-requires t) (λ c κs. let l = c.before.before.before.before.before in let y = due t l in (value-reads y, value_room y)) (λ c. let l = c.before.before.before.before.before.before.before.before in omega (arith, (value-reads (due t l)).inside)) (λ c. omega (arith, c.before.before.before.before.loop-test.true)) (λ c. omega (arith, c.before.before.before.before.loop-test.true)) (encode-items-loop-again t) (λ c. c.before.loop.invariant.kept) (λ c. going-none joined-none c.loop-test.false c.before.loop.invariant))
-    (λ t. encode-object-lts.spec (encode-object-claims t) (encode-object-at t) encode-object.Post (encode-object-encode-requires t) (λ c κs. search rules) (encode-object-put-byte-requires t) (encode-object-encode-requires-2 t) (encode-object-put-byte-requires-2 t) (λ c. search rules) (encode-object-returns t) (λ c. search rules) (encode-object-returns-2 t))
-    λ t. encode-tuple-lts.spec (encode-tuple-claims t) (encode-tuple-at t) encode-tuple.Post (encode-tuple-tuple-mark-requires t) (encode-tuple-encode-items-requires t) (λ c κs. search rules) (encode-tuple-put-byte-requires t) (λ c. search rules) (encode-tuple-returns t)
+pub +encode_encode-appends-encode-batch-encode-batches-encode-items-encode-object-encode-tuple_spec : {M : Type 1} → statement M
++encode_encode-appends-encode-batch-encode-batches-encode-items-encode-object-encode-tuple_spec =
+    close μ_encode μ_encode-appends μ_encode-batch μ_encode-batches μ_encode-items μ_encode-object μ_encode-tuple
+    (λ t. encode-lts.spec (encode_claims t) (encode_at t) encode.Post (λ c. let r = value-reads c.before.before.before.requires.1 in search rules) (λ c. let r = value-reads c.before.before.before.requires.1 in search rules) (λ c. let r = value-reads c.before.before.before.before.requires.1 in search rules) (λ c κs. search rules) (λ c κs. let y = c.before.before.before.before.before.before.requires.1 in (value-reads y, value_room y)) (λ c κs. search rules) (λ c. let v = c.before in omega (arith, (reads t v).inside)) (λ c. search rules) (encode-returns t) (λ c. let v = c.before.before in omega (arith, (reads t v).inside)) (encode-encode-object-requires t) (λ c. search rules) (encode-returns-2 t) (λ c κs. let v = c.before.before in ((reads t v).inside, value_arity (start t v).requires.1)) (λ c. let v = c.before.before.before.before in omega (arith, (reads t v).inside)) (encode-encode-appends-requires t) (λ c. search rules) (encode-returns-3 t) (λ c. let v = c.before.before.before.before.before in omega (arith, (reads t v).inside)) (encode-encode-tuple-requires t) (λ c. search rules) (encode-returns-4 t) (λ c. let v = c.before.before.before.before.before.before in omega (arith, (reads t v).inside)) (encode-encode-batches-requires t) (λ c. search rules) (encode-returns-5 t) (λ c. let v = c.before.before.before.before.before.before in omega (arith, (reads t v).inside)) (encode-encode-appends-requires-2 t) (encode-put-byte-requires t) (encode-put-byte-requires-2 t) (λ c. search rules) (encode-returns-6 t))
+    (λ t. encode-appends-lts.spec (encode-appends_claims t) (encode-appends_at t) encode-appends.Post (encode-appends-encode-items-requires t) (encode-appends-put-byte-requires t) (λ c. search rules) (encode-appends-returns t) (encode-appends-encode-batches-requires t) (λ c. search rules) (encode-appends-returns-2 t))
+    (λ t. encode-batch-lts.spec (encode-batch_claims t) (encode-batch_at t) encode-batch.Post (encode-batch-encode-items-requires t) (encode-batch-put-byte-requires t) (λ c. search rules) (encode-batch-returns t) (encode-batch-put-byte-requires-2 t) (encode-batch-encode-items-requires-2 t) (encode-batch-put-byte-requires-3 t) (λ c. search rules) (encode-batch-returns-2 t) (encode-batch-put-byte-requires-4 t) (encode-batch-encode-items-requires-3 t) (encode-batch-put-byte-requires-5 t) (λ c. search rules) (encode-batch-returns-3 t))
+    (λ t. encode-batches-lts.spec (encode-batches_claims t) (encode-batches_at t) encode-batches.Post encode-batches-Inv-loop encode-batches-μ-loop (λ c. going-all c.before.before.before.requires.1) (λ c κs. search rules) (encode-batches-encode-batch-requires t) (λ c. omega (arith, c.before.before.before.before.batch-of.ensures)) (encode-batches-loop-less t) (encode-batches-loop-again t) (λ c. c.before.loop.invariant.kept) (λ c. going-none (batches-none c.before.before.before.before.before.args.entries) c.loop-test.false c.before.loop.invariant))
+    (λ t. encode-items-lts.spec (encode-items_claims t) (encode-items_at t) encode-items.Post encode-items-Inv-loop encode-items-μ-loop (λ c. going-all c.before.before.before.requires.1) (λ c. let r = value-reads (due t c) in search rules) (λ c. let r = value-reads (due t c) in search rules) (λ c. let r = value-reads (due t c.before) in search rules) (λ c κs. search rules) (λ c κs. search rules) (encode-items-encode-requires t) (λ c κs. let l = c.before.before.before.before.before in let y = due t l in (value-reads y, value_room y)) (λ c. let l = c.before.before.before.before.before.before.before.before in omega (arith, (value-reads (due t l)).inside)) (λ c. omega (arith, c.before.before.before.before.loop-test.true)) (λ c. omega (arith, c.before.before.before.before.loop-test.true)) (encode-items-loop-again t) (λ c. c.before.loop.invariant.kept) (λ c. going-none joined-none c.loop-test.false c.before.loop.invariant))
+    (λ t. encode-object-lts.spec (encode-object_claims t) (encode-object_at t) encode-object.Post (encode-object-encode-requires t) (λ c κs. search rules) (encode-object-put-byte-requires t) (encode-object-encode-requires-2 t) (encode-object-put-byte-requires-2 t) (λ c. search rules) (encode-object-returns t) (λ c. search rules) (encode-object-returns-2 t))
+    λ t. encode-tuple-lts.spec (encode-tuple_claims t) (encode-tuple_at t) encode-tuple.Post (encode-tuple-tuple-mark-requires t) (encode-tuple-encode-items-requires t) (λ c κs. search rules) (encode-tuple-put-byte-requires t) (λ c. search rules) (encode-tuple-returns t)

@@ -4,15 +4,15 @@ use Rattle.ser.proofs.appends_len.Statement.{statement}
 use Rattle.ser.proofs.appends_len.Tie as tie
 use mathlib.Core.Path.{sym, ◌∙◌}
 use borrow.Author.Tests.{lt-ltb, le-ltb}
-use Rattle.ser.specs.Length.{appendsTake}
+use Rattle.ser.specs.Length.{appends_take}
 
 returns : tie.Need-returns
-unfolding appendsTake
+unfolding appends_take
 returns c = sym (rw (lt-ltb c.before.args.count 2 c.if1.true))
 
 returns-2 : tie.Need-returns-2
-unfolding appendsTake
+unfolding appends_take
 returns-2 c = c.batches-len.ensures ∙ sym (rw (le-ltb c.before.before.args.count 2 c.before.if1.false))
 
-pub appends-len-spec : {M : Type 1} → statement M
-appends-len-spec = tie.close (tie.spec returns (λ c κs. search rules) returns-2)
+pub appends_len_spec : {M : Type 1} → statement M
+appends_len_spec = tie.close (tie.spec returns (λ c κs. search rules) returns-2)

@@ -1,16 +1,16 @@
 -- `ser::batch_size` meets its contract. Assumes nothing.
 use borrow.Author.Rules.{rules}
-use Rattle.ser.specs.Image.{batchSize}
+use Rattle.ser.specs.Image.{batch_size}
 use Rattle.ser.proofs.batch_size.Statement.{statement}
 use Rattle.ser.proofs.batch_size.Tie as tie
 
 returns : tie.Need-returns
-unfolding batchSize
+unfolding batch_size
 returns c = rw c.if1.true
 
 returns-2 : tie.Need-returns-2
-unfolding batchSize
+unfolding batch_size
 returns-2 c = rw c.if1.false
 
-pub batch-size-spec : {M : Type 1} → statement M
-batch-size-spec = tie.close (tie.spec (λ c. search rules) returns returns-2)
+pub batch-size_spec : {M : Type 1} → statement M
+batch-size_spec = tie.close (tie.spec (λ c. search rules) returns returns-2)

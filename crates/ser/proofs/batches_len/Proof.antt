@@ -5,19 +5,19 @@ use Rattle.ser.proofs.batches_len.Tie as tie
 use mathlib.Core.Path.{sym}
 use borrow.Author.Tests.{ne_eqb}
 use Prim.Native.Nat.{◌%◌}
-use Rattle.ser.specs.Length.{batchesTake}
+use Rattle.ser.specs.Length.{batches_take}
 
 returns : tie.Need-returns
-unfolding batchesTake
+unfolding batches_take
 returns c = sym (rw (c.before.if1.true, c.if2.true))
 
 returns-2 : tie.Need-returns-2
-unfolding batchesTake
+unfolding batches_take
 returns-2 c = sym (rw (c.before.if1.true, ne_eqb (c.before.before.args.count % 2000) 2 c.if2.false))
 
 returns-3 : tie.Need-returns-3
-unfolding batchesTake
+unfolding batches_take
 returns-3 c = sym (rw c.if1.false)
 
-pub batches-len-spec : {M : Type 1} → statement M
-batches-len-spec = tie.close (tie.spec (λ c. search rules) (λ c. search rules) returns (λ c. search rules) (λ c. search rules) returns-2 (λ c. search rules) (λ c. search rules) returns-3)
+pub batches_len_spec : {M : Type 1} → statement M
+batches_len_spec = tie.close (tie.spec (λ c. search rules) (λ c. search rules) returns (λ c. search rules) (λ c. search rules) returns-2 (λ c. search rules) (λ c. search rules) returns-3)

@@ -2,20 +2,20 @@
 use borrow.Author.Rules.{rules}
 use Rattle.ser.proofs.encode_bool.Statement.{statement}
 use Rattle.ser.proofs.encode_bool.Tie as tie
-use Rattle.output.specs.Put.{put_same, room-same}
-use Rattle.ser.proofs.Laws.{bool-true, bool_false}
+use Rattle.output.specs.Put.{put_same, room_same}
+use Rattle.ser.proofs.Laws.{bool_true, bool_false}
 
 put-byte-requires : tie.Need-put-byte-requires
-put-byte-requires c κs = room-same (bool-true _ c.before.if1.true) c.before.before.before.requires
+put-byte-requires c κs = room_same (bool_true _ c.before.if1.true) c.before.before.before.requires
 
 returns : tie.Need-returns
-returns c = put_same (bool-true _ c.before.before.before.before.if1.true) c.before.before.put_byte.ensures
+returns c = put_same (bool_true _ c.before.before.before.before.if1.true) c.before.before.put_byte.ensures
 
 put-byte-requires-2 : tie.Need-put-byte-requires-2
-put-byte-requires-2 c κs = room-same (bool_false _ c.before.if1.false) c.before.before.before.requires
+put-byte-requires-2 c κs = room_same (bool_false _ c.before.if1.false) c.before.before.before.requires
 
 returns-2 : tie.Need-returns-2
 returns-2 c = put_same (bool_false _ c.before.before.before.before.if1.false) c.before.before.put-byte2.ensures
 
-pub encode-bool-spec : {M : Type 1} → statement M
-encode-bool-spec = tie.close (tie.spec put-byte-requires (λ c. search rules) returns put-byte-requires-2 (λ c. search rules) returns-2)
+pub encode_bool_spec : {M : Type 1} → statement M
+encode_bool_spec = tie.close (tie.spec put-byte-requires (λ c. search rules) returns put-byte-requires-2 (λ c. search rules) returns-2)

@@ -2,8 +2,8 @@
 use borrow.Author.Rules.{rules}
 use Rattle.ser.proofs.encode_global.Statement.{statement}
 use Rattle.ser.proofs.encode_global.Tie as tie
-use Rattle.output.specs.Put.{put_then, room-first, room-then}
-use Rattle.ser.proofs.Laws.{global-parts}
+use Rattle.output.specs.Put.{put_then, room_first, room_then}
+use Rattle.ser.proofs.Laws.{global_parts}
 
 -- ---- the places: behind each of the first four calls
 
@@ -22,20 +22,20 @@ third c = c.before.before.before.before
 -- ---- the needs
 
 put-byte-requires : tie.Need-put-byte-requires
-put-byte-requires c κs = let s = c.before.before.before.before in room-first _ (rw (global-parts s.args.«module».now s.args.name.now) at s.requires)
+put-byte-requires c κs = let s = c.before.before.before.before in room_first _ (rw (global_parts s.args.«module».now s.args.name.now) at s.requires)
 
 put-run-requires : tie.Need-put-run-requires
 put-run-requires c κs =
     let w = c.before.before.before in
     let s = start w in
-    room-first _ (room-then _ w.put_byte.ensures (rw (global-parts s.args.«module».now s.args.name.now) at s.pre))
+    room_first _ (room_then _ w.put_byte.ensures (rw (global_parts s.args.«module».now s.args.name.now) at s.pre))
 
 put-byte-requires-2 : tie.Need-put-byte-requires-2
 put-byte-requires-2 c κs =
     let x = c.before.before.before in
     let w = first x in
     let s = start w in
-    room-first _ (room-then _ x.put-run.ensures (room-then _ w.put_byte.ensures (rw (global-parts s.args.«module».now s.args.name.now) at s.pre)))
+    room_first _ (room_then _ x.put-run.ensures (room_then _ w.put_byte.ensures (rw (global_parts s.args.«module».now s.args.name.now) at s.pre)))
 
 put-run-requires-2 : tie.Need-put-run-requires-2
 put-run-requires-2 c κs =
@@ -43,7 +43,7 @@ put-run-requires-2 c κs =
     let x = second y in
     let w = first x in
     let s = start w in
-    room-first _ (room-then _ y.put-byte2.ensures (room-then _ x.put-run.ensures (room-then _ w.put_byte.ensures (rw (global-parts s.args.«module».now s.args.name.now) at s.pre))))
+    room_first _ (room_then _ y.put-byte2.ensures (room_then _ x.put-run.ensures (room_then _ w.put_byte.ensures (rw (global_parts s.args.«module».now s.args.name.now) at s.pre))))
 
 put-byte-requires-3 : tie.Need-put-byte-requires-3
 put-byte-requires-3 c κs =
@@ -52,7 +52,7 @@ put-byte-requires-3 c κs =
     let x = second y in
     let w = first x in
     let s = start w in
-    room-then _ z.put-run2.ensures (room-then _ y.put-byte2.ensures (room-then _ x.put-run.ensures (room-then _ w.put_byte.ensures (rw (global-parts s.args.«module».now s.args.name.now) at s.pre))))
+    room_then _ z.put-run2.ensures (room_then _ y.put-byte2.ensures (room_then _ x.put-run.ensures (room_then _ w.put_byte.ensures (rw (global_parts s.args.«module».now s.args.name.now) at s.pre))))
 
 returns : tie.Need-returns
 returns c =
@@ -61,10 +61,10 @@ returns c =
     let x = second y in
     let w = first x in
     let a = (start w).args in
-    rw (global-parts a.«module».now a.name.now) (put_then w.put_byte.ensures (put_then x.put-run.ensures (put_then y.put-byte2.ensures (put_then z.put-run2.ensures c.before.before.put-byte3.ensures))))
+    rw (global_parts a.«module».now a.name.now) (put_then w.put_byte.ensures (put_then x.put-run.ensures (put_then y.put-byte2.ensures (put_then z.put-run2.ensures c.before.before.put-byte3.ensures))))
 
-pub encode-global-spec : {M : Type 1} → statement M
-encode-global-spec =
+pub encode-global_spec : {M : Type 1} → statement M
+encode-global_spec =
     tie.close
     (tie.spec
     put-byte-requires put-run-requires put-byte-requires-2 put-run-requires-2 put-byte-requires-3 (λ c. search rules) returns)

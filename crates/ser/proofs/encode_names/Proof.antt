@@ -2,14 +2,14 @@
 use borrow.Author.Rules.{rules}
 use Rattle.ser.proofs.encode_names.Statement.{statement}
 use Rattle.ser.proofs.encode_names.Tie as tie
-use Rattle.output.specs.Put.{put_same, room-same}
+use Rattle.output.specs.Put.{put_same, room_same}
 use Rattle.ser.proofs.Laws.{names-global}
 
 encode-global-requires : tie.Need-encode-global-requires
-encode-global-requires c κs = room-same (names-global c.before.before.before.before.before.args.text.now c.before.before.before.before.before.args.from c.before.before.before.before.before.args.lengths _ _ c.before.before.part.ensures c.before.part2.ensures) c.before.before.before.before.before.requires.1
+encode-global-requires c κs = room_same (names-global c.before.before.before.before.before.args.text.now c.before.before.before.before.before.args.from c.before.before.before.before.before.args.lengths _ _ c.before.before.part.ensures c.before.part2.ensures) c.before.before.before.before.before.requires.1
 
 returns : tie.Need-returns
 returns c = put_same (names-global c.before.before.before.before.before.before.before.before.args.text.now c.before.before.before.before.before.before.before.before.args.from c.before.before.before.before.before.before.before.before.args.lengths _ _ c.before.before.before.before.before.part.ensures c.before.before.before.before.part2.ensures) c.before.before.encode-global.ensures
 
-pub encode-names-spec : {M : Type 1} → statement M
-encode-names-spec = tie.close (tie.spec (λ c κs. search rules) (λ c. search rules) (λ c κs. search rules) encode-global-requires (λ c. search rules) returns)
+pub encode-names_spec : {M : Type 1} → statement M
+encode-names_spec = tie.close (tie.spec (λ c κs. search rules) (λ c. search rules) (λ c κs. search rules) encode-global-requires (λ c. search rules) returns)

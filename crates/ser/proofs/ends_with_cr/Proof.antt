@@ -2,16 +2,16 @@
 use borrow.Author.Rules.{rules}
 use Rattle.ser.proofs.ends_with_cr.Statement.{statement}
 use Rattle.ser.proofs.ends_with_cr.Tie as tie
-use Rattle.input.specs.Bytes.{lastByte}
-use Rattle.ser.specs.Writable.{endsCr}
-use Rattle.ser.proofs.Laws.{empty-no-cr}
+use Rattle.input.specs.Bytes.{last_byte}
+use Rattle.ser.specs.Writable.{ends_cr}
+use Rattle.ser.proofs.Laws.{empty_no_cr}
 
 returns : tie.Need-returns
-returns c = empty-no-cr c.before.args.name.now c.if1.true
+returns c = empty_no_cr c.before.args.name.now c.if1.true
 
 returns-2 : tie.Need-returns-2
-unfolding endsCr lastByte
+unfolding ends_cr last_byte
 returns-2 c = search rules
 
-pub ends-with-cr-spec : {M : Type 1} → statement M
-ends-with-cr-spec = tie.close (tie.spec returns (λ c. search rules) (λ c. search rules) returns-2)
+pub ends_with_cr_spec : {M : Type 1} → statement M
+ends_with_cr_spec = tie.close (tie.spec returns (λ c. search rules) (λ c. search rules) returns-2)

@@ -5,9 +5,9 @@ use Rattle.ser.proofs.record_len.Tie as tie
 use mathlib.Core.Path.{◌≡◌, ◌∙◌, ap₂}
 use native.Mathlib.Omega.{arith}
 use Prim.Native.Nat.{◌+◌}
-use Rattle.ser.specs.Length.{recordTakes}
-use Rattle.ser.proofs.Laws.{head-kind}
-use Rattle.value.specs.Shape.{kindIn}
+use Rattle.ser.specs.Length.{record_takes}
+use Rattle.ser.proofs.Laws.{head_kind}
+use Rattle.value.specs.Shape.{kind_in}
 use Rattle.value.specs.Stands.{word_at}
 
 -- the kind is read
@@ -15,11 +15,11 @@ module _ (c : tie.After-head-of) where
   abbrev start : tie.Start
   start = c.before.before.before
 
-  kind : kindIn (word_at start.args.words.now start.args.i 0) ≡ c.head_of.result.kind
-  kind = head-kind start.args.words.now start.args.i _ c.head_of.ensures
+  kind : kind_in (word_at start.args.words.now start.args.i 0) ≡ c.head_of.result.kind
+  kind = head_kind start.args.words.now start.args.i _ c.head_of.ensures
 
 -- all is measured
-sum : (c : tie.After-opening-len) → let s = start c.before.before.before.before.before in c.opening-len.result + c.before.before.before.contents-len.result ≡ recordTakes s.args.words.now s.args.i
+sum : (c : tie.After-opening-len) → let s = start c.before.before.before.before.before in c.opening-len.result + c.before.before.before.contents-len.result ≡ record_takes s.args.words.now s.args.i
 sum c = rw (kind c.before.before.before.before.before) (ap₂ ◌+◌ c.opening-len.ensures (c.before.before.before.contents-len.ensures ∙ rw c.before.before.before.before.arity.ensures))
 
 contents-len-requires : tie.Need-contents-len-requires
@@ -37,5 +37,5 @@ add-result c = omega (arith, sum c, (start c.before.before.before.before.before)
 returns : tie.Need-returns
 returns c = sum c
 
-pub record-len-spec : {M : Type 1} → statement M
-record-len-spec = tie.close (tie.spec (λ c. search rules) (λ c. search rules) (λ c. search rules) (λ c κs. search rules) (λ c κs. search rules) contents-len-requires (λ c. search rules) (λ c. search rules) (λ c. search rules) (λ c. search rules) (λ c. search rules) (λ c. search rules) (λ c. search rules) (λ c. search rules) opening-len-requires add-result returns)
+pub record_len_spec : {M : Type 1} → statement M
+record_len_spec = tie.close (tie.spec (λ c. search rules) (λ c. search rules) (λ c. search rules) (λ c κs. search rules) (λ c κs. search rules) contents-len-requires (λ c. search rules) (λ c. search rules) (λ c. search rules) (λ c. search rules) (λ c. search rules) (λ c. search rules) (λ c. search rules) (λ c. search rules) opening-len-requires add-result returns)

@@ -21,8 +21,8 @@ returns c =
     let differs = together-each (not (eqb (get_or a.keys.now a.from 0) a.k)) (λ i. not (eqb (get_or a.keys.now (a.from + i) 0) a.k)) (rw add-zero) 7 h in
     eqb-false _ _ (not-true _ (rw e at (differs (j - a.from) (omega arith))))
 
-pub differ-spec : {M : Type 1} → statement M
-differ-spec =
+pub differ_spec : {M : Type 1} → statement M
+differ_spec =
     tie.close
     (tie.spec
     (λ c. search rules)

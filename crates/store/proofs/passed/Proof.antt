@@ -6,7 +6,7 @@ use borrow.Author.Rules.{rules}
 use borrow.Author.Tests.{not-false}
 use Rattle.utf8.specs.Rows.{and_left, and_right}
 use Rattle.store.specs.Rooms.{Passed}
-use Rattle.store.specs.RoomMemo.{passed-join}
+use Rattle.store.specs.RoomMemo.{passed_join}
 use Rattle.store.proofs.passed.Statement.{statement}
 use Rattle.store.proofs.passed.Tie as tie
 
@@ -26,14 +26,14 @@ loop-again c =
     let four = not-false _ c.if1.false in
     let three = and_left ((first.result && second.result) && third.result) fourth.result four in
     let two = and_left (first.result && second.result) third.result three in
-    let join = passed-join l.before.before.args.keys.now in
+    let join = passed_join l.before.before.args.keys.now in
     let d = join _ _ _ _ _ (fourth.ensures (and_right ((first.result && second.result) && third.result) fourth.result four)) l.loop.invariant.1 (omega arith) in
     let b = join _ _ _ _ _ (third.ensures (and_right (first.result && second.result) third.result three)) d (omega arith) in
     let a = join _ _ _ _ _ (second.ensures (and_right first.result second.result two)) b (omega arith) in
     (omega arith, join _ _ _ _ _ (first.ensures (and_left first.result second.result two)) a (omega arith))
 
-pub passed-spec : {M : Type 1} → statement M
-passed-spec =
+pub passed_spec : {M : Type 1} → statement M
+passed_spec =
     tie.close
     (tie.spec
     invariant-loop

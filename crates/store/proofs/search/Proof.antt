@@ -6,7 +6,7 @@ use Prim.Native.Nat.{◌-◌, ◌≤◌}
 use native.Mathlib.Omega.{arith}
 use mathlib.Core.Path.{◌≡◌}
 use Rattle.store.specs.Rooms.{Absent, Passed}
-use Rattle.store.specs.RoomMemo.{passed-join}
+use Rattle.store.specs.RoomMemo.{passed_join}
 
 abbrev invariant-loop : tie.invariant-loop
 invariant-loop keys memo k i₀ i = (i ≤ memo) × Passed keys i memo k
@@ -23,11 +23,11 @@ loop-again : tie.Need-loop-preserved invariant-loop decreases-loop
 loop-again c =
     let a = c.before.before.before.before.before.before.args in
     let l = c.before.before.before.loop in
-    (omega (arith, l.invariant.0), passed-join a.keys.now (l.i - 1) l.i l.i a.memo a.key.0 (λ j h m. let e : j ≡ l.i - 1 = omega arith in rw e c.if1.false) l.invariant.1 (omega arith))
+    (omega (arith, l.invariant.0), passed_join a.keys.now (l.i - 1) l.i l.i a.memo a.key.0 (λ j h m. let e : j ≡ l.i - 1 = omega arith in rw e c.if1.false) l.invariant.1 (omega arith))
 
 returns-2 : tie.Need-returns-2 invariant-loop decreases-loop
 unfolding Absent
 returns-2 c = (omega arith, λ i h. c.before.loop.invariant.1 i (omega arith) h, λ h. absurd (omega arith))
 
-pub search-spec : {M : Type 1} → statement M
-search-spec = tie.close (tie.spec invariant-loop decreases-loop (λ c κs. search rules) (λ c. c.passed.ensures) (λ c. search rules) (λ c. search rules) (λ c. search rules) returns (λ c. search rules) loop-again returns-2)
+pub search_spec : {M : Type 1} → statement M
+search_spec = tie.close (tie.spec invariant-loop decreases-loop (λ c κs. search rules) (λ c. c.passed.ensures) (λ c. search rules) (λ c. search rules) (λ c. search rules) returns (λ c. search rules) loop-again returns-2)

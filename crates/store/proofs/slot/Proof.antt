@@ -3,13 +3,13 @@ use borrow.Author.Rules.{rules}
 use Rattle.store.proofs.slot.Statement.{statement}
 use Rattle.store.proofs.slot.Tie as tie
 use native.Mathlib.Omega.{arith}
-use Rattle.store.specs.RoomMemo.{absent-above, absent-before}
+use Rattle.store.specs.RoomMemo.{absent_above, absent_before}
 
 returns : tie.Need-returns
-returns c = (omega arith, absent-above _ _ _ c.before.before.requires.2 _ c.if1.true, λ h. absurd (omega arith))
+returns c = (omega arith, absent_above _ _ _ c.before.before.requires.2 _ c.if1.true, λ h. absurd (omega arith))
 
 returns-2 : tie.Need-returns-2
-returns-2 c = (omega (arith, c.before.before.if3.true), absent-before _ _ _ c.before.before.before.before.before.before.before.requires.2 _ _ c.before.before.if3.true c.if4.true, λ h. c.if4.true)
+returns-2 c = (omega (arith, c.before.before.if3.true), absent_before _ _ _ c.before.before.before.before.before.before.before.requires.2 _ _ c.before.before.if3.true c.if4.true, λ h. c.if4.true)
 
-pub slot-spec : {M : Type 1} → statement M
-slot-spec = tie.close (tie.spec (λ c. search rules) returns (λ c. search rules) (λ c. search rules) (λ c. search rules) (λ c. search rules) returns-2 (λ c κs. search rules) (λ c. search rules))
+pub slot_spec : {M : Type 1} → statement M
+slot_spec = tie.close (tie.spec (λ c. search rules) returns (λ c. search rules) (λ c. search rules) (λ c. search rules) (λ c. search rules) returns-2 (λ c κs. search rules) (λ c. search rules))

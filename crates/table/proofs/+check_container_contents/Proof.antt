@@ -26,55 +26,55 @@ use Prim.Native.Nat.{◌+◌, ◌*◌, ◌≤◌}
 use native.Mathlib.Omega.{arith}
 use borrow.Author.Tests.{not-true, not-false}
 use lib.ListN.{length}
-use Rattle.table.specs.Find.{findMany, find}
+use Rattle.table.specs.Find.{find_many, find}
 use Rattle.table.specs.Sound.{first_word}
-use Rattle.table.specs.Check.{Header, checkedOf, is-bad, find-out, find_past, find-within, row_done, row-bad, row_next, answer-wrong, answer-bad, answer-closed, right, held, object-some}
+use Rattle.table.specs.Check.{Header, checked_of, is_bad, find_out, find_past, find-within, row_done, row_bad, row_next, answer_wrong, answer_bad, answer_closed, right, held, object-some}
 
-abbrev μ-check : Measures 2 check-kinds.ps ℕ
-μ-check κs a = 3 * a.1.1.1.1.1.0 + 1
+abbrev μ_check : Measures 2 check-kinds.ps ℕ
+μ_check κs a = 3 * a.1.1.1.1.1.0 + 1
 
-abbrev μ-container : Measures 2 container-kinds.ps ℕ
-μ-container κs a = 3 * a.1.1.1.1.1.0
+abbrev μ_container : Measures 2 container-kinds.ps ℕ
+μ_container κs a = 3 * a.1.1.1.1.1.0
 
-abbrev μ-contents : Measures 2 contents-kinds.ps ℕ
-μ-contents κs a = 3 * a.1.1.1.1.1.1.0 + 2
+abbrev μ_contents : Measures 2 contents-kinds.ps ℕ
+μ_contents κs a = 3 * a.1.1.1.1.1.1.0 + 2
 
-abbrev check-at : ℕ → In 2 check-kinds.ps
-check-at t = and 2 check-kinds.ps (is 2 check-kinds.ps μ-check t) check.Pre
+abbrev check_at : ℕ → In 2 check-kinds.ps
+check_at t = and 2 check-kinds.ps (is 2 check-kinds.ps μ_check t) check.Pre
 
-abbrev check-below : ℕ → In 2 check-kinds.ps
-check-below t = and 2 check-kinds.ps (falls 2 check-kinds.ps ◌<◌ μ-check t) check.Pre
+abbrev check_below : ℕ → In 2 check-kinds.ps
+check_below t = and 2 check-kinds.ps (falls 2 check-kinds.ps ◌<◌ μ_check t) check.Pre
 
-abbrev container-at : ℕ → In 2 container-kinds.ps
-container-at t = and 2 container-kinds.ps (is 2 container-kinds.ps μ-container t) container.Pre
+abbrev container_at : ℕ → In 2 container-kinds.ps
+container_at t = and 2 container-kinds.ps (is 2 container-kinds.ps μ_container t) container.Pre
 
 abbrev container-below : ℕ → In 2 container-kinds.ps
-container-below t = and 2 container-kinds.ps (falls 2 container-kinds.ps ◌<◌ μ-container t) container.Pre
+container-below t = and 2 container-kinds.ps (falls 2 container-kinds.ps ◌<◌ μ_container t) container.Pre
 
-abbrev contents-at : ℕ → In 2 contents-kinds.ps
-contents-at t = and 2 contents-kinds.ps (is 2 contents-kinds.ps μ-contents t) contents.Pre
+abbrev contents_at : ℕ → In 2 contents-kinds.ps
+contents_at t = and 2 contents-kinds.ps (is 2 contents-kinds.ps μ_contents t) contents.Pre
 
 abbrev contents-below : ℕ → In 2 contents-kinds.ps
-contents-below t = and 2 contents-kinds.ps (falls 2 contents-kinds.ps ◌<◌ μ-contents t) contents.Pre
+contents-below t = and 2 contents-kinds.ps (falls 2 contents-kinds.ps ◌<◌ μ_contents t) contents.Pre
 
 -- what is known of the calls
-abbrev check-calls : ℕ → check-lts.Claims
-check-calls t = (kind-reads.Asked, kind-reads.Learnt, holds-reads.Asked, holds-reads.Learnt, container-below t, container.Post, leaf-reads.Asked, leaf-reads.Learnt)
+abbrev check_calls : ℕ → check-lts.Claims
+check_calls t = (kind-reads.Asked, kind-reads.Learnt, holds-reads.Asked, holds-reads.Learnt, container-below t, container.Post, leaf-reads.Asked, leaf-reads.Learnt)
 
-abbrev container-calls : ℕ → container-lts.Claims
-container-calls t = (head-reads.Asked, head-reads.Learnt, contents-below t, contents.Post, closes-reads.Asked, closes-reads.Learnt)
+abbrev container_calls : ℕ → container-lts.Claims
+container_calls t = (head-reads.Asked, head-reads.Learnt, contents-below t, contents.Post, closes-reads.Asked, closes-reads.Learnt)
 
-abbrev contents-calls : ℕ → contents-lts.Claims
-contents-calls t = (check-below t, check.Post)
+abbrev contents_calls : ℕ → contents-lts.Claims
+contents_calls t = (check_below t, check.Post)
 
-check-container-requires : (t : ℕ) → check-lts.Need-container-requires (check-calls t) (check-at t) check.Post
-check-container-requires t c κs =
+check_container_requires : (t : ℕ) → check-lts.Need-container-requires (check_calls t) (check_at t) check.Post
+check_container_requires t c κs =
     let e = c.before.before.before.before.before in
     let p = e.before.before.before.requires.1 in
     (omega arith, (p.0, ((let l = p.1.0 in omega arith), (p.1.1, e.if1.false))))
 
-check-leaf-requires : (t : ℕ) → check-lts.Need-leaf-requires (check-calls t) (check-at t) check.Post
-check-leaf-requires t c κs =
+check_leaf_requires : (t : ℕ) → check-lts.Need-leaf-requires (check_calls t) (check_at t) check.Post
+check_leaf_requires t c κs =
     let s = c.before.before.before.before.before.before.before.before in
     let a = s.args in
     let lent = s.requires.1.0 in
@@ -83,8 +83,8 @@ check-leaf-requires t c κs =
     let room = lent.room in
     (omega arith, (s.requires.1.1.1, (lent.short, rw e0 at (rw c.before.before.kind.ensures at (sym c.before.holds.ensures ∙ c.if3.false)))))
 
-check-returns-4 : (t : ℕ) → check-lts.Need-returns-4 (check-calls t) (check-at t) check.Post
-check-returns-4 t c =
+check_returns_4 : (t : ℕ) → check-lts.Need-returns-4 (check_calls t) (check_at t) check.Post
+check_returns_4 t c =
     let e = c.before.before.before.before.before.before in
     let s = e.before.before.before in
     let l = s.requires.1.1.0 in
@@ -93,27 +93,27 @@ check-returns-4 t c =
 module _ (t : ℕ) where
   -- `container` was told that its head is right
   abbrev Told : Type 0
-  Told = container-lts.After-known-told (container-calls t) (container-at t) container.Post
+  Told = container-lts.After-known-told (container_calls t) (container_at t) container.Post
 
-  abbrev headed : Told → container-lts.After-head (container-calls t) (container-at t) container.Post
+  abbrev headed : Told → container-lts.After-head (container_calls t) (container_at t) container.Post
   headed c = c.before.before.before
 
-  abbrev start : Told → container-lts.Start (container-calls t) (container-at t) container.Post
+  abbrev start : Told → container-lts.Start (container_calls t) (container_at t) container.Post
   start c = (headed c).before.before.before
 
   header : (c : Told) → let a = (start c).args in let g = c.before.long.given.0 in Header a.words.now a.count a.text.now a.i a.at g.0 g.1.0
   header c = let p = (start c).requires.1 in right _ _ _ _ _ _ p.0 p.1.1.1 (headed c).head.ensures c.before.long.given.1
 
-  container-add-contents : container-lts.Need-overflow-add-contents (container-calls t) (container-at t) container.Post
+  container-add-contents : container-lts.Need-overflow-add-contents (container_calls t) (container_at t) container.Post
   container-add-contents c = let few = (header c).few in let lent = (start c).requires.1.0 in let room = lent.room in let small = lent.few in omega arith
 
-  container-add-contents-2 : container-lts.Need-overflow-add-contents-2 (container-calls t) (container-at t) container.Post
+  container-add-contents-2 : container-lts.Need-overflow-add-contents-2 (container_calls t) (container_at t) container.Post
   container-add-contents-2 c = let inn = (header c).inside in let short = (start c).requires.1.0.short in omega arith
 
-  container-contents-requires : container-lts.Need-contents-requires (container-calls t) (container-at t) container.Post
+  container-contents-requires : container-lts.Need-contents-requires (container_calls t) (container_at t) container.Post
   container-contents-requires c κs = (omega arith, ((start c).requires.1.0, ((let few = (header c).few in omega arith), (header c).inside)))
 
-  container-closes-requires : container-lts.Need-closes-requires (container-calls t) (container-at t) container.Post
+  container-closes-requires : container-lts.Need-closes-requires (container_calls t) (container_at t) container.Post
   container-closes-requires c κs =
       let m = c.before.before.before in
       let k = m.before in
@@ -123,45 +123,45 @@ module _ (t : ℕ) where
       let y = held _ _ _ _ _ _ lent (start k).requires.1.1.1.1 (headed k).head.ensures k.before.long.given.1 (sym m.contents.ensures ∙ c.before.j.given.1) in
       ((let few = h.few in let room = lent.room in omega arith), (y.after, (y.held, ((λ q. object-some a.words.now a.count a.text.now a.i a.at _ _ h q), h.known))))
 
-  container-returns : container-lts.Need-returns (container-calls t) (container-at t) container.Post
+  container-returns : container-lts.Need-returns (container_calls t) (container_at t) container.Post
   container-returns c =
       let m = c.before.before.before.before.before in
       let k = m.before in
       let p = (start k).requires.1 in
-      answer-closed _ _ _ _ _ _ p.0 p.1.1.1 (headed k).head.ensures k.before.long.given.1 (sym m.contents.ensures ∙ c.before.before.before.j.given.1) false (λ f p q. sym (not-true _ c.if1.true) ∙ c.before.closes.ensures f p q)
+      answer_closed _ _ _ _ _ _ p.0 p.1.1.1 (headed k).head.ensures k.before.long.given.1 (sym m.contents.ensures ∙ c.before.before.before.j.given.1) false (λ f p q. sym (not-true _ c.if1.true) ∙ c.before.closes.ensures f p q)
 
-  container-returns-2 : container-lts.Need-returns-2 (container-calls t) (container-at t) container.Post
-  container-returns-2 c = let h = c.before.before in let p = h.before.before.before.requires.1 in answer-wrong _ _ _ _ _ _ p.0 p.1.1.1 h.head.ensures c.enum_told.given.1
+  container-returns-2 : container-lts.Need-returns-2 (container_calls t) (container_at t) container.Post
+  container-returns-2 c = let h = c.before.before in let p = h.before.before.before.requires.1 in answer_wrong _ _ _ _ _ _ p.0 p.1.1.1 h.head.ensures c.enum_told.given.1
 
-  container-returns-3 : container-lts.Need-returns-3 (container-calls t) (container-at t) container.Post
+  container-returns-3 : container-lts.Need-returns-3 (container_calls t) (container_at t) container.Post
   container-returns-3 c =
       let m = c.before.before in
       let k = m.before in
       let p = (start k).requires.1 in
-      answer-bad _ _ _ _ _ _ p.0 p.1.1.1 (headed k).head.ensures k.before.long.given.1 (sym m.contents.ensures ∙ c.enum-told2.given.1)
+      answer_bad _ _ _ _ _ _ p.0 p.1.1.1 (headed k).head.ensures k.before.long.given.1 (sym m.contents.ensures ∙ c.enum-told2.given.1)
 
-  container-returns-4 : container-lts.Need-returns-4 (container-calls t) (container-at t) container.Post
+  container-returns-4 : container-lts.Need-returns-4 (container_calls t) (container_at t) container.Post
   container-returns-4 c =
       let m = c.before.before.before.before.before in
       let k = m.before in
       let p = (start k).requires.1 in
-      answer-closed _ _ _ _ _ _ p.0 p.1.1.1 (headed k).head.ensures k.before.long.given.1 (sym m.contents.ensures ∙ c.before.before.before.j.given.1) true (λ f p q. sym (not-false _ c.if1.false) ∙ c.before.closes.ensures f p q)
+      answer_closed _ _ _ _ _ _ p.0 p.1.1.1 (headed k).head.ensures k.before.long.given.1 (sym m.contents.ensures ∙ c.before.before.before.j.given.1) true (λ f p q. sym (not-false _ c.if1.false) ∙ c.before.closes.ensures f p q)
 
 abbrev contents-Inv-loop : contents-lts.invariant-loop
-contents-Inv-loop words count text i at m levels j₀ end₀ left₀ j end left = (j ≤ count) × (end ≤ length text) × (checkedOf (findMany (find words count text levels) left j end) ≡ checkedOf (findMany (find words count text levels) m i at))
+contents-Inv-loop words count text i at m levels j₀ end₀ left₀ j end left = (j ≤ count) × (end ≤ length text) × (checked_of (find_many (find words count text levels) left j end) ≡ checked_of (find_many (find words count text levels) m i at))
 
 abbrev contents-μ-loop : contents-lts.decreases-loop
 contents-μ-loop words count text i at m levels j₀ end₀ left₀ j end left = left
 
-contents-returns : (t : ℕ) → contents-lts.Need-returns (contents-calls t) (contents-at t) contents.Post contents-Inv-loop contents-μ-loop
-contents-returns t c =
+contents_returns : (t : ℕ) → contents-lts.Need-returns (contents_calls t) (contents_at t) contents.Post contents-Inv-loop contents-μ-loop
+contents_returns t c =
     let h = c.before.before.before.before in
     let a = h.before.before.before.args in
     let l = h.loop in
-    row-bad (find a.words.now a.count a.text.now a.levels) l.left l.j l.end c.before.before.before.loop-test.true (sym c.before.before.check.ensures ∙ c.enum_told.given.1) ∙ l.invariant.2
+    row_bad (find a.words.now a.count a.text.now a.levels) l.left l.j l.end c.before.before.before.loop-test.true (sym c.before.before.check.ensures ∙ c.enum_told.given.1) ∙ l.invariant.2
 
-contents-loop-again : (t : ℕ) → contents-lts.Need-loop-preserved (contents-calls t) (contents-at t) contents.Post contents-Inv-loop contents-μ-loop
-contents-loop-again t c =
+contents_loop_again : (t : ℕ) → contents-lts.Need-loop-preserved (contents_calls t) (contents_at t) contents.Post contents-Inv-loop contents-μ-loop
+contents_loop_again t c =
     let h = c.before.before.before.before.before in
     let s = h.before.before.before in
     let a = s.args in
@@ -174,17 +174,17 @@ contents-loop-again t c =
     let y = find-within w n x a.levels l.j l.end lent l.invariant.0 l.invariant.1 q in
     (y.0, y.1, row_next (find w n x a.levels) l.left l.j l.end c.before.before.before.before.loop-test.true q ∙ l.invariant.2)
 
-contents-returns-2 : (t : ℕ) → contents-lts.Need-returns-2 (contents-calls t) (contents-at t) contents.Post contents-Inv-loop contents-μ-loop
-contents-returns-2 t c =
+contents_returns_2 : (t : ℕ) → contents-lts.Need-returns-2 (contents_calls t) (contents_at t) contents.Post contents-Inv-loop contents-μ-loop
+contents_returns_2 t c =
     let s = c.before.before.before.before in
     let a = s.args in
     let lent = s.requires.1.0 in
     let l = c.before.loop in
     row_done (find a.words.now a.count a.text.now a.levels) l.left l.j l.end (omega arith) ∙ l.invariant.2
 
-pub +check-container-contents-spec : {M : Type 1} → statement M
-+check-container-contents-spec =
-    close μ-check μ-container μ-contents
-    (λ t. check-lts.spec (check-calls t) (check-at t) check.Post (λ c. let a = c.before.before.before.args in is-bad _ (find-out a.words.now a.count a.text.now a.levels a.i a.at c.if1.true)) (λ c. let a = c.before.before.before.before.args in is-bad _ (find_past a.words.now a.count a.text.now a.levels a.i a.at c.if2.true)) (λ c. search rules) (λ c. search rules) (λ c. search rules) (λ c κs. search rules) (λ c κs. search rules) (check-container-requires t) (λ c. c.container.ensures) (check-leaf-requires t) (check-returns-4 t))
-    (λ t. container-lts.spec (container-calls t) (container-at t) container.Post (λ c κs. let s = c.before.before in (s.requires.1.0, (s.requires.1.1.0, s.requires.1.1.1.0))) (λ c. search rules) (λ c. search rules) (container-add-contents t) (container-add-contents-2 t) (λ c. search rules) (container-contents-requires t) (λ c. search rules) (λ c. search rules) (container-closes-requires t) (container-returns t) (container-returns-2 t) (container-returns-3 t) (container-returns-4 t))
-    λ t. contents-lts.spec (contents-calls t) (contents-at t) contents.Post contents-Inv-loop contents-μ-loop (λ c. let s = c.before.before in (s.requires.1.1.0, s.requires.1.1.1, refl)) (λ c κs. let s = c.before.before.before.before in let lent = s.requires.1.0 in let l = c.before.loop in (omega arith, (lent, (l.invariant.0, l.invariant.1)))) (λ c. search rules) (contents-returns t) (λ c. search rules) (λ c. search rules) (λ c. search rules) (contents-loop-again t) (contents-returns-2 t)
+pub +check_container-contents_spec : {M : Type 1} → statement M
++check_container-contents_spec =
+    close μ_check μ_container μ_contents
+    (λ t. check-lts.spec (check_calls t) (check_at t) check.Post (λ c. let a = c.before.before.before.args in is_bad _ (find_out a.words.now a.count a.text.now a.levels a.i a.at c.if1.true)) (λ c. let a = c.before.before.before.before.args in is_bad _ (find_past a.words.now a.count a.text.now a.levels a.i a.at c.if2.true)) (λ c. search rules) (λ c. search rules) (λ c. search rules) (λ c κs. search rules) (λ c κs. search rules) (check_container_requires t) (λ c. c.container.ensures) (check_leaf_requires t) (check_returns_4 t))
+    (λ t. container-lts.spec (container_calls t) (container_at t) container.Post (λ c κs. let s = c.before.before in (s.requires.1.0, (s.requires.1.1.0, s.requires.1.1.1.0))) (λ c. search rules) (λ c. search rules) (container-add-contents t) (container-add-contents-2 t) (λ c. search rules) (container-contents-requires t) (λ c. search rules) (λ c. search rules) (container-closes-requires t) (container-returns t) (container-returns-2 t) (container-returns-3 t) (container-returns-4 t))
+    λ t. contents-lts.spec (contents_calls t) (contents_at t) contents.Post contents-Inv-loop contents-μ-loop (λ c. let s = c.before.before in (s.requires.1.1.0, s.requires.1.1.1, refl)) (λ c κs. let s = c.before.before.before.before in let lent = s.requires.1.0 in let l = c.before.loop in (omega arith, (lent, (l.invariant.0, l.invariant.1)))) (λ c. search rules) (contents_returns t) (λ c. search rules) (λ c. search rules) (λ c. search rules) (contents_loop_again t) (contents_returns_2 t)

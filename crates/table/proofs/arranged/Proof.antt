@@ -7,10 +7,10 @@ use Prim.Native.Nat.{ℕ, ◌+◌, ◌*◌, ◌≤◌}
 use native.Mathlib.Omega.{arith}
 use lib.Dec.{eqb}
 use lib.ListN.{length}
-use Rattle.value.specs.Shape.{kindIn}
+use Rattle.value.specs.Shape.{kind_in}
 use Rattle.value.specs.Stands.{word_at}
 use Rattle.table.specs.Sound.{first_word}
-use Rattle.table.specs.Items.{held_first, first_kind, arranged-none, arranged-items, arranged-keys, arranged-name, arranged-object}
+use Rattle.table.specs.Items.{held_first, first_kind, arranged_none, arranged_items, arranged_keys, arranged_name, arranged_object}
 
 -- an Object: it has a first value, which is inside
 module _ (c : tie.Else4) where
@@ -27,16 +27,16 @@ module _ (c : tie.Else4) where
   inside = held_first _ _ _ _ start.pre.0 some
 
 returns : tie.Need-returns
-returns c = λ f s n. arranged-none _ _ f c.before.kind.ensures c.if1.true
+returns c = λ f s n. arranged_none _ _ f c.before.kind.ensures c.if1.true
 
 returns-2 : tie.Need-returns-2
-returns-2 c = λ f s n. c.ascends.ensures f s n ∙ arranged-items c.before.before.before.before.before.before.args.a _ f c.before.before.before.kind.ensures c.before.before.if1.false c.before.if2.true
+returns-2 c = λ f s n. c.ascends.ensures f s n ∙ arranged_items c.before.before.before.before.before.before.args.a _ f c.before.before.before.kind.ensures c.before.before.if1.false c.before.if2.true
 
 returns-3 : tie.Need-returns-3
-returns-3 c = λ f s n. c.ascends2.ensures f s n ∙ arranged-keys c.before.before.before.before.before.before.before.args.a _ f c.before.before.before.before.kind.ensures c.before.before.if2.false c.before.if3.true
+returns-3 c = λ f s n. c.ascends2.ensures f s n ∙ arranged_keys c.before.before.before.before.before.before.before.args.a _ f c.before.before.before.before.kind.ensures c.before.before.if2.false c.before.if3.true
 
 returns-4 : tie.Need-returns-4
-returns-4 c = λ f s n. arranged-name _ _ f c.before.before.before.before.kind.ensures c.before.if3.false c.if4.true
+returns-4 c = λ f s n. arranged_name _ _ f c.before.before.before.before.kind.ensures c.before.if3.false c.if4.true
 
 mul-kind : tie.Need-overflow-mul-kind
 mul-kind c = let h = inside c in omega arith
@@ -53,8 +53,8 @@ returns-5 c =
     let o = c.before.before in
     let h = some o in
     let a = (start o).args in
-    let e : c.kind2.result ≡ kindIn (word_at a.words.now a.i 0) = rw (first_word a.words.now a.i) at c.kind2.ensures in
-    ap (λ (x : ℕ). eqb x 7) e ∙ sym (first_kind a.words.now a.text.now a.i f s (omega arith)) ∙ arranged-object a.a _ f (read o).kind.ensures o.if4.false
+    let e : c.kind2.result ≡ kind_in (word_at a.words.now a.i 0) = rw (first_word a.words.now a.i) at c.kind2.ensures in
+    ap (λ (x : ℕ). eqb x 7) e ∙ sym (first_kind a.words.now a.text.now a.i f s (omega arith)) ∙ arranged_object a.a _ f (read o).kind.ensures o.if4.false
 
-pub arranged-spec : {M : Type 1} → statement M
-arranged-spec = tie.close (tie.spec (λ c κs. search rules) returns (λ c κs. search rules) returns-2 (λ c κs. search rules) returns-3 returns-4 mul-kind mul-kind-2 shared-slice-read-kind (λ c κs. search rules) returns-5)
+pub arranged_spec : {M : Type 1} → statement M
+arranged_spec = tie.close (tie.spec (λ c κs. search rules) returns (λ c κs. search rules) returns-2 (λ c κs. search rules) returns-3 returns-4 mul-kind mul-kind-2 shared-slice-read-kind (λ c κs. search rules) returns-5)

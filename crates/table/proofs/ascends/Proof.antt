@@ -8,7 +8,7 @@ use borrow.Author.Rules.{rules}
 use Rattle.value.specs.Value.{one}
 use Rattle.value.specs.Stands.{Stands}
 use Rattle.value.specs.Told.{told}
-use Rattle.table.specs.Items.{Rest, rest-start, rest-step, rest-done, rest-not, rest-less}
+use Rattle.table.specs.Items.{Rest, rest-start, rest-step, rest-done, rest_not, rest-less}
 
 abbrev invariant-loop : tie.invariant-loop
 invariant-loop words text i m entry p₀ left₀ p left = Rest words text i m entry p left
@@ -36,15 +36,15 @@ compare-items-requires c κs =
     let a = s.args in
     let l = c.before.before.loop in
     let x = rest-step a.words.now a.text.now a.i a.m a.entry s.requires.1.0 s.requires.1.1 l.p l.left l.invariant c.before.loop-test.true in
-    let y : Stands a.words.now a.text.now c.next.result (one x.second) = rw c.next.ensures x.second-stands in
-    (x.first-stands.0.reads, (y.0.reads, (record { value = x.first; stands = x.first-stands }, record { value = x.second; stands = y })))
+    let y : Stands a.words.now a.text.now c.next.result (one x.second) = rw c.next.ensures x.second_stands in
+    (x.first_stands.0.reads, (y.0.reads, (record { value = x.first; stands = x.first_stands }, record { value = x.second; stands = y })))
 
 returns : tie.Need-returns invariant-loop decreases-loop
 returns c =
     let s = c.before.before.before.before.before.before.before.before in
     let a = s.args in
     let l = c.before.before.before.before.before.loop in
-    rest-not a.words.now a.text.now a.i a.m a.entry s.requires.1.0 s.requires.1.1 l.p l.left l.invariant c.before.before.before.before.loop-test.true (told c.before.before.compare-items.result) (rw (← c.before.before.before.next.ensures) c.before.before.compare-items.ensures) (sym c.before.precedes.ensures ∙ not-true _ c.if1.true)
+    rest_not a.words.now a.text.now a.i a.m a.entry s.requires.1.0 s.requires.1.1 l.p l.left l.invariant c.before.before.before.before.loop-test.true (told c.before.before.compare-items.result) (rw (← c.before.before.before.next.ensures) c.before.before.compare-items.ensures) (sym c.before.precedes.ensures ∙ not-true _ c.if1.true)
 
 loop-less : tie.Need-loop-smaller invariant-loop decreases-loop
 loop-less c =
@@ -66,5 +66,5 @@ returns-2 c =
     let l = c.before.loop in
     rest-done a.words.now a.text.now a.i a.m a.entry s.requires.1.0 s.requires.1.1 l.p l.left l.invariant c.loop-test.false
 
-pub ascends-spec : {M : Type 1} → statement M
-ascends-spec = tie.close (tie.spec invariant-loop decreases-loop loop-holds next-requires compare-items-requires (λ c κs. search rules) returns (λ c. search rules) loop-less loop-again returns-2)
+pub ascends_spec : {M : Type 1} → statement M
+ascends_spec = tie.close (tie.spec invariant-loop decreases-loop loop-holds next-requires compare-items-requires (λ c κs. search rules) returns (λ c. search rules) loop-less loop-again returns-2)

@@ -6,5 +6,5 @@ use Rattle.table.proofs.bad_table.Tie as tie
 returns : tie.Need-returns
 returns c = rw (c.before.number.ensures, c.detail.ensures)
 
-pub bad-table-spec : {M : Type 1} → statement M
-bad-table-spec = tie.close (tie.spec (λ c κs. search rules) (λ c κs. search rules) returns)
+pub bad_table_spec : {M : Type 1} → statement M
+bad_table_spec = tie.close (tie.spec (λ c κs. search rules) (λ c κs. search rules) returns)

@@ -23,5 +23,5 @@ returns-2 c =
     let e0 = first_word a.words.now a.i in
     λ f x y. let q = sym c.before.before.before.sized.ensures ∙ not-false _ c.before.before.if1.false in rw q (rw e0 at (c.arranged.ensures f x y))
 
-pub closes-spec : {M : Type 1} → statement M
-closes-spec = tie.close (tie.spec (λ c. search rules) (λ c κs. search rules) returns (λ c. search rules) (λ c. search rules) (λ c. search rules) (λ c. search rules) arranged-requires returns-2)
+pub closes_spec : {M : Type 1} → statement M
+closes_spec = tie.close (tie.spec (λ c. search rules) (λ c κs. search rules) returns (λ c. search rules) (λ c. search rules) (λ c. search rules) (λ c. search rules) arranged-requires returns-2)

@@ -11,32 +11,32 @@ use native.Mathlib.Nat.{add-zero}
 use native.Mathlib.Omega.{arith}
 use lib.ListN.{get_or}
 use Rattle.value.specs.Value.{Label, Forest, Value, one, bit, count, nil, node}
-use Rattle.value.specs.Shape.{kindIn, holding, nothing-held}
-use Rattle.value.specs.Stands.{word_at, label_at, arityAt, Says, Stands}
+use Rattle.value.specs.Shape.{kind_in, holding, nothing_held}
+use Rattle.value.specs.Stands.{word_at, label_at, arity_at, Says, Stands}
 use Rattle.value.specs.Order.{◌then◌, lex, labels, forests, order, new}
-use Rattle.value.specs.Walk.{compare_same, then-end}
-use Rattle.value.specs.Left.{new-at, new-other}
-use Rattle.value.specs.Labels.{records-int, records-text, text-inside}
+use Rattle.value.specs.Walk.{compare_same, then_end}
+use Rattle.value.specs.Left.{new_at_lem, new_other}
+use Rattle.value.specs.Labels.{records_int, records_text, text_inside}
 
-nothing-more : (o : Ordering) (x y : ℕ) (c d : Forest) → c ≡ nil → d ≡ nil → x ≡ y → o ≡ (o then forests x y c d)
+nothing_more : (o : Ordering) (x y : ℕ) (c d : Forest) → c ≡ nil → d ≡ nil → x ≡ y → o ≡ (o then forests x y c d)
 unfolding forests
-nothing-more o x y c d e f g = rw (e, f, g, compare_same y) (sym (then-end o))
+nothing_more o x y c d e f g = rw (e, f, g, compare_same y) (sym (then_end o))
 
 module _ (w t : List ℕ) {k : ℕ} (none : holding k ≡ false) (other : k ≢ 12) where
-  bare : {i : ℕ} {l : Label} → k ≡ kindIn (get_or w (4 * i) 0) → (c : Forest) → Says w t i l (count c) → c ≡ nil
-  unfolding arityAt count
+  bare : {i : ℕ} {l : Label} → k ≡ kind_in (get_or w (4 * i) 0) → (c : Forest) → Says w t i l (count c) → c ≡ nil
+  unfolding arity_at count
   bare e nil s = refl
   bare {i} e (node l c r) s =
-      let z = nothing-held (word_at w i 0) (word_at w i 1) (rw (add-zero, ← e) none) in
+      let z = nothing_held (word_at w i 0) (word_at w i 1) (rw (add-zero, ← e) none) in
       absurd (omega (arith, z, s.arity))
 
-  by-labels : (p q : ℕ) → k ≡ kindIn (get_or w (4 * p) 0) → k ≡ kindIn (get_or w (4 * q) 0) → (v u : Value) → Stands w t p (one v) → Stands w t q (one u) → labels (label_at w t p) (label_at w t q) ≡ order v u
+  by_labels : (p q : ℕ) → k ≡ kind_in (get_or w (4 * p) 0) → k ≡ kind_in (get_or w (4 * q) 0) → (v u : Value) → Stands w t p (one v) → Stands w t q (one u) → labels (label_at w t p) (label_at w t q) ≡ order v u
   unfolding Stands order
-  by-labels p q e f v u x y =
+  by_labels p q e f v u x y =
       let a = x.0 in
       let b = y.0 in
-      let n : new v.label ≡ new u.label = sym (ap new a.label) ∙ new-at w t p a.reads ∙ ap bit (sym (new-other w p k e other) ∙ new-other w q k f other) ∙ sym (new-at w t q b.reads) ∙ ap new b.label in
-      ap₂ labels a.label b.label ∙ nothing-more _ _ _ _ _ (bare e v.contents a) (bare f u.contents b) n
+      let n : new v.label ≡ new u.label = sym (ap new a.label) ∙ new_at_lem w t p a.reads ∙ ap bit (sym (new_other w p k e other) ∙ new_other w q k f other) ∙ sym (new_at_lem w t q b.reads) ∙ ap new b.label in
+      ap₂ labels a.label b.label ∙ nothing_more _ _ _ _ _ (bare e v.contents a) (bare f u.contents b) n
 
 returns : tie.Need-returns
 returns c v u x y =
@@ -45,20 +45,20 @@ returns c v u x y =
     let e = d.before.before.kind.ensures in
     let same = c.before.before.before.before.if1.true in
     let k = c.before.if2.true in
-    c.compare-ints.ensures ∙ records-int _ _ _ _ _ _ _ _ s.requires.0 s.requires.1.0 e d.kind2.ensures same k ∙ by-labels _ _ (rw k) (λ z. omega arith) s.args.p s.args.q e (same ∙ d.kind2.ensures) v u x y
+    c.compare-ints.ensures ∙ records_int _ _ _ _ _ _ _ _ s.requires.0 s.requires.1.0 e d.kind2.ensures same k ∙ by_labels _ _ (rw k) (λ z. omega arith) s.args.p s.args.q e (same ∙ d.kind2.ensures) v u x y
 
 part-requires : tie.Need-part-requires
 part-requires c κs =
     let d = c.before.before.before.before.before.before.before in
     let k = c.before.before.if3.true in
-    text-inside _ _ _ _ d.before.before.before.before.before.before.requires.0 d.before.before.kind.ensures (omega arith) (omega arith)
+    text_inside _ _ _ _ d.before.before.before.before.before.before.requires.0 d.before.before.kind.ensures (omega arith) (omega arith)
 
 part-requires-2 : tie.Need-part-requires-2
 part-requires-2 c κs =
     let d = c.before.before.before.before.before.before.before.before in
     let k = c.before.before.before.if3.true in
     let same = c.before.before.before.before.before.before.before.if1.true in
-    text-inside _ _ _ _ d.before.before.before.before.before.before.requires.1.0 (same ∙ d.kind2.ensures) (omega arith) (omega arith)
+    text_inside _ _ _ _ d.before.before.before.before.before.before.requires.1.0 (same ∙ d.kind2.ensures) (omega arith) (omega arith)
 
 returns-2 : tie.Need-returns-2
 returns-2 c v u x y =
@@ -67,7 +67,7 @@ returns-2 c v u x y =
     let e = d.before.before.kind.ensures in
     let same = c.before.before.before.before.before.before.before.before.before.if1.true in
     let k = c.before.before.before.before.before.if3.true in
-    c.compare-bytes.ensures ∙ ap₂ lex c.before.before.part.ensures c.before.part2.ensures ∙ records-text _ _ _ _ _ _ _ _ s.requires.0 s.requires.1.0 e d.kind2.ensures same (omega arith) (omega arith) ∙ by-labels _ _ (rw k) (λ z. omega arith) s.args.p s.args.q e (same ∙ d.kind2.ensures) v u x y
+    c.compare-bytes.ensures ∙ ap₂ lex c.before.before.part.ensures c.before.part2.ensures ∙ records_text _ _ _ _ _ _ _ _ s.requires.0 s.requires.1.0 e d.kind2.ensures same (omega arith) (omega arith) ∙ by_labels _ _ (rw k) (λ z. omega arith) s.args.p s.args.q e (same ∙ d.kind2.ensures) v u x y
 
 compare-at-requires : tie.Need-compare-at-requires
 compare-at-requires c κs = c.before.before.before.before.before.before.before.requires.1.1
@@ -75,5 +75,5 @@ compare-at-requires c κs = c.before.before.before.before.before.before.before.r
 returns-3 : tie.Need-returns-3
 returns-3 c = c.compare-at.ensures
 
-pub compare-items-spec : {M : Type 1} → statement M
-compare-items-spec = tie.close (tie.spec (λ c. search rules) (λ c. search rules) (λ c. search rules) (λ c κs. search rules) (λ c. search rules) (λ c. search rules) (λ c. search rules) (λ c κs. search rules) (λ c. search rules) (λ c. search rules) (λ c. search rules) (λ c. search rules) (λ c. search rules) (λ c. search rules) (λ c. search rules) (λ c. search rules) (λ c κs. search rules) returns (λ c. search rules) (λ c. search rules) (λ c. search rules) (λ c. search rules) (λ c. search rules) (λ c. search rules) (λ c. search rules) (λ c. search rules) part-requires part-requires-2 (λ c κs. search rules) returns-2 compare-at-requires returns-3)
+pub compare_items_spec : {M : Type 1} → statement M
+compare_items_spec = tie.close (tie.spec (λ c. search rules) (λ c. search rules) (λ c. search rules) (λ c κs. search rules) (λ c. search rules) (λ c. search rules) (λ c. search rules) (λ c κs. search rules) (λ c. search rules) (λ c. search rules) (λ c. search rules) (λ c. search rules) (λ c. search rules) (λ c. search rules) (λ c. search rules) (λ c. search rules) (λ c κs. search rules) returns (λ c. search rules) (λ c. search rules) (λ c. search rules) (λ c. search rules) (λ c. search rules) (λ c. search rules) (λ c. search rules) (λ c. search rules) part-requires part-requires-2 (λ c κs. search rules) returns-2 compare-at-requires returns-3)

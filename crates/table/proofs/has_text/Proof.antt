@@ -2,14 +2,14 @@
 use mathlib.Core.Path.{ap}
 use Prim.Native.Nat.{ℕ}
 use lib.Dec.{ltb}
-use Rattle.table.specs.Length.{hasText}
+use Rattle.table.specs.Length.{has_text}
 use Rattle.table.proofs.ByKind.{kind-under, kind-past}
 use Rattle.table.proofs.has_text.Statement.{statement}
 use Rattle.table.proofs.has_text.Tie as tie
 
-pub has-text-spec : {M : Type 1} → statement M
-unfolding hasText
-has-text-spec =
+pub has_text_spec : {M : Type 1} → statement M
+unfolding has_text
+has_text_spec =
     tie.close
     (tie.spec
     (λ c κs. tt)

@@ -7,12 +7,12 @@ use Prim.Native.Nat.{ℕ, ◌-◌, ◌≤◌, min}
 use native.Mathlib.Omega.{arith}
 use borrow.Author.Tests.{not-true, not-false}
 use lib.ListN.{length, drop}
-use Rattle.value.specs.Stands.{word_at, arityAt}
+use Rattle.value.specs.Stands.{word_at, arity_at}
 use Rattle.table.specs.Sound.{first_word}
-use Rattle.value.specs.Shape.{kindIn, arityOf}
+use Rattle.value.specs.Shape.{kind_in, arity_of}
 use Rattle.table.specs.Record.{right0, right1, span_of}
-use Rattle.table.specs.Names.{namesRight}
-use Rattle.table.specs.Check.{HeadSays, wrong_first, wrong_second, wrong-span, wrong-many, wrong-names, header, known}
+use Rattle.table.specs.Names.{names_right}
+use Rattle.table.specs.Check.{HeadSays, wrong_first, wrong_second, wrong_span, wrong_many, wrong_names, header, known}
 
 -- ---- the places that the needs look back to
 
@@ -34,19 +34,19 @@ word s k = word_at s.args.words.now s.args.i k
 first : (c : tie.Else1) → word (start c.before) 0 ≡ right0 (word (start c.before) 0)
 first c = rw (first_word (start c.before).args.words.now (start c.before).args.i) at (c.if1.false ∙ c.before.word0.ensures)
 
-second : (c : tie.Else2) → word (begun c) 1 ≡ right1 (kindIn (word (begun c) 0)) (word (begun c) 1) (begun c).args.at
+second : (c : tie.Else2) → word (begun c) 1 ≡ right1 (kind_in (word (begun c) 0)) (word (begun c) 1) (begun c).args.at
 second c = rw (first_word (begun c).args.words.now (begun c).args.i) at (c.if2.false ∙ c.before.word1.ensures)
 
-spanned : (c : tie.After-span) → c.span.result ≡ span_of (kindIn (word (begun c.before) 0)) (word (begun c.before) 2)
+spanned : (c : tie.After-span) → c.span.result ≡ span_of (kind_in (word (begun c.before) 0)) (word (begun c.before) 2)
 spanned c = rw (first_word (begun c.before).args.words.now (begun c.before).args.i) at c.span.ensures
 
-third : (c : tie.Else3) → span_of (kindIn (word (begun (worded c)) 0)) (word (begun (worded c)) 2) ≤ length (begun (worded c)).args.text.now - (begun (worded c)).args.at
+third : (c : tie.Else3) → span_of (kind_in (word (begun (worded c)) 0)) (word (begun (worded c)) 2) ≤ length (begun (worded c)).args.text.now - (begun (worded c)).args.at
 third c = let e = spanned c.before in let h = c.if3.false in omega arith
 
-many : (c : tie.After-arity) → c.arity.result ≡ min 4096 (arityOf (word (begun (worded c.before)) 0) (word (begun (worded c.before)) 1))
+many : (c : tie.After-arity) → c.arity.result ≡ min 4096 (arity_of (word (begun (worded c.before)) 0) (word (begun (worded c.before)) 1))
 many c = let s = begun (worded c.before) in rw (first_word s.args.words.now s.args.i) at c.arity.ensures
 
-names : (c : tie.After-named) → let s = begun (worded c.before.before.before) in c.named.result ≡ namesRight (kindIn (word s 0)) (word s 2) (drop s.args.at s.args.text.now)
+names : (c : tie.After-named) → let s = begun (worded c.before.before.before) in c.named.result ≡ names_right (kind_in (word s 0)) (word s 2) (drop s.args.at s.args.text.now)
 names c = let s = begun (worded c.before.before.before) in rw (first_word s.args.words.now s.args.i) at c.named.ensures
 
 -- ---- the needs
@@ -75,7 +75,7 @@ returns-3 c =
     let s = begun o in
     let e = spanned c.before in
     let h = c.if3.true in
-    wrong-span _ _ _ s.pre.0 s.args.i _ s.pre.1.1 (first o.before.before) (second o) (omega arith)
+    wrong_span _ _ _ s.pre.0 s.args.i _ s.pre.1.1 (first o.before.before) (second o) (omega arith)
 
 arity-requires : tie.Need-arity-requires
 arity-requires c κs =
@@ -84,14 +84,14 @@ arity-requires c κs =
     rw (first_word s.args.words.now s.args.i) (known _ _ _ s.pre.0 s.args.i _ s.pre.1.1 (first o.before.before))
 
 returns-4 : tie.Need-returns-4
-unfolding HeadSays arityAt
+unfolding HeadSays arity_at
 returns-4 c =
     let l = c.before.before in
     let o = worded l in
     let s = begun o in
     let e = many c.before in
     let h = c.if4.true in
-    wrong-many _ _ _ s.pre.0 s.args.i _ s.pre.1.1 (first o.before.before) (second o) (third l) s.pre.1.0 (omega arith)
+    wrong_many _ _ _ s.pre.0 s.args.i _ s.pre.1.1 (first o.before.before) (second o) (third l) s.pre.1.0 (omega arith)
 
 named-requires : tie.Need-named-requires
 named-requires c κs =
@@ -107,10 +107,10 @@ returns-5 c =
     let l = c.before.before.before.before in
     let o = worded l in
     let s = begun o in
-    wrong-names _ _ _ s.pre.0 s.args.i _ s.pre.1.1 (first o.before.before) (second o) (third l) (sym (names c.before) ∙ not-true _ c.if5.true)
+    wrong_names _ _ _ s.pre.0 s.args.i _ s.pre.1.1 (first o.before.before) (second o) (third l) (sym (names c.before) ∙ not-true _ c.if5.true)
 
 returns-6 : tie.Need-returns-6
-unfolding HeadSays arityAt
+unfolding HeadSays arity_at
 returns-6 c =
     let l = c.before.before.before.before in
     let o = worded l in

@@ -8,5 +8,5 @@ use Rattle.value.specs.declared.Head.{Head}
 returns : tie.Need-returns
 returns c = ap (λ (h : Head). h.kind) c.head_of.ensures
 
-pub kind-spec : {M : Type 1} → statement M
-kind-spec = tie.close (tie.spec (λ c κs. search rules) returns)
+pub kind_spec : {M : Type 1} → statement M
+kind_spec = tie.close (tie.spec (λ c κs. search rules) returns)

@@ -8,16 +8,16 @@ use native.Mathlib.Omega.{arith}
 use borrow.Author.Rules.{rules}
 use borrow.Author.Tests.{not-true, not-false}
 use lib.ListN.{length}
-use Rattle.value.specs.Shape.{kindIn, holding, nothing-held}
-use Rattle.value.specs.Stands.{word_at, arityAt}
+use Rattle.value.specs.Shape.{kind_in, holding, nothing_held}
+use Rattle.value.specs.Stands.{word_at, arity_at}
 use Rattle.table.specs.Record.{right0, right1, span_of}
 use Rattle.table.specs.Sound.{first_word}
-use Rattle.table.specs.Check.{Lent, Header, is-bad, wrong_first, wrong_second, wrong-span, wrong-names, header, leaf-ended}
+use Rattle.table.specs.Check.{Lent, Header, is_bad, wrong_first, wrong_second, wrong_span, wrong_names, header, leaf-ended}
 use mathlib.Core.List.{List}
 
-none_in : (w : List ℕ) (i : ℕ) → holding (kindIn (word_at w i 0)) ≡ false → arityAt w i ≡ 0
-unfolding arityAt
-none_in w i h = nothing-held (word_at w i 0) (word_at w i 1) h
+none_in : (w : List ℕ) (i : ℕ) → holding (kind_in (word_at w i 0)) ≡ false → arity_at w i ≡ 0
+unfolding arity_at
+none_in w i h = nothing_held (word_at w i 0) (word_at w i 1) h
 
 -- the record's words, as the call was lent them
 abbrev word : tie.Start → ℕ → ℕ
@@ -36,11 +36,11 @@ module _ (c : tie.Else2) where
   abbrev start₂ : tie.Start
   start₂ = start c.before.before
 
-  second : word start₂ 1 ≡ right1 (kindIn (word start₂ 0)) (word start₂ 1) start₂.args.at
+  second : word start₂ 1 ≡ right1 (kind_in (word start₂ 0)) (word start₂ 1) start₂.args.at
   second = rw (first_word start₂.args.words.now start₂.args.i) at (c.if2.false ∙ c.before.word1.ensures)
 
 -- the span is known
-long : (c : tie.After-span) → let s = start₂ c.before in c.span.result ≡ span_of (kindIn (word s 0)) (word s 2)
+long : (c : tie.After-span) → let s = start₂ c.before in c.span.result ≡ span_of (kind_in (word s 0)) (word s 2)
 long c = let s = start₂ c.before in rw (first_word s.args.words.now s.args.i) at c.span.ensures
 
 -- and the text has it
@@ -51,7 +51,7 @@ module _ (c : tie.Else3) where
   abbrev start₃ : tie.Start
   start₃ = start one
 
-  third : span_of (kindIn (word start₃ 0)) (word start₃ 2) ≤ length start₃.args.text.now - start₃.args.at
+  third : span_of (kind_in (word start₃ 0)) (word start₃ 2) ≤ length start₃.args.text.now - start₃.args.at
   third = let l = long c.before in let x = c.if3.false in omega arith
 
 -- and the names are right: all but the last word is
@@ -70,14 +70,14 @@ returns : tie.Need-returns
 returns c =
     let s = c.before.before.before.before.before.before.before in
     let a = s.args in
-    λ n k lent lt some. is-bad _ (wrong_first a.words.now n a.text.now lent a.i a.at s.requires.1.0 (λ e. c.if1.true ((rw (← first_word a.words.now a.i) at e) ∙ sym c.before.word0.ensures)) k)
+    λ n k lent lt some. is_bad _ (wrong_first a.words.now n a.text.now lent a.i a.at s.requires.1.0 (λ e. c.if1.true ((rw (← first_word a.words.now a.i) at e) ∙ sym c.before.word0.ensures)) k)
 
 returns-2 : tie.Need-returns-2
 returns-2 c =
     let o = c.before.before in
     let s = start o in
     let a = s.args in
-    λ n k lent lt some. is-bad _ (wrong_second a.words.now n a.text.now lent a.i a.at s.pre.1.0 (first o) (λ e. c.if2.true ((rw (← first_word a.words.now a.i) at e) ∙ sym c.before.word1.ensures)) k)
+    λ n k lent lt some. is_bad _ (wrong_second a.words.now n a.text.now lent a.i a.at s.pre.1.0 (first o) (λ e. c.if2.true ((rw (← first_word a.words.now a.i) at e) ∙ sym c.before.word1.ensures)) k)
 
 returns-3 : tie.Need-returns-3
 returns-3 c =
@@ -85,14 +85,14 @@ returns-3 c =
     let s = start₂ o in
     let a = s.args in
     let l = long c.before in
-    λ n k lent lt some. is-bad _ (wrong-span a.words.now n a.text.now lent a.i a.at s.pre.1.0 (first o.before.before) (second o) (let x = c.if3.true in omega arith) k)
+    λ n k lent lt some. is_bad _ (wrong_span a.words.now n a.text.now lent a.i a.at s.pre.1.0 (first o.before.before) (second o) (let x = c.if3.true in omega arith) k)
 
 returns-4 : tie.Need-returns-4
 returns-4 c =
     let o = c.before.before in
     let s = start₃ o in
     let a = s.args in
-    λ n k lent lt some. is-bad _ (wrong-names a.words.now n a.text.now lent a.i a.at s.pre.1.0 (first (one o)) (second o.before.before) (third o) (rw (first_word a.words.now a.i) at (sym c.before.named.ensures ∙ not-true _ c.if4.true)) k)
+    λ n k lent lt some. is_bad _ (wrong_names a.words.now n a.text.now lent a.i a.at s.pre.1.0 (first (one o)) (second o.before.before) (third o) (rw (first_word a.words.now a.i) at (sym c.before.named.ensures ∙ not-true _ c.if4.true)) k)
 
 returns-5 : tie.Need-returns-5
 returns-5 c = λ n k lent lt some. leaf-ended _ n _ _ _ _ (headed c.before n lent lt) (start₃ (fits c.before)).pre.1.1.1 k some false (sym (not-true _ c.if5.true) ∙ c.before.sized.ensures)
@@ -100,5 +100,5 @@ returns-5 c = λ n k lent lt some. leaf-ended _ n _ _ _ _ (headed c.before n len
 returns-6 : tie.Need-returns-6
 returns-6 c = λ n k lent lt some. leaf-ended _ n _ _ _ _ (headed c.before n lent lt) (start₃ (fits c.before)).pre.1.1.1 k some true (sym (not-false _ c.if5.false) ∙ c.before.sized.ensures)
 
-pub leaf-spec : {M : Type 1} → statement M
-leaf-spec = tie.close (tie.spec (λ c. search rules) (λ c. search rules) (λ c. search rules) (λ c. search rules) (λ c. search rules) (λ c. search rules) (λ c. search rules) (λ c. search rules) (λ c. search rules) (λ c. search rules) (λ c. search rules) (λ c κs. search rules) returns (λ c κs. search rules) returns-2 (λ c κs. search rules) (λ c. search rules) returns-3 (λ c κs. search rules) returns-4 (λ c κs. search rules) returns-5 (λ c. search rules) (λ c. search rules) returns-6)
+pub leaf_spec : {M : Type 1} → statement M
+leaf_spec = tie.close (tie.spec (λ c. search rules) (λ c. search rules) (λ c. search rules) (λ c. search rules) (λ c. search rules) (λ c. search rules) (λ c. search rules) (λ c. search rules) (λ c. search rules) (λ c. search rules) (λ c. search rules) (λ c κs. search rules) returns (λ c κs. search rules) returns-2 (λ c κs. search rules) (λ c. search rules) returns-3 (λ c κs. search rules) returns-4 (λ c κs. search rules) returns-5 (λ c. search rules) (λ c. search rules) returns-6)

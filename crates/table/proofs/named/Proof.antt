@@ -6,9 +6,9 @@ use mathlib.Core.Path.{◌≡◌, sym, ◌∙◌, ap}
 use native.Mathlib.Omega.{arith}
 use borrow.Author.Tests.{not-true, not-false}
 use Prim.Native.Nat.{◌+◌, ◌/◌, ◌%◌, ◌^◌}
-use Rattle.value.specs.Shape.{kindIn}
-use Rattle.table.specs.Record.{span_of, span-text, span-names}
-use Rattle.table.specs.Names.{part_at, names-plain, names-string, names-items, names-module, names-name}
+use Rattle.value.specs.Shape.{kind_in}
+use Rattle.table.specs.Record.{span_of, span_text, span_names}
+use Rattle.table.specs.Names.{part_at, names_plain, names-string, names-items, names_module, names-name}
 use Rattle.utf8.specs.Utf8.{valid}
 
 -- the kind is read
@@ -16,23 +16,23 @@ abbrev start : tie.After-kind → tie.Start
 start c = c.before.before
 
 -- bytes or a String
-spans : (c : tie.Then2) → let a = (start c.before.before).args in span_of (kindIn a.a) a.c ≡ a.c
-spans c = span-text _ _ _ c.before.before.kind.ensures (omega arith) c.if2.true
+spans : (c : tie.Then2) → let a = (start c.before.before).args in span_of (kind_in a.a) a.c ≡ a.c
+spans c = span_text _ _ _ c.before.before.kind.ensures (omega arith) c.if2.true
 
 -- a name behind its module
 module _ (c : tie.Else3) where
   abbrev read : tie.After-kind
   read = c.before.before.before
 
-  spans-both : let a = (start read).args in span_of (kindIn a.a) a.c ≡ a.c / 2 ^ 32 + a.c % 2 ^ 32
-  spans-both = span-names _ _ _ read.kind.ensures c.if3.false
+  spans_both : let a = (start read).args in span_of (kind_in a.a) a.c ≡ a.c / 2 ^ 32 + a.c % 2 ^ 32
+  spans_both = span_names _ _ _ read.kind.ensures c.if3.false
 
 -- the module is looked at
 abbrev both : tie.After-valid2 → tie.Else3
 both c = c.before.before
 
 returns : tie.Need-returns
-returns c = names-plain _ _ _ _ c.before.kind.ensures c.if1.true
+returns c = names_plain _ _ _ _ c.before.kind.ensures c.if1.true
 
 add-end : tie.Need-overflow-add-end
 add-end c = let h = spans c in omega arith
@@ -47,16 +47,16 @@ returns-3 : tie.Need-returns-3
 returns-3 c = names-items _ _ _ _ c.before.before.before.kind.ensures c.before.if2.false c.if3.true
 
 part-valid-end-2 : tie.Need-slice-bounds-valid-end-2
-part-valid-end-2 c = let h = spans-both c in let p = (start (read c)).requires in omega arith
+part-valid-end-2 c = let h = spans_both c in let p = (start (read c)).requires in omega arith
 
 returns-4 : tie.Need-returns-4
-returns-4 c = let b = both c.before in names-module _ _ _ _ _ (read b).kind.ensures b.if3.left (sym c.before.valid2.ensures ∙ not-true _ c.if4.true)
+returns-4 c = let b = both c.before in names_module _ _ _ _ _ (read b).kind.ensures b.if3.left (sym c.before.valid2.ensures ∙ not-true _ c.if4.true)
 
 part-valid-end-3 : tie.Need-slice-bounds-valid-end-3
-part-valid-end-3 c = let b = both c.before in let h = spans-both b in let p = (start (read b)).requires in omega arith
+part-valid-end-3 c = let b = both c.before in let h = spans_both b in let p = (start (read b)).requires in omega arith
 
 returns-5 : tie.Need-returns-5
 returns-5 c = let v = c.before.before.before in let b = both v in c.valid3.ensures ∙ names-name _ _ _ _ _ (read b).kind.ensures b.if3.left (sym v.valid2.ensures ∙ not-false _ c.before.before.if4.false)
 
-pub named-spec : {M : Type 1} → statement M
-named-spec = tie.close (tie.spec (λ c κs. search rules) returns add-end (λ c. search rules) (λ c. search rules) part-valid-end (λ c κs. search rules) returns-2 returns-3 (λ c. search rules) (λ c. search rules) (λ c. search rules) (λ c. search rules) part-valid-end-2 (λ c κs. search rules) returns-4 (λ c. search rules) (λ c. search rules) part-valid-end-3 (λ c κs. search rules) returns-5)
+pub named_spec : {M : Type 1} → statement M
+named_spec = tie.close (tie.spec (λ c κs. search rules) returns add-end (λ c. search rules) (λ c. search rules) part-valid-end (λ c κs. search rules) returns-2 returns-3 (λ c. search rules) (λ c. search rules) (λ c. search rules) (λ c. search rules) part-valid-end-2 (λ c κs. search rules) returns-4 (λ c. search rules) (λ c. search rules) part-valid-end-3 (λ c κs. search rules) returns-5)

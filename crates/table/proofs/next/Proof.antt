@@ -19,5 +19,5 @@ returns-2 : tie.Need-returns-2
 unfolding next_at
 returns-2 c = rw (ne_eqb _ _ c.before.if1.false, ← c.before.before.after.ensures) c.after2.ensures
 
-pub next-spec : {M : Type 1} → statement M
-next-spec = tie.close (tie.spec (λ c κs. search rules) returns after-requires-2 returns-2)
+pub next_spec : {M : Type 1} → statement M
+next_spec = tie.close (tie.spec (λ c κs. search rules) returns after-requires-2 returns-2)

@@ -4,9 +4,9 @@ use Rattle.value.specs.Told.{told}
 use Rattle.table.proofs.ordered.Statement.{statement}
 use Rattle.table.proofs.ordered.Tie as tie
 
-pub ordered-spec : {M : Type 1} → statement M
+pub ordered_spec : {M : Type 1} → statement M
 unfolding told
-ordered-spec =
+ordered_spec =
     tie.close
     (tie.spec
     (λ c. search rules) (λ c. search rules) (λ c. search rules)

@@ -4,9 +4,9 @@ use Rattle.value.specs.Told.{told}
 use Rattle.table.proofs.precedes.Statement.{statement}
 use Rattle.table.proofs.precedes.Tie as tie
 
-pub precedes-spec : {M : Type 1} → statement M
+pub precedes_spec : {M : Type 1} → statement M
 unfolding told
-precedes-spec =
+precedes_spec =
     tie.close
     (tie.spec
     (λ c. search rules) (λ c. search rules) (λ c. search rules)

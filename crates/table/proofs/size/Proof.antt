@@ -5,9 +5,9 @@ use Rattle.table.proofs.ByKind.{kind-under, kind-past}
 use Rattle.table.proofs.size.Statement.{statement}
 use Rattle.table.proofs.size.Tie as tie
 
-pub size-spec : {M : Type 1} → statement M
+pub size_spec : {M : Type 1} → statement M
 unfolding size_of
-size-spec =
+size_spec =
     tie.close
     (tie.spec
     (λ c κs. tt)

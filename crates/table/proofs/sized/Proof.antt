@@ -8,10 +8,10 @@ use lib.ListN.{get_or}
 use Rattle.value.specs.Stands.{word_at}
 use Rattle.table.specs.Sound.{first_word}
 use borrow.Author.Tests.{eq-eqb, ne_eqb}
-use Rattle.table.specs.Check.{sizesRight}
+use Rattle.table.specs.Check.{sizes_right}
 
 returns : tie.Need-returns
-unfolding sizesRight
+unfolding sizes_right
 returns c =
     let s = c.before.before.before.before.before.before in
     let a = s.args in
@@ -21,7 +21,7 @@ returns c =
     rw (← e0, ne_eqb _ _ (λ e. c.if1.true (e ∙ sym c.before.word2.ensures)))
 
 returns-2 : tie.Need-returns-2
-unfolding sizesRight
+unfolding sizes_right
 returns-2 c =
     let s = c.before.before.before.before.before.before.before in
     let a = s.args in
@@ -30,5 +30,5 @@ returns-2 c =
     let e0 : get_or w (4 * i) 0 ≡ word_at w i 0 = first_word w i in
     rw (← e0, eq-eqb _ _ (c.before.if1.false ∙ c.before.before.word2.ensures), c.word3.ensures)
 
-pub sized-spec : {M : Type 1} → statement M
-sized-spec = tie.close (tie.spec (λ c. search rules) (λ c. search rules) (λ c. search rules) (λ c. search rules) (λ c. search rules) (λ c. search rules) (λ c. search rules) (λ c. search rules) (λ c. search rules) (λ c. search rules) (λ c. search rules) (λ c κs. search rules) returns (λ c κs. search rules) returns-2)
+pub sized_spec : {M : Type 1} → statement M
+sized_spec = tie.close (tie.spec (λ c. search rules) (λ c. search rules) (λ c. search rules) (λ c. search rules) (λ c. search rules) (λ c. search rules) (λ c. search rules) (λ c. search rules) (λ c. search rules) (λ c. search rules) (λ c. search rules) (λ c κs. search rules) returns (λ c κs. search rules) returns-2)

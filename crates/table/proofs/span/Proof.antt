@@ -6,9 +6,9 @@ use Rattle.table.proofs.ByKind.{kind-under, kind-past}
 use Rattle.table.proofs.span.Statement.{statement}
 use Rattle.table.proofs.span.Tie as tie
 
-pub span-spec : {M : Type 1} → statement M
+pub span_spec : {M : Type 1} → statement M
 unfolding span_of
-span-spec =
+span_spec =
     tie.close
     (tie.spec
     (λ c κs. tt)

@@ -8,5 +8,5 @@ use Rattle.value.specs.declared.Head.{Head}
 returns : tie.Need-returns
 returns c = ap (λ (h : Head). h.state) c.head_of.ensures
 
-pub state-spec : {M : Type 1} → statement M
-state-spec = tie.close (tie.spec (λ c κs. search rules) returns)
+pub state_spec : {M : Type 1} → statement M
+state_spec = tie.close (tie.spec (λ c κs. search rules) returns)

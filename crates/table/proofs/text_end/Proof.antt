@@ -13,5 +13,5 @@ returns-2 : tie.Need-returns-2
 unfolding end_of
 returns-2 c = omega (arith, c.before.span.ensures)
 
-pub text-end-spec : {M : Type 1} → statement M
-text-end-spec = tie.close (tie.spec (λ c κs. search rules) (λ c. search rules) returns (λ c. search rules) returns-2)
+pub text_end_spec : {M : Type 1} → statement M
+text_end_spec = tie.close (tie.spec (λ c κs. search rules) (λ c. search rules) returns (λ c. search rules) returns-2)

@@ -8,16 +8,16 @@ use native.Mathlib.Omega.{arith}
 use lib.ListN.{length, get_or}
 use Rattle.value.specs.Stands.{word_at}
 use Rattle.table.specs.Sound.{first_word}
-use Rattle.table.specs.Length.{last_end, textLength, end-here, end_before, end_none}
+use Rattle.table.specs.Length.{last_end, text_length, end_here, end_before, end_none}
 
 abbrev invariant-loop : tie.invariant-loop
-invariant-loop words count left₀ left = (left ≤ length words / 4) × (last_end words left ≡ textLength words count)
+invariant-loop words count left₀ left = (left ≤ length words / 4) × (last_end words left ≡ text_length words count)
 
 abbrev decreases-loop : tie.decreases-loop
 decreases-loop words count left₀ left = left
 
 loop-holds : tie.Need-loop-init invariant-loop decreases-loop
-unfolding textLength
+unfolding text_length
 loop-holds c =
     let e = c.least.ensures in
     (omega arith, rw e)
@@ -28,7 +28,7 @@ returns c =
     let l = c.before.before.before.before.before.before.before.before.loop in
     let k : ℕ = l.left - 1 in
     let e0 : get_or w (4 * k) 0 ≡ word_at w k 0 = first_word w k in
-    rw e0 at c.text-end.ensures ∙ end-here w l.left c.before.before.before.before.before.before.before.loop-test.true (rw e0 at (sym c.before.before.before.before.before.has-text.ensures ∙ c.before.before.before.before.if1.true)) ∙ l.invariant.1
+    rw e0 at c.text_end_lem.ensures ∙ end_here w l.left c.before.before.before.before.before.before.before.loop-test.true (rw e0 at (sym c.before.before.before.before.before.has_text_lem.ensures ∙ c.before.before.before.before.if1.true)) ∙ l.invariant.1
 
 loop-again : tie.Need-loop-preserved invariant-loop decreases-loop
 loop-again c =
@@ -37,12 +37,12 @@ loop-again c =
     let k : ℕ = l.left - 1 in
     let e0 : get_or w (4 * k) 0 ≡ word_at w k 0 = first_word w k in
     let h = l.invariant.0 in
-    (omega arith, end_before w l.left c.before.before.before.loop-test.true (rw e0 at (sym c.before.has-text.ensures ∙ c.if1.false)) ∙ l.invariant.1)
+    (omega arith, end_before w l.left c.before.before.before.loop-test.true (rw e0 at (sym c.before.has_text_lem.ensures ∙ c.if1.false)) ∙ l.invariant.1)
 
 returns-2 : tie.Need-returns-2 invariant-loop decreases-loop
 returns-2 c =
     let l = c.before.loop in
     end_none c.before.before.before.before.args.words.now l.left (let q = c.loop-test.false in omega arith) ∙ l.invariant.1
 
-pub text-len-spec : {M : Type 1} → statement M
-text-len-spec = tie.close (tie.spec invariant-loop decreases-loop (λ c κs. search rules) loop-holds (λ c. search rules) (λ c. search rules) (λ c. search rules) (λ c. search rules) (λ c κs. search rules) (λ c. search rules) (λ c. search rules) (λ c. search rules) (λ c. search rules) (λ c. search rules) (λ c. search rules) (λ c. search rules) (λ c. search rules) (λ c. search rules) (λ c. search rules) (λ c. search rules) (λ c κs. search rules) returns (λ c. search rules) loop-again returns-2)
+pub text_len_spec : {M : Type 1} → statement M
+text_len_spec = tie.close (tie.spec invariant-loop decreases-loop (λ c κs. search rules) loop-holds (λ c. search rules) (λ c. search rules) (λ c. search rules) (λ c. search rules) (λ c κs. search rules) (λ c. search rules) (λ c. search rules) (λ c. search rules) (λ c. search rules) (λ c. search rules) (λ c. search rules) (λ c. search rules) (λ c. search rules) (λ c. search rules) (λ c. search rules) (λ c. search rules) (λ c κs. search rules) returns (λ c. search rules) loop-again returns-2)

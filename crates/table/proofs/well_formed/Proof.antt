@@ -5,7 +5,7 @@ use Rattle.table.proofs.well_formed.Tie as tie
 use mathlib.Core.Path.{sym, ◌∙◌}
 use native.Mathlib.Omega.{arith}
 use Rattle.table.specs.Check.{Lent}
-use Rattle.table.specs.Verdict.{too_many, past_words, too_long, none_found, not-filled, filled}
+use Rattle.table.specs.Verdict.{too_many, past_words, too_long, none_found, not_filled, filled}
 
 returns : tie.Need-returns
 returns c =
@@ -28,7 +28,7 @@ returns-4 c =
     let few = c.before.before.before.before.before.before.before.if1.false in
     let room = c.before.before.before.before.before.before.if2.false in
     let lent : Lent a.words.now a.count a.text.now = record { room = omega arith; few = few; short = c.before.before.before.before.before.if3.false } in
-    not-filled a.words.now a.count a.text.now lent c.before.before.j.given.0.0 c.before.before.j.given.0.1.0 (sym c.before.before.before.before.contents.ensures ∙ c.before.before.j.given.1) c.if4.true
+    not_filled a.words.now a.count a.text.now lent c.before.before.j.given.0.0 c.before.before.j.given.0.1.0 (sym c.before.before.before.before.contents.ensures ∙ c.before.before.j.given.1) c.if4.true
 
 returns-5 : tie.Need-returns-5
 returns-5 c =
@@ -43,5 +43,5 @@ returns-6 c =
     let lent : Lent a.words.now a.count a.text.now = record { room = omega arith; few = few; short = c.before.before.before.before.before.if3.false } in
     filled a.words.now a.count a.text.now lent c.before.before.j.given.0.0 c.before.before.j.given.0.1.0 (sym c.before.before.before.before.contents.ensures ∙ c.before.before.j.given.1) c.if4.false
 
-pub well-formed-spec : {M : Type 1} → statement M
-well-formed-spec = tie.close (tie.spec returns returns-2 returns-3 (λ c κs. search rules) (λ c. search rules) (λ c. search rules) returns-4 returns-5 returns-6)
+pub well_formed_spec : {M : Type 1} → statement M
+well_formed_spec = tie.close (tie.spec returns returns-2 returns-3 (λ c κs. search rules) (λ c. search rules) (λ c. search rules) returns-4 returns-5 returns-6)

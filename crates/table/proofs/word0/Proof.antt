@@ -26,5 +26,5 @@ returns-3 c =
     let e = ap (λ (h : Head). h.kind) c.before.before.head_of.ensures in
     rw (← e, le-ltb _ _ c.before.if1.false, le-ltb _ _ c.if2.false)
 
-pub word0-spec : {M : Type 1} → statement M
-word0-spec = tie.close (tie.spec (λ c κs. search rules) (λ c κs. search rules) returns (λ c κs. search rules) returns-2 returns-3)
+pub word0_spec : {M : Type 1} → statement M
+word0_spec = tie.close (tie.spec (λ c κs. search rules) (λ c κs. search rules) returns (λ c κs. search rules) returns-2 returns-3)

@@ -34,5 +34,5 @@ returns-7 : tie.Need-returns-7
 unfolding right1
 returns-7 c = let k = c.before.before.before.kind in rw (← k.ensures, le-ltb k.result 1 (omega arith), le-ltb k.result 2 (omega arith), le-ltb _ _ c.before.before.if1.false, le-ltb _ _ c.before.if5.false, le-ltb _ _ c.if6.false)
 
-pub word1-spec : {M : Type 1} → statement M
-word1-spec = tie.close (tie.spec (λ c κs. search rules) returns returns-2 returns-3 returns-4 returns-5 returns-6 returns-7)
+pub word1_spec : {M : Type 1} → statement M
+word1_spec = tie.close (tie.spec (λ c κs. search rules) returns returns-2 returns-3 returns-4 returns-5 returns-6 returns-7)

@@ -5,9 +5,9 @@ use Rattle.table.proofs.ByKind.{kind-under, kind-past}
 use Rattle.table.proofs.word2.Statement.{statement}
 use Rattle.table.proofs.word2.Tie as tie
 
-pub word2-spec : {M : Type 1} → statement M
+pub word2_spec : {M : Type 1} → statement M
 unfolding right2
-word2-spec =
+word2_spec =
     tie.close
     (tie.spec
     (λ c κs. tt)

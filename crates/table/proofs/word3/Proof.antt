@@ -5,9 +5,9 @@ use Rattle.table.proofs.ByKind.{kind-under, kind-past}
 use Rattle.table.proofs.word3.Statement.{statement}
 use Rattle.table.proofs.word3.Tie as tie
 
-pub word3-spec : {M : Type 1} → statement M
+pub word3_spec : {M : Type 1} → statement M
 unfolding right3
-word3-spec =
+word3_spec =
     tie.close
     (tie.spec
     (λ c κs. tt)

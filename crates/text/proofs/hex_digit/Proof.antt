@@ -3,27 +3,27 @@ use borrow.Author.Rules.{rules}
 use native.Mathlib.Omega.{arith}
 use mathlib.Core.Path.{◌≡◌}
 use Prim.Native.Nat.{ℕ, ◌≤◌, ◌<◌, ◌-◌}
-use Rattle.text.specs.Escapes.{hexDigit}
-use Rattle.text.proofs.Digits.{within_in, within-out}
+use Rattle.text.specs.Escapes.{hex_digit}
+use Rattle.text.proofs.Digits.{within_in, within_out}
 use Rattle.text.proofs.hex_digit.Statement.{statement}
 use Rattle.text.proofs.hex_digit.Tie as tie
 
 module _ (c : ℕ) where
-  number : 48 ≤ c → c < 58 → c - 48 ≡ hexDigit c
-  unfolding hexDigit
+  number : 48 ≤ c → c < 58 → c - 48 ≡ hex_digit c
+  unfolding hex_digit
   number h k = rw (within_in 48 57 c h (omega arith))
 
-  capital : 65 ≤ c → c < 71 → c - 55 ≡ hexDigit c
-  unfolding hexDigit
-  capital h k = rw (within-out 48 57 c (λ _. omega arith), within_in 65 70 c h (omega arith))
+  capital : 65 ≤ c → c < 71 → c - 55 ≡ hex_digit c
+  unfolding hex_digit
+  capital h k = rw (within_out 48 57 c (λ _. omega arith), within_in 65 70 c h (omega arith))
 
-  small : 97 ≤ c → c < 103 → c - 87 ≡ hexDigit c
-  unfolding hexDigit
-  small h k = rw (within-out 48 57 c (λ _. omega arith), within-out 65 70 c (λ _. omega arith), within_in 97 102 c h (omega arith))
+  small : 97 ≤ c → c < 103 → c - 87 ≡ hex_digit c
+  unfolding hex_digit
+  small h k = rw (within_out 48 57 c (λ _. omega arith), within_out 65 70 c (λ _. omega arith), within_in 97 102 c h (omega arith))
 
-  no_digit : (48 ≤ c → 57 < c) → (65 ≤ c → 70 < c) → (97 ≤ c → 102 < c) → 16 ≡ hexDigit c
-  unfolding hexDigit
-  no_digit h k l = rw (within-out 48 57 c h, within-out 65 70 c k, within-out 97 102 c l)
+  no_digit : (48 ≤ c → 57 < c) → (65 ≤ c → 70 < c) → (97 ≤ c → 102 < c) → 16 ≡ hex_digit c
+  unfolding hex_digit
+  no_digit h k l = rw (within_out 48 57 c h, within_out 65 70 c k, within_out 97 102 c l)
 
 returns : tie.Need-returns
 returns c = number _ c.before.if1.false c.if2.true
@@ -46,8 +46,8 @@ returns-6 c = no_digit _ (λ h. omega arith) (λ h. omega arith) (λ h. omega ar
 returns-7 : tie.Need-returns-7
 returns-7 c = no_digit _ (λ h. omega arith) (λ h. omega arith) (λ h. omega arith)
 
-pub hex-digit-spec : {M : Type 1} → statement M
-hex-digit-spec =
+pub hex_digit_spec : {M : Type 1} → statement M
+hex_digit_spec =
     tie.close
     (tie.spec
     (λ c. search rules)

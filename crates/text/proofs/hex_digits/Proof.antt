@@ -5,30 +5,30 @@ use mathlib.Core.Path.{◌≡◌, ◌∙◌}
 use Prim.Native.Nat.{◌+◌, ◌-◌, ◌^◌, ◌≤◌, ◌<◌}
 use lib.Dec.{lit<}
 use lib.ListN.{length, drop}
-use Rattle.text.specs.Escapes.{hexFrom, hexDigits}
-use Rattle.text.specs.Text.{hexSays}
-use Rattle.text.proofs.Digits.{grown, hex-empty, hex-end, hex-bad, hex-more, hex-some}
+use Rattle.text.specs.Escapes.{hex_from, hex_digits}
+use Rattle.text.specs.Text.{hex_says}
+use Rattle.text.proofs.Digits.{grown, hex_empty, hex_end, hex_bad, hex_more, hex_some}
 use Rattle.text.proofs.hex_digits.Statement.{statement}
 use Rattle.text.proofs.hex_digits.Tie as tie
 
 abbrev invariant-loop : tie.invariant-loop
-invariant-loop digits value₀ i₀ value i = (hexFrom value (drop i digits) ≡ hexDigits digits) × (value < 16 ^ i) × (i ≤ length digits)
+invariant-loop digits value₀ i₀ value i = (hex_from value (drop i digits) ≡ hex_digits digits) × (value < 16 ^ i) × (i ≤ length digits)
 
 abbrev decreases-loop : tie.decreases-loop
 decreases-loop digits value₀ i₀ value i = length digits - i
 
 returns : tie.Need-returns invariant-loop decreases-loop
-unfolding hexSays
-returns c = hex-empty _ c.if1.true
+unfolding hex_says
+returns c = hex_empty _ c.if1.true
 
 loop-holds : tie.Need-loop-init invariant-loop decreases-loop
-loop-holds c = (hex-some _ (omega arith), lit< tt, omega arith)
+loop-holds c = (hex_some _ (omega arith), lit< tt, omega arith)
 
 returns-2 : tie.Need-returns-2 invariant-loop decreases-loop
-unfolding hexSays
+unfolding hex_says
 returns-2 c =
     let d = rw c.before.hex-digit.ensures at c.if2.true in
-    hex-bad _ _ _ c.before.before.before.loop-test.true d ∙ c.before.before.before.before.loop.invariant.0
+    hex_bad _ _ _ c.before.before.before.loop-test.true d ∙ c.before.before.before.before.loop.invariant.0
 
 mul-value : tie.Need-overflow-mul-value invariant-loop decreases-loop
 mul-value c =
@@ -44,17 +44,17 @@ loop-again : tie.Need-loop-preserved invariant-loop decreases-loop
 loop-again c =
     let l = c.before.before.before.before.loop in
     let e = c.before.hex-digit.ensures in (
-      rw e (hex-more _ _ _ c.before.before.before.loop-test.true (rw e at c.if2.false) ∙ l.invariant.0),
+      rw e (hex_more _ _ _ c.before.before.before.loop-test.true (rw e at c.if2.false) ∙ l.invariant.0),
       grown 16 l.i (l.i + 1) (lit< tt) (omega arith) l.invariant.1 c.if2.false,
       omega arith,
     )
 
 returns-3 : tie.Need-returns-3 invariant-loop decreases-loop
-unfolding hexSays
-returns-3 c = hex-end _ _ _ c.loop-test.false ∙ c.before.loop.invariant.0
+unfolding hex_says
+returns-3 c = hex_end _ _ _ c.loop-test.false ∙ c.before.loop.invariant.0
 
-pub hex-digits-spec : {M : Type 1} → statement M
-hex-digits-spec =
+pub hex_digits_spec : {M : Type 1} → statement M
+hex_digits_spec =
     tie.close
     (tie.spec
     invariant-loop

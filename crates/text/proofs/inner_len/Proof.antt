@@ -5,18 +5,18 @@ use mathlib.Core.Path.{◌≡◌, refl, sym, ◌∙◌}
 use Prim.Native.Nat.{ℕ, ◌+◌, ◌-◌, ◌≤◌}
 use lib.ListN.{length, get_or, drop}
 use Rattle.text.specs.declared.TextPiece.TheVariants.{One}
-use Rattle.text.specs.Escapes.{stringHead}
+use Rattle.text.specs.Escapes.{string_head}
 use Rattle.text.specs.Pieces.{texts, length_of}
-use Rattle.text.specs.Text.{byteItself, decodedSays}
-use Rattle.text.specs.Laws.{texts-end, texts-bad}
-use Rattle.text.proofs.Places.{string-plain}
-use Rattle.text.proofs.Loops.{In-string, in-string, more, more-none, more-end, more-bad, counted}
+use Rattle.text.specs.Text.{byte_itself, decoded_says}
+use Rattle.text.specs.Laws.{texts_end, texts_bad}
+use Rattle.text.proofs.Places.{string_plain}
+use Rattle.text.proofs.Loops.{In-string, in_string, more, more_none, more_end, more_bad, counted}
 use Rattle.text.proofs.inner_len.Statement.{statement}
 use Rattle.text.proofs.inner_len.Tie as tie
 
 abbrev invariant-loop : tie.invariant-loop
 invariant-loop text n₀ i₀ n i =
-    (more n (texts stringHead byteItself 0 (i + 1) (drop i text)) ≡ length_of (texts stringHead byteItself 0 1 text))
+    (more n (texts string_head byte_itself 0 (i + 1) (drop i text)) ≡ length_of (texts string_head byte_itself 0 1 text))
     × (i ≤ length text) × (n ≤ i)
 
 abbrev decreases-loop : tie.decreases-loop
@@ -27,12 +27,12 @@ module _ (c : tie.In-loop invariant-loop decreases-loop) where
   abbrev start : tie.Start invariant-loop decreases-loop
   start = c.before.before.before
 
-  piece : {v w : ℕ} → stringHead (drop c.before.loop.i start.args.text.now) ≡ One v w → In-string start.args.text.now c.before.loop.i v w
-  piece e = let k = c.before.before.shared-slice-known.given in in-string _ _ _ _ (λ j. omega (arith, k j)) c.loop-test.true e
+  piece : {v w : ℕ} → string_head (drop c.before.loop.i start.args.text.now) ≡ One v w → In-string start.args.text.now c.before.loop.i v w
+  piece e = let k = c.before.before.shared-slice-known.given in in_string _ _ _ _ (λ j. omega (arith, k j)) c.loop-test.true e
 
 -- a byte that stands for itself
 plain : (c : tie.Then1 invariant-loop decreases-loop) → let l = c.before.before in In-string (start l).args.text.now l.before.loop.i (get_or (start l).args.text.now l.before.loop.i 0) 0
-plain c = let l = c.before.before in piece l (sym (string-plain _ _ l.loop-test.true c.if1.true))
+plain c = let l = c.before.before in piece l (sym (string_plain _ _ l.loop-test.true c.if1.true))
 
 -- an escape
 module _ (c : tie.After-known-told invariant-loop decreases-loop) where
@@ -43,35 +43,35 @@ module _ (c : tie.After-known-told invariant-loop decreases-loop) where
   escape = piece turn (sym c.before.before.before.string-piece.ensures ∙ c.before.more.given.1)
 
 loop-again : tie.Need-loop-preserved invariant-loop decreases-loop
-unfolding byteItself
+unfolding byte_itself
 loop-again c =
     let l = c.before.before.before.loop in
-    (counted byteItself (plain c) (l.i + 1) _ refl l.n ∙ l.invariant.0, omega arith, omega arith)
+    (counted byte_itself (plain c) (l.i + 1) _ refl l.n ∙ l.invariant.0, omega arith, omega arith)
 
 loop-again-2 : tie.Need-loop-preserved-2 invariant-loop decreases-loop
-unfolding byteItself
+unfolding byte_itself
 loop-again-2 c =
     let l = (turn c).before.loop in
-    (counted byteItself (escape c) (l.i + 1) _ (omega arith) l.n ∙ l.inv.0, (escape c).inside, omega arith)
+    (counted byte_itself (escape c) (l.i + 1) _ (omega arith) l.n ∙ l.inv.0, (escape c).inside, omega arith)
 
 returns : tie.Need-returns invariant-loop decreases-loop
-unfolding decodedSays
+unfolding decoded_says
 returns c =
     let e = sym c.before.before.string-piece.ensures ∙ c.enum_told.given.1 in
     let l = c.before.before.before.before.before in
-    more-bad _ _ (texts-bad stringHead byteItself _ _ _ l.loop-test.true e) ∙ l.before.loop.invariant.0
+    more_bad _ _ (texts_bad string_head byte_itself _ _ _ l.loop-test.true e) ∙ l.before.loop.invariant.0
 
 returns-2 : tie.Need-returns-2 invariant-loop decreases-loop
-unfolding decodedSays
-returns-2 c = more-end _ _ (texts-end stringHead byteItself _ _ _ c.loop-test.false) ∙ c.before.loop.invariant.0
+unfolding decoded_says
+returns-2 c = more_end _ _ (texts_end string_head byte_itself _ _ _ c.loop-test.false) ∙ c.before.loop.invariant.0
 
-pub inner-len-spec : {M : Type 1} → statement M
-inner-len-spec =
+pub inner_len_spec : {M : Type 1} → statement M
+inner_len_spec =
     tie.close
     (tie.spec
     invariant-loop
     decreases-loop
-    (λ c. (more-none _, omega arith, omega arith))
+    (λ c. (more_none _, omega arith, omega arith))
     (λ c. omega arith)
     (λ c. omega arith)
     (λ c. omega arith)

@@ -50,5 +50,5 @@ returns-7 c = rw c.match.keys7
 returns-8 : tie.Need-returns-8
 returns-8 c = sym (look_none letters _ Unit c.match.rest).0
 
-pub letter-spec : {M : Type 1} → statement M
-letter-spec = tie.close (tie.spec returns returns-2 returns-3 returns-4 returns-5 returns-6 returns-7 returns-8)
+pub letter_spec : {M : Type 1} → statement M
+letter_spec = tie.close (tie.spec returns returns-2 returns-3 returns-4 returns-5 returns-6 returns-7 returns-8)

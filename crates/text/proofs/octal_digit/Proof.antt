@@ -1,21 +1,21 @@
 -- `text::octal_digit` meets its contract. Assumes nothing.
 use native.Mathlib.Omega.{arith}
 use borrow.Author.Rules.{rules}
-use Rattle.text.proofs.Digits.{octal-none, octal-in, octal-out}
+use Rattle.text.proofs.Digits.{octal_none, octal_in, octal_out}
 use Rattle.text.proofs.octal_digit.Statement.{statement}
 use Rattle.text.proofs.octal_digit.Tie as tie
 
 returns : tie.Need-returns
-returns c = octal-none _ _ c.if1.true
+returns c = octal_none _ _ c.if1.true
 
 returns-2 : tie.Need-returns-2
-returns-2 c = octal-in _ _ c.before.before.before.if1.false c.before.if2.false (omega arith)
+returns-2 c = octal_in _ _ c.before.before.before.if1.false c.before.if2.false (omega arith)
 
 returns-3 : tie.Need-returns-3
-returns-3 c = octal-out _ _ c.before.before.if1.false (λ h. omega arith)
+returns-3 c = octal_out _ _ c.before.before.if1.false (λ h. omega arith)
 
 returns-4 : tie.Need-returns-4
-returns-4 c = octal-out _ _ c.before.before.before.if1.false (λ h. omega arith)
+returns-4 c = octal_out _ _ c.before.before.before.if1.false (λ h. omega arith)
 
-pub octal-digit-spec : {M : Type 1} → statement M
-octal-digit-spec = tie.close (tie.spec returns (λ c. search rules) (λ c. search rules) returns-2 returns-3 returns-4)
+pub octal_digit_spec : {M : Type 1} → statement M
+octal_digit_spec = tie.close (tie.spec returns (λ c. search rules) (λ c. search rules) returns-2 returns-3 returns-4)

@@ -5,14 +5,14 @@ use mathlib.Core.Logic.{⊎_elim}
 use Prim.Native.Nat.{◌+◌, ◌-◌, ◌^◌, ◌≤◌, ◌<◌}
 use lib.Dec.{lit<}
 use lib.ListN.{length, drop}
-use Rattle.text.specs.Escapes.{octals, octalFrom}
-use Rattle.text.proofs.Digits.{grown, octal-inside, octal-step, octal-done, octals-stop, octals-none}
+use Rattle.text.specs.Escapes.{octals, octal_from}
+use Rattle.text.proofs.Digits.{grown, octal_inside, octal_step, octal_done, octals-stop, octals-none}
 use Rattle.text.proofs.octal_escape.Statement.{statement}
 use Rattle.text.proofs.octal_escape.Tie as tie
 
 abbrev invariant-loop : tie.invariant-loop
 invariant-loop text at value₀ left₀ i₀ value left i =
-    (octalFrom value (octals left (drop i text)) ≡ octalFrom 0 (octals 3 (drop at text)))
+    (octal_from value (octals left (drop i text)) ≡ octal_from 0 (octals 3 (drop at text)))
     × (i + length (octals left (drop i text)) ≡ at + length (octals 3 (drop at text)))
     × (value < 8 ^ (3 - left)) × (left ≤ 3) × (at ≤ i) × (i ≤ length text)
 
@@ -35,7 +35,7 @@ add-value c =
 add-i : tie.Need-overflow-add-i invariant-loop decreases-loop
 add-i c =
     let s = c.before.before.before.before.before in
-    omega (arith, octal-inside s.args.text.now c.before.before.before.loop.i (rw c.before.octal-digit.ensures at c.if1.false))
+    omega (arith, octal_inside s.args.text.now c.before.before.before.loop.i (rw c.before.octal-digit.ensures at c.if1.false))
 
 loop-again : tie.Need-loop-preserved invariant-loop decreases-loop
 loop-again c =
@@ -43,24 +43,24 @@ loop-again c =
     let l = c.before.before.before.loop in
     let d = c.before.octal-digit.ensures in
     let h = rw d at c.if1.false in
-    let e = octal-step _ l.i l.value l.left c.before.before.loop-test.true h in (
+    let e = octal_step _ l.i l.value l.left c.before.before.loop-test.true h in (
       rw d (e.0 ∙ l.invariant.0),
       e.1 ∙ l.invariant.1,
       grown 8 (3 - l.left) (3 - (l.left - 1)) (lit< tt) (omega arith) l.invariant.2 c.if1.false,
       omega arith,
       omega arith,
-      omega (arith, octal-inside s.args.text.now c.before.before.before.loop.i h),
+      omega (arith, octal_inside s.args.text.now c.before.before.before.loop.i h),
     )
 
 returns : tie.Need-returns invariant-loop decreases-loop
 returns c =
     let l = c.before.loop in
     let a = c.before.before.before.args in
-    let done = octal-done a.text.now a.at l.i l.value l.left l.invariant.0 l.invariant.1 in
+    let done = octal_done a.text.now a.at l.i l.value l.left l.invariant.0 l.invariant.1 in
     ⊎_elim (λ w. done (octals-none _ _ w.left)) (λ w. done (octals-stop _ _ (rw w.1.ensures at w.2.taken))) c.loop-test.branch
 
-pub octal-escape-spec : {M : Type 1} → statement M
-octal-escape-spec =
+pub octal_escape_spec : {M : Type 1} → statement M
+octal_escape_spec =
     tie.close
     (tie.spec
     invariant-loop

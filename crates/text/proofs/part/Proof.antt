@@ -20,8 +20,8 @@ returns-2 : tie.Need-returns-2
 unfolding pick
 returns-2 c = simp c.before.if1.false
 
-pub part-spec : {M : Type 1} → statement M
-part-spec =
+pub part_spec : {M : Type 1} → statement M
+part_spec =
     tie.close
     (tie.spec
     (λ c. search rules)

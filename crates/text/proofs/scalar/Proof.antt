@@ -1,25 +1,25 @@
 -- `text::scalar` meets its contract. Assumes nothing.
 use native.Mathlib.Omega.{arith}
-use Rattle.utf8.specs.Encode.{scalar-low, scalar-high, scalar-surrogate, scalar-above}
-use Rattle.text.specs.Escapes.{scalarOf}
+use Rattle.utf8.specs.Encode.{scalar_low, scalar-high, scalar_surrogate, scalar-above}
+use Rattle.text.specs.Escapes.{scalar_of}
 use Rattle.text.proofs.scalar.Statement.{statement}
 use Rattle.text.proofs.scalar.Tie as tie
 
 returns : tie.Need-returns
-unfolding scalarOf
-returns c = rw (scalar-low _ c.if1.true)
+unfolding scalar_of
+returns c = rw (scalar_low _ c.if1.true)
 
 returns-2 : tie.Need-returns-2
-unfolding scalarOf
-returns-2 c = rw (scalar-surrogate _ c.before.if1.false c.if2.true)
+unfolding scalar_of
+returns-2 c = rw (scalar_surrogate _ c.before.if1.false c.if2.true)
 
 returns-3 : tie.Need-returns-3
-unfolding scalarOf
+unfolding scalar_of
 returns-3 c = rw (scalar-above _ c.if3.true)
 
 returns-4 : tie.Need-returns-4
-unfolding scalarOf
+unfolding scalar_of
 returns-4 c = rw (scalar-high _ c.before.if2.false (omega arith))
 
-pub scalar-spec : {M : Type 1} → statement M
-scalar-spec = tie.close (tie.spec returns returns-2 returns-3 returns-4)
+pub scalar_spec : {M : Type 1} → statement M
+scalar_spec = tie.close (tie.spec returns returns-2 returns-3 returns-4)

@@ -2,8 +2,8 @@
 use native.Mathlib.Omega.{arith}
 use borrow.Author.Rules.{rules}
 use mathlib.Core.Path.{sym, ap, ◌∙◌}
-use Rattle.text.specs.Text.{decodedSays}
-use Rattle.text.proofs.Quotes.{no-quotes, two_bytes, is-bad, is_plain, is-escaped}
+use Rattle.text.specs.Text.{decoded_says}
+use Rattle.text.proofs.Quotes.{no_quotes, two_bytes, is_bad, is_plain, is_escaped}
 use Rattle.text.proofs.string_len.Statement.{statement}
 use Rattle.text.proofs.string_len.Tie as tie
 
@@ -23,28 +23,28 @@ part-text-start c =
     omega (arith, two_bytes s.args.line.now (sym c.before.has-quotes.ensures ∙ c.if1.true))
 
 returns : tie.Need-returns
-unfolding decodedSays
+unfolding decoded_says
 returns c =
     let q = (sym c.before.before.before.before.before.before.before.has-quotes.ensures ∙ c.before.before.before.before.before.before.if1.true) in
-    is_plain _ q _ c.before.before.before.before.inner-len.ensures _ (ap decodedSays c.before.before.n.given.1) c.if2.true
+    is_plain _ q _ c.before.before.before.before.inner-len.ensures _ (ap decoded_says c.before.before.n.given.1) c.if2.true
 
 returns-2 : tie.Need-returns-2
-unfolding decodedSays
+unfolding decoded_says
 returns-2 c =
     let q = (sym c.before.before.before.before.before.before.before.has-quotes.ensures ∙ c.before.before.before.before.before.before.if1.true) in
-    is-escaped _ q _ c.before.before.before.before.inner-len.ensures _ (ap decodedSays c.before.before.n.given.1) c.if2.false
+    is_escaped _ q _ c.before.before.before.before.inner-len.ensures _ (ap decoded_says c.before.before.n.given.1) c.if2.false
 
 returns-3 : tie.Need-returns-3
-unfolding decodedSays
+unfolding decoded_says
 returns-3 c =
     let q = (sym c.before.before.before.before.before.before.has-quotes.ensures ∙ c.before.before.before.before.before.if1.true) in
-    is-bad _ q _ c.before.before.before.inner-len.ensures _ (ap decodedSays c.before.at.given.1)
+    is_bad _ q _ c.before.before.before.inner-len.ensures _ (ap decoded_says c.before.at.given.1)
 
 returns-4 : tie.Need-returns-4
-returns-4 c = no-quotes _ (sym c.before.has-quotes.ensures ∙ c.if1.false)
+returns-4 c = no_quotes _ (sym c.before.has-quotes.ensures ∙ c.if1.false)
 
-pub string-len-spec : {M : Type 1} → statement M
-string-len-spec =
+pub string_len_spec : {M : Type 1} → statement M
+string_len_spec =
     tie.close
     (tie.spec
     (λ c κs. search rules)

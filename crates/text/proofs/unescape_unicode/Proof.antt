@@ -8,18 +8,18 @@ use borrow.Author.Tests.{eqb-false, not-true}
 use Rattle.utf8.specs.Utf8.{encode}
 use Rattle.utf8.specs.Encode.{encode_one}
 use Rattle.text.specs.declared.TextPiece.TheVariants.{One}
-use Rattle.text.specs.Escapes.{unicodeHead}
+use Rattle.text.specs.Escapes.{unicode_head}
 use Rattle.text.specs.Pieces.{texts}
-use Rattle.text.specs.Text.{unescapeUnicode}
-use Rattle.text.specs.Laws.{texts-end, texts-bad}
-use Rattle.text.proofs.Places.{unicode-plain}
-use Rattle.text.proofs.Loops.{In-unicode, in-unicode, Writing, write-none, write-end, write-bad, written, roomy}
+use Rattle.text.specs.Text.{unescape_unicode}
+use Rattle.text.specs.Laws.{texts_end, texts_bad}
+use Rattle.text.proofs.Places.{unicode_plain}
+use Rattle.text.proofs.Loops.{In-unicode, in_unicode, Writing, write_none, write_end, write_bad, written, roomy}
 use Rattle.text.proofs.unescape_unicode.Statement.{statement}
 use Rattle.text.proofs.unescape_unicode.Tie as tie
 
 abbrev invariant-loop : tie.invariant-loop
 invariant-loop line out₀ n₀ i₀ out n i =
-    Writing (unescapeUnicode line) (texts unicodeHead encode 0 i (drop i line)) out₀ out n
+    Writing (unescape_unicode line) (texts unicode_head encode 0 i (drop i line)) out₀ out n
     × (i ≤ length line)
 
 abbrev decreases-loop : tie.decreases-loop
@@ -30,12 +30,12 @@ module _ (c : tie.In-loop invariant-loop decreases-loop) where
   abbrev start : tie.Start invariant-loop decreases-loop
   start = c.before.before.before.before
 
-  piece : {v w : ℕ} → unicodeHead (drop c.before.loop.i start.args.line.now) ≡ One v w → In-unicode start.args.line.now c.before.loop.i v w
-  piece e = let k = c.before.before.before.shared-slice-known.given in in-unicode _ _ _ _ (λ j. omega (arith, k j)) c.loop-test.true e
+  piece : {v w : ℕ} → unicode_head (drop c.before.loop.i start.args.line.now) ≡ One v w → In-unicode start.args.line.now c.before.loop.i v w
+  piece e = let k = c.before.before.before.shared-slice-known.given in in_unicode _ _ _ _ (λ j. omega (arith, k j)) c.loop-test.true e
 
 -- a byte that stands for itself, and its room
 plain : (c : tie.Then2 invariant-loop decreases-loop) → let l = c.before.before.before in In-unicode (start l).args.line.now l.before.loop.i (get_or (start l).args.line.now l.before.loop.i 0) 0
-plain c = let l = c.before.before.before in piece l (sym (unicode-plain _ _ l.loop-test.true (eqb-false _ _ (not-true _ c.if2.true))))
+plain c = let l = c.before.before.before in piece l (sym (unicode_plain _ _ l.loop-test.true (eqb-false _ _ (not-true _ c.if2.true))))
 
 room : (c : tie.Then2 invariant-loop decreases-loop) → let h = c.before.before.before.before.loop in h.n + 1 ≤ length h.out
 room c = let l = c.before.before.before in let h = l.before.loop in rw (encode_one _ c.before.if1.true) at (roomy encode (plain c) h.i _ refl h.invariant.0 (start l).requires.fits)
@@ -53,8 +53,8 @@ abbrev told : tie.After-slice-known2 invariant-loop decreases-loop → tie.After
 told c = c.before.before.before.before
 
 loop-holds : tie.Need-loop-init invariant-loop decreases-loop
-unfolding unescapeUnicode
-loop-holds c = (write-none _ _ c.before.before.requires.is, omega arith)
+unfolding unescape_unicode
+loop-holds c = (write_none _ _ c.before.before.requires.is, omega arith)
 
 loop-again : tie.Need-loop-preserved invariant-loop decreases-loop
 loop-again c =
@@ -79,15 +79,15 @@ returns : tie.Need-returns invariant-loop decreases-loop
 returns c =
     let e = sym c.before.before.unicode-piece.ensures ∙ c.enum_told.given.1 in
     let l = c.before.before.before.before.before in
-    absurd (write-bad _ _ _ _ _ (texts-bad unicodeHead encode _ _ _ l.loop-test.true e) l.before.loop.invariant.0)
+    absurd (write_bad _ _ _ _ _ (texts_bad unicode_head encode _ _ _ l.loop-test.true e) l.before.loop.invariant.0)
 
 returns-2 : tie.Need-returns-2 invariant-loop decreases-loop
 returns-2 c =
     let s = c.before.before.before.before in
-    write-end _ _ _ _ _ (texts-end unicodeHead encode _ _ _ c.loop-test.false) s.requires.fits c.before.loop.invariant.0
+    write_end _ _ _ _ _ (texts_end unicode_head encode _ _ _ c.loop-test.false) s.requires.fits c.before.loop.invariant.0
 
-pub unescape-unicode-spec : {M : Type 1} → statement M
-unescape-unicode-spec =
+pub unescape_unicode_spec : {M : Type 1} → statement M
+unescape_unicode_spec =
     tie.close
     (tie.spec
     invariant-loop

@@ -2,7 +2,7 @@
 use native.Mathlib.Omega.{arith}
 use borrow.Author.Rules.{rules}
 use mathlib.Core.Path.{◌∙◌}
-use Rattle.text.proofs.Places.{unicode-plain, unicode-slash}
+use Rattle.text.proofs.Places.{unicode_plain, unicode_slash}
 use Rattle.text.proofs.unicode_piece.Statement.{statement}
 use Rattle.text.proofs.unicode_piece.Tie as tie
 
@@ -10,10 +10,10 @@ cast-t9 : tie.Need-overflow-cast-t9
 cast-t9 c = omega (arith, c.before.before.shared-slice-known.given c.before.before.before.args.at)
 
 returns : tie.Need-returns
-returns c = c.unicode-escape.ensures ∙ unicode-slash _ _ c.before.before.before.before.requires c.before.if1.true
+returns c = c.unicode-escape.ensures ∙ unicode_slash _ _ c.before.before.before.before.requires c.before.if1.true
 
 returns-2 : tie.Need-returns-2
-returns-2 c = unicode-plain _ _ c.before.before.before.requires c.if1.false
+returns-2 c = unicode_plain _ _ c.before.before.before.requires c.if1.false
 
-pub unicode-piece-spec : {M : Type 1} → statement M
-unicode-piece-spec = tie.close (tie.spec (λ c. search rules) (λ c. search rules) (λ c κs. search rules) cast-t9 returns returns-2)
+pub unicode-piece_spec : {M : Type 1} → statement M
+unicode-piece_spec = tie.close (tie.spec (λ c. search rules) (λ c. search rules) (λ c κs. search rules) cast-t9 returns returns-2)

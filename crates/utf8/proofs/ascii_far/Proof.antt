@@ -35,8 +35,8 @@ loop-again c =
     let d = ascii-join s i 24 (i + 24) 8 refl b (fourth.ensures (and_right ((first.result && second.result) && third.result) fourth.result four)) in
     (omega arith, ascii-join s 0 i i 32 (omega arith) l.loop.invariant.1 d)
 
-pub ascii-far-spec : {M : Type 1} → statement M
-ascii-far-spec =
+pub ascii_far_spec : {M : Type 1} → statement M
+ascii_far_spec =
     tie.close
     (tie.spec
     invariant-loop

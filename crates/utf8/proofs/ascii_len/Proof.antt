@@ -20,8 +20,8 @@ loop-again c =
     let l = c.before.before.before in
     (omega arith, ascii-join l.before.before.before.args.s.now 0 l.loop.i l.loop.i 8 (omega arith) l.loop.invariant.1 (c.before.is_ascii.ensures (not-false _ c.if1.false)))
 
-pub ascii-len-spec : {M : Type 1} → statement M
-ascii-len-spec =
+pub ascii_len_spec : {M : Type 1} → statement M
+ascii_len_spec =
     tie.close
     (tie.spec
     invariant-loop

@@ -5,7 +5,7 @@ use native.Mathlib.Nat.{add-zero, sub-zero}
 use native.Mathlib.Omega.{arith}
 use lib.ListN.{length, take, drop, length-set}
 use lib.Seq.{sets}
-use Rattle.utf8.proofs.Stores.{copy_more, copy-none}
+use Rattle.utf8.proofs.Stores.{copy_more, copy_none}
 use Rattle.utf8.proofs.copy.Statement.{statement}
 use Rattle.utf8.proofs.copy.Tie as tie
 
@@ -28,7 +28,7 @@ same_length : tie.Need-same-length invariant-loop decreases-loop
 same_length c = c.before.loop.invariant.1
 
 returns : tie.Need-returns invariant-loop decreases-loop
-returns c = sym (copy-none _ _ _ _ _ _ c.loop-test.false) ∙ c.before.loop.invariant.2
+returns c = sym (copy_none _ _ _ _ _ _ c.loop-test.false) ∙ c.before.loop.invariant.2
 
 pub copy_spec : {M : Type 1} → statement M
 copy_spec =

@@ -7,7 +7,7 @@ use lib.ListN.{length, drop, length-set}
 use lib.Seq.{sets}
 use borrow.Author.Rules.{rules}
 use Rattle.utf8.specs.Utf8.{repair}
-use Rattle.utf8.proofs.Pieces.{Turn, turn, turn-ascii, stored-ascii, repair-end}
+use Rattle.utf8.proofs.Pieces.{Turn, turn, turn_ascii, stored_ascii, repair_end}
 use Rattle.utf8.proofs.from_utf8_lossy.Statement.{statement}
 use Rattle.utf8.proofs.from_utf8_lossy.Tie as tie
 
@@ -25,7 +25,7 @@ decreases-loop s out₀ i₀ n₀ out i n = length s - i
 ascii : (c : tie.Then1 invariant-loop decreases-loop) →
     let l = c.before.before in
     Turn l.before.before.before.before.args.s.now l.before.loop.i true 1
-ascii c = turn-ascii _ _ c.before.before.loop-test.true c.if1.true
+ascii c = turn_ascii _ _ c.before.before.loop-test.true c.if1.true
 
 whole : (c : tie.After-known-told invariant-loop decreases-loop) →
     let l = c.before.before.before.before.before.before in
@@ -45,7 +45,7 @@ part c =
 loop-again : tie.Need-loop-preserved invariant-loop decreases-loop
 loop-again c =
     let l = c.before.before in
-    (omega arith, simp length-set l.before.loop.invariant.1, omega (arith, ascii c), stored-ascii _ _ l.loop-test.true c.if1.true _ _ ∙ l.before.loop.invariant.3)
+    (omega arith, simp length-set l.before.loop.invariant.1, omega (arith, ascii c), stored_ascii _ _ l.loop-test.true c.if1.true _ _ ∙ l.before.loop.invariant.3)
 
 loop-again-2 : tie.Need-loop-preserved-2 invariant-loop decreases-loop
 loop-again-2 c =
@@ -63,11 +63,11 @@ loop-again-3 c =
 
 returns : tie.Need-returns invariant-loop decreases-loop
 returns c =
-    let e = repair-end c.before.before.before.before.args.s.now c.before.loop.i c.loop-test.false in
+    let e = repair_end c.before.before.before.before.args.s.now c.before.loop.i c.loop-test.false in
     (omega (arith, ap length e), rw e at c.before.loop.invariant.3)
 
-pub from-utf8-lossy-spec : {M : Type 1} → statement M
-from-utf8-lossy-spec =
+pub from_utf8_lossy_spec : {M : Type 1} → statement M
+from_utf8_lossy_spec =
     tie.close
     (tie.spec
     invariant-loop

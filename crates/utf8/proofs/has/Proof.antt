@@ -3,25 +3,25 @@ use lib.ListN.{drop_of_length-le}
 use lib.Seq.{drop-cons}
 use borrow.Author.Rules.{rules}
 use borrow.Author.Tests.{le-leb, lt-leb}
-use Rattle.utf8.specs.Place.{nextIn}
-use Rattle.utf8.specs.Utf8.{inColumn}
+use Rattle.utf8.specs.Place.{next_in}
+use Rattle.utf8.specs.Utf8.{in_column}
 use Rattle.utf8.proofs.has.Statement.{statement}
 use Rattle.utf8.proofs.has.Tie as tie
 
 returns : tie.Need-returns
-unfolding nextIn
+unfolding next_in
 returns c = simp (drop_of_length-le c.before.args.s.now c.if1.true)
 
 returns-2 : tie.Need-returns-2
-unfolding nextIn inColumn
+unfolding next_in in_column
 returns-2 c = simp (drop-cons c.before.before.before.before.before.args.s.now c.before.before.before.before.before.args.at 0 c.before.before.before.before.if1.false, le-leb _ _ c.before.if2.true)
 
 returns-3 : tie.Need-returns-3
-unfolding nextIn inColumn
+unfolding next_in in_column
 returns-3 c = simp (drop-cons c.before.before.before.before.args.s.now c.before.before.before.before.args.at 0 c.before.before.before.if1.false, lt-leb _ _ c.if2.false)
 
-pub has-spec : {M : Type 1} → statement M
-has-spec =
+pub has_spec : {M : Type 1} → statement M
+has_spec =
     tie.close
     (tie.spec
     returns

@@ -16,8 +16,8 @@ returns c =
     let a = c.before.before.before.before.before.before.before.before.args in
     λ h k l. ltb-true _ _ (together-each (ltb (get_or a.s.now a.i 0) 0x80) (λ j. ltb (get_or a.s.now (a.i + j) 0) 0x80) (rw add-zero) 7 h k (omega arith))
 
-pub is-ascii-spec : {M : Type 1} → statement M
-is-ascii-spec =
+pub is_ascii_spec : {M : Type 1} → statement M
+is_ascii_spec =
     tie.close
     (tie.spec
     (λ c. search rules)

@@ -7,7 +7,7 @@ use lib.ListN.{length, drop}
 use borrow.Author.Rules.{rules}
 use Rattle.utf8.specs.Utf8.{repair}
 use Rattle.utf8.specs.Laws.{repair-length}
-use Rattle.utf8.proofs.Pieces.{Turn, turn, turn-ascii, repair-end}
+use Rattle.utf8.proofs.Pieces.{Turn, turn, turn_ascii, repair_end}
 use Rattle.utf8.proofs.repaired_len.Statement.{statement}
 use Rattle.utf8.proofs.repaired_len.Tie as tie
 
@@ -21,7 +21,7 @@ decreases-loop s i₀ n₀ i n = length s - i
 ascii : (c : tie.Then1 invariant-loop decreases-loop) →
     let l = c.before.before in
     Turn l.before.before.before.args.s.now l.before.loop.i true 1
-ascii c = turn-ascii _ _ c.before.before.loop-test.true c.if1.true
+ascii c = turn_ascii _ _ c.before.before.loop-test.true c.if1.true
 
 whole : (c : tie.After-known-told invariant-loop decreases-loop) →
     let l = c.before.before.before.before.before.before in
@@ -48,10 +48,10 @@ add-n-3 : tie.Need-overflow-add-n-3 invariant-loop decreases-loop
 add-n-3 c = omega (arith, part c, repair-length c.before.before.before.before.before.before.before.before.before.args.s.now)
 
 returns : tie.Need-returns invariant-loop decreases-loop
-returns c = omega (arith, ap length (repair-end c.before.before.before.args.s.now c.before.loop.i c.loop-test.false))
+returns c = omega (arith, ap length (repair_end c.before.before.before.args.s.now c.before.loop.i c.loop-test.false))
 
-pub repaired-len-spec : {M : Type 1} → statement M
-repaired-len-spec =
+pub repaired_len_spec : {M : Type 1} → statement M
+repaired_len_spec =
     tie.close
     (tie.spec
     invariant-loop

@@ -7,7 +7,7 @@ use native.Mathlib.Omega.{arith}
 use lib.ListN.{length, drop}
 use borrow.Author.Rules.{rules}
 use Rattle.utf8.specs.Utf8.{valid}
-use Rattle.utf8.proofs.Pieces.{Turn, turn, turn-ascii, after-ascii, valid-end}
+use Rattle.utf8.proofs.Pieces.{Turn, turn, turn_ascii, after-ascii, valid_end}
 use Rattle.utf8.proofs.valid.Statement.{statement}
 use Rattle.utf8.proofs.valid.Tie as tie
 
@@ -17,7 +17,7 @@ invariant-loop s i₀ i = (i ≤ length s) × (valid (drop i s) ≡ valid s)
 abbrev decreases-loop : tie.decreases-loop
 decreases-loop s i₀ i = length s - i
 
--- the piece in the arm of a well-formed one
+-- the piece in the arm of a well_formed_lem one
 whole : (c : tie.After-known-told invariant-loop decreases-loop) →
     let l = c.before.before.before.before.before.before in
     Turn l.before.before.before.before.args.s.now l.before.loop.i true c.before.p.given.0.0
@@ -28,7 +28,7 @@ whole c =
 loop-again : tie.Need-loop-preserved invariant-loop decreases-loop
 loop-again c =
     let l = c.before.before in
-    (omega arith, sym (turn-ascii _ _ l.loop-test.true c.if1.true).judged ∙ l.before.loop.invariant.1)
+    (omega arith, sym (turn_ascii _ _ l.loop-test.true c.if1.true).judged ∙ l.before.loop.invariant.1)
 
 loop-again-2 : tie.Need-loop-preserved-2 invariant-loop decreases-loop
 loop-again-2 c =
@@ -42,10 +42,10 @@ returns c =
     sym (turn _ _ l.loop-test.true false _ e).judged ∙ l.before.loop.invariant.1
 
 returns-2 : tie.Need-returns-2 invariant-loop decreases-loop
-returns-2 c = valid-end _ _ c.loop-test.false ∙ c.before.loop.invariant.1
+returns-2 c = valid_end _ _ c.loop-test.false ∙ c.before.loop.invariant.1
 
-pub valid-spec : {M : Type 1} → statement M
-valid-spec =
+pub valid_spec : {M : Type 1} → statement M
+valid_spec =
     tie.close
     (tie.spec
     invariant-loop

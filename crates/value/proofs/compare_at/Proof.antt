@@ -12,7 +12,7 @@ use Rattle.value.specs.Order.{order}
 use Rattle.value.specs.Stands.{Stands}
 use Rattle.value.specs.Told.{told}
 use Rattle.value.specs.Walk.{step-first}
-use Rattle.value.specs.Left.{StillToCompare, NextReadable, left-done, left-reads, left_less, left-greater, left-next, same_kind}
+use Rattle.value.specs.Left.{StillToCompare, NextReadable, left_done, left_reads, left_less, left_greater, left_next, same_kind}
 
 abbrev invariant-loop : tie.invariant-loop
 invariant-loop a i s b j t walk₀ k₀ l₀ walk k l = (v w : Value) → Stands a s i (one v) → Stands b t j (one w) → StillToCompare a s b t k l walk.left (told walk.verdict) (order v w)
@@ -25,11 +25,11 @@ unfolding told count
 loop-holds c = λ v w x y. record { first = one v; second = one w; stands₁ = x; stands₂ = y; count₁ = refl; count₂ = refl; same = step-first v w }
 
 returns : tie.Need-returns invariant-loop decreases-loop
-returns c = λ v w x y. left-done _ _ _ _ _ _ _ _ (rw c.if1.true at (c.before.loop.invariant v w x y))
+returns c = λ v w x y. left_done _ _ _ _ _ _ _ _ (rw c.if1.true at (c.before.loop.invariant v w x y))
 
 -- a value is left, so that both can be read
 readable : (c : tie.Else1 invariant-loop decreases-loop) → let a = c.before.before.before.before.before.before in let l = c.before.loop in NextReadable a.args.a.now a.args.s.now a.args.b.now a.args.t.now l.k l.l (told l.walk.verdict) (order a.requires.0.value a.requires.1.value) l.walk.left
-readable c = let a = c.before.before.before.before.before.before.requires in left-reads _ _ _ _ _ _ _ _ _ c.if1.false (c.before.loop.invariant a.0.value a.1.value a.0.stands a.1.stands)
+readable c = let a = c.before.before.before.before.before.before.requires in left_reads _ _ _ _ _ _ _ _ _ c.if1.false (c.before.loop.invariant a.0.value a.1.value a.0.stands a.1.stands)
 
 -- their labels are compared, and the walk steps
 abbrev left : tie.After-step invariant-loop decreases-loop → tie.Else1 invariant-loop decreases-loop
@@ -44,7 +44,7 @@ returns-2 c = λ v w x y. left_less _ _ _ _ _ _ _ _ _ c.before.before.before.if1
 
 returns-3 : tie.Need-returns-3 invariant-loop decreases-loop
 unfolding told
-returns-3 c = λ v w x y. left-greater _ _ _ _ _ _ _ _ _ c.before.before.before.if1.false (c.before.before.before.before.loop.invariant v w x y) (sym c.before.before.compare-labels.ensures ∙ ap told c.enum-told2.given.1)
+returns-3 c = λ v w x y. left_greater _ _ _ _ _ _ _ _ _ c.before.before.before.if1.false (c.before.before.before.before.loop.invariant v w x y) (sym c.before.before.compare-labels.ensures ∙ ap told c.enum-told2.given.1)
 
 step-requires : tie.Need-step-requires invariant-loop decreases-loop
 unfolding told
@@ -64,7 +64,7 @@ loop-less c = omega (arith, (readable (left c)).reads₁.inside)
 
 loop-again : tie.Need-loop-preserved invariant-loop decreases-loop
 unfolding told
-loop-again c = λ v w x y. left-next _ _ _ _ _ _ _ _ _ _ _ (left c).if1.false ((left c).before.loop.invariant v w x y) (sym c.before.before.before.compare-labels.ensures ∙ ap told c.before.enum-told3.given.1) c.step.ensures
+loop-again c = λ v w x y. left_next _ _ _ _ _ _ _ _ _ _ _ (left c).if1.false ((left c).before.loop.invariant v w x y) (sym c.before.before.before.compare-labels.ensures ∙ ap told c.before.enum-told3.given.1) c.step.ensures
 
-pub compare-at-spec : {M : Type 1} → statement M
-compare-at-spec = tie.close (tie.spec invariant-loop decreases-loop loop-holds returns compare-labels-requires (λ c. search rules) returns-2 (λ c. search rules) returns-3 (λ c. search rules) step-requires add-k add-l loop-less loop-again)
+pub compare_at_spec : {M : Type 1} → statement M
+compare_at_spec = tie.close (tie.spec invariant-loop decreases-loop loop-holds returns compare-labels-requires (λ c. search rules) returns-2 (λ c. search rules) returns-3 (λ c. search rules) step-requires add-k add-l loop-less loop-again)

@@ -7,10 +7,10 @@ use Prim.Native.Nat.{◌≤◌, ◌-◌}
 use native.Mathlib.Omega.{arith}
 use lib.ListN.{length}
 use Rattle.value.specs.Order.{lex}
-use Rattle.value.specs.Told.{told, lexFrom, text-ended, text-beginning, text-equal, text-less, text-greater, text-more}
+use Rattle.value.specs.Told.{told, lex_from, text-ended, text_beginning, text_equal, text-less, text_greater, text_more}
 
 abbrev invariant-loop : tie.invariant-loop
-invariant-loop a b i₀ i = (i ≤ length a) × (lexFrom a b i ≡ lex a b)
+invariant-loop a b i₀ i = (i ≤ length a) × (lex_from a b i ≡ lex a b)
 
 abbrev decreases-loop : tie.decreases-loop
 decreases-loop a b i₀ i = length a - i
@@ -28,18 +28,18 @@ returns-2 c = text-less _ _ _ c.before.before.before.before.loop-test.true c.bef
 
 returns-3 : tie.Need-returns-3 invariant-loop decreases-loop
 unfolding told
-returns-3 c = text-greater _ _ _ c.before.before.before.before.before.loop-test.true c.before.before.before.before.if1.false c.if3.true ∙ c.before.before.before.before.before.before.loop.invariant.1
+returns-3 c = text_greater _ _ _ c.before.before.before.before.before.loop-test.true c.before.before.before.before.if1.false c.if3.true ∙ c.before.before.before.before.before.before.loop.invariant.1
 
 loop-again : tie.Need-loop-preserved invariant-loop decreases-loop
-loop-again c = (omega arith, text-more _ _ _ c.before.before.before.before.before.loop-test.true c.before.before.before.before.if1.false c.before.if2.false c.if3.false ∙ c.before.before.before.before.before.before.loop.invariant.1)
+loop-again c = (omega arith, text_more _ _ _ c.before.before.before.before.before.loop-test.true c.before.before.before.before.if1.false c.before.if2.false c.if3.false ∙ c.before.before.before.before.before.before.loop.invariant.1)
 
 returns-4 : tie.Need-returns-4 invariant-loop decreases-loop
 unfolding told
-returns-4 c = text-beginning _ _ _ c.before.loop-test.false c.if4.true ∙ c.before.before.loop.invariant.1
+returns-4 c = text_beginning _ _ _ c.before.loop-test.false c.if4.true ∙ c.before.before.loop.invariant.1
 
 returns-5 : tie.Need-returns-5 invariant-loop decreases-loop
 unfolding told
-returns-5 c = text-equal _ _ _ c.before.loop-test.false c.if4.false ∙ c.before.before.loop.invariant.1
+returns-5 c = text_equal _ _ _ c.before.loop-test.false c.if4.false ∙ c.before.before.loop.invariant.1
 
-pub compare-bytes-spec : {M : Type 1} → statement M
-compare-bytes-spec = tie.close (tie.spec invariant-loop decreases-loop (λ c κs. search rules) loop-holds returns (λ c. search rules) (λ c. search rules) returns-2 returns-3 (λ c. search rules) (λ c. search rules) loop-again returns-4 returns-5)
+pub compare_bytes_spec : {M : Type 1} → statement M
+compare_bytes_spec = tie.close (tie.spec invariant-loop decreases-loop (λ c κs. search rules) loop-holds returns (λ c. search rules) (λ c. search rules) returns-2 returns-3 (λ c. search rules) (λ c. search rules) loop-again returns-4 returns-5)

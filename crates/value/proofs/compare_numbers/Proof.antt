@@ -1,14 +1,14 @@
 -- `value::compare_numbers` meets its contract. Assumes nothing.
 use mathlib.Core.Path.{sym}
-use Rattle.value.specs.Told.{told, compare-less, compare-more, numbers-equal}
+use Rattle.value.specs.Told.{told, compare_less, compare_more, numbers_equal}
 use Rattle.value.proofs.compare_numbers.Statement.{statement}
 use Rattle.value.proofs.compare_numbers.Tie as tie
 
-pub compare-numbers-spec : {M : Type 1} → statement M
+pub compare_numbers_spec : {M : Type 1} → statement M
 unfolding told
-compare-numbers-spec =
+compare_numbers_spec =
     tie.close
     (tie.spec
-    (λ c. sym (compare-less _ _ c.if1.true))
-    (λ c. sym (compare-more _ _ c.if2.true))
-    (λ c. numbers-equal _ _ c.before.if1.false c.if2.false))
+    (λ c. sym (compare_less _ _ c.if1.true))
+    (λ c. sym (compare_more _ _ c.if2.true))
+    (λ c. numbers_equal _ _ c.before.if1.false c.if2.false))

@@ -12,5 +12,5 @@ returns c =
     let e : a.at + a.len - a.at ≡ a.len = omega arith in
     rw e
 
-pub part-spec : {M : Type 1} → statement M
-part-spec = tie.close (tie.spec (λ c. search rules) (λ c. search rules) (λ c. search rules) (λ c. search rules) returns)
+pub part_spec : {M : Type 1} → statement M
+part_spec = tie.close (tie.spec (λ c. search rules) (λ c. search rules) (λ c. search rules) (λ c. search rules) returns)

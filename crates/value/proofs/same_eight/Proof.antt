@@ -18,8 +18,8 @@ returns c =
     let same : ℕ → Bool = λ j. eqb (get_or a.a.now (a.i + j) 0) (get_or a.b.now (a.i + j) 0) in
     λ h k l. eqb-true _ _ (together-each (eqb (get_or a.a.now a.i 0) (get_or a.b.now a.i 0)) same (rw add-zero) 7 h k (omega arith))
 
-pub same-eight-spec : {M : Type 1} → statement M
-same-eight-spec =
+pub same_eight_spec : {M : Type 1} → statement M
+same_eight_spec =
     tie.close
     (tie.spec
     (λ c. search rules)

@@ -7,16 +7,16 @@ use native.Mathlib.Omega.{arith}
 use borrow.Author.Rules.{rules}
 use borrow.Author.Tests.{not-false}
 use Rattle.value.specs.Order.{lex}
-use Rattle.value.specs.Told.{lexFrom, text-run}
+use Rattle.value.specs.Told.{lex_from, text_run}
 
 abbrev invariant-loop : tie.invariant-loop
-invariant-loop a b shorter i₀ i = (i ≤ shorter) × (lexFrom a b i ≡ lex a b)
+invariant-loop a b shorter i₀ i = (i ≤ shorter) × (lex_from a b i ≡ lex a b)
 
 abbrev decreases-loop : tie.decreases-loop
 decreases-loop a b shorter i₀ i = shorter - i
 
 loop-holds : tie.Need-loop-init invariant-loop decreases-loop
-unfolding lexFrom
+unfolding lex_from
 loop-holds c = (omega arith, refl)
 
 same-eight-requires : tie.Need-same-eight-requires invariant-loop decreases-loop
@@ -29,13 +29,13 @@ loop-again : tie.Need-loop-preserved invariant-loop decreases-loop
 loop-again c =
     let a = c.before.before.before.before.before.before.before.args in
     let e = c.before.before.before.before.least.ensures in
-    (omega arith, text-run a.a.now a.b.now c.before.before.before.loop.i 8 (omega arith) (omega arith) (c.before.same-eight.ensures (not-false _ c.if1.false)) ∙ c.before.before.before.loop.invariant.1)
+    (omega arith, text_run a.a.now a.b.now c.before.before.before.loop.i 8 (omega arith) (omega arith) (c.before.same-eight.ensures (not-false _ c.if1.false)) ∙ c.before.before.before.loop.invariant.1)
 
 returns-2 : tie.Need-returns-2 invariant-loop decreases-loop
 returns-2 c = let e = c.before.before.least.ensures in (omega arith, c.before.loop.invariant.1)
 
-pub same-len-spec : {M : Type 1} → statement M
-same-len-spec =
+pub same_len_spec : {M : Type 1} → statement M
+same_len_spec =
     tie.close
     (tie.spec
     invariant-loop decreases-loop (λ c κs. search rules) loop-holds (λ c. search rules) same-eight-requires returns (λ c. omega arith) (λ c. omega arith) loop-again

@@ -5,7 +5,7 @@ use Rattle.value.proofs.step.Tie as tie
 use mathlib.Core.Bool.{false}
 use mathlib.Core.Path.{◌≡◌, sym, ◌∙◌}
 use native.Mathlib.Nat.{add-zero}
-use Rattle.value.specs.Shape.{kindIn, holding}
+use Rattle.value.specs.Shape.{kind_in, holding}
 use Rattle.value.specs.Stands.{word_at}
 use Rattle.value.specs.Left.{step_past}
 
@@ -16,7 +16,7 @@ returns-2 : tie.Need-returns-2
 returns-2 c =
     let s = c.before.before.before.before.before.before.before in
     let a = s.args in
-    let e : holding (kindIn (word_at a.a.now a.k 0)) ≡ false = rw add-zero (rw c.before.before.before.head_of.ensures at (sym c.before.before.holds.ensures ∙ c.before.if1.false)) in
+    let e : holding (kind_in (word_at a.a.now a.k 0)) ≡ false = rw add-zero (rw c.before.before.before.head_of.ensures at (sym c.before.before.holds.ensures ∙ c.before.if1.false)) in
     step_past a.a.now a.b.now a.k a.l _ _ s.requires e
 
 pub step_spec : {M : Type 1} → statement M

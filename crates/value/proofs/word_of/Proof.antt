@@ -4,8 +4,8 @@ use native.Mathlib.Omega.{arith}
 use Rattle.value.proofs.word_of.Statement.{statement}
 use Rattle.value.proofs.word_of.Tie as tie
 
-pub word-of-spec : {M : Type 1} → statement M
-word-of-spec =
+pub word_of_spec : {M : Type 1} → statement M
+word_of_spec =
     tie.close
     (tie.spec
     (λ c. search rules)

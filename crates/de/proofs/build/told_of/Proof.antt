@@ -13,5 +13,5 @@ returns-2 : tie.Need-returns-2
 unfolding told
 returns-2 c = sym (ap (λ (b : Built). told b c.before.before.before.args.at) c.before.built2.given.1)
 
-pub told-of-spec : {M : Type 1} → statement M
-told-of-spec = tie.close (tie.spec (λ c. c.match.keys1) (λ c κs. tt) (λ c. c.match.keys2) returns returns-2)
+pub told_of_spec : {M : Type 1} → statement M
+told_of_spec = tie.close (tie.spec (λ c. c.match.keys1) (λ c κs. tt) (λ c. c.match.keys2) returns returns-2)

@@ -6,10 +6,10 @@ use Prim.Native.Nat.{◌+◌, ◌-◌, ◌≤◌}
 use mathlib.Core.Path.{◌≡◌}
 use lib.ListN.{get_or}
 use native.Mathlib.Omega.{arith}
-use Rattle.machine.specs.Links.{filledBy, filled_none, filled_more, filled-same, filled-end}
+use Rattle.machine.specs.Links.{filled_by, filled_none, filled_more, filled-same, filled_end}
 
 abbrev invariant-loop : tie.invariant-loop
-invariant-loop children₀ links n stack from i₀ children i = (children ≡ filledBy children₀ links (λ k. get_or stack (from + k) 0) i) × (i ≤ n)
+invariant-loop children₀ links n stack from i₀ children i = (children ≡ filled_by children₀ links (λ k. get_or stack (from + k) 0) i) × (i ≤ n)
 
 abbrev decreases-loop : tie.decreases-loop
 decreases-loop children₀ links n stack from i₀ children i = n - i
@@ -18,10 +18,10 @@ slice-write-children : tie.Need-slice-write-children invariant-loop decreases-lo
 slice-write-children c = omega (arith, c.before.before.before.requires.0, c.before.loop-test.true, filled-same _ _ _ _ _ c.before.before.loop.invariant.0)
 
 returns : tie.Need-returns invariant-loop decreases-loop
-returns c = filled-end _ _ _ _ _ _ c.before.loop.invariant.0 c.before.loop.invariant.1 c.loop-test.false
+returns c = filled_end _ _ _ _ _ _ c.before.loop.invariant.0 c.before.loop.invariant.1 c.loop-test.false
 
-pub copy-children-spec : {M : Type 1} → statement M
-copy-children-spec =
+pub copy_children_spec : {M : Type 1} → statement M
+copy_children_spec =
     tie.close
     (tie.spec
     invariant-loop decreases-loop (λ c. (filled_none _ _ _, omega arith)) (λ c. omega (arith, c.before.before.requires.0, c.loop-test.true))

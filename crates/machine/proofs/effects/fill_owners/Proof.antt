@@ -5,19 +5,19 @@ use Rattle.machine.proofs.effects.fill_owners.Tie as tie
 use Prim.Native.Nat.{◌-◌, ◌≤◌}
 use mathlib.Core.Path.{◌≡◌}
 use native.Mathlib.Omega.{arith}
-use Rattle.machine.specs.Links.{filledBy, filled_none, filled_more, filled-same, filled-end}
+use Rattle.machine.specs.Links.{filled_by, filled_none, filled_more, filled-same, filled_end}
 
 abbrev invariant-loop : tie.invariant-loop
-invariant-loop owners₀ links n id i₀ owners i = (owners ≡ filledBy owners₀ links (λ k. id) i) × (i ≤ n)
+invariant-loop owners₀ links n id i₀ owners i = (owners ≡ filled_by owners₀ links (λ k. id) i) × (i ≤ n)
 
 abbrev decreases-loop : tie.decreases-loop
 decreases-loop owners₀ links n id i₀ owners i = n - i
 
 returns : tie.Need-returns invariant-loop decreases-loop
-returns c = filled-end _ _ _ _ _ _ c.before.loop.invariant.0 c.before.loop.invariant.1 c.loop-test.false
+returns c = filled_end _ _ _ _ _ _ c.before.loop.invariant.0 c.before.loop.invariant.1 c.loop-test.false
 
-pub fill-owners-spec : {M : Type 1} → statement M
-fill-owners-spec =
+pub fill_owners_spec : {M : Type 1} → statement M
+fill_owners_spec =
     tie.close
     (tie.spec
     invariant-loop decreases-loop (λ c. search rules) (λ c. (filled_none _ _ _, omega arith))

@@ -3,7 +3,7 @@ use borrow.Author.Rules.{rules}
 use Rattle.machine.proofs.effects.link_all.Statement.{statement}
 use Rattle.machine.proofs.effects.link_all.Tie as tie
 use native.Mathlib.Omega.{arith}
-use Rattle.machine.specs.Links.{link-rooms, link-end}
+use Rattle.machine.specs.Links.{link-rooms, link_end}
 
 -- owners and children are put
 abbrev start : tie.After-struct-known → tie.Start
@@ -30,7 +30,7 @@ with-items-requires c κs =
 returns : tie.Need-returns
 returns c =
     let s = c.before.before in
-    (omega arith, rw (c.with_items.ensures, s.before.before.before.before.before.before.before.fill-owners.ensures, s.before.before.before.copy-children.ensures) (link-end _ _ _ _ _ _ _ _ (start s).requires))
+    (omega arith, rw (c.with_items.ensures, s.before.before.before.before.before.before.before.fill-owners.ensures, s.before.before.before.copy-children.ensures) (link_end _ _ _ _ _ _ _ _ (start s).requires))
 
-pub link-all-spec : {M : Type 1} → statement M
-link-all-spec = tie.close (tie.spec (λ c. omega (arith, c.before.before.before.before.requires.low)) fill-owners-requires copy-children-requires (λ c. let v = link-rooms _ _ _ _ _ _ _ _ (start c).requires in omega arith) (λ c. let v = link-rooms _ _ _ _ _ _ _ _ (start c).requires in omega arith) (λ c. search rules) (λ c. let v = link-rooms _ _ _ _ _ _ _ _ (start c.before).requires in omega arith) with-items-requires (λ c. search rules) (λ c. let v = link-rooms _ _ _ _ _ _ _ _ (start c.before.before).requires in omega arith) (λ c. omega (arith, (start c.before.before).requires.room)) (λ c. search rules) (λ c. search rules) (λ c. search rules) returns)
+pub link-all_spec : {M : Type 1} → statement M
+link-all_spec = tie.close (tie.spec (λ c. omega (arith, c.before.before.before.before.requires.low)) fill-owners-requires copy-children-requires (λ c. let v = link-rooms _ _ _ _ _ _ _ _ (start c).requires in omega arith) (λ c. let v = link-rooms _ _ _ _ _ _ _ _ (start c).requires in omega arith) (λ c. search rules) (λ c. let v = link-rooms _ _ _ _ _ _ _ _ (start c.before).requires in omega arith) with-items-requires (λ c. search rules) (λ c. let v = link-rooms _ _ _ _ _ _ _ _ (start c.before.before).requires in omega arith) (λ c. omega (arith, (start c.before.before).requires.room)) (λ c. search rules) (λ c. search rules) (λ c. search rules) returns)

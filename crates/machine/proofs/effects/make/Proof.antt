@@ -8,46 +8,46 @@ use lib.ListN.{length, set, length-set}
 use mathlib.Core.List.{List}
 use mathlib.Core.Path.{◌≡◌, ◌∙◌}
 use native.Mathlib.Omega.{arith}
-use Rattle.machine.specs.Containers.{make-rooms, make-linkable, made-lent, make-full-lent, make-crowded-lent, make-high-lent}
+use Rattle.machine.specs.Containers.{make_rooms, make_linkable, made_lent, make_full_lent, make_crowded_lent, make_high_lent}
 
 -- ---- the numbers, where there is room for a node n
 
 module _ (n : ℕ) (room : n < 4096) where
-  fits-first : Fits w64 (2 * n)
-  fits-first = omega arith
+  fits_first : Fits w64 (2 * n)
+  fits_first = omega arith
 
-  fits-second : Fits w64 (2 * n + 1)
-  fits-second = omega arith
+  fits_second : Fits w64 (2 * n + 1)
+  fits_second = omega arith
 
-  fits-first-at : Fits w64 (2 * n * 8)
-  fits-first-at = omega arith
+  fits_first_at : Fits w64 (2 * n * 8)
+  fits_first_at = omega arith
 
-  fits-second-at : Fits w64 ((2 * n + 1) * 8)
-  fits-second-at = omega arith
+  fits_second_at : Fits w64 ((2 * n + 1) * 8)
+  fits_second_at = omega arith
 
-  fits-id : Fits w16 n
-  fits-id = omega arith
+  fits_id : Fits w16 n
+  fits_id = omega arith
 
   fits_next : Fits w64 (n + 1)
   fits_next = omega arith
 
-  first-in : (l : ℕ) → 8192 ≤ l → 2 * n < l
-  first-in l h = omega arith
+  first_in : (l : ℕ) → 8192 ≤ l → 2 * n < l
+  first_in l h = omega arith
 
-  second-in : (l : ℕ) → 8192 ≤ l → 2 * n + 1 < l
-  second-in l h = omega arith
+  second_in : (l : ℕ) → 8192 ≤ l → 2 * n + 1 < l
+  second_in l h = omega arith
 
-fits-links : (l : ℕ) → l ≤ 8192 → Fits w64 (l * 4294967296)
-fits-links l h = omega arith
+fits_links : (l : ℕ) → l ≤ 8192 → Fits w64 (l * 4294967296)
+fits_links l h = omega arith
 
-fits-top : (s : ℕ) → s < 2048 → Fits w64 (s * 2)
-fits-top s h = omega arith
+fits_top : (s : ℕ) → s < 2048 → Fits w64 (s * 2)
+fits_top s h = omega arith
 
 top_in : (s : ℕ) → s < 2048 → (l : ℕ) → 2048 ≤ l → s < l
 top_in s h l k = omega arith
 
-twice-set : (xs : List ℕ) (i j v w : ℕ) → length (set (set xs i v) j w) ≡ length xs
-twice-set xs i j v w = simp length-set
+twice_set : (xs : List ℕ) (i j v w : ℕ) → length (set (set xs i v) j w) ≡ length xs
+twice_set xs i j v w = simp length-set
 
 -- there is room for the links
 abbrev start : tie.Else1 → tie.Start
@@ -72,43 +72,43 @@ module _ (c : tie.Else3) where
   few = c.before.before.if2.false
 
 returns : tie.Need-returns
-returns c = make-full-lent c.before.before.before.before.before.before.before.requires c.if1.true
+returns c = make_full_lent c.before.before.before.before.before.before.before.requires c.if1.true
 
 returns-2 : tie.Need-returns-2
-returns-2 c = let e = c.before.before in make-crowded-lent (start e).requires e.if1.false c.if2.true
+returns-2 c = let e = c.before.before in make_crowded_lent (start e).requires e.if1.false c.if2.true
 
 returns-3 : tie.Need-returns-3
 returns-3 c =
     let e = c.before.before in
     let l = e.before.before in
-    make-high-lent (start l).requires l.if1.false e.if2.false c.if3.true
+    make_high_lent (start l).requires l.if1.false e.if2.false c.if3.true
 
 link-all-requires : tie.Need-link-all-requires
-link-all-requires c κs = let e = c.before.before.before.before in make-linkable (start (links e)).requires (links e).if1.false e.before.before.if2.false
+link-all-requires c κs = let e = c.before.before.before.before in make_linkable (start (links e)).requires (links e).if1.false e.before.before.if2.false
 
 same_length : tie.Need-same-length
 same_length c =
     let l = linked c.before in
     let a = (start (links (room l))).args in
-    l.link-all.kept.0 ∙ twice-set a.nodes.now (2 * a.c.nodes) (2 * a.c.nodes + 1) a.kind (a.c.links * 4294967296)
+    l.link-all.kept.0 ∙ twice_set a.nodes.now (2 * a.c.nodes) (2 * a.c.nodes + 1) a.kind (a.c.links * 4294967296)
 
 returns-4 : tie.Need-returns-4
 returns-4 c =
     let l = linked c.before in
     let e = room l in
-    rw c.pushed.ensures (made-lent (start (links e)).requires _ _ _ _ (links e).if1.left e.before.before.if2.left e.if3.left l.link-all.ensures.0 l.link-all.ensures.1)
+    rw c.pushed.ensures (made_lent (start (links e)).requires _ _ _ _ (links e).if1.left e.before.before.if2.left e.if3.left l.link-all.ensures.0 l.link-all.ensures.1)
 
 pub make_spec : {M : Type 1} → statement M
 make_spec =
     tie.close
     (tie.spec
-    (λ c. let v = make-rooms c.before.before.before.before.before.requires in omega arith)
-    (λ c. let v = make-rooms c.before.before.before.before.before.before.requires in omega arith) returns returns-2 returns-3
-    (λ c. fits-first (id c) (few c)) (λ c. fits-second (id c) (few c)) (λ c. fits-first-at (id c) (few c))
-    (λ c. first-in (id c) (few c) _ (make-rooms (start (links c)).requires).0) (λ c. fits-links _ (make-rooms (start (links c)).requires).2)
-    (λ c. fits-second-at (id c) (few c)) (λ c. rw length-set (second-in (id c) (few c) _ (make-rooms (start (links c)).requires).0)) link-all-requires
-    (λ c. let e = room (linked c) in fits-id (id e) (few e)) (λ c. fits-top _ (room (linked c)).if3.false)
-    (λ c. let e = room (linked c) in top_in _ e.if3.left _ (make-rooms (start (links e)).requires).1)
+    (λ c. let v = make_rooms c.before.before.before.before.before.requires in omega arith)
+    (λ c. let v = make_rooms c.before.before.before.before.before.before.requires in omega arith) returns returns-2 returns-3
+    (λ c. fits_first (id c) (few c)) (λ c. fits_second (id c) (few c)) (λ c. fits_first_at (id c) (few c))
+    (λ c. first_in (id c) (few c) _ (make_rooms (start (links c)).requires).0) (λ c. fits_links _ (make_rooms (start (links c)).requires).2)
+    (λ c. fits_second_at (id c) (few c)) (λ c. rw length-set (second_in (id c) (few c) _ (make_rooms (start (links c)).requires).0)) link-all-requires
+    (λ c. let e = room (linked c) in fits_id (id e) (few e)) (λ c. fits_top _ (room (linked c)).if3.false)
+    (λ c. let e = room (linked c) in top_in _ e.if3.left _ (make_rooms (start (links e)).requires).1)
     (λ c. let e = room (linked c) in fits_next (id e) (few e)) (λ c κs. (room (linked c)).if3.false) same_length
     (λ c. (linked c.before).link-all.auto.1.0) (λ c. (linked c.before).link-all.auto.1.1.0)
     (λ c. let a = (start (links (room (linked c.before)))).args in length-set a.stack.now a.c.stack a.c.nodes) returns-4)

@@ -2,15 +2,15 @@
 use borrow.Author.Rules.{rules}
 use Rattle.machine.proofs.effects.push_id.Statement.{statement}
 use Rattle.machine.proofs.effects.push_id.Tie as tie
-use Rattle.machine.specs.Push.{PushId, push-id-full, push-id-done}
+use Rattle.machine.specs.Push.{PushId, push_id_full, push_id-done}
 
 returns : tie.Need-returns
 unfolding PushId
-returns c = λ r h q f. rw (← q) (push-id-full r h _ _ f c.if1.true)
+returns c = λ r h q f. rw (← q) (push_id_full r h _ _ f c.if1.true)
 
 returns-2 : tie.Need-returns-2
 unfolding PushId
-returns-2 c = λ r h q f. rw (c.pushed.ensures, ← q) (push-id-done r h _ _ f c.before.before.if1.false)
+returns-2 c = λ r h q f. rw (c.pushed.ensures, ← q) (push_id-done r h _ _ f c.before.before.if1.false)
 
-pub push-id-spec : {M : Type 1} → statement M
-push-id-spec = tie.close (tie.spec returns (λ c. search rules) (λ c. search rules) (λ c. search rules) (λ c κs. search rules) (λ c. search rules) returns-2)
+pub push_id_spec : {M : Type 1} → statement M
+push_id_spec = tie.close (tie.spec returns (λ c. search rules) (λ c. search rules) (λ c. search rules) (λ c κs. search rules) (λ c. search rules) returns-2)

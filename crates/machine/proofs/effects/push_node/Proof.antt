@@ -5,15 +5,15 @@ use Rattle.machine.proofs.effects.push_node.Tie as tie
 use lib.ListN.{length-set}
 use Rattle.machine.specs.Done.{words-plus}
 use native.Mathlib.Omega.{arith}
-use Rattle.machine.specs.Push.{PushNode, push-node-full, push-node-high, push-node-done}
+use Rattle.machine.specs.Push.{PushNode, push_node_full, push_node-high, push_node-done}
 
 returns : tie.Need-returns
 unfolding PushNode
-returns c = λ r h p q f. rw (← p, ← q) (push-node-full r h _ _ _ f c.if1.true)
+returns c = λ r h p q f. rw (← p, ← q) (push_node_full r h _ _ _ f c.if1.true)
 
 returns-2 : tie.Need-returns-2
 unfolding PushNode
-returns-2 c = λ r h p q f. rw (← p, ← q) (push-node-high r h _ _ _ f c.before.before.if1.false c.if2.true)
+returns-2 c = λ r h p q f. rw (← p, ← q) (push_node-high r h _ _ _ f c.before.before.if1.false c.if2.true)
 
 slice-write-nodes-2 : tie.Need-slice-write-nodes-2
 slice-write-nodes-2 c = rw length-set (omega (arith, c.before.before.before.before.before.before.before.requires.0, c.before.before.before.if1.false))
@@ -24,10 +24,10 @@ returns-3 c =
     let e = c.before.before.before.before in
     let l = e.before.before in
     let a = l.before.before.before.before.args in
-    λ r h p q f. rw (c.pushed.ensures, ← p, ← q, words-plus r.nodes a.c.nodes a.a a.b) (push-node-done r h _ _ _ f l.if1.false e.if2.false)
+    λ r h p q f. rw (c.pushed.ensures, ← p, ← q, words-plus r.nodes a.c.nodes a.a a.b) (push_node-done r h _ _ _ f l.if1.false e.if2.false)
 
-pub push-node-spec : {M : Type 1} → statement M
-push-node-spec =
+pub push_node_spec : {M : Type 1} → statement M
+push_node_spec =
     tie.close
     (tie.spec
     returns returns-2 (λ c. search rules) (λ c. search rules) (λ c. search rules) (λ c. search rules) (λ c. search rules) slice-write-nodes-2

@@ -3,7 +3,7 @@ use borrow.Author.Rules.{rules}
 use Rattle.machine.proofs.effects.remember.Statement.{statement}
 use Rattle.machine.proofs.effects.remember.Tie as tie
 use native.Mathlib.Omega.{arith}
-use Rattle.machine.specs.Memo.{remember-room, remember-numbered, replaced-lent, full-lent, more-lent}
+use Rattle.machine.specs.Memo.{remember_room, remember-numbered, replaced_lent, full_lent, more_lent}
 
 -- the slot that was sought
 abbrev start : tie.After-slot → tie.Start
@@ -20,36 +20,36 @@ free c = c.before.before.before.before
 slot-requires : tie.Need-slot-requires
 slot-requires c κs =
     let p = c.before.before.before.requires in
-    let v = remember-room _ _ _ _ _ p in
+    let v = remember_room _ _ _ _ _ p in
     (omega arith, omega arith, remember-numbered _ _ _ _ _ p)
 
 returns : tie.Need-returns
 returns c =
     let s = (there c).slot.ensures in
     let t = c.before.if1.true in
-    replaced-lent _ _ _ _ _ _ t (s.2 t) s.1
+    replaced_lent _ _ _ _ _ _ t (s.2 t) s.1
 
 returns-2 : tie.Need-returns-2
-returns-2 c = let s = c.before.before.before.before.slot.ensures in full-lent _ _ _ _ _ _ s.0 c.before.before.if1.false s.1 c.if2.true
+returns-2 c = let s = c.before.before.before.before.slot.ensures in full_lent _ _ _ _ _ _ s.0 c.before.before.if1.false s.1 c.if2.true
 
 slice-write-held-2 : tie.Need-slice-write-held-2
-slice-write-held-2 c = let v = remember-room _ _ _ _ _ (start (free c.before)).requires in omega (arith, (free c.before).slot.ensures.0, c.before.if2.false)
+slice-write-held-2 c = let v = remember_room _ _ _ _ _ (start (free c.before)).requires in omega (arith, (free c.before).slot.ensures.0, c.before.if2.false)
 
 returns-3 : tie.Need-returns-3
 returns-3 c =
     let e = c.before.before.before.before in
     let s = (free e).slot.ensures in
-    rw c.most.ensures (more-lent _ _ _ _ _ _ s.0 e.before.before.if1.false s.1 e.if2.false)
+    rw c.most.ensures (more_lent _ _ _ _ _ _ s.0 e.before.before.if1.false s.1 e.if2.false)
 
-pub remember-spec : {M : Type 1} → statement M
-remember-spec =
+pub remember_spec : {M : Type 1} → statement M
+remember_spec =
     tie.close
     (tie.spec
-    slot-requires (λ c. let v = remember-room _ _ _ _ _ (start (there c)).requires in omega arith)
-    (λ c. let v = remember-room _ _ _ _ _ (start (there c)).requires in omega (arith, c.before.if1.true))
-    (λ c. let v = remember-room _ _ _ _ _ (start (there c)).requires in omega (arith, c.before.if1.true)) (λ c. search rules) (λ c. search rules)
+    slot-requires (λ c. let v = remember_room _ _ _ _ _ (start (there c)).requires in omega arith)
+    (λ c. let v = remember_room _ _ _ _ _ (start (there c)).requires in omega (arith, c.before.if1.true))
+    (λ c. let v = remember_room _ _ _ _ _ (start (there c)).requires in omega (arith, c.before.if1.true)) (λ c. search rules) (λ c. search rules)
     returns (λ c. search rules) returns-2 (λ c. omega (arith, (free c).slot.ensures.0, c.if2.false))
-    (λ c. let v = remember-room _ _ _ _ _ (start (free c)).requires in omega (arith, (free c).slot.ensures.0, c.if2.false))
-    (λ c. let v = remember-room _ _ _ _ _ (start (free c.before)).requires in omega arith)
+    (λ c. let v = remember_room _ _ _ _ _ (start (free c)).requires in omega (arith, (free c).slot.ensures.0, c.if2.false))
+    (λ c. let v = remember_room _ _ _ _ _ (start (free c.before)).requires in omega arith)
     (λ c. omega (arith, (free c.before).slot.ensures.0, c.before.if2.false)) slice-write-held-2 (λ c. search rules) (λ c. search rules)
     (λ c. search rules) (λ c κs. search rules) (λ c. search rules) (λ c. search rules) returns-3)

@@ -3,15 +3,15 @@ use borrow.Author.Rules.{rules}
 use Rattle.machine.proofs.effects.with_state.Statement.{statement}
 use Rattle.machine.proofs.effects.with_state.Tie as tie
 use borrow.Author.Tests.{eq-eqb, ne_eqb}
-use Rattle.value.specs.Shape.{stateIn}
+use Rattle.value.specs.Shape.{state_in}
 
 returns : tie.Need-returns
-unfolding stateIn
+unfolding state_in
 returns c = rw (eq-eqb _ 1 c.if1.true)
 
 returns-2 : tie.Need-returns-2
-unfolding stateIn
+unfolding state_in
 returns-2 c = rw (ne_eqb _ 1 c.if1.false)
 
-pub with-state-spec : {M : Type 1} → statement M
-with-state-spec = tie.close (tie.spec returns (λ c. search rules) returns-2)
+pub with_state_spec : {M : Type 1} → statement M
+with_state_spec = tie.close (tie.spec returns (λ c. search rules) returns-2)

@@ -1,13 +1,13 @@
 -- `lists::is_sorted` meets its contract. Assumes nothing.
 use Rattle.resolve.proofs.lists.is_sorted.Statement.{statement}
 use Rattle.resolve.proofs.lists.is_sorted.Tie as tie
-use Rattle.resolve.specs.NodeList.{below-sorted, is_sorted}
+use Rattle.resolve.specs.NodeList.{below_sorted, is_sorted}
 
 returns : tie.Need-returns
-returns c = below-sorted c.before.args.kind c.if1.true
+returns c = below_sorted c.before.args.kind c.if1.true
 
 returns-2 : tie.Need-returns-2
 returns-2 c = is_sorted c.before.args.kind c.if1.false
 
-pub is-sorted-spec : {M : Type 1} → statement M
-is-sorted-spec = tie.close (tie.spec returns returns-2)
+pub is_sorted_spec : {M : Type 1} → statement M
+is_sorted_spec = tie.close (tie.spec returns returns-2)

@@ -35,8 +35,8 @@ returns c = simp c.before.if1.true
 returns-2 : tie.Need-returns-2
 returns-2 c = simp c.before.if1.false
 
-pub item-spec : {M : Type 1} → statement M
-item-spec =
+pub item_spec : {M : Type 1} → statement M
+item_spec =
     tie.close
     (tie.spec
     mul-t7 shared-slice-read-t9 (λ c. search (rules, c.shared-slice-known.given c.before.before.args.at)) mul-t11 shared-slice-read-t13

@@ -6,20 +6,20 @@ use Prim.Native.Nat.{◌+◌}
 use mathlib.Core.Path.{sym, ◌∙◌}
 use native.Mathlib.Omega.{arith}
 use native.Mathlib.Numerals.{add-one}
-use Rattle.value.specs.Shape.{kindIn}
+use Rattle.value.specs.Shape.{kind_in}
 use Rattle.steps.specs.NodeWords.{first}
-use Rattle.resolve.specs.NodeList.{sorted-ranges, plain-ranges}
+use Rattle.resolve.specs.NodeList.{sorted_ranges, plain_ranges}
 
 returns : tie.Need-returns
-unfolding kindIn first
-returns c = sorted-ranges c.before.before.before.before.before.before.before.args.nodes.now c.before.before.before.before.before.before.before.args.starts.now c.before.before.before.before.before.before.before.args.measures.now c.before.before.before.before.before.before.before.args.node.0 (sym c.before.before.is_sorted.ensures ∙ c.before.if1.true)
+unfolding kind_in first
+returns c = sorted_ranges c.before.before.before.before.before.before.before.args.nodes.now c.before.before.before.before.before.before.before.args.starts.now c.before.before.before.before.before.before.before.args.measures.now c.before.before.before.before.before.before.before.args.node.0 (sym c.before.before.is_sorted.ensures ∙ c.before.if1.true)
 
 cast-t26 : tie.Need-overflow-cast-t26
 cast-t26 c = omega (arith, c.shared-slice-known7.given (c.before.before.before.before.before.before.before.before.args.node.0 + 1))
 
 returns-2 : tie.Need-returns-2
-unfolding kindIn first
-returns-2 c = rw add-one (plain-ranges c.before.before.before.before.before.before.before.before.args.nodes.now c.before.before.before.before.before.before.before.before.args.starts.now c.before.before.before.before.before.before.before.before.args.measures.now c.before.before.before.before.before.before.before.before.args.node.0 (sym c.before.before.before.is_sorted.ensures ∙ c.before.before.if1.false) c.before.before.before.before.before.before.before.before.requires.rising)
+unfolding kind_in first
+returns-2 c = rw add-one (plain_ranges c.before.before.before.before.before.before.before.before.args.nodes.now c.before.before.before.before.before.before.before.before.args.starts.now c.before.before.before.before.before.before.before.before.args.measures.now c.before.before.before.before.before.before.before.before.args.node.0 (sym c.before.before.before.is_sorted.ensures ∙ c.before.before.if1.false) c.before.before.before.before.before.before.before.before.requires.rising)
 
-pub range-of-spec : {M : Type 1} → statement M
-range-of-spec = tie.close (tie.spec (λ c. search rules) (λ c. search rules) (λ c. search rules) (λ c κs. search rules) (λ c. search rules) (λ c. search rules) (λ c. search rules) returns (λ c. search rules) (λ c. search rules) (λ c. omega (arith, c.shared-slice-known6.given c.before.before.before.before.before.before.before.args.node.0)) (λ c. search rules) (λ c. search rules) (λ c. search rules) cast-t26 returns-2)
+pub range_of_spec : {M : Type 1} → statement M
+range_of_spec = tie.close (tie.spec (λ c. search rules) (λ c. search rules) (λ c. search rules) (λ c κs. search rules) (λ c. search rules) (λ c. search rules) (λ c. search rules) returns (λ c. search rules) (λ c. search rules) (λ c. omega (arith, c.shared-slice-known6.given c.before.before.before.before.before.before.before.args.node.0)) (λ c. search rules) (λ c. search rules) (λ c. search rules) cast-t26 returns-2)

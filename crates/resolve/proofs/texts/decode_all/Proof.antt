@@ -5,7 +5,7 @@ use Prim.Native.Nat.{◌-◌, ◌≤◌}
 use mathlib.Core.Path.{◌≡◌}
 use native.Mathlib.Numerals.{add-one}
 use native.Mathlib.Omega.{arith}
-use Rattle.resolve.specs.TextsDue.{Decodes, decodes-none, turn-ready, turn_more}
+use Rattle.resolve.specs.TextsDue.{Decodes, decodes_none, turn_ready, turn_more}
 
 abbrev invariant-loop : tie.invariant-loop
 invariant-loop nodes count pickle decoded₀ measures₀ used₀ i₀ decoded measures used i = (i ≤ count) × Decodes pickle nodes decoded₀ measures₀ i decoded measures used
@@ -27,7 +27,7 @@ decode-one-requires : tie.Need-decode-one-requires invariant-loop decreases-loop
 decode-one-requires c κs =
     let t = c.before.before in
     let h = head t in
-    turn-ready _ _ _ _ _ (start h).pre h.loop.i t.loop-test.true _ _ _ h.loop.inv.1
+    turn_ready _ _ _ _ _ (start h).pre h.loop.i t.loop-test.true _ _ _ h.loop.inv.1
 
 loop-again : tie.Need-loop-preserved invariant-loop decreases-loop
 loop-again c =
@@ -42,5 +42,5 @@ returns c =
     let e : h.loop.i ≡ (start h).args.count = omega arith in
     rw e at h.loop.invariant.1
 
-pub decode-all-spec : {M : Type 1} → statement M
-decode-all-spec = tie.close (tie.spec invariant-loop decreases-loop (λ c. (omega arith, decodes-none _ _ _ _)) decode-one-requires (λ c. omega arith) (λ c. omega arith) loop-again (λ c. c.before.loop.invariant.1.same-room) (λ c. c.before.loop.invariant.1.same-measures) returns)
+pub decode_all_spec : {M : Type 1} → statement M
+decode_all_spec = tie.close (tie.spec invariant-loop decreases-loop (λ c. (omega arith, decodes_none _ _ _ _)) decode-one-requires (λ c. omega arith) (λ c. omega arith) loop-again (λ c. c.before.loop.invariant.1.same_room) (λ c. c.before.loop.invariant.1.same-measures) returns)

@@ -11,5 +11,5 @@ returns-2 : tie.Need-returns-2
 unfolding pick
 returns-2 c = simp c.if1.false
 
-pub held-len-spec : {M : Type 1} → statement M
-held-len-spec = tie.close (tie.spec returns returns-2)
+pub held_len_spec : {M : Type 1} → statement M
+held_len_spec = tie.close (tie.spec returns returns-2)

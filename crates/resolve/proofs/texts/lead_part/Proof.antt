@@ -7,5 +7,5 @@ use mathlib.Core.Path.{◌∙◌}
 returns : tie.Need-returns
 returns c = c.text-of-place.ensures ∙ c.before.lead-place.ensures c.before.before.before.before.before.before.args.pickle.now c.before.before.before.before.before.before.args.decoded.now
 
-pub lead-part-spec : {M : Type 1} → statement M
-lead-part-spec = tie.close (tie.spec (λ c κs. search rules) (λ c κs. search rules) returns)
+pub lead_part_spec : {M : Type 1} → statement M
+lead_part_spec = tie.close (tie.spec (λ c κs. search rules) (λ c κs. search rules) returns)

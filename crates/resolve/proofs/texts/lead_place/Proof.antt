@@ -5,9 +5,9 @@ use Rattle.resolve.proofs.texts.lead_place.Tie as tie
 use mathlib.Core.Path.{◌∙◌}
 use native.Mathlib.Omega.{arith}
 use native.Mathlib.Numerals.{add-one}
-use Rattle.value.specs.Shape.{kindIn}
-use Rattle.steps.specs.NodeWords.{first, second, classIn}
-use Rattle.resolve.specs.Place.{lead-decoded, lead-global, lead-object, lead-leaf}
+use Rattle.value.specs.Shape.{kind_in}
+use Rattle.steps.specs.NodeWords.{first, second, class_in}
+use Rattle.resolve.specs.Place.{lead_decoded, lead-global, lead-object, lead-leaf}
 
 -- ---- the places: no text of its own was decoded, its kind is read, it is an Object
 
@@ -23,31 +23,31 @@ object c = start (kinded c.before.before)
 -- ---- the needs
 
 returns : tie.Need-returns
-returns c = λ p d. lead-decoded p d _ _ _ c.if1.true
+returns c = λ p d. lead_decoded p d _ _ _ c.if1.true
 
 returns-2 : tie.Need-returns-2
-unfolding kindIn first
+unfolding kind_in first
 returns-2 c = λ p d. c.module-place.ensures p d ∙ lead-global p d _ _ _ c.before.before.before.if1.false c.before.if2.true
 
 mul-module-place : tie.Need-overflow-mul-module-place
-unfolding kindIn first classIn
+unfolding kind_in first class_in
 mul-module-place c = omega (arith, (object c).requires.class c.before.if3.true)
 
 mul-module-place-2 : tie.Need-overflow-mul-module-place-2
-unfolding kindIn first classIn
+unfolding kind_in first class_in
 mul-module-place-2 c = omega (arith, (object c).requires.class c.before.if3.true)
 
 shared-slice-read-module-place : tie.Need-shared-slice-read-module-place
-unfolding kindIn first classIn
+unfolding kind_in first class_in
 shared-slice-read-module-place c = omega (arith, (object c.before).requires.class c.before.before.if3.true)
 
 returns-3 : tie.Need-returns-3
-unfolding kindIn first classIn
+unfolding kind_in first class_in
 returns-3 c = λ p d. let o = c.before.before.before in c.module-place2.ensures p d ∙ lead-object p d _ _ _ (kinded o.before).if1.false o.if3.true
 
 returns-4 : tie.Need-returns-4
-unfolding kindIn first second
+unfolding kind_in first second
 returns-4 c = λ p d. let e = c.before.before in c.text-place.ensures p d ∙ rw add-one (lead-leaf p d _ _ _ (kinded e.before).if1.false e.before.if2.false e.if3.false)
 
-pub lead-place-spec : {M : Type 1} → statement M
-lead-place-spec = tie.close (tie.spec (λ c. search rules) (λ c. search rules) returns (λ c. search rules) (λ c. search rules) (λ c. search rules) (λ c κs. tt) returns-2 mul-module-place mul-module-place-2 shared-slice-read-module-place (λ c κs. tt) returns-3 (λ c. search rules) (λ c. search rules) (λ c. search rules) (λ c. search rules) (λ c κs. tt) returns-4)
+pub lead-place_spec : {M : Type 1} → statement M
+lead-place_spec = tie.close (tie.spec (λ c. search rules) (λ c. search rules) returns (λ c. search rules) (λ c. search rules) (λ c. search rules) (λ c κs. tt) returns-2 mul-module-place mul-module-place-2 shared-slice-read-module-place (λ c κs. tt) returns-3 (λ c. search rules) (λ c. search rules) (λ c. search rules) (λ c. search rules) (λ c κs. tt) returns-4)

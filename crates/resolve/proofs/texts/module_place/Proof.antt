@@ -10,5 +10,5 @@ returns : tie.Need-returns
 unfolding placed pick within
 returns c = λ p d. refl
 
-pub module-place-spec : {M : Type 1} → statement M
-module-place-spec = tie.close (tie.spec returns)
+pub module_place_spec : {M : Type 1} → statement M
+module_place_spec = tie.close (tie.spec returns)

@@ -7,5 +7,5 @@ returns : tie.Need-returns
 unfolding within
 returns c = c.cut.ensures
 
-pub module-text-spec : {M : Type 1} → statement M
-module-text-spec = tie.close (tie.spec (λ c κs. tt) returns)
+pub module_text_spec : {M : Type 1} → statement M
+module_text_spec = tie.close (tie.spec (λ c κs. tt) returns)

@@ -3,14 +3,14 @@ use borrow.Author.Rules.{rules}
 use Rattle.resolve.proofs.texts.put_repaired.Statement.{statement}
 use Rattle.resolve.proofs.texts.put_repaired.Tie as tie
 use Rattle.utf8.specs.Utf8.{repair}
-use Rattle.resolve.specs.Spell.{sets-back}
+use Rattle.resolve.specs.Spell.{sets_back}
 
 returns : tie.Need-returns
 returns c =
     record {
       count = c.before.before.from-utf8-lossy.ensures.0;
-      bytes = sets-back (repair c.before.before.before.before.before.before.args.bytes.now) c.before.before.before.before.before.before.args.decoded.now c.before.before.from-utf8-lossy.new.1.0 c.before.before.before.before.before.before.args.at c.before.before.before.before.before.before.requires c.before.before.from-utf8-lossy.ensures.1;
+      bytes = sets_back (repair c.before.before.before.before.before.before.args.bytes.now) c.before.before.before.before.before.before.args.decoded.now c.before.before.from-utf8-lossy.new.1.0 c.before.before.before.before.before.before.args.at c.before.before.before.before.before.before.requires c.before.before.from-utf8-lossy.ensures.1;
     }
 
-pub put-repaired-spec : {M : Type 1} → statement M
-put-repaired-spec = tie.close (tie.spec (λ c. search rules) (λ c. search rules) (λ c. search rules) (λ c κs. search rules) (λ c. search rules) returns)
+pub put_repaired_spec : {M : Type 1} → statement M
+put_repaired_spec = tie.close (tie.spec (λ c. search rules) (λ c. search rules) (λ c. search rules) (λ c κs. search rules) (λ c. search rules) returns)

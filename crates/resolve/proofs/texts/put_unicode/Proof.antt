@@ -6,25 +6,25 @@ use mathlib.Core.Path.{refl}
 use native.Mathlib.Omega.{arith}
 use lib.ListN.{length-take, length-drop}
 use Rattle.text.specs.Pieces.{bytes_of}
-use Rattle.text.specs.Text.{unescapeUnicode}
-use Rattle.text.specs.Answers.{decoded-len, decoded-bad}
+use Rattle.text.specs.Text.{unescape_unicode}
+use Rattle.text.specs.Answers.{decoded_len, decoded_bad}
 use Rattle.resolve.specs.Spell.{put_back}
 
 unescape-unicode-requires : tie.Need-unescape-unicode-requires
-unescape-unicode-requires c κs = record { is = (decoded-len (unescapeUnicode c.before.before.before.before.before.before.args.line.now) _ (rw c.before.enum-told2.given.1 at c.before.before.before.unicode-len.ensures)).0; fits = simp (length-take, length-drop) (omega (arith, c.before.before.before.before.before.before.requires)) }
+unescape-unicode-requires c κs = record { is = (decoded_len (unescape_unicode c.before.before.before.before.before.before.args.line.now) _ (rw c.before.enum-told2.given.1 at c.before.before.before.unicode_len.ensures)).0; fits = simp (length-take, length-drop) (omega (arith, c.before.before.before.before.before.before.requires)) }
 
 returns : tie.Need-returns
 unfolding bytes_of
 returns c =
-    let e = decoded-bad (unescapeUnicode c.before.before.before.before.before.args.line.now) _ (rw c.enum_told.given.1 at c.before.before.unicode-len.ensures) in
+    let e = decoded_bad (unescape_unicode c.before.before.before.before.before.args.line.now) _ (rw c.enum_told.given.1 at c.before.before.unicode_len.ensures) in
     rw e (record { count = refl; bytes = refl })
 
 returns-2 : tie.Need-returns-2
 returns-2 c =
     record {
       count = c.before.before.unescape-unicode.ensures.count;
-      bytes = put_back (bytes_of (unescapeUnicode c.before.before.before.before.before.before.before.before.before.args.line.now)) c.before.before.before.before.before.before.before.before.before.args.decoded.now c.before.before.unescape-unicode.new.1.0 c.before.before.before.before.before.before.before.before.before.args.at c.before.before.before.before.before.before.before.before.before.requires c.before.before.unescape-unicode.ensures.bytes;
+      bytes = put_back (bytes_of (unescape_unicode c.before.before.before.before.before.before.before.before.before.args.line.now)) c.before.before.before.before.before.before.before.before.before.args.decoded.now c.before.before.unescape-unicode.new.1.0 c.before.before.before.before.before.before.before.before.before.args.at c.before.before.before.before.before.before.before.before.before.requires c.before.before.unescape-unicode.ensures.bytes;
     }
 
-pub put-unicode-spec : {M : Type 1} → statement M
-put-unicode-spec = tie.close (tie.spec (λ c κs. search rules) (λ c. search rules) (λ c. search rules) (λ c. search rules) (λ c. search rules) (λ c. search rules) unescape-unicode-requires returns (λ c. search rules) returns-2)
+pub put_unicode_spec : {M : Type 1} → statement M
+put_unicode_spec = tie.close (tie.spec (λ c κs. search rules) (λ c. search rules) (λ c. search rules) (λ c. search rules) (λ c. search rules) (λ c. search rules) unescape-unicode-requires returns (λ c. search rules) returns-2)

@@ -7,5 +7,5 @@ returns : tie.Need-returns
 unfolding within
 returns c = c.cut.ensures
 
-pub raw-text-spec : {M : Type 1} → statement M
-raw-text-spec = tie.close (tie.spec (λ c κs. tt) returns)
+pub raw_text_spec : {M : Type 1} → statement M
+raw_text_spec = tie.close (tie.spec (λ c κs. tt) returns)

@@ -5,9 +5,9 @@ use Rattle.resolve.proofs.texts.trail_place.Tie as tie
 use mathlib.Core.Path.{◌∙◌}
 use native.Mathlib.Omega.{arith}
 use native.Mathlib.Numerals.{add-one}
-use Rattle.value.specs.Shape.{kindIn}
-use Rattle.steps.specs.NodeWords.{first, second, classIn}
-use Rattle.resolve.specs.Place.{trail-decoded, trail-global, trail-object, trail-leaf}
+use Rattle.value.specs.Shape.{kind_in}
+use Rattle.steps.specs.NodeWords.{first, second, class_in}
+use Rattle.resolve.specs.Place.{trail_decoded, trail-global, trail-object, trail-leaf}
 
 -- ---- the places: no text of its own was decoded, its kind is read, it is an Object
 
@@ -23,35 +23,35 @@ object c = start (kinded c.before.before)
 -- ---- the needs
 
 returns : tie.Need-returns
-returns c = λ p d. trail-decoded p d _ _ _ c.if1.true
+returns c = λ p d. trail_decoded p d _ _ _ c.if1.true
 
 returns-2 : tie.Need-returns-2
-unfolding kindIn first second
+unfolding kind_in first second
 returns-2 c = λ p d. let g = c.before.before in c.text-place.ensures p d ∙ rw add-one (trail-global p d _ _ _ g.before.before.if1.false g.if2.true)
 
 mul-text-place-3 : tie.Need-overflow-mul-text-place-3
-unfolding kindIn first classIn
+unfolding kind_in first class_in
 mul-text-place-3 c = omega (arith, (object c).requires.class c.before.if3.true)
 
 add-text-place-2 : tie.Need-overflow-add-text-place-2
-unfolding kindIn first classIn
+unfolding kind_in first class_in
 add-text-place-2 c = omega (arith, (object c).requires.class c.before.if3.true)
 
 mul-text-place-4 : tie.Need-overflow-mul-text-place-4
-unfolding kindIn first classIn
+unfolding kind_in first class_in
 mul-text-place-4 c = omega (arith, (object c).requires.class c.before.if3.true)
 
 shared-slice-read-text-place-2 : tie.Need-shared-slice-read-text-place-2
-unfolding kindIn first classIn
+unfolding kind_in first class_in
 shared-slice-read-text-place-2 c = omega (arith, (object c.before).requires.class c.before.before.if3.true)
 
 returns-3 : tie.Need-returns-3
-unfolding kindIn first second classIn
+unfolding kind_in first second class_in
 returns-3 c = λ p d. let o = c.before.before.before in c.text-place2.ensures p d ∙ rw add-one (trail-object p d _ _ _ (kinded o.before).if1.false o.if3.true)
 
 returns-4 : tie.Need-returns-4
-unfolding kindIn first
+unfolding kind_in first
 returns-4 c = λ p d. trail-leaf p d _ _ _ (kinded c.before).if1.false c.before.if2.false c.if3.false
 
-pub trail-place-spec : {M : Type 1} → statement M
-trail-place-spec = tie.close (tie.spec (λ c. search rules) (λ c. search rules) (λ c. search rules) returns (λ c. search rules) (λ c. search rules) (λ c. search rules) (λ c. search rules) (λ c. search rules) (λ c. search rules) (λ c. search rules) (λ c κs. tt) returns-2 mul-text-place-3 add-text-place-2 mul-text-place-4 shared-slice-read-text-place-2 (λ c κs. tt) returns-3 returns-4)
+pub trail-place_spec : {M : Type 1} → statement M
+trail-place_spec = tie.close (tie.spec (λ c. search rules) (λ c. search rules) (λ c. search rules) returns (λ c. search rules) (λ c. search rules) (λ c. search rules) (λ c. search rules) (λ c. search rules) (λ c. search rules) (λ c. search rules) (λ c κs. tt) returns-2 mul-text-place-3 add-text-place-2 mul-text-place-4 shared-slice-read-text-place-2 (λ c κs. tt) returns-3 returns-4)
