@@ -101,13 +101,13 @@ def main():
     to = {}
     taken = {}
     for name in sorted(kinds, key=lambda it: ("definition" not in kinds[it], it)):
-        if name in foreign:
-            print(f"left: {name}: std has the name")
-            continue
         if not (("-" in name[1:-1]) or re.search(r"[a-z0-9][A-Z]", name)):
             continue
         new = new_name(name, kinds, words)
         if new == name:
+            continue
+        if name in foreign:
+            print(f"left: {name}: std has the name")
             continue
         meets = [it for it in (new, new + "_lem") if it not in kinds and not used[it] and it not in taken]
         if not meets or (meets[0] != new and "definition" in kinds[name]):
@@ -121,8 +121,10 @@ def main():
         def one(found):
             it = found[0]
             if it.startswith(("--", "//", '"')):
-                # a comment that names a lemma
-                return PLAIN.sub(lambda w: to.get(w[0], w[0]) if "-" not in w[0] or w[0] in to else w[0], it) if it.startswith(("--", "//")) else it
+                # a comment's words with a dash are English as often as a lemma's name, but for those in backticks
+                by_word = lambda w: to.get(w[0], w[0])
+                words = re.sub(r"`[^`\n]+`", lambda q: PLAIN.sub(by_word, q[0]), it)
+                return PLAIN.sub(lambda w: w[0] if "-" in w[0] else by_word(w), words) if it.startswith(("--", "//")) else it
             before = text[max(0, found.start() - 12) : found.start()]
             if re.search(r"(?<![\w-])(tie|lts|goal)\.\Z", before):
                 return it
@@ -133,7 +135,7 @@ def main():
     changed = 0
     for path in files + sorted(glob.glob("crates/*/must-fail/*.edit")):
         text = read(path)
-        now = turned(text, TOKEN)
+        now = "".join(it if it.startswith("# ") and path.endswith(".edit") else turned(it, TOKEN) for it in text.splitlines(True))
         if now != text:
             changed += 1
             with open(path, "w", encoding="utf-8", newline="") as f:

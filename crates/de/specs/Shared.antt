@@ -76,7 +76,7 @@ lower (suc (suc (suc i))) = tt
 pub shared-apart : NothingContainsItself shared-nodes 2
 shared-apart = ranked shared-nodes rank (λ i j m. in_all (λ (k : ℕ). rank k < rank i) (at shared-nodes i).kids j m (lower i)) 2
 
--- its plain write_out: the list with its 5, twice
+-- its plain write-out: the list with its 5, twice
 abbrev pub shared-forest : Forest
 shared-forest = node TupleL (node ListL (node (I64L 5) nil nil) (node ListL (node (I64L 5) nil nil) nil)) nil
 
@@ -87,7 +87,7 @@ shared-written = afresh (afresh (afresh nothing nothing) (afresh (afresh nothing
 pub shared_places : ShownIn 0 (node (I64L 5) nil nil) (2 ∷ []) shared-forest shared-written × ShownIn 0 (node (I64L 5) nil nil) (2 ∷ []) shared-forest shared-written
 shared_places = (shown_inside shown_here, shown_inside (shown_after shown_here))
 
--- so the call gives that write_out, by demand 3
+-- so the call gives that write-out, by demand 3
 pub shared-read : (l l' : Slices) (a : Answer) → ReadCall (prefix shared) l l' a → ReadCall (reading_of 12 shared-forest) l l' a
 shared-read l l' a c =
     let x = shared_stops in

@@ -1,5 +1,5 @@
 -- What every reading by the public calls keeps to: sharing never shows, items added late show at each place, the answer and all slices are
--- determined, and what is filled is a well_formed_lem table. ReadCall x l l' a is a call's whole promise, with x the prefix or the whole reading in any edition.
+-- determined, and what is filled is a well-formed table. ReadCall x l l' a is a call's whole promise, with x the prefix or the whole reading in any edition.
 use Rattle.std.specs.Prelude.{ℕ, ◌*◌, ◌<◌, ◌≤◌, Bool, ◌&&◌, List, [], ◌∷◌, ◌++◌, ◌⊎◌, length, take, drop, eqb, leb, ltb}
 use Rattle.std.proofs.Math.Bool.{true, false}
 use Rattle.std.proofs.Math.Path.{◌≡◌, refl, ap}
@@ -34,19 +34,19 @@ module _ (ed : Edition) (p : List ℕ) (s : State) (fits : length p ≤ pickle_l
   pub call_never_shows_sharing : (f : Forest) → WritesOut s.nodes (last s.stack ∷ []) f → (l l' : Slices) (a : Answer) → ReadCall (prefix_in ed p) l l' a → ReadCall (reading_of (consumed p s) f) l l' a
   call_never_shows_sharing f w l l' a c = c ∙ ap (λ (x : Reading). reading x l) (sharing_never_shows ed p s fits stops left f apart w)
 
-  -- there is one plain write_out, and only one
+  -- there is one plain write-out, and only one
   pub one_write_out : (f : Forest) × WritesOut s.nodes (last s.stack ∷ []) f × ((g : Forest) → WritesOut s.nodes (last s.stack ∷ []) g → g ≡ f)
   one_write_out = write_out s.nodes (last s.stack) apart
 
 -- ---- 2. items added late
 
--- somewhere in a write_out stands the node i, with the contents c
+-- somewhere in a write-out stands the node i, with the contents c
 pub data ShownIn {t : List Node} (i : ℕ) (c : Forest) : (is : List ℕ) (f : Forest) → WritesOut t is f → Type 0 where
   shown_here : {is : List ℕ} {r : Forest} {w : WritesOut t (at t i).kids c} {x : WritesOut t is r} → ShownIn i c (i ∷ is) (node (at t i).label c r) (afresh w x)
   shown_inside : {j : ℕ} {is : List ℕ} {d r : Forest} {w : WritesOut t (at t j).kids d} {x : WritesOut t is r} → ShownIn i c (at t j).kids d w → ShownIn i c (j ∷ is) (node (at t j).label d r) (afresh w x)
   shown_after : {j : ℕ} {is : List ℕ} {d r : Forest} {w : WritesOut t (at t j).kids d} {x : WritesOut t is r} → ShownIn i c is r x → ShownIn i c (j ∷ is) (node (at t j).label d r) (afresh w x)
 
--- the contents at a place are the write_out of all that the node has at STOP
+-- the contents at a place are the write-out of all that the node has at STOP
 pub place_shows : {t : List Node} (i : ℕ) (c : Forest) {is : List ℕ} {f : Forest} {w : WritesOut t is f} → ShownIn i c is f w → WritesOut t (at t i).kids c
 place_shows i c (shown_here {w = w}) = w
 place_shows i c (shown_inside p) = place_shows i c p
@@ -67,8 +67,8 @@ contained_placed j i _ _ (there m) r (afresh w x) = let p = contained_placed j i
 contained_placed j i _ _ here (direct k) (afresh w x) = let p = listed-placed i _ _ k w in (p.0, shown_inside p.1)
 contained_placed j i _ _ here (through k r) (afresh w x) = let p = contained_placed _ i _ _ k r w in (p.0, shown_inside p.1)
 
--- The call is that of a write_out in which each node that the value left reaches has a place, and at every place of a node stand all the
--- contents that it has at STOP, whenever an opcode added them and wherever the node had been placed before. It fills the write_out in order.
+-- The call is that of a write-out in which each node that the value left reaches has a place, and at every place of a node stand all the
+-- contents that it has at STOP, whenever an opcode added them and wherever the node had been placed before. It fills the write-out in order.
 pub record LateItems (p : List ℕ) (s : State) (l l' : Slices) (a : Answer) : Type 0 where
   pub forest : Forest
   pub written : WritesOut s.nodes (last s.stack ∷ []) forest

@@ -1,4 +1,4 @@
--- RULES, Ask 2.2: two well_formed_lem values with the same listing are the same value.
+-- RULES, Ask 2.2: two well-formed values with the same listing are the same value.
 use Rattle.std.specs.Prelude.{ℕ, suc, ◌+◌, ◌*◌, ◌^◌, ◌<◌, List, [], ◌++◌, ◌≡◌, refl, T, length, drop}
 use Rattle.std.proofs.Common.{append_assoc, sym, ◌∙◌, ap, arith, take-append-drop}
 use Rattle.input.specs.Bytes.{Bytes}

@@ -1,4 +1,4 @@
--- That on well_formed_lem text `trimmed` is `str::trim` by characters: the bytes of a White_Space form that are found at either end
+-- That on well-formed text `trimmed` is `str::trim` by characters: the bytes of a White_Space form that are found at either end
 -- are a whole character there, since the first byte of a sequence never stands inside another. Assumes nothing.
 use Prim.Native.Nat.{ℕ, zero, suc, ◌≤◌}
 use Rattle.std.specs.Prelude.{Bool, true, false, cond, ◌&&◌, ◌||◌, ◌≡◌, T, leb, length, take, drop}
@@ -231,7 +231,7 @@ end_characters ps a =
     ∙ ap (λ l. flatten (map reverse l)) (sym (reverse-reverse q)) ∙ sym (flatten-reverse (reverse q)))
     ∙ reverse-reverse (flatten (reverse q))
 
--- the characters of a well_formed_lem text are its pieces
+-- the characters of a well-formed text are its pieces
 pub trimmed_characters_lem : (s : List ℕ) → valid s ≡ true → trimmed s ≡ flatten (trimmed_characters (pieces s))
 unfolding trimmed trimmed_characters valid
 trimmed_characters_lem s h =

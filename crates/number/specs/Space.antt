@@ -30,7 +30,7 @@ unfoldable pub space : List ℕ → Bool
 space s = one_of spaces s
 
 -- How many bytes the White_Space character has that s begins with; 0 if it begins with none. No form has more than three.
--- `read` puts the bytes in the order of the text. Bytes that are a form are a whole character of well_formed_lem text, from whichever
+-- `read` puts the bytes in the order of the text. Bytes that are a form are a whole character of well-formed text, from whichever
 -- end they are found, since the first byte of a sequence stands inside no other: `trimmed_characters_lem`.
 unfoldable pub width : (List ℕ → List ℕ) → List ℕ → ℕ
 width read s =

@@ -44,7 +44,7 @@ pub record BetweenOthers (lo hi i j : ℕ) : Type 0 where
   pub high : j < hi
   pub other : j ≢ i
 
--- From s to t: `rest` is left to read, the stack has one value more, and old nodes are as they were. The value is in new nodes; its write_out
+-- From s to t: `rest` is left to read, the stack has one value more, and old nodes are as they were. The value is in new nodes; its write-out
 -- has label l and contents c, and its contents keep off its own node, so that an opcode may still add to it.
 pub record OneMore (s : State) (rest : List ℕ) (l : Label) (c : Forest) (t : State) : Type 0 where
   pub input : t.input ≡ rest

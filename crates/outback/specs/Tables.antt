@@ -1,4 +1,4 @@
--- The value of a well_formed_lem table of u64 words is returnable, if its names can be written (Ask 5) and its Objects keep to the premise
+-- The value of a well-formed table of u64 words is returnable, if its names can be written (Ask 5) and its Objects keep to the premise
 -- on them. What the crate says of a record's words is said here.
 use Rattle.std.specs.Prelude.{ℕ, suc, zero, ◌+◌, ◌*◌, ◌^◌, ◌≤◌, ◌<◌, Bool, true, false, ◌&&◌, List, [], ◌∷◌, ◌++◌, ◌≡◌, refl, length, take, T, eqb, ltb}
 use Rattle.std.proofs.Common.{ap, length-append, eqb→eq, ltb→lt, arith}

@@ -1,5 +1,5 @@
--- The plain write_out of demand 3 (`WritesOut` of crate reading) with a property of every node in it: it stays as long as those nodes do.
--- And a node that has a write_out, which is finite, does not contain itself.
+-- The plain write-out of demand 3 (`WritesOut` of crate reading) with a property of every node in it: it stays as long as those nodes do.
+-- And a node that has a write-out, which is finite, does not contain itself.
 use Rattle.std.specs.Prelude.{ℕ, suc, ◌≤◌, ◌<◌, List, [], ◌∷◌, ◌++◌, ◌≡◌, refl, length}
 use Rattle.std.proofs.Common.{◌∙◌, ap, inl, inr, arith}
 use Rattle.value.specs.Value.{Label, Forest, count, size, nil, node}
@@ -39,7 +39,7 @@ writes_out {t} (more {i} {is} {ks} {l} {c} {r} p q a b) = let k : WritesOut t (a
 
 -- ---- nothing written out contains itself
 
--- the write_out of one node of several, no larger than all of it
+-- the write-out of one node of several, no larger than all of it
 record WriteOutOfOne (t : List Node) (i : ℕ) (n : ℕ) : Type 0 where
   pub forest : Forest
   pub out : WritesOut t (i ∷ []) forest

@@ -41,7 +41,7 @@ pub record WriteAccepted (w : List ℕ) (n : ℕ) (t o o' : List ℕ) (r : Answe
 abbrev pub written_bytes : List ℕ → Answer → List ℕ
 written_bytes o' r = take r.length o'
 
--- so it is for a well_formed_lem table that Ask 5 does not refuse, written with room
+-- so it is for a well-formed table that Ask 5 does not refuse, written with room
 pub accepts : (w : List ℕ) (n : ℕ) (t o o' : List ℕ) (r : Answer) → WriteCall w n t o o' r → (f : WellFormed w n t) → T (writable_in (one f.value)) → length (pickled f.value) ≤ length o → r.number ≡ 0
 unfolding written
 accepts w n t o o' r c f names room =

@@ -1,4 +1,4 @@
--- What a call that writes something of a well_formed_lem table's value shows of it: it is one value, and bytes put from 0 on are the call's
+-- What a call that writes something of a well-formed table's value shows of it: it is one value, and bytes put from 0 on are the call's
 -- answer.
 use Rattle.std.specs.Prelude.{ℕ, ◌+◌, ◌≤◌, List, ◌++◌, ◌≡◌, refl, length, drop}
 use Rattle.std.proofs.Common.{◌∙◌, arith}

@@ -142,6 +142,6 @@ module _ (ed : Edition) (p : List ℕ) (s : State) (short : length p ≤ pickle_
   pub sharing_never_shows : (f : Forest) → NothingContainsItself s.nodes (last s.stack) → WritesOut s.nodes (last s.stack ∷ []) f → prefix_in ed p ≡ reading_of (consumed p s) f
   sharing_never_shows f h w = rw (prefix-told ed p s (last s.stack) (stopped_with ed p s short stop left)) (ap (reading_of (consumed p s)) (tree_is_write_out s.nodes (last s.stack) f h w))
 
-  -- and such a write_out there is
+  -- and such a write-out there is
   pub written_out : NothingContainsItself s.nodes (last s.stack) → (f : Forest) × WritesOut s.nodes (last s.stack ∷ []) f × (prefix_in ed p ≡ reading_of (consumed p s) f)
   written_out h = (one (tree s.nodes (last s.stack)), tree_writes_out s.nodes (last s.stack) h, prefix-told ed p s (last s.stack) (stopped_with ed p s short stop left))

@@ -26,7 +26,7 @@ unfoldable pub Ascending : Forest → Type 0
 Ascending nil = Unit {0}
 Ascending (node l c r) = Under (record { label = l; contents = c }) r × Ascending r
 
--- as a well_formed_lem table has it
+-- as a well-formed table has it
 pub ascending_test : (f : Forest) → Ascending f → T (ascending f)
 unfolding Ascending Under ascending
 ascending_test nil a = tt

@@ -1,4 +1,4 @@
--- A reading that succeeds gives a well_formed_lem table, whatever the pickle's bytes.
+-- A reading that succeeds gives a well-formed table, whatever the pickle's bytes.
 use Rattle.std.specs.Prelude.{ℕ, Bool, true, false, cond, List, ◌≡◌, refl}
 use Rattle.std.proofs.Common.{arith}
 use Rattle.refusal.specs.declared.Refusal.{Refusal}

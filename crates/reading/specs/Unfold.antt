@@ -17,7 +17,7 @@ use Rattle.steps.specs.State.{Node, kidless}
 use Rattle.steps.specs.Opcodes.{is_object}
 use Rattle.reading.specs.Build.{Stage, Stages, fresh, taken, kept, unbuilt, stage, is_taken, at, first_taken, blocked, finish, each, build, tree}
 
--- The plain write_out of nodes one after the other: for each its label over the write_out of its children, whatever has been written
+-- The plain write-out of nodes one after the other: for each its label over the write-out of its children, whatever has been written
 -- before. A Set's child is its argument, a Dict's are all its keys and values, an Object's its arguments and its last state.
 pub data WritesOut (t : List Node) : List ℕ → Forest → Type 0 where
   nothing : WritesOut t [] nil
@@ -92,7 +92,7 @@ left_less d i m (suc n) z f h = go (staged i m d n) (left_less d i m n z f)
 pub outside-nodes : (t : List Node) (i : ℕ) → ¬ (i < length t) → (at t i).kids ≡ []
 outside-nodes t i h = rw (get_or-eq_default t (kidless NoneL) (let l : length t ≤ i = omega arith in l))
 
--- what is known while the nodes P are being built: a taken node is one of them, and a kept node has its write_out
+-- what is known while the nodes P are being built: a taken node is one of them, and a kept node has its write-out
 record KnownStages (t : List Node) (P : ℕ → Type 0) (d : Stages) : Type 0 where
   open_in : (j : ℕ) → d j ≡ taken → P j
   kept_is : (j : ℕ) (v : Value) → d j ≡ kept v → WritesOut t (j ∷ []) (one v)
@@ -230,15 +230,15 @@ tree_writes_out t root h =
     into i j (inl q) m = inr (rw (← q) (direct m))
     into i j (inr c) m = inr (contains_in c m)
 
--- nodes have one plain write_out at most
+-- nodes have one plain write-out at most
 pub write_out_unique : {t : List Node} {is : List ℕ} {f g : Forest} → WritesOut t is f → WritesOut t is g → f ≡ g
 write_out_unique nothing nothing = refl
 write_out_unique (afresh a b) (afresh c d) = let p = write_out_unique a c in let q = write_out_unique b d in cc
 
--- so the tree is the plain write_out
+-- so the tree is the plain write-out
 pub tree_is_write_out : (t : List Node) (root : ℕ) (f : Forest) → NothingContainsItself t root → WritesOut t (root ∷ []) f → one (tree t root) ≡ f
 tree_is_write_out t root f h w = write_out_unique (tree_writes_out t root h) w
 
--- a plain write_out there is, and one alone
+-- a plain write-out there is, and one alone
 pub write_out : (t : List Node) (root : ℕ) → NothingContainsItself t root → (f : Forest) × WritesOut t (root ∷ []) f × ((g : Forest) → WritesOut t (root ∷ []) g → g ≡ f)
 write_out t root h = (one (tree t root), tree_writes_out t root h, λ g w. write_out_unique w (tree_writes_out t root h))

@@ -1,5 +1,5 @@
 -- Items added late, carried through the run: what an opcode adds to a list or dict at any step stands, at its place in that node, at each
--- place of the node in the write_out that the prefix call fills in order.
+-- place of the node in the write-out that the prefix call fills in order.
 use Rattle.std.specs.Prelude.{ℕ, ◌<◌, ◌≤◌, List, [], ◌∷◌, ◌≡◌, length}
 use Rattle.refusal.specs.declared.Answer.{Answer}
 use Rattle.op.specs.declared.Edition.{Edition}
@@ -13,11 +13,11 @@ use Rattle.de.specs.Call.{ReadCall}
 use Rattle.de.specs.Theorems.{ShownIn, place_shows, LateItems, late_items_show}
 use Rattle.run_laws.specs.Late.{Item, Has, what, late_item}
 
--- in a write_out of nodes at STOP
+-- in a write-out of nodes at STOP
 pub at_each-place : (ed : Edition) (p : List ℕ) (z : State) → run ed p ≡ ok z → {is : List ℕ} {f : Forest} {w : WritesOut z.nodes is f} → (x : Next) (i j : ℕ) → Has ed p x i j → (c : Forest) → ShownIn i c is f w → Item z.nodes (what x i j) j c
 at_each-place ed p z stop x i j h c q = late_item ed p x i j h z stop c (place_shows i c q)
 
--- every item that a list or dict had after some steps, at each place of it in the write_out f of the value left
+-- every item that a list or dict had after some steps, at each place of it in the write-out f of the value left
 abbrev pub EachItem : (ed : Edition) (p : List ℕ) (z : State) (f : Forest) → WritesOut z.nodes (last z.stack ∷ []) f → Type 0
 EachItem ed p z f w = (x : Next) (i j : ℕ) → Has ed p x i j → (c : Forest) → ShownIn i c (last z.stack ∷ []) f w → Item z.nodes (what x i j) j c
 

@@ -1,4 +1,4 @@
--- Items added late, as late as may be: what an opcode adds to a list or dict at any step stands at its place in every write_out of what
+-- Items added late, as late as may be: what an opcode adds to a list or dict at any step stands at its place in every write-out of what
 -- that node contains at STOP.
 use Prim.Native.Nat.{ℕ, suc, zero, ◌+◌, ◌<◌}
 use Rattle.std.specs.Prelude.{List, ◌++◌, ◌≡◌, length, T}
@@ -15,7 +15,7 @@ use Rattle.machine.specs.Ran.{after_steps}
 use Rattle.run_laws.specs.Steps.{one_step}
 use Rattle.run_laws.specs.Carried.{list_or_dict, begins_at, contents_at_stop}
 
--- among values side by side, at place j, stands the write_out of the node x
+-- among values side by side, at place j, stands the write-out of the node x
 pub data Item (t : List Node) (x : ℕ) : ℕ → Forest → Type 0 where
   first : {c r : Forest} → WritesOut t (at t x).kids c → Item t x 0 (node (at t x).label c r)
   next : {j : ℕ} {l : Label} {c r : Forest} → Item t x j r → Item t x (suc j) (node l c r)

@@ -36,7 +36,7 @@ pub formed_value : (v : Value) (n : ℕ) (a : T (shaped (one v))) (b : T (settle
 unfolding value_formed
 formed_value v n a b c d e f = refl
 
--- the value of a well_formed_lem table has one of its own
+-- the value of a well-formed table has one of its own
 pub own_table : {w : List ℕ} {n : ℕ} {t : List ℕ} (f : WellFormed w n t) → WellFormed (table (one f.value) 0) n (text (one f.value))
 own_table f = let e = ap length f.texts in let h = f.short in value_formed f.value _ f.shape f.settle f.counted f.few f.shallow (omega arith)
 

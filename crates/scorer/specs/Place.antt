@@ -24,7 +24,7 @@ pub record Lies (w t : List ℕ) (i : ℕ) (f : Forest) : Type 0 where
   pub texts : drop place t ≡ text f ++ others
   pub inside : place ≤ length t
 
--- the value of a well_formed_lem table
+-- the value of a well-formed table
 pub formed_lies : {w : List ℕ} {n : ℕ} {t : List ℕ} (a : WellFormed w n t) → Lies w t 0 (one a.value)
 formed_lies {w} {n} {t} a =
     record {

@@ -1,4 +1,4 @@
--- The value of a well_formed_lem table as the code goes through it: a Dict at record 0, what is under its four keys, and the walk.
+-- The value of a well-formed table as the code goes through it: a Dict at record 0, what is under its four keys, and the walk.
 use Rattle.std.specs.Prelude.{ℕ, suc, ◌+◌, ◌*◌, ◌≤◌, ◌<◌, Bool, false, cond, ◌&&◌, List, ◌≡◌, refl, length, get_or, T}
 use Rattle.std.proofs.Math.Bool.{true, and-false}
 use Rattle.std.proofs.Math.Path.{sym, ap}

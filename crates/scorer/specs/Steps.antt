@@ -75,7 +75,7 @@ hit_at w j left item = ltb 0 left && (eqb (kind_in (word_at w j 0)) 2 && eqb ite
 
 -- ---- from key to key
 
--- a well_formed_lem table, of whatever count
+-- a well-formed table, of whatever count
 pub record Tabled (w t : List ℕ) : Type 0 where
   pub count : ℕ
   pub formed : WellFormed w count t

@@ -26,7 +26,7 @@ use Rattle.scorer.specs.Flip.{sheet_holds, is_true, flip, flip-sheet, flip-marke
 use Rattle.scorer.specs.declared.Scored.{Scored}
 use Rattle.scorer.specs.declared.Tally.TheVariants.{Off, Sum}
 
--- ---- what the call answers of a well_formed_lem table
+-- ---- what the call answers of a well-formed table
 
 abbrev pub scored : ℕ → ℕ → Scored
 scored s n = record { number = 0; detail = 0; score = s; items = n }

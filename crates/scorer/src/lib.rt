@@ -1,5 +1,5 @@
 // The score of a sheet (RULES, Ask 3), from the table that a reading gave. It stands on the reader's promises about tables: that
-// `well_formed` decides, and what a well_formed_lem table says.
+// `well_formed` decides, and what a well-formed table says.
 ghost use Rattle.std.specs.Prelude.{◌≡◌, ◌+◌, ◌*◌, ◌≤◌, ◌<◌, length, eqb};
 ghost use Rattle.std.proofs.Math.Dec.{compare_is_eq};
 ghost use Rattle.value.specs.Value.{bit};
@@ -169,7 +169,7 @@ fn tally_answers(
     Tally::Sum(score, entries)
 }
 
-// The value of a well_formed_lem table: whether it is a sheet, and its score.
+// The value of a well-formed table: whether it is a sheet, and its score.
 fn assess(words: &[u64], text: &[u8]) -> Tally
     requires { Tabled words.now text.now }
     ensures { Assesses words.now text.now result }

@@ -121,7 +121,7 @@ unfolding running
 stops true = record { state = _; runs = refl; made = refl; root = refl; whole = refl }
 stops false = record { state = _; runs = refl; made = refl; root = refl; whole = refl }
 
--- ---- its plain write_out
+-- ---- its plain write-out
 
 abbrev alone : Label → Forest → Forest
 alone l r = node l nil r

@@ -51,9 +51,9 @@ text_left {w} {u} {n} {m} {t} {s} x f g c e q =
     let k : text_length w n ≡ length s = text-length w n (take (text_length w n) t) f ∙ same_length f g c e in
     rw (k, q) (take-append_seam s x)
 
--- Bytes that are read to STOP with a value left, nothing reachable from which contains itself, and whose plain write_out is f.
+-- Bytes that are read to STOP with a value left, nothing reachable from which contains itself, and whose plain write-out is f.
 module _ (p : List ℕ) (b : Bytes p) (s : State) (fits : length p ≤ pickle_limit) (stops : run Full p ≡ ok s) (left : 0 < length s.stack) (apart : NothingContainsItself s.nodes (last s.stack)) (f : Forest) (w : WritesOut s.nodes (last s.stack ∷ []) f) (l l' : Slices) (a : Answer) (z : a.number ≡ 0) where
-  -- what the prefix reading left scores as the write_out does
+  -- what the prefix reading left scores as the write-out does
   pub shared_scores : {r q : Scored} → ReadCall (prefix p) l l' a → ScoresLeft l' a r → ScoresPlain f q → r ≡ q
   unfolding reading_of Formed
   shared_scores {r} {q} c scored plain = go (measured f) refl

@@ -16,7 +16,7 @@ use Rattle.ser.specs.Short.{written-short}
 use Rattle.ser.specs.Length.{records_take, pickled-length}
 use Rattle.ser.specs.Writable.{writable_in, writable_from, from_values, RecordsReadable, values_read}
 
--- of a well_formed_lem table's value, and the output that is lent
+-- of a well-formed table's value, and the output that is lent
 unfoldable pub written : Value → List ℕ → Told
 written v o = cond (writable_in (one v)) (answered (pickled v) o) (told (refused_answer UnwritableName) o)
 

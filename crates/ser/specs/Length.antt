@@ -250,7 +250,7 @@ module _ (w : List ℕ) where
         (omega
         (arith, before, beside, y, values_length c (i + 1) (and_l (shaped c) (shaped r) both) s.1, values_length r (i + 1 + size c) (and_r (shaped c) (shaped r) both) s.2, records_both (size c) (size r) (i + 1)))
 
--- a well_formed_lem table's value: PROTO 2, its records, STOP
+-- a well-formed table's value: PROTO 2, its records, STOP
 pub pickled-length : (w : List ℕ) (n : ℕ) (t : List ℕ) (f : WellFormed w n t) → length (pickled f.value) ≡ records_take w 0 n + 3
 unfolding pickled framed
 pickled-length w n t f =

@@ -1,4 +1,4 @@
--- No value is written longer than 28 bytes a record, its text, and 3 (open point 5.6): a well_formed_lem table's at most 122,883 bytes.
+-- No value is written longer than 28 bytes a record, its text, and 3 (open point 5.6): a well-formed table's at most 122,883 bytes.
 use Rattle.std.specs.Prelude.{ℕ, suc, zero, ◌+◌, ◌-◌, ◌*◌, ◌/◌, ◌≤◌, Bool, true, false, cond, List, [], ◌∷◌, ◌++◌, ◌≡◌, refl, eqb, leb, length, take, drop}
 use Rattle.std.proofs.Common.{append_assoc, sym, ◌∙◌, ap, arith, length-append, length-drop, take-append-drop}
 use Rattle.value.specs.Value.{Label, Forest, Value, one, text_of, text, count, size, NoneL, BoolL, I64L, F64L, BytesL, StringL, ListL, TupleL, SetL, FrozenSetL, DictL, GlobalL, ObjectL, nil, node}

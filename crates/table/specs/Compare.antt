@@ -68,7 +68,7 @@ compare_one w n t v m u r s x y = go (decided w n t) (decided v m u)
     go (inl a) (inr b) = x.second a b ∙ sym (y.second a b)
     go (inl a) (inl b) = x.both a b ∙ sym (y.both a b)
 
--- the value of a well_formed_lem table stands at its first record
+-- the value of a well-formed table stands at its first record
 pub formed_stands : (w : List ℕ) (n : ℕ) (t : List ℕ) (a : WellFormed w n t) → Stands w t 0 (one a.value)
 formed_stands w n t a =
     let f = one a.value in

@@ -1,4 +1,4 @@
--- RULES, Ask 13, on the compare call: over well_formed_lem tables its sign is turned round with its arguments, what is before what is
+-- RULES, Ask 13, on the compare call: over well-formed tables its sign is turned round with its arguments, what is before what is
 -- before another is before it, and the sign is 0 exactly for identical tables with identical texts. The laws are those of the order of
 -- values (OrderLaws and Total of crate value). There `lex` has them for what a label is ordered by, a number or bytes, `forests` for what
 -- is ordered part by part, and `then` joins the two. A kind is an instance by its `key`, `name` and `new`; only that these determine a
@@ -68,7 +68,7 @@ module _ (w : List ℕ) (n : ℕ) (t : List ℕ) (v : List ℕ) (m : ℕ) (u : L
 
 -- ---- the laws
 
--- compare of two well_formed_lem tables succeeds, with the sign of their values' order
+-- compare of two well-formed tables succeeds, with the sign of their values' order
 module _ {w : List ℕ} {n : ℕ} {t : List ℕ} {v : List ℕ} {m : ℕ} {u : List ℕ} {r : Compared} (a : WellFormed w n t) (b : WellFormed v m u) (c : Compares w n t v m u r) where
   sign_is : r.sign ≡ sign_of (order a.value b.value)
   sign_is = ap (λ (x : Compared). x.sign) (c.both a b)

@@ -73,7 +73,7 @@ module _ (w t : List ℕ) (short : length t ≤ 65536) where
       let v : p + length (text_of l ++ (text c ++ text r)) ≡ p + length (text_of l) + length (text c) + length (text r) = rw (length-append, length-append) (omega arith) in
       rw (u, v) rest
 
--- a well_formed_lem table's text is as long as that
+-- a well-formed table's text is as long as that
 pub text-length : (w : List ℕ) (n : ℕ) (t : List ℕ) → WellFormed w n t → text_length w n ≡ length t
 unfolding text_length last_end
 text-length w n t a =

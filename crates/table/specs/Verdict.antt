@@ -16,7 +16,7 @@ use Rattle.table.specs.Decides.{YesIff, decides_no}
 use Rattle.table.specs.declared.Checked.TheVariants.{Bad, Good}
 
 module _ (w : List ℕ) (n : ℕ) (t : List ℕ) where
-  -- a well_formed_lem table is found to be one
+  -- a well-formed table is found to be one
   pub formed_found : WellFormed w n t → checked_of (find_many (find w n t 64) 1 0 0) ≡ Good n (length t)
   unfolding count checked_of
   formed_found a =

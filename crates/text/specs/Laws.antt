@@ -349,7 +349,7 @@ valid_nil : valid [] ≡ true
 unfolding evaluates
 valid_nil = refl
 
--- and is well_formed_lem UTF-8
+-- and is well-formed UTF-8
 pub unicode-valid : (line : List ℕ) → Bytes line → valid (bytes_of (unescape_unicode line)) ≡ true
 unfolding unescape_unicode
 unicode-valid line h =

@@ -1,4 +1,4 @@
--- What follows for whole texts: the pieces are the text; a run of well_formed_lem sequences is cut into those sequences; well_formed_lem text is not
+-- What follows for whole texts: the pieces are the text; a run of well-formed sequences is cut into those sequences; well-formed text is not
 -- changed; what is repaired is well formed.
 use Rattle.std.specs.Prelude.{ℕ, suc, zero, ◌-◌, ◌*◌, ◌≤◌, ◌<◌, Bool, true, false, cond, ◌&&◌, ◌≡◌, refl, length, take, drop}
 use Rattle.std.proofs.Common.{arith, sym, ◌∙◌, length-append}
@@ -33,7 +33,7 @@ pub piece-take : (s : List ℕ) → take (length (piece s)) s ≡ piece s
 piece-take s =
     ap (λ (x : List ℕ). take (length (piece s)) x) (sym (piece_split s)) ∙ take-append_seam (piece s) (drop (length (piece s)) s)
 
--- D93b: no initial subsequence of a well_formed_lem sequence is longer than the piece
+-- D93b: no initial subsequence of a well-formed sequence is longer than the piece
 pub piece-longest : (s : List ℕ) (k : ℕ) → initial (take k s) ≡ true → length (take k s) ≤ length (piece s)
 unfolding goes some
 piece-longest [] zero h = omega arith
@@ -45,7 +45,7 @@ piece-longest (b ∷ t) (suc k) h = rw (piece-goes b t) (go (few b) (sym (initia
     go none h = let z : ◌≡◌ {A = ℕ} 0 1 = cc in omega arith
     go (one r l) h = omega (arith, along-longest r t k (sym (or-false (begins r (take k t))) ∙ h))
 
--- a well_formed_lem sequence is the piece at its start
+-- a well-formed sequence is the piece at its start
 pub piece-whole : (p x : List ℕ) → well_formed p ≡ true → piece (p ++ x) ≡ p
 unfolding well_formed whole_row some goes
 piece-whole [] x h = cc
@@ -87,7 +87,7 @@ pub flatten-pieces : (s : List ℕ) → flatten (pieces s) ≡ s
 unfolding pieces
 flatten-pieces s = flatten-after 0 s
 
--- a run of well_formed_lem sequences is cut into those sequences
+-- a run of well-formed sequences is cut into those sequences
 pub pieces-flatten : (ps : List (List ℕ)) → every ps ≡ true → pieces (flatten ps) ≡ ps
 unfolding flatten every pieces pieces_after well_formed whole_row some
 pieces-flatten [] h = refl
@@ -99,7 +99,7 @@ pieces-flatten ((b ∷ u) ∷ q) h =
 
 -- ---- validity and repair
 
--- D85: a well_formed_lem text is a run of well_formed_lem sequences, and such a run is a well_formed_lem text
+-- D85: a well-formed text is a run of well-formed sequences, and such a run is a well-formed text
 pub valid_is_run : (s : List ℕ) → valid s ≡ true → (every (pieces s) ≡ true) × (flatten (pieces s) ≡ s)
 unfolding valid
 valid_is_run s h = (h, flatten-pieces s)
@@ -126,7 +126,7 @@ unfolding every mend
 mend-all [] h = refl
 mend-all (p ∷ q) h = rw (and_left (well_formed p) (every q) h, mend-all q (and_right (well_formed p) (every q) h))
 
--- well_formed_lem text is not changed
+-- well-formed text is not changed
 pub repair-valid : (s : List ℕ) → valid s ≡ true → repair s ≡ s
 unfolding repair valid
 repair-valid s h = rw (mend-all (pieces s) h) (flatten-pieces s)
@@ -140,7 +140,7 @@ valid-repair s = valid_run (map mend (pieces s)) (every-mend (pieces s))
 pub repair-repair : (s : List ℕ) → repair (repair s) ≡ repair s
 repair-repair s = repair-valid (repair s) (valid-repair s)
 
--- two well_formed_lem texts make a well_formed_lem text
+-- two well-formed texts make a well-formed text
 every_append : (p q : List (List ℕ)) → every p ≡ true → every q ≡ true → every (p ++ q) ≡ true
 unfolding every
 every_append [] q h k = k
@@ -157,7 +157,7 @@ valid-append s t h k =
     let e : flatten (pieces s ++ pieces t) ≡ s ++ t = flatten-append (pieces s) (pieces t) ∙ rw (flatten-pieces s, flatten-pieces t) in
     rw (← e) (valid_run (pieces s ++ pieces t) (every_append (pieces s) (pieces t) h k))
 
--- a well_formed_lem sequence is a well_formed_lem text
+-- a well-formed sequence is a well-formed text
 pub valid_one : (p : List ℕ) → well_formed p ≡ true → valid p ≡ true
 unfolding flatten every
 valid_one p h = rw append-nil at (valid_run (p ∷ []) (rw h))

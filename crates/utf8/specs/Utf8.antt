@@ -1,4 +1,4 @@
--- Unicode chapter 3: which bytes are well_formed_lem UTF-8 (D92, Table 3-7), and the replacement of each maximal subpart of what is
+-- Unicode chapter 3: which bytes are well-formed UTF-8 (D92, Table 3-7), and the replacement of each maximal subpart of what is
 -- not (D93b, 'U+FFFD Substitution of Maximal Subparts'). Rust's `str::from_utf8` and `String::from_utf8_lossy` follow it.
 use Rattle.std.specs.Prelude.{ℕ, suc, zero, ◌+◌, ◌-◌, ◌/◌, ◌%◌, Bool, true, false, cond, ◌&&◌, ◌||◌, ◌≡◌, refl, length, take, replicate, leb, ltb}
 use mathlib.Core.List.{List, [], ◌∷◌, ◌++◌, map, flatten}
@@ -43,11 +43,11 @@ unfoldable pub some : (ByteRow → Bool) → List ByteRow → Bool
 some p [] = false
 some p (r ∷ t) = p r || some p t
 
--- D85a, D92: a minimal well_formed_lem sequence, the bytes of one scalar value
+-- D85a, D92: a minimal well-formed sequence, the bytes of one scalar value
 unfoldable pub well_formed : List ℕ → Bool
 well_formed s = some (λ r. whole_row r s) table37
 
--- D93b a: the initial subsequence of a well_formed_lem sequence
+-- D93b a: the initial subsequence of a well-formed sequence
 unfoldable pub initial : List ℕ → Bool
 initial s = some (λ r. begins r s) table37
 
@@ -56,7 +56,7 @@ unfoldable pub longest : ℕ → List ℕ → List ℕ
 longest zero s = take 1 s
 longest (suc k) s = cond (initial (take (suc k) s)) (take (suc k) s) (longest k s)
 
--- the piece at the start of s: a well_formed_lem sequence, or else a maximal subpart. No row is longer than four (`piece-longest`)
+-- the piece at the start of s: a well-formed sequence, or else a maximal subpart. No row is longer than four (`piece-longest`)
 unfoldable pub piece : List ℕ → List ℕ
 piece s = longest 4 s
 
@@ -70,12 +70,12 @@ pieces_after (suc n) (b ∷ s) = pieces_after n s
 unfoldable pub pieces : List ℕ → List (List ℕ)
 pieces s = pieces_after 0 s
 
--- each of the pieces is a well_formed_lem sequence
+-- each of the pieces is a well-formed sequence
 unfoldable pub every : List (List ℕ) → Bool
 every [] = true
 every (p ∷ t) = well_formed p && every t
 
--- D85: the text is well formed, a run of well_formed_lem sequences
+-- D85: the text is well formed, a run of well-formed sequences
 unfoldable pub valid : List ℕ → Bool
 valid s = every (pieces s)
 
@@ -83,7 +83,7 @@ valid s = every (pieces s)
 abbrev pub fffd : List ℕ
 fffd = 0xEF ∷ 0xBF ∷ 0xBD ∷ []
 
--- a well_formed_lem sequence is kept, a maximal subpart of an ill-formed one is replaced
+-- a well-formed sequence is kept, a maximal subpart of an ill-formed one is replaced
 unfoldable pub mend : List ℕ → List ℕ
 mend p = cond (well_formed p) p fffd
 

@@ -5,7 +5,7 @@ ghost use Rattle.std.proofs.lemmas.List.Edits.{sets};
 ghost use Rattle.utf8.specs.Utf8.{fffd, valid as valid_text, repair};
 ghost use Rattle.utf8.specs.Place.{Ascii, piece_of, second_of, next_in};
 
-// A well_formed_lem sequence, or a maximal subpart of an ill-formed one, by its length.
+// A well-formed sequence, or a maximal subpart of an ill-formed one, by its length.
 #[derive(Drop)]
 enum Piece {
     Whole(usize),

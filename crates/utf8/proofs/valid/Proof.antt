@@ -17,7 +17,7 @@ invariant-loop s i₀ i = (i ≤ length s) × (valid (drop i s) ≡ valid s)
 abbrev decreases-loop : tie.decreases-loop
 decreases-loop s i₀ i = length s - i
 
--- the piece in the arm of a well_formed_lem one
+-- the piece in the arm of a well-formed one
 whole : (c : tie.After-known-told invariant-loop decreases-loop) →
     let l = c.before.before.before.before.before.before in
     Turn l.before.before.before.before.args.s.now l.before.loop.i true c.before.p.given.0.0
