@@ -5,6 +5,7 @@
 // are cut off or are not those of the bytes behind them, of which 524,288 are read at most.
 //
 // Started with a word, it reads plain data only (RULES, Ask 7.6): sheet by sheet, since the profile has no batch.
+#![tactic(auto)]
 ghost use Rattle.std.specs.Prelude.{◌≡◌, length};
 ghost use Rattle.lengths.specs.Sum.{sum};
 

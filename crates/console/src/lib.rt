@@ -1,5 +1,6 @@
 // What the programs that take pickles on standard input share: the edition that is asked for, the beginning of a buffer, and the line of a
 // refusal.
+#![tactic(auto)]
 use op::Edition;
 
 // The edition to read in: that of plain data where the program was started with a word, whatever it is.

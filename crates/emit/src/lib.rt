@@ -1,6 +1,7 @@
 // The last pass of the reading: a root's value straight into the lent table and text, records in preorder, each text behind those before
 // it. A container is written once; at any other place its records and its text are copied, text places moved. Before it module arrange puts Sets
 // and Dicts in order, by module order.
+#![tactic(auto)]
 pub mod arrange;
 mod order;
 

@@ -1,6 +1,7 @@
 // Lists the pickle on standard input, which it reads as whole data: a header `value`, the bytes read and the records, then a line a record
 // (RULES A9.4); of a refusal only the line `refused`, its number and its detail. Started with a word, it reads plain
 // data only (RULES, Ask 7.6).
+#![tactic(auto)]
 use refusal::Answer;
 
 fn show_header(read: Answer) {

@@ -1,5 +1,6 @@
 // The opcodes of protocols 0 to 2 (mod.rs's `op`), under the Rust's names and in its order. The `pickle!` macro is left out.
 // specs/ has their table from pickletools, the decision over an opcode byte by it, and the editions of the reader.
+#![tactic(auto)]
 ghost use Rattle.std.specs.Prelude.{◌≡◌};
 ghost use Rattle.op.specs.Table.{code_of};
 ghost use Rattle.op.specs.Edition.{against, highest};
@@ -97,7 +98,7 @@ pub const LONG1: u8 = 0x8A;
 pub const LONG4: u8 = 0x8B;
 
 // The names as values, for definitions that go by cases on them.
-#[derive(Drop)]
+#[derive(Clone, Copy)]
 pub enum Opcode {
     MARK,
     STOP,
@@ -202,14 +203,14 @@ pub fn number(name: Opcode) -> u8
 }
 
 // Which reader: the full one, or the profile for plain data.
-#[derive(Drop)]
+#[derive(Clone, Copy)]
 pub enum Edition {
     Full,
     Plain,
 }
 
 // What an edition has against an opcode's byte.
-#[derive(Drop)]
+#[derive(Clone, Copy)]
 pub enum Objection {
     Nothing,
     Outside,

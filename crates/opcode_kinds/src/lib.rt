@@ -1,1 +1,2 @@
 // What kinds of value each opcode takes and leaves, and its protocol, against pickletools. Definitions and laws only, in specs/.
+#![tactic(auto)]

@@ -1,1 +1,2 @@
 // Out and back: what is written is read back as it was. Definitions and laws only, in specs/.
+#![tactic(auto)]

@@ -1,1 +1,2 @@
 // Out and back, of the public calls: definitions and laws only, in specs/.
+#![tactic(auto)]

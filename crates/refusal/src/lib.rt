@@ -1,10 +1,11 @@
 // Why a call refuses (`DeError` of de.rs, with the refusals that are added here), and what every public call answers.
 // Below every other crate. An enum cannot be exported, so a call answers its number and detail.
+#![tactic(auto)]
 ghost use Rattle.std.specs.Prelude.{◌≡◌};
 ghost use Rattle.refusal.specs.Numbers.{wanted_detail, which_detail, number_of, refused_answer};
 
 // What an opcode found instead of the value that it needs: `DeError::Invalid`.
-#[derive(Drop)]
+#[derive(Clone, Copy)]
 pub enum Wanted {
     Length,
     DictItems,
@@ -16,13 +17,13 @@ pub enum Wanted {
 }
 
 // Which of a call's tables is meant.
-#[derive(Drop)]
+#[derive(Clone, Copy)]
 pub enum Which {
     First,
     Second,
 }
 
-#[derive(Drop)]
+#[derive(Clone, Copy)]
 pub enum Refusal {
     ShortRoom,
     TooLong,
@@ -52,7 +53,7 @@ pub enum Refusal {
 
 // Number 0 is success. `length`: bytes read or written; `count`: a reading's records.
 #[repr(C)]
-#[derive(Drop)]
+#[derive(Clone, Copy)]
 pub struct Answer {
     pub number: u64,
     pub detail: u64,

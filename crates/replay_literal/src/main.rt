@@ -1,5 +1,6 @@
 // Replays literals: standard input has pickles of one literal and STOP, each after its length in two bytes, low byte first; for
 // each a line says what the leaves read. The file stdout holds the Rust's answers.
+#![tactic(auto)]
 
 fn tab() {
     io::write_all(1, b"\t");

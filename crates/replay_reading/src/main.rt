@@ -2,6 +2,7 @@
 // the pickle. For each a line has the answer: number, detail, length and count, and after a success the words of the records and the
 // text, in hex. Every element of the rooms and outputs is lent with a mark in it, another one for each case: the line ends with `dirty` where
 // a room is not all zero after the reading, and with `spilled` where an output has changed behind what the reading filled.
+#![tactic(auto)]
 use op::Edition;
 use refusal::Answer;
 

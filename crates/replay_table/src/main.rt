@@ -2,6 +2,7 @@
 // count and text length of one table; the same of another; the output's length), then the tables' words, high byte first, and
 // texts. For each a line has the answer, of list and write with the number of bytes changed behind its length;
 // after one of these that succeeds its output follows.
+#![tactic(auto)]
 ghost use Rattle.std.specs.Prelude.{◌≤◌, ◌<◌, length};
 ghost use Rattle.replay_table.specs.Small.{Small};
 

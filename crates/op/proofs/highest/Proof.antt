@@ -6,4 +6,4 @@ use Rattle.op.proofs.highest.Tie as tie
 
 pub highest_spec : {M : Type 1} → statement M
 unfolding highest
-highest_spec = tie.close (tie.spec (λ c. search rules) (λ c. search rules) (λ c. rw c.enum_told.given.1) (λ c. rw c.enum-told2.given.1))
+highest_spec = tie.close (tie.spec (λ c. search rules) (λ c. search rules) (λ c. rw c.in-Full.is) (λ c. rw c.in-Plain.is))

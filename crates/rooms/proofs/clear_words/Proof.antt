@@ -11,4 +11,4 @@ clear_words_spec =
     tie.close
     (tie.spec
     (λ room₀ n i₀ room i. Clearing room₀ n i room) (λ room₀ n i₀ room i. n - i) (λ c. clearing_none) (λ c. search rules) (λ c. omega arith) (λ c. omega arith) (λ c. omega arith)
-    (λ c. clearing_more c.before.loop.invariant c.loop-test.true c.before.before.requires) (λ c. search rules) (λ c. clearing_end c.before.loop.invariant c.loop-test.false))
+    (λ c. clearing_more c.loop-i.invariant c.loop-i-test.true c.requires) (λ c. search rules) (λ c. clearing_end c.loop-i.invariant c.loop-i-test.false))

@@ -11,4 +11,4 @@ shorts_are_zero_spec =
     tie.close
     (tie.spec
     (λ room n any₀ i₀ any i. Looked room n i any) (λ room n any₀ i₀ any i. n - i) (λ c. looked_none) (λ c. search rules) (λ c. omega arith) (λ c. omega arith) (λ c. omega arith)
-    (λ c. looked_more c.before.before.loop.invariant c.before.loop-test.true c.before.before.before.requires) (λ c. looked_all c.before.loop.invariant c.loop-test.false))
+    (λ c. looked_more c.loop-i.invariant c.loop-i-test.true c.requires) (λ c. looked_all c.loop-i.invariant c.loop-i-test.false))

@@ -5,4 +5,4 @@ use Rattle.rooms.proofs.zero_ints.Statement.{statement}
 use Rattle.rooms.proofs.zero_ints.Tie as tie
 
 pub zero_ints_spec : {M : Type 1} → statement M
-zero_ints_spec = tie.close (tie.spec (λ c κs. search rules) (λ c. search rules) (λ c. sym (c.before.ints-are-zero.ensures c.if1.true)) (λ c κs. search rules) (λ c. search rules) (λ c. search rules))
+zero_ints_spec = tie.close (tie.spec (λ c κs. search rules) (λ c. search rules) (λ c. sym (c.ints_are_zero.ensures c.if-ints_are_zero.true)) (λ c κs. search rules) (λ c. search rules) (λ c. search rules))

@@ -5,4 +5,4 @@ use Rattle.rooms.proofs.zero_shorts.Statement.{statement}
 use Rattle.rooms.proofs.zero_shorts.Tie as tie
 
 pub zero_shorts_spec : {M : Type 1} → statement M
-zero_shorts_spec = tie.close (tie.spec (λ c κs. search rules) (λ c. search rules) (λ c. sym (c.before.shorts-are-zero.ensures c.if1.true)) (λ c κs. search rules) (λ c. search rules) (λ c. search rules))
+zero_shorts_spec = tie.close (tie.spec (λ c κs. search rules) (λ c. search rules) (λ c. sym (c.shorts_are_zero.ensures c.if-shorts_are_zero.true)) (λ c κs. search rules) (λ c. search rules) (λ c. search rules))

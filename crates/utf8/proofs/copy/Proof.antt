@@ -9,26 +9,26 @@ use Rattle.utf8.proofs.Stores.{copy_more, copy_none}
 use Rattle.utf8.proofs.copy.Statement.{statement}
 use Rattle.utf8.proofs.copy.Tie as tie
 
-abbrev invariant-loop : tie.invariant-loop
+abbrev invariant-loop : tie.invariant-loop-k
 invariant-loop s i len out₀ n k₀ out k =
     (k ≤ len)
     × (length out ≡ length out₀)
     × (sets out (n + k) (take (len - k) (drop (i + k) s)) ≡ sets out₀ n (take len (drop i s)))
 
-abbrev decreases-loop : tie.decreases-loop
+abbrev decreases-loop : tie.decreases-loop-k
 decreases-loop s i len out₀ n k₀ out k = len - k
 
-loop-holds : tie.Need-loop-init invariant-loop decreases-loop
+loop-holds : tie.Need-loop-k-init invariant-loop decreases-loop
 loop-holds c = (omega arith, refl, simp (add-zero, sub-zero))
 
-loop-again : tie.Need-loop-preserved invariant-loop decreases-loop
-loop-again c = (omega arith, simp length-set c.before.before.loop.invariant.1, copy_more _ _ _ _ _ _ c.before.loop-test.true (omega arith) ∙ c.before.before.loop.invariant.2)
+loop-again : tie.Need-loop-k-preserved invariant-loop decreases-loop
+loop-again c = (omega arith, simp length-set c.loop-k.invariant.1, copy_more _ _ _ _ _ _ c.loop-k-test.true (omega arith) ∙ c.loop-k.invariant.2)
 
-same_length : tie.Need-same-length invariant-loop decreases-loop
-same_length c = c.before.loop.invariant.1
+same_length : tie.Need-shape_of-out invariant-loop decreases-loop
+same_length c = c.loop-k.invariant.1
 
 returns : tie.Need-returns invariant-loop decreases-loop
-returns c = sym (copy_none _ _ _ _ _ _ c.loop-test.false) ∙ c.before.loop.invariant.2
+returns c = sym (copy_none _ _ _ _ _ _ c.loop-k-test.false) ∙ c.loop-k.invariant.2
 
 pub copy_spec : {M : Type 1} → statement M
 copy_spec =

@@ -11,60 +11,60 @@ use Rattle.utf8.proofs.Pieces.{Turn, turn, turn_ascii, stored_ascii, repair_end}
 use Rattle.utf8.proofs.from_utf8_lossy.Statement.{statement}
 use Rattle.utf8.proofs.from_utf8_lossy.Tie as tie
 
-abbrev invariant-loop : tie.invariant-loop
+abbrev invariant-loop : tie.invariant-loop-i
 invariant-loop s out₀ i₀ n₀ out i n =
     (i ≤ length s)
     × (length out ≡ length out₀)
     × (n + length (repair (drop i s)) ≡ length (repair s))
     × (sets out n (repair (drop i s)) ≡ sets out₀ 0 (repair s))
 
-abbrev decreases-loop : tie.decreases-loop
+abbrev decreases-loop : tie.decreases-loop-i
 decreases-loop s out₀ i₀ n₀ out i n = length s - i
 
 -- the piece in each arm
-ascii : (c : tie.Then1 invariant-loop decreases-loop) →
+ascii : (c : tie.Then-b-lt128 invariant-loop decreases-loop) →
     let l = c.before.before in
-    Turn l.before.before.before.before.args.s.now l.before.loop.i true 1
-ascii c = turn_ascii _ _ c.before.before.loop-test.true c.if1.true
+    Turn l.args.s.now l.loop-i.i true 1
+ascii c = turn_ascii _ _ c.loop-i-test.true c.if-b-lt128.true
 
-whole : (c : tie.After-known-told invariant-loop decreases-loop) →
-    let l = c.before.before.before.before.before.before in
-    Turn l.before.before.before.before.args.s.now l.before.loop.i true c.before.p.given.0.0
+whole : (c : tie.In-Whole invariant-loop decreases-loop) →
+    let l = c.before.before.before.before in
+    Turn l.args.s.now l.loop-i.i true c.in-Whole.len
 whole c =
-    let l = c.before.before.before.before.before.before in
-    turn _ _ l.loop-test.true true _ (sym c.before.p.given.1 ∙ c.before.before.before.piece-at.ensures)
+    let l = c.before.before.before.before in
+    turn _ _ l.loop-i-test.true true _ (sym c.in-Whole.is ∙ c.piece_at-p.ensures)
 
-part : (c : tie.After-known-told2 invariant-loop decreases-loop) →
-    let l = c.before.before.before.before.before.before in
-    Turn l.before.before.before.before.args.s.now l.before.loop.i false c.before.p2.given.0.0
+part : (c : tie.In-Part invariant-loop decreases-loop) →
+    let l = c.before.before.before.before in
+    Turn l.args.s.now l.loop-i.i false c.in-Part.len
 part c =
-    let l = c.before.before.before.before.before.before in
-    turn _ _ l.loop-test.true false _ (sym c.before.p2.given.1 ∙ c.before.before.before.piece-at.ensures)
+    let l = c.before.before.before.before in
+    turn _ _ l.loop-i-test.true false _ (sym c.in-Part.is ∙ c.piece_at-p.ensures)
 
 -- what is left after each arm
-loop-again : tie.Need-loop-preserved invariant-loop decreases-loop
+loop-again : tie.Need-loop-i-preserved-then-b-lt128 invariant-loop decreases-loop
 loop-again c =
     let l = c.before.before in
-    (omega arith, simp length-set l.before.loop.invariant.1, omega (arith, ascii c), stored_ascii _ _ l.loop-test.true c.if1.true _ _ ∙ l.before.loop.invariant.3)
+    (omega arith, simp length-set l.loop-i.invariant.1, omega (arith, ascii c), stored_ascii _ _ l.loop-i-test.true c.if-b-lt128.true _ _ ∙ l.loop-i.invariant.3)
 
-loop-again-2 : tie.Need-loop-preserved-2 invariant-loop decreases-loop
+loop-again-2 : tie.Need-loop-i-preserved-in-Whole invariant-loop decreases-loop
 loop-again-2 c =
     let w = c.before.before.before.before in
-    let l = w.before.before.before.before.before.before.before in
-    let k = c.before.before.copy in
-    ((whole w).ranges, k.auto.1.1.1.0 ∙ l.loop.invariant.1, omega (arith, whole w), rw k.ensures ((whole w).stored _ _ ∙ l.loop.invariant.3))
+    let l = w.before.before.before.before.before in
+    let k = c.copy in
+    ((whole w).fits, k.auto.out ∙ l.loop-i.invariant.1, omega (arith, whole w), rw k.ensures ((whole w).stored _ _ ∙ l.loop-i.invariant.3))
 
-loop-again-3 : tie.Need-loop-preserved-3 invariant-loop decreases-loop
+loop-again-3 : tie.Need-loop-i-preserved invariant-loop decreases-loop
 loop-again-3 c =
     let w = c.before.before.before.before in
-    let l = w.before.before.before.before.before.before.before in
-    let k = c.before.before.replace in
-    ((part w).ranges, k.auto.0 ∙ l.loop.invariant.1, omega (arith, part w), rw k.ensures ((part w).stored _ _ ∙ l.loop.invariant.3))
+    let l = w.before.before.before.before.before in
+    let k = c.replace in
+    ((part w).fits, k.auto.out ∙ l.loop-i.invariant.1, omega (arith, part w), rw k.ensures ((part w).stored _ _ ∙ l.loop-i.invariant.3))
 
 returns : tie.Need-returns invariant-loop decreases-loop
 returns c =
-    let e = repair_end c.before.before.before.before.args.s.now c.before.loop.i c.loop-test.false in
-    (omega (arith, ap length e), rw e at c.before.loop.invariant.3)
+    let e = repair_end c.args.s.now c.loop-i.i c.loop-i-test.false in
+    (omega (arith, ap length e), rw e at c.loop-i.invariant.3)
 
 pub from_utf8_lossy_spec : {M : Type 1} → statement M
 from_utf8_lossy_spec =
@@ -92,5 +92,5 @@ from_utf8_lossy_spec =
     (λ c. omega (arith, part c.before.before.before.before))
     (λ c. omega (arith, part c.before.before.before.before))
     loop-again-3
-    (λ c. c.before.loop.invariant.1)
+    (λ c. c.loop-i.invariant.1)
     returns)

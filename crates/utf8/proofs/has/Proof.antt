@@ -8,17 +8,17 @@ use Rattle.utf8.specs.Utf8.{in_column}
 use Rattle.utf8.proofs.has.Statement.{statement}
 use Rattle.utf8.proofs.has.Tie as tie
 
-returns : tie.Need-returns
+returns : tie.Need-returns-then-s-at
 unfolding next_in
-returns c = simp (drop_of_length-le c.before.args.s.now c.if1.true)
+returns c = simp (drop_of_length-le c.args.s.now c.if-s-at.true)
 
-returns-2 : tie.Need-returns-2
+returns-2 : tie.Need-returns-then-range-c
 unfolding next_in in_column
-returns-2 c = simp (drop-cons c.before.before.before.before.before.args.s.now c.before.before.before.before.before.args.at 0 c.before.before.before.before.if1.false, le-leb _ _ c.before.if2.true)
+returns-2 c = simp (drop-cons c.args.s.now c.args.at 0 c.if-s-at.false, le-leb _ _ c.if-range-c.true)
 
-returns-3 : tie.Need-returns-3
+returns-3 : tie.Need-returns-else-range-c
 unfolding next_in in_column
-returns-3 c = simp (drop-cons c.before.before.before.before.args.s.now c.before.before.before.before.args.at 0 c.before.before.before.if1.false, lt-leb _ _ c.if2.false)
+returns-3 c = simp (drop-cons c.args.s.now c.args.at 0 c.if-s-at.false, lt-leb _ _ c.if-range-c.false)
 
 pub has_spec : {M : Type 1} → statement M
 has_spec =

@@ -13,7 +13,7 @@ use Rattle.utf8.proofs.is_ascii.Tie as tie
 returns : tie.Need-returns
 unfolding together
 returns c =
-    let a = c.before.before.before.before.before.before.before.before.args in
+    let a = c.args in
     λ h k l. ltb-true _ _ (together-each (ltb (get_or a.s.now a.i 0) 0x80) (λ j. ltb (get_or a.s.now (a.i + j) 0) 0x80) (rw add-zero) 7 h k (omega arith))
 
 pub is_ascii_spec : {M : Type 1} → statement M

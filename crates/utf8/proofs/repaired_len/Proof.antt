@@ -11,44 +11,44 @@ use Rattle.utf8.proofs.Pieces.{Turn, turn, turn_ascii, repair_end}
 use Rattle.utf8.proofs.repaired_len.Statement.{statement}
 use Rattle.utf8.proofs.repaired_len.Tie as tie
 
-abbrev invariant-loop : tie.invariant-loop
+abbrev invariant-loop : tie.invariant-loop-i
 invariant-loop s i₀ n₀ i n = (i ≤ length s) × (n + length (repair (drop i s)) ≡ length (repair s))
 
-abbrev decreases-loop : tie.decreases-loop
+abbrev decreases-loop : tie.decreases-loop-i
 decreases-loop s i₀ n₀ i n = length s - i
 
 -- the piece in each arm
-ascii : (c : tie.Then1 invariant-loop decreases-loop) →
+ascii : (c : tie.Then-s-i-lt128 invariant-loop decreases-loop) →
     let l = c.before.before in
-    Turn l.before.before.before.args.s.now l.before.loop.i true 1
-ascii c = turn_ascii _ _ c.before.before.loop-test.true c.if1.true
+    Turn l.args.s.now l.loop-i.i true 1
+ascii c = turn_ascii _ _ c.loop-i-test.true c.if-s-i-lt128.true
 
-whole : (c : tie.After-known-told invariant-loop decreases-loop) →
-    let l = c.before.before.before.before.before.before in
-    Turn l.before.before.before.args.s.now l.before.loop.i true c.before.p.given.0.0
+whole : (c : tie.In-Whole invariant-loop decreases-loop) →
+    let l = c.before.before.before.before in
+    Turn l.args.s.now l.loop-i.i true c.in-Whole.len
 whole c =
-    let l = c.before.before.before.before.before.before in
-    turn _ _ l.loop-test.true true _ (sym c.before.p.given.1 ∙ c.before.before.before.piece-at.ensures)
+    let l = c.before.before.before.before in
+    turn _ _ l.loop-i-test.true true _ (sym c.in-Whole.is ∙ c.piece_at-p.ensures)
 
-part : (c : tie.After-known-told2 invariant-loop decreases-loop) →
-    let l = c.before.before.before.before.before.before in
-    Turn l.before.before.before.args.s.now l.before.loop.i false c.before.p2.given.0.0
+part : (c : tie.In-Part invariant-loop decreases-loop) →
+    let l = c.before.before.before.before in
+    Turn l.args.s.now l.loop-i.i false c.in-Part.len
 part c =
-    let l = c.before.before.before.before.before.before in
-    turn _ _ l.loop-test.true false _ (sym c.before.p2.given.1 ∙ c.before.before.before.piece-at.ensures)
+    let l = c.before.before.before.before in
+    turn _ _ l.loop-i-test.true false _ (sym c.in-Part.is ∙ c.piece_at-p.ensures)
 
 -- the sum fits
-add-n : tie.Need-overflow-add-n invariant-loop decreases-loop
-add-n c = omega (arith, ascii c, repair-length c.before.before.before.before.before.args.s.now)
+add-n : tie.Need-overflow_add-n invariant-loop decreases-loop
+add-n c = omega (arith, ascii c, repair-length c.args.s.now)
 
-add-n-2 : tie.Need-overflow-add-n-2 invariant-loop decreases-loop
-add-n-2 c = omega (arith, whole c, repair-length c.before.before.before.before.before.before.before.before.before.args.s.now)
+add-n-2 : tie.Need-overflow_add-n-in-Whole invariant-loop decreases-loop
+add-n-2 c = omega (arith, whole c, repair-length c.args.s.now)
 
-add-n-3 : tie.Need-overflow-add-n-3 invariant-loop decreases-loop
-add-n-3 c = omega (arith, part c, repair-length c.before.before.before.before.before.before.before.before.before.args.s.now)
+add-n-3 : tie.Need-overflow_add-n-in-Part invariant-loop decreases-loop
+add-n-3 c = omega (arith, part c, repair-length c.args.s.now)
 
 returns : tie.Need-returns invariant-loop decreases-loop
-returns c = omega (arith, ap length (repair_end c.before.before.before.args.s.now c.before.loop.i c.loop-test.false))
+returns c = omega (arith, ap length (repair_end c.args.s.now c.loop-i.i c.loop-i-test.false))
 
 pub repaired_len_spec : {M : Type 1} → statement M
 repaired_len_spec =

@@ -8,10 +8,10 @@ use borrow.Author.Rules.{rules}
 use Rattle.utf8.proofs.replace.Statement.{statement}
 use Rattle.utf8.proofs.replace.Tie as tie
 
-slice-write-out-2 : tie.Need-slice-write-out-2
+slice-write-out-2 : tie.Need-bounds-out-n-2
 slice-write-out-2 c = simp length-set (omega arith)
 
-slice-write-out-3 : tie.Need-slice-write-out-3
+slice-write-out-3 : tie.Need-bounds-out-n-3
 slice-write-out-3 c = simp length-set (omega arith)
 
 returns : tie.Need-returns
