@@ -10,32 +10,32 @@ use Rattle.value.specs.Stands.{arity_at}
 use Rattle.value.specs.Shape.{arity_none, arity_items, arity_dict, arity_state, arity_alone, arity_other}
 use Rattle.value.specs.Left.{dict_arity}
 
-returns : tie.Need-returns
+returns : tie.Need-returns-then-kind-lt-KIND_LIST
 unfolding arity_at
-returns c = rw add-zero (arity_none _ _ _ (ap (λ h. h.kind) c.before.before.head_of.ensures) c.if1.true)
+returns c = rw add-zero (arity_none _ _ _ (ap (λ h. h.kind) c.head_of-head.ensures) c.if-kind-lt-KIND_LIST.true)
 
-returns-2 : tie.Need-returns-2
+returns-2 : tie.Need-returns-then-kind-lt-KIND_DICT
 unfolding arity_at
-returns-2 c = rw add-zero (arity_items _ _ _ (ap (λ h. h.kind) c.before.before.before.head_of.ensures) c.before.if1.false c.if2.true)
+returns-2 c = rw add-zero (arity_items _ _ _ (ap (λ h. h.kind) c.head_of-head.ensures) c.if-kind-lt-KIND_LIST.false c.if-kind-lt-KIND_DICT.true)
 
-add-result : tie.Need-overflow-add-result
-add-result c = omega (arith, dict_arity c.before.before.before.before.before.before.before.args.words.now c.before.before.before.before.before.before.before.args.i _ (ap (λ h. h.kind) c.before.before.before.before.head_of.ensures) c.if3.true)
+add-result : tie.Need-overflow_add-result
+add-result c = omega (arith, dict_arity c.args.words.now c.args.i _ (ap (λ h. h.kind) c.head_of-head.ensures) c.if-kind-eq-KIND_DICT.true)
 
-returns-3 : tie.Need-returns-3
+returns-3 : tie.Need-returns-then-kind-eq-KIND_DICT
 unfolding arity_at
-returns-3 c = rw add-zero (arity_dict _ _ _ (ap (λ h. h.kind) c.before.before.before.before.head_of.ensures) c.if3.true)
+returns-3 c = rw add-zero (arity_dict _ _ _ (ap (λ h. h.kind) c.head_of-head.ensures) c.if-kind-eq-KIND_DICT.true)
 
-returns-4 : tie.Need-returns-4
+returns-4 : tie.Need-returns-then-head
 unfolding arity_at
-returns-4 c = rw add-zero (arity_state _ _ _ (ap (λ h. h.kind) c.before.before.before.before.before.before.head_of.ensures) c.before.if4.true (sym (ap (λ h. h.state) c.before.before.before.before.before.before.head_of.ensures) ∙ c.if5.true))
+returns-4 c = rw add-zero (arity_state _ _ _ (ap (λ h. h.kind) c.head_of-head.ensures) c.if-kind-eq-KIND_OBJECT.true (sym (ap (λ h. h.state) c.head_of-head.ensures) ∙ c.if-head.true))
 
-returns-5 : tie.Need-returns-5
+returns-5 : tie.Need-returns-then-kind-eq-KIND_OBJECT
 unfolding arity_at
-returns-5 c = rw add-zero (arity_alone _ _ _ (ap (λ h. h.kind) c.before.before.before.before.before.before.head_of.ensures) c.before.if4.true (sym (ap (λ h. h.state) c.before.before.before.before.before.before.head_of.ensures) ∙ c.if5.false))
+returns-5 c = rw add-zero (arity_alone _ _ _ (ap (λ h. h.kind) c.head_of-head.ensures) c.if-kind-eq-KIND_OBJECT.true (sym (ap (λ h. h.state) c.head_of-head.ensures) ∙ c.if-head.false))
 
-returns-6 : tie.Need-returns-6
+returns-6 : tie.Need-returns
 unfolding arity_at
-returns-6 c = rw add-zero (arity_other _ _ _ (ap (λ h. h.kind) c.before.before.before.before.before.head_of.ensures) c.before.before.before.if1.false c.before.before.if2.false c.before.if3.false c.if4.false)
+returns-6 c = rw add-zero (arity_other _ _ _ (ap (λ h. h.kind) c.head_of-head.ensures) c.if-kind-lt-KIND_LIST.false c.if-kind-lt-KIND_DICT.false c.if-kind-eq-KIND_DICT.false c.if-kind-eq-KIND_OBJECT.false)
 
 pub arity_spec : {M : Type 1} → statement M
 arity_spec =

@@ -13,8 +13,8 @@ compare_floats_spec =
     tie.close
     (tie.spec
     (λ c κs. search rules)
-    (λ c. c.compare-numbers.ensures ∙ sym (floats_low _ _ c.before.before.if1.true c.before.if2.true))
-    (λ c. sym (floats_mixed _ _ c.before.if1.true c.if2.false))
-    (λ c. sym (lex_turned total_order c.before.before.args.x c.before.before.args.y (floats_mixed _ _ c.if3.true c.before.if1.false)))
+    (λ c. c.compare_numbers.ensures ∙ sym (floats_low _ _ c.if-x-lt9223372036854775808.true c.if-y-lt9223372036854775808.true))
+    (λ c. sym (floats_mixed _ _ c.if-x-lt9223372036854775808.true c.if-y-lt9223372036854775808.false))
+    (λ c. sym (lex_turned total_order c.args.x c.args.y (floats_mixed _ _ c.if-y-lt9223372036854775808-2.true c.if-x-lt9223372036854775808.false)))
     (λ c κs. search rules)
-    (λ c. c.compare-numbers2.ensures ∙ sym (floats_high _ _ (omega arith) (omega arith))))
+    (λ c. c.compare_numbers-2.ensures ∙ sym (floats_high _ _ (omega arith) (omega arith))))

@@ -11,10 +11,10 @@ unfolding told
 compare_ints_spec =
     tie.close
     (tie.spec
-    (λ c. rw c.if1.true (sym (lex_same _)))
+    (λ c. rw c.if-x-y.true (sym (lex_same _)))
     (λ c κs. search rules)
-    (λ c. c.compare-numbers.ensures ∙ sym (ints_low _ _ c.before.before.if2.true c.before.if3.true))
-    (λ c. sym (ints_mixed _ _ c.before.if2.true c.if3.false))
-    (λ c. sym (lex_turned by_value c.before.before.before.args.x c.before.before.before.args.y (ints_mixed _ _ c.if4.true c.before.if2.false)))
+    (λ c. c.compare_numbers.ensures ∙ sym (ints_low _ _ c.if-x-lt9223372036854775808.true c.if-y-lt9223372036854775808.true))
+    (λ c. sym (ints_mixed _ _ c.if-x-lt9223372036854775808.true c.if-y-lt9223372036854775808.false))
+    (λ c. sym (lex_turned by_value c.args.x c.args.y (ints_mixed _ _ c.if-y-lt9223372036854775808-2.true c.if-x-lt9223372036854775808.false)))
     (λ c κs. search rules)
-    (λ c. c.compare-numbers2.ensures ∙ sym (ints_high _ _ c.before.before.if2.false c.before.if4.false)))
+    (λ c. c.compare_numbers-2.ensures ∙ sym (ints_high _ _ c.if-x-lt9223372036854775808.false c.if-y-lt9223372036854775808-2.false)))

@@ -9,23 +9,23 @@ use Rattle.value.specs.Order.{lex}
 use Rattle.value.specs.Told.{told}
 use Rattle.value.specs.Walk.{lt_then, gt_then, eq_then}
 
-returns : tie.Need-returns
+returns : tie.Need-returns-in-Less
 unfolding told
 returns c =
-    let m = sym (ap told c.enum_told.given.1) ∙ c.before.before.compare-bytes.ensures ∙ ap₂ lex c.before.before.before.before.part.ensures c.before.before.before.part2.ensures in
+    let m = sym (ap told c.in-Less.is) ∙ c.compare_bytes.ensures ∙ ap₂ lex c.part.ensures c.part-2.ensures in
     rw (← m) (sym (lt_then _))
 
-returns-2 : tie.Need-returns-2
+returns-2 : tie.Need-returns-in-Greater
 unfolding told
 returns-2 c =
-    let m = sym (ap told c.enum-told2.given.1) ∙ c.before.before.compare-bytes.ensures ∙ ap₂ lex c.before.before.before.before.part.ensures c.before.before.before.part2.ensures in
+    let m = sym (ap told c.in-Greater.is) ∙ c.compare_bytes.ensures ∙ ap₂ lex c.part.ensures c.part-2.ensures in
     rw (← m) (sym (gt_then _))
 
-returns-3 : tie.Need-returns-3
+returns-3 : tie.Need-returns-in-Equal
 unfolding told
 returns-3 c =
-    let m = sym (ap told c.before.before.before.enum-told3.given.1) ∙ c.before.before.before.before.before.compare-bytes.ensures ∙ ap₂ lex c.before.before.before.before.before.before.before.part.ensures c.before.before.before.before.before.before.part2.ensures in
-    rw (← m) (c.compare-bytes2.ensures ∙ ap₂ lex (c.before.before.part3.ensures ∙ rw (← (drop-drop _ _ _))) (c.before.part4.ensures ∙ rw (← (drop-drop _ _ _))) ∙ sym (eq_then _))
+    let m = sym (ap told c.in-Equal.is) ∙ c.compare_bytes.ensures ∙ ap₂ lex c.part.ensures c.part-2.ensures in
+    rw (← m) (c.compare_bytes-in-Equal.ensures ∙ ap₂ lex (c.part-in-Equal.ensures ∙ rw (← (drop-drop _ _ _))) (c.part-in-Equal-2.ensures ∙ rw (← (drop-drop _ _ _))) ∙ sym (eq_then _))
 
 pub compare_names_spec : {M : Type 1} → statement M
 compare_names_spec =

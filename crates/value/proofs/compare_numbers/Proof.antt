@@ -9,6 +9,6 @@ unfolding told
 compare_numbers_spec =
     tie.close
     (tie.spec
-    (λ c. sym (compare_less _ _ c.if1.true))
-    (λ c. sym (compare_more _ _ c.if2.true))
-    (λ c. numbers_equal _ _ c.before.if1.false c.if2.false))
+    (λ c. sym (compare_less _ _ c.if-x-y.true))
+    (λ c. sym (compare_more _ _ c.if-y-x.true))
+    (λ c. numbers_equal _ _ c.if-x-y.false c.if-y-x.false))

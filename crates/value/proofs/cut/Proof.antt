@@ -6,7 +6,7 @@ use mathlib.Core.Path.{◌∙◌}
 use Rattle.value.specs.Parts.{part_cut}
 
 returns : tie.Need-returns
-returns c = c.part.ensures ∙ rw (c.before.least2.ensures, c.before.before.least.ensures) (part_cut c.before.before.before.before.args.text.now c.before.before.before.before.args.at c.before.before.before.before.args.len)
+returns c = c.part.ensures ∙ rw (c.least.ensures, c.least-from.ensures) (part_cut c.args.text.now c.args.at c.args.len)
 
 pub cut_spec : {M : Type 1} → statement M
 cut_spec = tie.close (tie.spec (λ c κs. search rules) (λ c. search rules) (λ c κs. search rules) (λ c κs. search rules) returns)

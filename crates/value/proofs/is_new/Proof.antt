@@ -7,11 +7,11 @@ use mathlib.Core.Path.{◌∙◌, ap}
 use borrow.Author.Tests.{ne_eqb}
 use Rattle.value.specs.Left.{new_object, new_other}
 
-returns : tie.Need-returns
-returns c = new_object _ _ _ (ap (λ h. h.kind) c.before.before.head_of.ensures) _ (ap (λ h. h.new) c.before.before.head_of.ensures) c.if1.true
+returns : tie.Need-returns-then-head-eq-KIND_OBJECT
+returns c = new_object _ _ _ (ap (λ h. h.kind) c.head_of-head.ensures) _ (ap (λ h. h.new) c.head_of-head.ensures) c.if-head-eq-KIND_OBJECT.true
 
-returns-2 : tie.Need-returns-2
-returns-2 c = ne_eqb _ _ c.if1.false ∙ new_other _ _ _ (ap (λ h. h.kind) c.before.before.head_of.ensures) c.if1.false
+returns-2 : tie.Need-returns-else-head-eq-KIND_OBJECT
+returns-2 c = ne_eqb _ _ c.if-head-eq-KIND_OBJECT.false ∙ new_other _ _ _ (ap (λ h. h.kind) c.head_of-head.ensures) c.if-head-eq-KIND_OBJECT.false
 
 pub is_new_spec : {M : Type 1} → statement M
 is_new_spec = tie.close (tie.spec (λ c. search rules) (λ c. search rules) (λ c. search rules) (λ c κs. search rules) returns returns-2)

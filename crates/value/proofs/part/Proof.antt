@@ -8,7 +8,7 @@ use Rattle.value.proofs.part.Tie as tie
 
 returns : tie.Need-returns
 returns c =
-    let a = c.before.args in
+    let a = c.args in
     let e : a.at + a.len - a.at ≡ a.len = omega arith in
     rw e
 

@@ -14,7 +14,7 @@ use Rattle.value.proofs.same_eight.Tie as tie
 returns : tie.Need-returns
 unfolding together
 returns c =
-    let a = c.before.before.before.before.before.before.before.before.before.before.before.before.before.before.before.before.args in
+    let a = c.args in
     let same : ℕ → Bool = λ j. eqb (get_or a.a.now (a.i + j) 0) (get_or a.b.now (a.i + j) 0) in
     λ h k l. eqb-true _ _ (together-each (eqb (get_or a.a.now a.i 0) (get_or a.b.now a.i 0)) same (rw add-zero) 7 h k (omega arith))
 

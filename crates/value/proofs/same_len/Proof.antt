@@ -9,30 +9,30 @@ use borrow.Author.Tests.{not-false}
 use Rattle.value.specs.Order.{lex}
 use Rattle.value.specs.Told.{lex_from, text_run}
 
-abbrev invariant-loop : tie.invariant-loop
+abbrev invariant-loop : tie.invariant-loop-i
 invariant-loop a b shorter i₀ i = (i ≤ shorter) × (lex_from a b i ≡ lex a b)
 
-abbrev decreases-loop : tie.decreases-loop
+abbrev decreases-loop : tie.decreases-loop-i
 decreases-loop a b shorter i₀ i = shorter - i
 
-loop-holds : tie.Need-loop-init invariant-loop decreases-loop
+loop-holds : tie.Need-loop-i-init invariant-loop decreases-loop
 unfolding lex_from
 loop-holds c = (omega arith, refl)
 
-same-eight-requires : tie.Need-same-eight-requires invariant-loop decreases-loop
-same-eight-requires c κs = let e = c.before.before.least.ensures in (omega arith, omega arith)
+same-eight-requires : tie.Need-same_eight-requires invariant-loop decreases-loop
+same-eight-requires c κs = let e = c.least-shorter.ensures in (omega arith, omega arith)
 
-returns : tie.Need-returns invariant-loop decreases-loop
-returns c = let e = c.before.before.before.before.least.ensures in (omega arith, c.before.before.before.loop.invariant.1)
+returns : tie.Need-returns-then-not-same_eight invariant-loop decreases-loop
+returns c = let e = c.least-shorter.ensures in (omega arith, c.loop-i.invariant.1)
 
-loop-again : tie.Need-loop-preserved invariant-loop decreases-loop
+loop-again : tie.Need-loop-i-preserved invariant-loop decreases-loop
 loop-again c =
-    let a = c.before.before.before.before.before.before.before.args in
-    let e = c.before.before.before.before.least.ensures in
-    (omega arith, text_run a.a.now a.b.now c.before.before.before.loop.i 8 (omega arith) (omega arith) (c.before.same-eight.ensures (not-false _ c.if1.false)) ∙ c.before.before.before.loop.invariant.1)
+    let a = c.args in
+    let e = c.least-shorter.ensures in
+    (omega arith, text_run a.a.now a.b.now c.loop-i.i 8 (omega arith) (omega arith) (c.same_eight.ensures (not-false _ c.if-not-same_eight.false-raw)) ∙ c.loop-i.invariant.1)
 
-returns-2 : tie.Need-returns-2 invariant-loop decreases-loop
-returns-2 c = let e = c.before.before.least.ensures in (omega arith, c.before.loop.invariant.1)
+returns-2 : tie.Need-returns invariant-loop decreases-loop
+returns-2 c = let e = c.least-shorter.ensures in (omega arith, c.loop-i.invariant.1)
 
 pub same_len_spec : {M : Type 1} → statement M
 same_len_spec =

@@ -9,14 +9,14 @@ use Rattle.value.specs.Shape.{kind_in, holding}
 use Rattle.value.specs.Stands.{word_at}
 use Rattle.value.specs.Left.{step_past}
 
-returns : tie.Need-returns
-returns c = rw (c.before.before.before.before.arity.ensures, c.before.before.before.arity2.ensures, c.before.before.is-new.ensures, c.before.is-new2.ensures) at c.next.ensures
+returns : tie.Need-returns-then-holds
+returns c = rw (c.arity.ensures, c.arity-then-holds.ensures, c.is_new.ensures, c.is_new-then-holds.ensures) at c.next.ensures
 
-returns-2 : tie.Need-returns-2
+returns-2 : tie.Need-returns
 returns-2 c =
     let s = c.before.before.before.before.before.before.before in
     let a = s.args in
-    let e : holding (kind_in (word_at a.a.now a.k 0)) ≡ false = rw add-zero (rw c.before.before.before.head_of.ensures at (sym c.before.before.holds.ensures ∙ c.before.if1.false)) in
+    let e : holding (kind_in (word_at a.a.now a.k 0)) ≡ false = rw add-zero (rw c.head_of.ensures at (sym c.holds.ensures ∙ c.if-holds.false)) in
     step_past a.a.now a.b.now a.k a.l _ _ s.requires e
 
 pub step_spec : {M : Type 1} → statement M

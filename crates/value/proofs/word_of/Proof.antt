@@ -9,9 +9,9 @@ word_of_spec =
     tie.close
     (tie.spec
     (λ c. search rules)
-    (λ c. rw (c.before.before.if1.true, c.before.if2.true) (omega arith))
+    (λ c. rw (c.if-head.true, c.if-head-2.true) (omega arith))
     (λ c. search rules)
-    (λ c. rw (c.before.before.if1.true, c.before.if2.false) (omega arith))
+    (λ c. rw (c.if-head.true, c.if-head-2.false) (omega arith))
     (λ c. search rules)
-    (λ c. rw (c.before.before.if1.false, c.before.if3.true) (omega arith))
-    (λ c. rw (c.before.if1.false, c.if3.false) (omega arith)))
+    (λ c. rw (c.if-head.false, c.if-head-3.true) (omega arith))
+    (λ c. rw (c.if-head.false, c.if-head-3.false) (omega arith)))
