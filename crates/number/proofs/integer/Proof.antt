@@ -11,45 +11,33 @@ use Rattle.number.proofs.Number.{integer_empty, integer-minus, integer_plain, si
 use Rattle.number.proofs.integer.Statement.{statement}
 use Rattle.number.proofs.integer.Tie as tie
 
-returns : tie.Need-returns
+returns : tie.Need-returns-then-text-eq0
 unfolding i64_read magnitude_read turned negated bits64 invalid
-returns c = integer_empty c.before.before.args.text.now c.if1.true
+returns c = integer_empty c.args.text.now c.if-text-eq0.true
 
-returns-2 : tie.Need-returns-2
+returns-2 : tie.Need-returns-in-Value
 unfolding i64_read magnitude_read turned negated bits64 invalid
 returns-2 c =
-    let at_n = c.before.before in
-    let at-natural = at_n.before.before in
-    let at-if2 = at-natural.before in
-    let at-if1 = at-if2.before.before in
-    let start = at-if1.before.before in
-    let m = rw at_n.n.given.1 at at-natural.natural.ensures in
-    ap got c.negative.ensures ∙ signed-read (λ n. neg_ℤ (pos n)) (λ n. leb n 0x8000_0000_0000_0000) above_i64 _ (got at_n.n.given.0.0) m _ (integer-minus start.args.text.now at-if1.if1.false at-if2.if2.true)
+    let m = rw c.in-Value.is at c.natural.ensures in
+    ap got c.negative.ensures ∙ signed-read (λ n. neg_ℤ (pos n)) (λ n. leb n 0x8000_0000_0000_0000) above_i64 _ (got c.in-Value.n) m _ (integer-minus c.args.text.now c.if-text-eq0.false c.if-text-eq45.true)
 
-returns-3 : tie.Need-returns-3
+returns-3 : tie.Need-returns-in-Invalid
 unfolding i64_read magnitude_read turned negated bits64 invalid
 returns-3 c =
-    let at-if1 = c.before.before.before.before.before in
-    let start = at-if1.before.before in
-    let m = rw c.enum_told.given.1 at c.before.before.natural.ensures in
-    signed-read (λ n. neg_ℤ (pos n)) (λ n. leb n 0x8000_0000_0000_0000) above_i64 _ invalid m _ (integer-minus start.args.text.now at-if1.if1.false c.before.before.before.if2.true)
+    let m = rw c.in-Invalid.is at c.natural.ensures in
+    signed-read (λ n. neg_ℤ (pos n)) (λ n. leb n 0x8000_0000_0000_0000) above_i64 _ invalid m _ (integer-minus c.args.text.now c.if-text-eq0.false c.if-text-eq45.true)
 
-returns-4 : tie.Need-returns-4
+returns-4 : tie.Need-returns-in-Value-plus
 unfolding i64_read magnitude_read turned negated bits64 invalid
 returns-4 c =
-    let at-if2 = c.before.before.before.before in
-    let at-if1 = at-if2.before.before in
-    let start = at-if1.before.before in
-    let m = rw c.before.n2.given.1 at c.before.before.before.plus.ensures in
-    signed-read pos (λ n. leb n 0x7FFF_FFFF_FFFF_FFFF) below_i64 _ (got c.before.n2.given.0.0) m _ (integer_plain start.args.text.now at-if1.if1.false at-if2.if2.false)
+    let m = rw c.in-Value-plus.is at c.plus.ensures in
+    signed-read pos (λ n. leb n 0x7FFF_FFFF_FFFF_FFFF) below_i64 _ (got c.in-Value-plus.n) m _ (integer_plain c.args.text.now c.if-text-eq0.false c.if-text-eq45.false)
 
-returns-5 : tie.Need-returns-5
+returns-5 : tie.Need-returns-in-Invalid-plus
 unfolding i64_read magnitude_read turned negated bits64 invalid
 returns-5 c =
-    let at-if1 = c.before.before.before.before.before in
-    let start = at-if1.before.before in
-    let m = rw c.enum-told2.given.1 at c.before.before.plus.ensures in
-    signed-read pos (λ n. leb n 0x7FFF_FFFF_FFFF_FFFF) below_i64 _ invalid m _ (integer_plain start.args.text.now at-if1.if1.false c.before.before.before.if2.false)
+    let m = rw c.in-Invalid-plus.is at c.plus.ensures in
+    signed-read pos (λ n. leb n 0x7FFF_FFFF_FFFF_FFFF) below_i64 _ invalid m _ (integer_plain c.args.text.now c.if-text-eq0.false c.if-text-eq45.false)
 
 pub integer_spec : {M : Type 1} → statement M
 integer_spec =

@@ -5,18 +5,18 @@ use Rattle.number.proofs.Literal.{pair_not, pair_lead, pair_last}
 use Rattle.number.proofs.is_zero_and.Statement.{statement}
 use Rattle.number.proofs.is_zero_and.Tie as tie
 
-returns : tie.Need-returns
-returns c = pair_not c.before.args.line.now c.before.args.b (λ e. omega arith)
+returns : tie.Need-returns-then-line-ne2
+returns c = pair_not c.args.line.now c.args.b (λ e. omega arith)
 
-returns-2 : tie.Need-returns-2
+returns-2 : tie.Need-returns-then-line-ne48
 returns-2 c =
     let start = c.before.before.before in
-    pair_lead start.args.line.now start.args.b (omega arith) c.if2.true
+    pair_lead start.args.line.now start.args.b (omega arith) c.if-line-ne48.true
 
-returns-3 : tie.Need-returns-3
+returns-3 : tie.Need-returns
 returns-3 c =
     let start = c.before.before.before.before in
-    pair_last start.args.line.now start.args.b (omega arith) c.before.if2.false
+    pair_last start.args.line.now start.args.b (omega arith) c.if-line-ne48.false
 
 pub is_zero_and_spec : {M : Type 1} → statement M
 is_zero_and_spec =

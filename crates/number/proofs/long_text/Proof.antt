@@ -9,29 +9,26 @@ use Rattle.number.proofs.Literal.{less_none, less_l_lem, less_other}
 use Rattle.number.proofs.long_text.Statement.{statement}
 use Rattle.number.proofs.long_text.Tie as tie
 
-returns : tie.Need-returns
+returns : tie.Need-returns-then-line-eq0
 unfolding long_literal
-returns c = c.parse-i64.ensures ∙ ap (λ l. turned bits64 (parse_i64 l)) (less_none c.before.before.before.args.line.now c.before.if1.true)
+returns c = c.parse_i64.ensures ∙ ap (λ l. turned bits64 (parse_i64 l)) (less_none c.args.line.now c.if-line-eq0.true)
 
-slice-aggregate-parse-i64 : tie.Need-slice-aggregate-parse-i64
+slice-aggregate-parse-i64 : tie.Need-slice_bounds-parse_i64-end
 slice-aggregate-parse-i64 c =
-    let start = c.before.before.before.before.before in
-    sym (length-take-le _ start.args.line.now (omega arith))
+    sym (length-take-le _ c.args.line.now (omega arith))
 
-returns-2 : tie.Need-returns-2
+returns-2 : tie.Need-returns-then-line-last-eq76
 unfolding long_literal
 returns-2 c =
-    let start = c.before.before.before.before.before.before in
-    c.parse-i642.ensures ∙ ap (λ l. turned bits64 (parse_i64 l)) (less_l_lem start.args.line.now c.before.before.if2.true)
+    c.parse_i64-then-line-last-eq76.ensures ∙ ap (λ l. turned bits64 (parse_i64 l)) (less_l_lem c.args.line.now c.if-line-last-eq76.true)
 
-returns-3 : tie.Need-returns-3
+returns-3 : tie.Need-returns
 unfolding long_literal
 returns-3 c =
-    let start = c.before.before.before.before.before in
-    c.parse-i643.ensures ∙ ap (λ l. turned bits64 (parse_i64 l)) (less_other start.args.line.now c.before.if2.false)
+    c.parse_i64-2.ensures ∙ ap (λ l. turned bits64 (parse_i64 l)) (less_other c.args.line.now c.if-line-last-eq76.false)
 
-pub long-text_spec : {M : Type 1} → statement M
-long-text_spec =
+pub long_text_spec : {M : Type 1} → statement M
+long_text_spec =
     tie.close
     (tie.spec
     (λ c κs. search rules)

@@ -4,11 +4,11 @@ use Rattle.number.proofs.Number.{negated_zero, negated-some}
 use Rattle.number.proofs.negative.Statement.{statement}
 use Rattle.number.proofs.negative.Tie as tie
 
-returns : tie.Need-returns
-returns c = rw c.if1.true negated_zero
+returns : tie.Need-returns-then-n-eq0
+returns c = rw c.if-n-eq0.true negated_zero
 
-returns-2 : tie.Need-returns-2
-returns-2 c = negated-some c.before.args.n c.if1.false
+returns-2 : tie.Need-returns
+returns-2 c = negated-some c.args.n c.if-n-eq0.false
 
 pub negative_spec : {M : Type 1} → statement M
 negative_spec =

@@ -8,14 +8,14 @@ use Rattle.number.proofs.Literal.{i64_text, i64_not}
 use Rattle.number.proofs.parse_i64.Statement.{statement}
 use Rattle.number.proofs.parse_i64.Tie as tie
 
-returns : tie.Need-returns
+returns : tie.Need-returns-then-valid
 returns c =
     let start = c.before.before.before.before.before in
-    c.integer.ensures ∙ ap (turned bits64) (ap (λ t. only in_i64 (integer t)) c.before.trim.ensures ∙ i64_text start.args.line.now (sym c.before.before.before.valid.ensures ∙ c.before.before.if1.true))
+    c.integer.ensures ∙ ap (turned bits64) (ap (λ t. only in_i64 (integer t)) c.trim.ensures ∙ i64_text start.args.line.now (sym c.valid.ensures ∙ c.if-valid.true))
 
-returns-2 : tie.Need-returns-2
+returns-2 : tie.Need-returns
 unfolding i64_read
-returns-2 c = i64_not c.before.before.before.args.line.now (sym c.before.valid.ensures ∙ c.if1.false)
+returns-2 c = i64_not c.args.line.now (sym c.valid.ensures ∙ c.if-valid.false)
 
 pub parse_i64_spec : {M : Type 1} → statement M
 parse_i64_spec =

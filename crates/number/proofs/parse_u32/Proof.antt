@@ -12,34 +12,34 @@ use Rattle.number.proofs.Literal.{u32_text, u32_not}
 use Rattle.number.proofs.parse_u32.Statement.{statement}
 use Rattle.number.proofs.parse_u32.Tie as tie
 
-cast-t7 : tie.Need-overflow-cast-t7
+cast-t7 : tie.Need-overflow_cast-result
 unfolding magnitude_read
 cast-t7 c =
-    let m = rw c.before.n.given.1 at c.before.before.before.plus.ensures in
-    omega (arith, leb-true c.before.n.given.0.0 0xFFFF_FFFF (only_got (λ n. leb n 0xFFFF_FFFF) _ c.before.n.given.0.0 m))
+    let m = rw c.in-Value.is at c.plus.ensures in
+    omega (arith, leb-true c.in-Value.n 0xFFFF_FFFF (only_got (λ n. leb n 0xFFFF_FFFF) _ c.in-Value.n m))
 
-returns : tie.Need-returns
+returns : tie.Need-returns-in-Value
 unfolding magnitude_read u32_read
 returns c =
-    let at-trim = c.before.before.before.before in
+    let at-trim = c.before.before in
     let at-if1 = at-trim.before in
     let at-valid = at-if1.before in
     let start = at-valid.before.before in
-    let m = rw c.before.n.given.1 at c.before.before.before.plus.ensures in
-    m ∙ only_same (λ n. leb n 0xFFFF_FFFF) in_u32 below_u32 _ ∙ ap (λ t. only in_u32 (plus t)) at-trim.trim.ensures ∙ u32_text start.args.line.now (sym at-valid.valid.ensures ∙ at-if1.if1.true)
+    let m = rw c.in-Value.is at c.plus.ensures in
+    m ∙ only_same (λ n. leb n 0xFFFF_FFFF) in_u32 below_u32 _ ∙ ap (λ t. only in_u32 (plus t)) at-trim.trim.ensures ∙ u32_text start.args.line.now (sym at-valid.valid.ensures ∙ at-if1.if-valid.true)
 
-returns-2 : tie.Need-returns-2
+returns-2 : tie.Need-returns-in-Invalid
 unfolding magnitude_read u32_read
 returns-2 c =
-    let at-if1 = c.before.before.before.before in
+    let at-if1 = c.before.before.before in
     let at-valid = at-if1.before in
     let start = at-valid.before.before in
-    let m = rw c.enum_told.given.1 at c.before.before.plus.ensures in
-    m ∙ only_same (λ n. leb n 0xFFFF_FFFF) in_u32 below_u32 _ ∙ ap (λ t. only in_u32 (plus t)) c.before.before.before.trim.ensures ∙ u32_text start.args.line.now (sym at-valid.valid.ensures ∙ at-if1.if1.true)
+    let m = rw c.in-Invalid.is at c.plus.ensures in
+    m ∙ only_same (λ n. leb n 0xFFFF_FFFF) in_u32 below_u32 _ ∙ ap (λ t. only in_u32 (plus t)) c.trim.ensures ∙ u32_text start.args.line.now (sym at-valid.valid.ensures ∙ at-if1.if-valid.true)
 
-returns-3 : tie.Need-returns-3
+returns-3 : tie.Need-returns
 unfolding u32_read
-returns-3 c = u32_not c.before.before.before.args.line.now (sym c.before.valid.ensures ∙ c.if1.false)
+returns-3 c = u32_not c.args.line.now (sym c.valid.ensures ∙ c.if-valid.false)
 
 pub parse_u32_spec : {M : Type 1} → statement M
 parse_u32_spec =

@@ -8,19 +8,19 @@ use Rattle.number.proofs.Number.{plus_empty, plus_sign, plus_plain}
 use Rattle.number.proofs.plus.Statement.{statement}
 use Rattle.number.proofs.plus.Tie as tie
 
-returns : tie.Need-returns
+returns : tie.Need-returns-then-text-eq0
 unfolding magnitude_read
-returns c = plus_empty c.before.before.args.text.now _ c.if1.true
+returns c = plus_empty c.args.text.now _ c.if-text-eq0.true
 
-returns-2 : tie.Need-returns-2
+returns-2 : tie.Need-returns-then-text-eq43
 returns-2 c =
     let start = c.before.before.before.before.before in
-    c.natural.ensures ∙ ap (only (λ n. leb n start.args.most)) (plus_sign start.args.text.now c.before.before.before.if1.false c.before.if2.true)
+    c.natural.ensures ∙ ap (only (λ n. leb n start.args.most)) (plus_sign start.args.text.now c.if-text-eq0.false c.if-text-eq43.true)
 
-returns-3 : tie.Need-returns-3
+returns-3 : tie.Need-returns
 returns-3 c =
     let start = c.before.before.before.before.before in
-    c.natural2.ensures ∙ ap (only (λ n. leb n start.args.most)) (plus_plain start.args.text.now c.before.before.before.if1.false c.before.if2.false)
+    c.natural-2.ensures ∙ ap (only (λ n. leb n start.args.most)) (plus_plain start.args.text.now c.if-text-eq0.false c.if-text-eq43.false)
 
 pub plus_spec : {M : Type 1} → statement M
 plus_spec =

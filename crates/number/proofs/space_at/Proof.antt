@@ -10,35 +10,35 @@ use Rattle.number.proofs.space_at.Tie as tie
 abbrev Tested : tie.Start → ℕ → Bool → Type 0
 Tested c = Ahead c.args.line.now c.args.at
 
-abbrev start : tie.After-space-one → tie.Start
+abbrev start : tie.After-space_one → tie.Start
 start c = c.before.before.before.before
 
-one : (c : tie.After-space-one) → Tested (start c) 0 c.space-one.result
-one c = tested (ahead (start c).args.line.now (start c).args.at) c.before.before.if1.false c.space-one.ensures
+one : (c : tie.After-space_one) → Tested (start c) 0 c.space_one.result
+one c = tested (ahead (start c).args.line.now (start c).args.at) c.if-left-lt1.false c.space_one.ensures
 
-two : (c : tie.After-space-two) → Tested (start c.before.before.before.before) 1 c.space-two.result
-two c = let no = c.before.before.before in tested (tested_no (one no.before) no.if2.false) c.before.before.if3.false c.space-two.ensures
+two : (c : tie.After-space_two) → Tested (start c.before.before.before.before) 1 c.space_two.result
+two c = let no = c.before.before.before in tested (tested_no (one no.before) no.if-space_one.false) c.if-left-lt2.false c.space_two.ensures
 
-three : (c : tie.After-space-three) → Tested (start c.before.before.before.before.before.before.before.before) 2 c.space-three.result
-three c = let no = c.before.before.before in tested (tested_no (two no.before) no.if4.false) c.before.before.if5.false c.space-three.ensures
+three : (c : tie.After-space_three) → Tested (start c.before.before.before.before.before.before.before.before) 2 c.space_three.result
+three c = let no = c.before.before.before in tested (tested_no (two no.before) no.if-space_two.false) c.if-left-lt3.false c.space_three.ensures
 
 pub space_at_spec : {M : Type 1} → statement M
 space_at_spec =
     tie.close
     (tie.spec
     (λ c. search rules)
-    (λ c. no_space_out (ahead c.before.before.args.line.now c.before.before.args.at) c.if1.true)
+    (λ c. no_space_out (ahead c.args.line.now c.args.at) c.if-left-lt1.true)
     (λ c. search rules)
     (λ c κs. tt)
-    (λ c. tested_yes (one c.before) (omega arith) c.if2.true)
-    (λ c. no_space_out (tested_no (one c.before.before) c.before.if2.false) c.if3.true)
-    (λ c. search rules)
-    (λ c. search rules)
-    (λ c κs. tt)
-    (λ c. tested_yes (two c.before) (omega arith) c.if4.true)
-    (λ c. no_space_out (tested_no (two c.before.before) c.before.if4.false) c.if5.true)
+    (λ c. tested_yes (one c.before) (omega arith) c.if-space_one.true)
+    (λ c. no_space_out (tested_no (one c.before.before) c.if-space_one.false) c.if-left-lt2.true)
     (λ c. search rules)
     (λ c. search rules)
     (λ c κs. tt)
-    (λ c. tested_yes (three c.before) (omega arith) c.if6.true)
-    (λ c. no_space-all (tested_no (three c.before) c.if6.false)))
+    (λ c. tested_yes (two c.before) (omega arith) c.if-space_two.true)
+    (λ c. no_space_out (tested_no (two c.before.before) c.if-space_two.false) c.if-left-lt3.true)
+    (λ c. search rules)
+    (λ c. search rules)
+    (λ c κs. tt)
+    (λ c. tested_yes (three c.before) (omega arith) c.if-space_three.true)
+    (λ c. no_space-all (tested_no (three c.before) c.if-space_three.false)))

@@ -5,14 +5,14 @@ use Rattle.number.proofs.Space.{one_is}
 use Rattle.number.proofs.space_one.Statement.{statement}
 use Rattle.number.proofs.space_one.Tie as tie
 
-returns : tie.Need-returns
-returns c = simp (one_is c.before.args.a (omega arith), eq-eqb _ _ c.if1.true)
+returns : tie.Need-returns-then-a-eq32
+returns c = simp (one_is c.args.a (omega arith), eq-eqb _ _ c.if-a-eq32.true)
 
-returns-2 : tie.Need-returns-2
-returns-2 c = simp (one_is c.before.before.args.a (omega arith), ne_eqb _ _ c.before.if1.false, lt-leb _ _ c.if2.true)
+returns-2 : tie.Need-returns-then-a-lt9
+returns-2 c = simp (one_is c.args.a (omega arith), ne_eqb _ _ c.if-a-eq32.false, lt-leb _ _ c.if-a-lt9.true)
 
-returns-3 : tie.Need-returns-3
-returns-3 c = simp (one_is c.before.before.args.a (omega arith), ne_eqb _ _ c.before.if1.false, le-leb _ _ c.if2.false)
+returns-3 : tie.Need-returns
+returns-3 c = simp (one_is c.args.a (omega arith), ne_eqb _ _ c.if-a-eq32.false, le-leb _ _ c.if-a-lt9.false)
 
 pub space_one_spec : {M : Type 1} → statement M
 space_one_spec =

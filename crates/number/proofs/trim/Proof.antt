@@ -7,7 +7,7 @@ use Rattle.number.proofs.trim.Tie as tie
 
 returns : tie.Need-returns
 unfolding trimmed
-returns c = c.trim-end.ensures ∙ ap trim_end c.before.trim_start.ensures
+returns c = c.trim_end.ensures ∙ ap trim_end c.trim_start.ensures
 
 pub trim_spec : {M : Type 1} → statement M
 trim_spec =

@@ -70,8 +70,8 @@ contents_calls t = (check_below t, check.Post)
 check_container_requires : (t : ℕ) → check-lts.Need-container-requires (check_calls t) (check_at t) check.Post
 check_container_requires t c κs =
     let e = c.before.before.before.before.before in
-    let p = e.before.before.before.requires.1 in
-    (omega arith, (p.0, ((let l = p.1.0 in omega arith), (p.1.1, e.if1.false))))
+    let p = e.requires.1 in
+    (omega arith, (p.0, ((let l = p.1.0 in omega arith), (p.1.1, e.if-levels-eq0.false))))
 
 check_leaf_requires : (t : ℕ) → check-lts.Need-leaf-requires (check_calls t) (check_at t) check.Post
 check_leaf_requires t c κs =
@@ -81,33 +81,33 @@ check_leaf_requires t c κs =
     let e0 = first_word a.words.now a.i in
     let l = s.requires.1.1.0 in
     let room = lent.room in
-    (omega arith, (s.requires.1.1.1, (lent.short, rw e0 at (rw c.before.before.kind.ensures at (sym c.before.holds.ensures ∙ c.if3.false)))))
+    (omega arith, (s.requires.1.1.1, (lent.short, rw e0 at (rw c.kind.ensures at (sym c.holds.ensures ∙ c.if-holds.false)))))
 
-check_returns_4 : (t : ℕ) → check-lts.Need-returns-4 (check_calls t) (check_at t) check.Post
+check_returns_4 : (t : ℕ) → check-lts.Need-returns (check_calls t) (check_at t) check.Post
 check_returns_4 t c =
     let e = c.before.before.before.before.before.before in
     let s = e.before.before.before in
     let l = s.requires.1.1.0 in
-    c.leaf.ensures s.args.count s.args.levels s.requires.1.0 (omega arith) e.if1.false
+    c.leaf.ensures s.args.count s.args.levels s.requires.1.0 (omega arith) e.if-levels-eq0.false
 
 module _ (t : ℕ) where
   -- `container` was told that its head is right
   abbrev Told : Type 0
-  Told = container-lts.After-known-told (container_calls t) (container_at t) container.Post
+  Told = container-lts.In-Right (container_calls t) (container_at t) container.Post
 
   abbrev headed : Told → container-lts.After-head (container_calls t) (container_at t) container.Post
-  headed c = c.before.before.before
+  headed c = c.before
 
   abbrev start : Told → container-lts.Start (container_calls t) (container_at t) container.Post
   start c = (headed c).before.before.before
 
-  header : (c : Told) → let a = (start c).args in let g = c.before.long.given.0 in Header a.words.now a.count a.text.now a.i a.at g.0 g.1.0
-  header c = let p = (start c).requires.1 in right _ _ _ _ _ _ p.0 p.1.1.1 (headed c).head.ensures c.before.long.given.1
+  header : (c : Told) → let a = (start c).args in Header a.words.now a.count a.text.now a.i a.at c.in-Right.long c.in-Right.m
+  header c = let p = (start c).requires.1 in right _ _ _ _ _ _ p.0 p.1.1.1 (headed c).head.ensures c.in-Right.is
 
-  container-add-contents : container-lts.Need-overflow-add-contents (container_calls t) (container_at t) container.Post
+  container-add-contents : container-lts.Need-overflow_add-i (container_calls t) (container_at t) container.Post
   container-add-contents c = let few = (header c).few in let lent = (start c).requires.1.0 in let room = lent.room in let small = lent.few in omega arith
 
-  container-add-contents-2 : container-lts.Need-overflow-add-contents-2 (container_calls t) (container_at t) container.Post
+  container-add-contents-2 : container-lts.Need-overflow_add-at (container_calls t) (container_at t) container.Post
   container-add-contents-2 c = let inn = (header c).inside in let short = (start c).requires.1.0.short in omega arith
 
   container-contents-requires : container-lts.Need-contents-requires (container_calls t) (container_at t) container.Post
@@ -115,76 +115,76 @@ module _ (t : ℕ) where
 
   container-closes-requires : container-lts.Need-closes-requires (container_calls t) (container_at t) container.Post
   container-closes-requires c κs =
-      let m = c.before.before.before in
+      let m = c.before in
       let k = m.before in
       let a = (start k).args in
       let lent = (start k).requires.1.0 in
       let h = header k in
-      let y = held _ _ _ _ _ _ lent (start k).requires.1.1.1.1 (headed k).head.ensures k.before.long.given.1 (sym m.contents.ensures ∙ c.before.j.given.1) in
+      let y = held _ _ _ _ _ _ lent (start k).requires.1.1.1.1 (headed k).head.ensures k.in-Right.is (sym m.contents.ensures ∙ c.in-Good.is) in
       ((let few = h.few in let room = lent.room in omega arith), (y.after, (y.held, ((λ q. object-some a.words.now a.count a.text.now a.i a.at _ _ h q), h.known))))
 
-  container-returns : container-lts.Need-returns (container_calls t) (container_at t) container.Post
+  container-returns : container-lts.Need-returns-then-not-closes (container_calls t) (container_at t) container.Post
   container-returns c =
-      let m = c.before.before.before.before.before in
+      let m = c.before.before.before in
       let k = m.before in
       let p = (start k).requires.1 in
-      answer_closed _ _ _ _ _ _ p.0 p.1.1.1 (headed k).head.ensures k.before.long.given.1 (sym m.contents.ensures ∙ c.before.before.before.j.given.1) false (λ f p q. sym (not-true _ c.if1.true) ∙ c.before.closes.ensures f p q)
+      answer_closed _ _ _ _ _ _ p.0 p.1.1.1 (headed k).head.ensures k.in-Right.is (sym m.contents.ensures ∙ c.in-Good.is) false (λ f p q. sym (not-true _ c.if-not-closes.true-raw) ∙ c.closes.ensures f p q)
 
-  container-returns-2 : container-lts.Need-returns-2 (container_calls t) (container_at t) container.Post
-  container-returns-2 c = let h = c.before.before in let p = h.before.before.before.requires.1 in answer_wrong _ _ _ _ _ _ p.0 p.1.1.1 h.head.ensures c.enum_told.given.1
+  container-returns-2 : container-lts.Need-returns-in-Wrong (container_calls t) (container_at t) container.Post
+  container-returns-2 c = let h = c.before in let p = h.requires.1 in answer_wrong _ _ _ _ _ _ p.0 p.1.1.1 h.head.ensures c.in-Wrong.is
 
-  container-returns-3 : container-lts.Need-returns-3 (container_calls t) (container_at t) container.Post
+  container-returns-3 : container-lts.Need-returns-in-Bad (container_calls t) (container_at t) container.Post
   container-returns-3 c =
-      let m = c.before.before in
+      let m = c.before in
       let k = m.before in
       let p = (start k).requires.1 in
-      answer_bad _ _ _ _ _ _ p.0 p.1.1.1 (headed k).head.ensures k.before.long.given.1 (sym m.contents.ensures ∙ c.enum-told2.given.1)
+      answer_bad _ _ _ _ _ _ p.0 p.1.1.1 (headed k).head.ensures k.in-Right.is (sym m.contents.ensures ∙ c.in-Bad.is)
 
-  container-returns-4 : container-lts.Need-returns-4 (container_calls t) (container_at t) container.Post
+  container-returns-4 : container-lts.Need-returns-else-not-closes (container_calls t) (container_at t) container.Post
   container-returns-4 c =
-      let m = c.before.before.before.before.before in
+      let m = c.before.before.before in
       let k = m.before in
       let p = (start k).requires.1 in
-      answer_closed _ _ _ _ _ _ p.0 p.1.1.1 (headed k).head.ensures k.before.long.given.1 (sym m.contents.ensures ∙ c.before.before.before.j.given.1) true (λ f p q. sym (not-false _ c.if1.false) ∙ c.before.closes.ensures f p q)
+      answer_closed _ _ _ _ _ _ p.0 p.1.1.1 (headed k).head.ensures k.in-Right.is (sym m.contents.ensures ∙ c.in-Good.is) true (λ f p q. sym (not-false _ c.if-not-closes.false-raw) ∙ c.closes.ensures f p q)
 
-abbrev contents-Inv-loop : contents-lts.invariant-loop
+abbrev contents-Inv-loop : contents-lts.invariant-loop-left
 contents-Inv-loop words count text i at m levels j₀ end₀ left₀ j end left = (j ≤ count) × (end ≤ length text) × (checked_of (find_many (find words count text levels) left j end) ≡ checked_of (find_many (find words count text levels) m i at))
 
-abbrev contents-μ-loop : contents-lts.decreases-loop
+abbrev contents-μ-loop : contents-lts.decreases-loop-left
 contents-μ-loop words count text i at m levels j₀ end₀ left₀ j end left = left
 
-contents_returns : (t : ℕ) → contents-lts.Need-returns (contents_calls t) (contents_at t) contents.Post contents-Inv-loop contents-μ-loop
+contents_returns : (t : ℕ) → contents-lts.Need-returns-in-Bad (contents_calls t) (contents_at t) contents.Post contents-Inv-loop contents-μ-loop
 contents_returns t c =
-    let h = c.before.before.before.before in
-    let a = h.before.before.before.args in
-    let l = h.loop in
-    row_bad (find a.words.now a.count a.text.now a.levels) l.left l.j l.end c.before.before.before.loop-test.true (sym c.before.before.check.ensures ∙ c.enum_told.given.1) ∙ l.invariant.2
+    let h = c.before.before.before in
+    let a = h.args in
+    let l = h.loop-left in
+    row_bad (find a.words.now a.count a.text.now a.levels) l.left l.j l.end c.loop-left-test.true (sym c.check.ensures ∙ c.in-Bad.is) ∙ l.invariant.2
 
-contents_loop_again : (t : ℕ) → contents-lts.Need-loop-preserved (contents_calls t) (contents_at t) contents.Post contents-Inv-loop contents-μ-loop
+contents_loop_again : (t : ℕ) → contents-lts.Need-loop-left-preserved (contents_calls t) (contents_at t) contents.Post contents-Inv-loop contents-μ-loop
 contents_loop_again t c =
-    let h = c.before.before.before.before.before in
+    let h = c.before.before.before in
     let s = h.before.before.before in
     let a = s.args in
     let w = a.words.now in
     let n = a.count in
     let x = a.text.now in
     let lent = s.requires.1.0 in
-    let l = h.loop in
-    let q = sym c.before.before.before.check.ensures ∙ c.before.behind.given.1 in
+    let l = h.loop-left in
+    let q = sym c.check.ensures ∙ c.in-Good.is in
     let y = find-within w n x a.levels l.j l.end lent l.invariant.0 l.invariant.1 q in
-    (y.0, y.1, row_next (find w n x a.levels) l.left l.j l.end c.before.before.before.before.loop-test.true q ∙ l.invariant.2)
+    (y.0, y.1, row_next (find w n x a.levels) l.left l.j l.end c.loop-left-test.true q ∙ l.invariant.2)
 
-contents_returns_2 : (t : ℕ) → contents-lts.Need-returns-2 (contents_calls t) (contents_at t) contents.Post contents-Inv-loop contents-μ-loop
+contents_returns_2 : (t : ℕ) → contents-lts.Need-returns (contents_calls t) (contents_at t) contents.Post contents-Inv-loop contents-μ-loop
 contents_returns_2 t c =
     let s = c.before.before.before.before in
     let a = s.args in
     let lent = s.requires.1.0 in
-    let l = c.before.loop in
+    let l = c.loop-left in
     row_done (find a.words.now a.count a.text.now a.levels) l.left l.j l.end (omega arith) ∙ l.invariant.2
 
-pub +check_container-contents_spec : {M : Type 1} → statement M
-+check_container-contents_spec =
+pub +check_container_contents_spec : {M : Type 1} → statement M
++check_container_contents_spec =
     close μ_check μ_container μ_contents
-    (λ t. check-lts.spec (check_calls t) (check_at t) check.Post (λ c. let a = c.before.before.before.args in is_bad _ (find_out a.words.now a.count a.text.now a.levels a.i a.at c.if1.true)) (λ c. let a = c.before.before.before.before.args in is_bad _ (find_past a.words.now a.count a.text.now a.levels a.i a.at c.if2.true)) (λ c. search rules) (λ c. search rules) (λ c. search rules) (λ c κs. search rules) (λ c κs. search rules) (check_container_requires t) (λ c. c.container.ensures) (check_leaf_requires t) (check_returns_4 t))
+    (λ t. check-lts.spec (check_calls t) (check_at t) check.Post (λ c. let a = c.args in is_bad _ (find_out a.words.now a.count a.text.now a.levels a.i a.at c.if-levels-eq0.true)) (λ c. let a = c.args in is_bad _ (find_past a.words.now a.count a.text.now a.levels a.i a.at c.if-i-count.true)) (λ c. search rules) (λ c. search rules) (λ c. search rules) (λ c κs. search rules) (λ c κs. search rules) (check_container_requires t) (λ c. c.container.ensures) (check_leaf_requires t) (check_returns_4 t))
     (λ t. container-lts.spec (container_calls t) (container_at t) container.Post (λ c κs. let s = c.before.before in (s.requires.1.0, (s.requires.1.1.0, s.requires.1.1.1.0))) (λ c. search rules) (λ c. search rules) (container-add-contents t) (container-add-contents-2 t) (λ c. search rules) (container-contents-requires t) (λ c. search rules) (λ c. search rules) (container-closes-requires t) (container-returns t) (container-returns-2 t) (container-returns-3 t) (container-returns-4 t))
-    λ t. contents-lts.spec (contents_calls t) (contents_at t) contents.Post contents-Inv-loop contents-μ-loop (λ c. let s = c.before.before in (s.requires.1.1.0, s.requires.1.1.1, refl)) (λ c κs. let s = c.before.before.before.before in let lent = s.requires.1.0 in let l = c.before.loop in (omega arith, (lent, (l.invariant.0, l.invariant.1)))) (λ c. search rules) (contents_returns t) (λ c. search rules) (λ c. search rules) (λ c. search rules) (contents_loop_again t) (contents_returns_2 t)
+    λ t. contents-lts.spec (contents_calls t) (contents_at t) contents.Post contents-Inv-loop contents-μ-loop (λ c. let s = c.before.before in (s.requires.1.1.0, s.requires.1.1.1, refl)) (λ c κs. let s = c.before.before.before.before in let lent = s.requires.1.0 in let l = c.loop-left in (omega arith, (lent, (l.invariant.0, l.invariant.1)))) (λ c. search rules) (contents_returns t) (λ c. search rules) (λ c. search rules) (λ c. search rules) (contents_loop_again t) (contents_returns_2 t)

@@ -9,7 +9,7 @@ use lib.ListN.{get_or}
 use Rattle.value.specs.Stands.{word_at}
 use Rattle.table.specs.Sound.{first_word, size_at}
 
-add-result : tie.Need-overflow-add-result
+add-result : tie.Need-overflow_add-result
 add-result c =
     let s = c.before.before.before.before.before in
     let a = s.args in

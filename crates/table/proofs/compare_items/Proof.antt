@@ -38,42 +38,42 @@ module _ (w t : List ℕ) {k : ℕ} (none : holding k ≡ false) (other : k ≢ 
       let n : new v.label ≡ new u.label = sym (ap new a.label) ∙ new_at_lem w t p a.reads ∙ ap bit (sym (new_other w p k e other) ∙ new_other w q k f other) ∙ sym (new_at_lem w t q b.reads) ∙ ap new b.label in
       ap₂ labels a.label b.label ∙ nothing_more _ _ _ _ _ (bare e v.contents a) (bare f u.contents b) n
 
-returns : tie.Need-returns
+returns : tie.Need-returns-then-k-eq-KIND_I64
 returns c v u x y =
     let d = c.before.before.before.before.before in
     let s = d.before.before.before.before.before.before in
-    let e = d.before.before.kind.ensures in
-    let same = c.before.before.before.before.if1.true in
-    let k = c.before.if2.true in
-    c.compare-ints.ensures ∙ records_int _ _ _ _ _ _ _ _ s.requires.0 s.requires.1.0 e d.kind2.ensures same k ∙ by_labels _ _ (rw k) (λ z. omega arith) s.args.p s.args.q e (same ∙ d.kind2.ensures) v u x y
+    let e = d.kind-k.ensures in
+    let same = c.if-k-kind.true in
+    let k = c.if-k-eq-KIND_I64.true in
+    c.compare_ints.ensures ∙ records_int _ _ _ _ _ _ _ _ s.requires.0 s.requires.1.0 e d.kind.ensures same k ∙ by_labels _ _ (rw k) (λ z. omega arith) s.args.p s.args.q e (same ∙ d.kind.ensures) v u x y
 
 part-requires : tie.Need-part-requires
 part-requires c κs =
     let d = c.before.before.before.before.before.before.before in
-    let k = c.before.before.if3.true in
-    text_inside _ _ _ _ d.before.before.before.before.before.before.requires.0 d.before.before.kind.ensures (omega arith) (omega arith)
+    let k = c.if-k-eq-KIND_BYTES.true in
+    text_inside _ _ _ _ d.requires.0 d.kind-k.ensures (omega arith) (omega arith)
 
-part-requires-2 : tie.Need-part-requires-2
+part-requires-2 : tie.Need-part-requires-then-k-eq-KIND_BYTES
 part-requires-2 c κs =
     let d = c.before.before.before.before.before.before.before.before in
-    let k = c.before.before.before.if3.true in
-    let same = c.before.before.before.before.before.before.before.if1.true in
-    text_inside _ _ _ _ d.before.before.before.before.before.before.requires.1.0 (same ∙ d.kind2.ensures) (omega arith) (omega arith)
+    let k = c.if-k-eq-KIND_BYTES.true in
+    let same = c.if-k-kind.true in
+    text_inside _ _ _ _ d.requires.1.0 (same ∙ d.kind.ensures) (omega arith) (omega arith)
 
-returns-2 : tie.Need-returns-2
+returns-2 : tie.Need-returns-then-k-eq-KIND_BYTES
 returns-2 c v u x y =
     let d = c.before.before.before.before.before.before.before.before.before.before in
     let s = d.before.before.before.before.before.before in
-    let e = d.before.before.kind.ensures in
-    let same = c.before.before.before.before.before.before.before.before.before.if1.true in
-    let k = c.before.before.before.before.before.if3.true in
-    c.compare-bytes.ensures ∙ ap₂ lex c.before.before.part.ensures c.before.part2.ensures ∙ records_text _ _ _ _ _ _ _ _ s.requires.0 s.requires.1.0 e d.kind2.ensures same (omega arith) (omega arith) ∙ by_labels _ _ (rw k) (λ z. omega arith) s.args.p s.args.q e (same ∙ d.kind2.ensures) v u x y
+    let e = d.kind-k.ensures in
+    let same = c.if-k-kind.true in
+    let k = c.if-k-eq-KIND_BYTES.true in
+    c.compare_bytes.ensures ∙ ap₂ lex c.part.ensures c.part-then-k-eq-KIND_BYTES.ensures ∙ records_text _ _ _ _ _ _ _ _ s.requires.0 s.requires.1.0 e d.kind.ensures same (omega arith) (omega arith) ∙ by_labels _ _ (rw k) (λ z. omega arith) s.args.p s.args.q e (same ∙ d.kind.ensures) v u x y
 
-compare-at-requires : tie.Need-compare-at-requires
-compare-at-requires c κs = c.before.before.before.before.before.before.before.requires.1.1
+compare-at-requires : tie.Need-compare_at-requires
+compare-at-requires c κs = c.requires.1.1
 
-returns-3 : tie.Need-returns-3
-returns-3 c = c.compare-at.ensures
+returns-3 : tie.Need-returns
+returns-3 c = c.compare_at.ensures
 
 pub compare_items_spec : {M : Type 1} → statement M
 compare_items_spec = tie.close (tie.spec (λ c. search rules) (λ c. search rules) (λ c. search rules) (λ c κs. search rules) (λ c. search rules) (λ c. search rules) (λ c. search rules) (λ c κs. search rules) (λ c. search rules) (λ c. search rules) (λ c. search rules) (λ c. search rules) (λ c. search rules) (λ c. search rules) (λ c. search rules) (λ c. search rules) (λ c κs. search rules) returns (λ c. search rules) (λ c. search rules) (λ c. search rules) (λ c. search rules) (λ c. search rules) (λ c. search rules) (λ c. search rules) (λ c. search rules) part-requires part-requires-2 (λ c κs. search rules) returns-2 compare-at-requires returns-3)

@@ -5,19 +5,19 @@ use Rattle.table.proofs.next.Tie as tie
 use borrow.Author.Tests.{eq-eqb, ne_eqb}
 use Rattle.table.specs.Items.{next_at}
 
-returns : tie.Need-returns
+returns : tie.Need-returns-then-entry-eq1
 unfolding next_at
-returns c = rw (eq-eqb _ _ c.if1.true) c.before.after.ensures
+returns c = rw (eq-eqb _ _ c.if-entry-eq1.true) c.after-behind.ensures
 
-after-requires-2 : tie.Need-after-requires-2
+after-requires-2 : tie.Need-after-requires
 after-requires-2 c κs =
-    let p = c.before.before.before.requires in
-    let e = c.before.after.ensures in
-    (rw e (p.there c.if1.false), rw e (p.beyond c.if1.false))
+    let p = c.requires in
+    let e = c.after-behind.ensures in
+    (rw e (p.there c.if-entry-eq1.false), rw e (p.beyond c.if-entry-eq1.false))
 
-returns-2 : tie.Need-returns-2
+returns-2 : tie.Need-returns
 unfolding next_at
-returns-2 c = rw (ne_eqb _ _ c.before.if1.false, ← c.before.before.after.ensures) c.after2.ensures
+returns-2 c = rw (ne_eqb _ _ c.if-entry-eq1.false, ← c.after-behind.ensures) c.after.ensures
 
 pub next_spec : {M : Type 1} → statement M
 next_spec = tie.close (tie.spec (λ c κs. search rules) returns after-requires-2 returns-2)

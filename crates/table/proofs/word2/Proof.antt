@@ -11,7 +11,7 @@ word2_spec =
     tie.close
     (tie.spec
     (λ c κs. tt)
-    (λ c. kind-under c.before.kind.ensures _ c.if1.true)
-    (λ c. let e = c.before.before.kind.ensures in kind-past e _ c.before.if1.false (kind-under e _ c.if2.true))
-    (λ c. let e = c.before.before.before.kind.ensures in kind-past e _ c.before.before.if1.false (kind-past e _ c.before.if2.false (kind-under e _ c.if3.true)))
-    (λ c. let e = c.before.before.before.kind.ensures in kind-past e _ c.before.before.if1.false (kind-past e _ c.before.if2.false (kind-past e _ c.if3.false refl))))
+    (λ c. kind-under c.kind-k.ensures _ c.if-k-lt-KIND_BYTES.true)
+    (λ c. let e = c.kind-k.ensures in kind-past e _ c.if-k-lt-KIND_BYTES.false (kind-under e _ c.if-k-lt-KIND_LIST.true))
+    (λ c. let e = c.kind-k.ensures in kind-past e _ c.if-k-lt-KIND_BYTES.false (kind-past e _ c.if-k-lt-KIND_LIST.false (kind-under e _ c.if-k-lt-KIND_GLOBAL.true)))
+    (λ c. let e = c.kind-k.ensures in kind-past e _ c.if-k-lt-KIND_BYTES.false (kind-past e _ c.if-k-lt-KIND_LIST.false (kind-past e _ c.if-k-lt-KIND_GLOBAL.false refl))))

@@ -11,5 +11,5 @@ word3_spec =
     tie.close
     (tie.spec
     (λ c κs. tt)
-    (λ c. kind-under c.before.kind.ensures _ c.if1.true)
-    (λ c. kind-past c.before.kind.ensures _ c.if1.false refl))
+    (λ c. kind-under c.kind.ensures _ c.if-kind-lt-KIND_OBJECT.true)
+    (λ c. kind-past c.kind.ensures _ c.if-kind-lt-KIND_OBJECT.false refl))

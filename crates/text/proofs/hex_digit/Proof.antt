@@ -25,25 +25,25 @@ module _ (c : ℕ) where
   unfolding hex_digit
   no_digit h k l = rw (within_out 48 57 c h, within_out 65 70 c k, within_out 97 102 c l)
 
-returns : tie.Need-returns
-returns c = number _ c.before.if1.false c.if2.true
+returns : tie.Need-returns-in-48-to-57
+returns c = number _ c.in-48-to-57.if-c-lt48-own.false c.in-48-to-57.if-c-lt58-own.true
 
-returns-2 : tie.Need-returns-2
-returns-2 c = capital _ c.before.if3.false c.if4.true
+returns-2 : tie.Need-returns-in-65-to-70
+returns-2 c = capital _ c.in-65-to-70.if-c-lt65-own.false c.in-65-to-70.if-c-lt71-own.true
 
-returns-3 : tie.Need-returns-3
-returns-3 c = small _ c.before.if5.false c.if6.true
+returns-3 : tie.Need-returns-in-97-to-102
+returns-3 c = small _ c.in-97-to-102.if-c-lt97-own.false c.in-97-to-102.if-c-lt103-own.true
 
-returns-4 : tie.Need-returns-4
+returns-4 : tie.Need-returns-in_default
 returns-4 c = no_digit _ (λ h. omega arith) (λ h. omega arith) (λ h. omega arith)
 
-returns-5 : tie.Need-returns-5
+returns-5 : tie.Need-returns-in_default-2
 returns-5 c = no_digit _ (λ h. omega arith) (λ h. omega arith) (λ h. omega arith)
 
-returns-6 : tie.Need-returns-6
+returns-6 : tie.Need-returns-in_default-3
 returns-6 c = no_digit _ (λ h. omega arith) (λ h. omega arith) (λ h. omega arith)
 
-returns-7 : tie.Need-returns-7
+returns-7 : tie.Need-returns-in_default-4
 returns-7 c = no_digit _ (λ h. omega arith) (λ h. omega arith) (λ h. omega arith)
 
 pub hex_digit_spec : {M : Type 1} → statement M

@@ -19,36 +19,36 @@ look_none (e ∷ t) c A h =
     let p = look_none t c (A × (c ≡ e.0 → ⊥)) h in
     (rw (ne_eqb c e.0 p.1.1) p.0, p.1.0)
 
-returns : tie.Need-returns
+returns : tie.Need-returns-in-110
 unfolding look
-returns c = rw c.match.keys1
+returns c = rw c.in-110.is
 
-returns-2 : tie.Need-returns-2
+returns-2 : tie.Need-returns-in-116
 unfolding look
-returns-2 c = rw c.match.keys2
+returns-2 c = rw c.in-116.is
 
-returns-3 : tie.Need-returns-3
+returns-3 : tie.Need-returns-in-114
 unfolding look
-returns-3 c = rw c.match.keys3
+returns-3 c = rw c.in-114.is
 
-returns-4 : tie.Need-returns-4
+returns-4 : tie.Need-returns-in-97
 unfolding look
-returns-4 c = rw c.match.keys4
+returns-4 c = rw c.in-97.is
 
-returns-5 : tie.Need-returns-5
+returns-5 : tie.Need-returns-in-98
 unfolding look
-returns-5 c = rw c.match.keys5
+returns-5 c = rw c.in-98.is
 
-returns-6 : tie.Need-returns-6
+returns-6 : tie.Need-returns-in-102
 unfolding look
-returns-6 c = rw c.match.keys6
+returns-6 c = rw c.in-102.is
 
-returns-7 : tie.Need-returns-7
+returns-7 : tie.Need-returns-in-118
 unfolding look
-returns-7 c = rw c.match.keys7
+returns-7 c = rw c.in-118.is
 
-returns-8 : tie.Need-returns-8
-returns-8 c = sym (look_none letters _ Unit c.match.rest).0
+returns-8 : tie.Need-returns-in_default
+returns-8 c = sym (look_none letters _ Unit c.in_default.in_default-own.rest).0
 
 pub letter_spec : {M : Type 1} → statement M
 letter_spec = tie.close (tie.spec returns returns-2 returns-3 returns-4 returns-5 returns-6 returns-7 returns-8)

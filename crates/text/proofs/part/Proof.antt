@@ -4,21 +4,21 @@ use Rattle.text.specs.Text.{pick}
 use Rattle.text.proofs.part.Statement.{statement}
 use Rattle.text.proofs.part.Tie as tie
 
-part-result-end : tie.Need-slice-bounds-result-end
+part-result-end : tie.Need-slice_bounds-result-end
 unfolding pick
-part-result-end c = rw c.if1.true at c.before.requires.1
+part-result-end c = rw c.if-escaped.true at c.requires.1
 
-part-result-end-2 : tie.Need-slice-bounds-result-end-2
+part-result-end-2 : tie.Need-slice_bounds-result-end-else-escaped
 unfolding pick
-part-result-end-2 c = rw c.if1.false at c.before.requires.1
+part-result-end-2 c = rw c.if-escaped.false at c.requires.1
 
-returns : tie.Need-returns
+returns : tie.Need-returns-then-escaped
 unfolding pick
-returns c = simp c.before.if1.true
+returns c = simp c.if-escaped.true
 
-returns-2 : tie.Need-returns-2
+returns-2 : tie.Need-returns-else-escaped
 unfolding pick
-returns-2 c = simp c.before.if1.false
+returns-2 c = simp c.if-escaped.false
 
 pub part_spec : {M : Type 1} → statement M
 part_spec =

@@ -17,74 +17,74 @@ use Rattle.text.proofs.Loops.{In-unicode, in_unicode, Writing, write_none, write
 use Rattle.text.proofs.unescape_unicode.Statement.{statement}
 use Rattle.text.proofs.unescape_unicode.Tie as tie
 
-abbrev invariant-loop : tie.invariant-loop
+abbrev invariant-loop : tie.invariant-loop-i
 invariant-loop line out₀ n₀ i₀ out n i =
     Writing (unescape_unicode line) (texts unicode_head encode 0 i (drop i line)) out₀ out n
     × (i ≤ length line)
 
-abbrev decreases-loop : tie.decreases-loop
+abbrev decreases-loop : tie.decreases-loop-i
 decreases-loop line out₀ n₀ i₀ out n i = length line - i
 
 -- a turn of the loop, and what a piece read there is
-module _ (c : tie.In-loop invariant-loop decreases-loop) where
+module _ (c : tie.In-loop-i invariant-loop decreases-loop) where
   abbrev start : tie.Start invariant-loop decreases-loop
   start = c.before.before.before.before
 
-  piece : {v w : ℕ} → unicode_head (drop c.before.loop.i start.args.line.now) ≡ One v w → In-unicode start.args.line.now c.before.loop.i v w
-  piece e = let k = c.before.before.before.shared-slice-known.given in in_unicode _ _ _ _ (λ j. omega (arith, k j)) c.loop-test.true e
+  piece : {v w : ℕ} → unicode_head (drop c.loop-i.i start.args.line.now) ≡ One v w → In-unicode start.args.line.now c.loop-i.i v w
+  piece e = let k = c.shared_slice_known-1.given in in_unicode _ _ _ _ (λ j. omega (arith, k j)) c.loop-i-test.true e
 
 -- a byte that stands for itself, and its room
-plain : (c : tie.Then2 invariant-loop decreases-loop) → let l = c.before.before.before in In-unicode (start l).args.line.now l.before.loop.i (get_or (start l).args.line.now l.before.loop.i 0) 0
-plain c = let l = c.before.before.before in piece l (sym (unicode_plain _ _ l.loop-test.true (eqb-false _ _ (not-true _ c.if2.true))))
+plain : (c : tie.Then-b-ne92 invariant-loop decreases-loop) → let l = c.before.before.before in In-unicode (start l).args.line.now l.loop-i.i (get_or (start l).args.line.now l.loop-i.i 0) 0
+plain c = let l = c.before.before.before in piece l (sym (unicode_plain _ _ l.loop-i-test.true (eqb-false _ _ (not-true _ c.if-b-ne92.true-raw))))
 
-room : (c : tie.Then2 invariant-loop decreases-loop) → let h = c.before.before.before.before.loop in h.n + 1 ≤ length h.out
-room c = let l = c.before.before.before in let h = l.before.loop in rw (encode_one _ c.before.if1.true) at (roomy encode (plain c) h.i _ refl h.invariant.0 (start l).requires.fits)
+room : (c : tie.Then-b-ne92 invariant-loop decreases-loop) → let h = c.loop-i in h.n + 1 ≤ length h.out
+room c = let l = c.before.before.before in let h = l.loop-i in rw (encode_one _ c.if-b-lt128.true) at (roomy encode (plain c) h.i _ refl h.invariant.0 (start l).requires.fits)
 
 -- an escape's value is known
-module _ (c : tie.After-known-told invariant-loop decreases-loop) where
-  abbrev turn : tie.In-loop invariant-loop decreases-loop
-  turn = c.before.before.before.before.before.before
+module _ (c : tie.In-One invariant-loop decreases-loop) where
+  abbrev turn : tie.In-loop-i invariant-loop decreases-loop
+  turn = c.before.before.before.before
 
-  escape : let v = c.before.value.given.0 in In-unicode (start turn).args.line.now turn.before.loop.i v.0 v.1.0
-  escape = piece turn (sym c.before.before.before.unicode-piece.ensures ∙ c.before.value.given.1)
+  escape : In-unicode (start turn).args.line.now turn.loop-i.i c.in-One.value c.in-One.more
+  escape = piece turn (sym c.unicode_piece.ensures ∙ c.in-One.is)
 
 -- its bytes are written
-abbrev told : tie.After-slice-known2 invariant-loop decreases-loop → tie.After-known-told invariant-loop decreases-loop
+abbrev told : tie.After-slice_known-in-One-1 invariant-loop decreases-loop → tie.In-One invariant-loop decreases-loop
 told c = c.before.before.before.before
 
-loop-holds : tie.Need-loop-init invariant-loop decreases-loop
+loop-holds : tie.Need-loop-i-init invariant-loop decreases-loop
 unfolding unescape_unicode
-loop-holds c = (write_none _ _ c.before.before.requires.is, omega arith)
+loop-holds c = (write_none _ _ c.requires.is, omega arith)
 
-loop-again : tie.Need-loop-preserved invariant-loop decreases-loop
+loop-again : tie.Need-loop-i-preserved-then-b-ne92 invariant-loop decreases-loop
 loop-again c =
-    let l = c.before.before.before.before.loop in
-    (rw (encode_one _ c.before.if1.true) at (written encode (plain c) l.i _ refl l.invariant.0), omega arith)
+    let l = c.loop-i in
+    (rw (encode_one _ c.if-b-lt128.true) at (written encode (plain c) l.i _ refl l.invariant.0), omega arith)
 
-put-requires : tie.Need-put-requires invariant-loop decreases-loop
+put-requires : tie.Need-put-n-requires invariant-loop decreases-loop
 put-requires c κs =
     let e = escape c.before in
     let l = turn c.before in
-    let h = l.before.loop in
-    (e.good.0, roomy encode e h.i _ refl h.inv.0 (start l).pre.fits)
+    let h = l.loop-i in
+    (e.good.0, roomy encode e h.i _ refl h.invariant.0 (start l).requires.fits)
 
-loop-again-2 : tie.Need-loop-preserved-2 invariant-loop decreases-loop
+loop-again-2 : tie.Need-loop-i-preserved invariant-loop decreases-loop
 loop-again-2 c =
-    let l = (turn (told c)).before.loop in
+    let l = (turn (told c)).loop-i in
     let e = escape (told c) in
-    let p = c.before.before.put.ensures in
-    (rw (p.0, p.1) (written encode e l.i _ refl l.inv.0), e.inside)
+    let p = c.put-n.ensures in
+    (rw (p.0, p.1) (written encode e l.i _ refl l.invariant.0), e.inside)
 
-returns : tie.Need-returns invariant-loop decreases-loop
+returns : tie.Need-returns-in-Bad invariant-loop decreases-loop
 returns c =
-    let e = sym c.before.before.unicode-piece.ensures ∙ c.enum_told.given.1 in
-    let l = c.before.before.before.before.before in
-    absurd (write_bad _ _ _ _ _ (texts_bad unicode_head encode _ _ _ l.loop-test.true e) l.before.loop.invariant.0)
+    let e = sym c.unicode_piece.ensures ∙ c.in-Bad.is in
+    let l = c.before.before.before.before in
+    absurd (write_bad _ _ _ _ _ (texts_bad unicode_head encode _ _ _ l.loop-i-test.true e) l.loop-i.invariant.0)
 
-returns-2 : tie.Need-returns-2 invariant-loop decreases-loop
+returns-2 : tie.Need-returns invariant-loop decreases-loop
 returns-2 c =
     let s = c.before.before.before.before in
-    write_end _ _ _ _ _ (texts_end unicode_head encode _ _ _ c.loop-test.false) s.requires.fits c.before.loop.invariant.0
+    write_end _ _ _ _ _ (texts_end unicode_head encode _ _ _ c.loop-i-test.false) s.requires.fits c.loop-i.invariant.0
 
 pub unescape_unicode_spec : {M : Type 1} → statement M
 unescape_unicode_spec =
@@ -94,12 +94,12 @@ unescape_unicode_spec =
     decreases-loop
     loop-holds
     (λ c. omega arith)
-    (λ c. omega (arith, room c, c.before.before.before.before.loop.invariant.0.long))
-    (λ c. omega (arith, room c, c.before.before.before.before.loop.invariant.0.long))
+    (λ c. omega (arith, room c, c.loop-i.invariant.0.long))
+    (λ c. omega (arith, room c, c.loop-i.invariant.0.long))
     (λ c. omega arith)
     (λ c. omega arith)
     loop-again
-    (λ c κs. c.before.before.loop-test.true)
+    (λ c κs. c.loop-i-test.true)
     (λ c. search rules)
     put-requires
     (λ c. omega (arith, (escape (told c)).inside))
@@ -107,7 +107,7 @@ unescape_unicode_spec =
     (λ c. omega (arith, (escape (told c)).inside))
     loop-again-2
     (λ c. search rules)
-    (λ c. c.before.before.before.before.before.before.loop.invariant.0.long)
+    (λ c. c.loop-i.invariant.0.long)
     returns
-    (λ c. c.before.loop.invariant.0.long)
+    (λ c. c.loop-i.invariant.0.long)
     returns-2)

@@ -6,17 +6,17 @@ use Rattle.text.proofs.Places.{unicode_end, unicode-four, unicode_eight, unicode
 use Rattle.text.proofs.unicode_escape.Statement.{statement}
 use Rattle.text.proofs.unicode_escape.Tie as tie
 
-returns : tie.Need-returns
-returns c = unicode_end _ _ c.if1.true
+returns : tie.Need-returns-then-text-at
+returns c = unicode_end _ _ c.if-text-at.true
 
-returns-2 : tie.Need-returns-2
-returns-2 c = c.unicode-hex.ensures ∙ unicode-four _ _ c.before.before.before.if1.false c.before.match.keys1
+returns-2 : tie.Need-returns-in-117
+returns-2 c = c.unicode_hex.ensures ∙ unicode-four _ _ c.if-text-at.false c.in-117.is
 
-returns-3 : tie.Need-returns-3
-returns-3 c = c.unicode-hex2.ensures ∙ unicode_eight _ _ c.before.before.before.if1.false (λ e. omega (arith, c.before.match.keys2)) c.before.match.keys2
+returns-3 : tie.Need-returns-in-85
+returns-3 c = c.unicode_hex-in-85.ensures ∙ unicode_eight _ _ c.if-text-at.false (λ e. omega (arith, c.in-85.is)) c.in-85.is
 
-returns-4 : tie.Need-returns-4
-returns-4 c = unicode_lone _ _ c.before.before.if1.false c.match.rest.0.1 c.match.rest.1
+returns-4 : tie.Need-returns-in_default
+returns-4 c = unicode_lone _ _ c.if-text-at.false c.in_default.in_default-own.rest.0.1 c.in_default.in_default-own.rest.1
 
 pub unicode_escape_spec : {M : Type 1} → statement M
 unicode_escape_spec =

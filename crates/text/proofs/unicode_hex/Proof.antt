@@ -5,13 +5,13 @@ use Rattle.text.specs.Escapes.{scalar_piece}
 use Rattle.text.proofs.unicode_hex.Statement.{statement}
 use Rattle.text.proofs.unicode_hex.Tie as tie
 
-returns : tie.Need-returns
+returns : tie.Need-returns-in-One
 unfolding scalar_piece
-returns c = rw c.scalar.ensures (ap scalar_piece (sym c.before.before.value.given.1 ∙ c.before.before.before.before.hex-escape.ensures))
+returns c = rw c.scalar.ensures (ap scalar_piece (sym c.in-One.is ∙ c.hex_escape.ensures))
 
-returns-2 : tie.Need-returns-2
+returns-2 : tie.Need-returns-in-Bad
 unfolding scalar_piece
-returns-2 c = ap scalar_piece (sym c.enum_told.given.1 ∙ c.before.before.hex-escape.ensures)
+returns-2 c = ap scalar_piece (sym c.in-Bad.is ∙ c.hex_escape.ensures)
 
 pub unicode_hex_spec : {M : Type 1} → statement M
 unicode_hex_spec =

@@ -6,14 +6,14 @@ use Rattle.text.proofs.Places.{unicode_plain, unicode_slash}
 use Rattle.text.proofs.unicode_piece.Statement.{statement}
 use Rattle.text.proofs.unicode_piece.Tie as tie
 
-cast-t9 : tie.Need-overflow-cast-t9
-cast-t9 c = omega (arith, c.before.before.shared-slice-known.given c.before.before.before.args.at)
+cast-t9 : tie.Need-overflow_cast-result
+cast-t9 c = omega (arith, c.shared_slice_known-1.given c.args.at)
 
-returns : tie.Need-returns
-returns c = c.unicode-escape.ensures ∙ unicode_slash _ _ c.before.before.before.before.requires c.before.if1.true
+returns : tie.Need-returns-then-b-eq92
+returns c = c.unicode_escape.ensures ∙ unicode_slash _ _ c.requires c.if-b-eq92.true
 
-returns-2 : tie.Need-returns-2
-returns-2 c = unicode_plain _ _ c.before.before.before.requires c.if1.false
+returns-2 : tie.Need-returns-else-b-eq92
+returns-2 c = unicode_plain _ _ c.requires c.if-b-eq92.false
 
-pub unicode-piece_spec : {M : Type 1} → statement M
-unicode-piece_spec = tie.close (tie.spec (λ c. search rules) (λ c. search rules) (λ c κs. search rules) cast-t9 returns returns-2)
+pub unicode_piece_spec : {M : Type 1} → statement M
+unicode_piece_spec = tie.close (tie.spec (λ c. search rules) (λ c. search rules) (λ c κs. search rules) cast-t9 returns returns-2)
