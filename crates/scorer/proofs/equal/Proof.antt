@@ -10,4 +10,4 @@ equal_spec =
     tie.close
     (tie.spec
     (λ c. search rules) (λ c. search rules) (λ c. search rules)
-    (λ c. rw c.enum_told.given.1) (λ c. rw c.enum-told2.given.1) (λ c. rw c.enum-told3.given.1))
+    (λ c. rw c.in-Less.is) (λ c. rw c.in-Equal.is) (λ c. rw c.in-Greater.is))

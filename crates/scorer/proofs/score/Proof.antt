@@ -7,25 +7,25 @@ use borrow.Author.Tests.{not-true, not-false}
 use Rattle.table.specs.Decides.{refuted}
 use Rattle.scorer.specs.Call.{scored_of, scores_bad, scores_good}
 
-returns : tie.Need-returns
+returns : tie.Need-returns-then-not-well_formed
 returns c =
-    let args = c.before.before.before.before.before.before.before.args in
-    scores_bad args.words.now args.count args.text.now _ (refuted c.before.before.before.before.well-formed-2.ensures (not-true _ c.before.before.before.if1.true)) (c.refused.ensures ∙ rw (c.before.before.number.ensures, c.before.detail.ensures))
+    let args = c.args in
+    scores_bad args.words.now args.count args.text.now _ (refuted c.before.before.before.before.well-formed-2.ensures (not-true _ c.if-not-well_formed.true-raw)) (c.refused.ensures ∙ rw (c.number.ensures, c.detail.ensures))
 
 assess-requires : tie.Need-assess-requires
-assess-requires c κs = record { count = c.before.before.before.before.args.count; formed = c.before.well-formed-2.ensures.yes (not-false _ c.if1.false) }
+assess-requires c κs = record { count = c.args.count; formed = c.before.well-formed-2.ensures.yes (not-false _ c.if-not-well_formed.false-raw) }
 
-returns-2 : tie.Need-returns-2
+returns-2 : tie.Need-returns-in-Off
 unfolding scored_of
 returns-2 c =
-    let args = c.before.before.before.before.before.before.before.before.args in
-    scores_good args.words.now args.count args.text.now _ (c.before.before.before.before.before.well-formed-2.ensures.yes (not-false _ c.before.before.before.before.if1.false)) (λ f. rw (← c.before.before.before.assess.ensures args.count f, c.before.enum_told.given.1) c.refused2.ensures)
+    let args = c.args in
+    scores_good args.words.now args.count args.text.now _ (c.before.before.before.before.before.well-formed-2.ensures.yes (not-false _ c.if-not-well_formed.false-raw)) (λ f. rw (← c.assess.ensures args.count f, c.in-Off.is) c.refused-in-Off.ensures)
 
-returns-3 : tie.Need-returns-3
+returns-3 : tie.Need-returns-in-Sum
 unfolding scored_of
 returns-3 c =
-    let args = c.before.before.before.before.before.before.before.before.args in
-    scores_good args.words.now args.count args.text.now _ (c.before.before.before.before.before.well-formed-2.ensures.yes (not-false _ c.before.before.before.before.if1.false)) (λ f. rw (← c.before.before.before.assess.ensures args.count f, c.before.score.given.1))
+    let args = c.args in
+    scores_good args.words.now args.count args.text.now _ (c.before.before.before.before.before.well-formed-2.ensures.yes (not-false _ c.if-not-well_formed.false-raw)) (λ f. rw (← c.assess.ensures args.count f, c.in-Sum.is))
 
 pub score_spec : {M : Type 1} → statement M
 score_spec =

@@ -85,7 +85,7 @@ write_inner_spec =
     loop-again
     (λ c κs. c.loop-i-test.true)
     (λ c. search rules)
-    (λ c. omega (arith, (escape c).well_formed_lem))
+    (λ c. omega (arith, (escape c).good))
     (λ c. omega (arith, room (turn c) (escape c), (turn c).loop-i.invariant.0.long))
     (λ c. omega (arith, room (turn c) (escape c), (turn c).loop-i.invariant.0.long))
     (λ c. omega (arith, (escape c).inside))
