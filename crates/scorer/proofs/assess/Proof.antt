@@ -19,16 +19,16 @@ abbrev start : tie.Else-head_of-ne-KIND_DICT → tie.Start
 start c = c.before.before.before.before.before.before
 
 abbrev root : tie.Else-answers-eq0 → tie.Else-head_of-ne-KIND_DICT
-root c = c.before.before.before.before
+root c = c.before.before.before.before.before
 
 abbrev first : tie.Else-reverse-eq0 → tie.Else-answers-eq0
-first c = c.before.before.before
+first c = c.before.before.before.before
 
 abbrev second : tie.Else-flipped-eq0 → tie.Else-reverse-eq0
-second c = c.before.before.before
+second c = c.before.before.before.before
 
 abbrev third : tie.Else-highest-eq0 → tie.Else-flipped-eq0
-third c = c.before.before.before
+third c = c.before.before.before.before
 
 abbrev back : tie.Else-highest-eq0 → tie.Start
 back c = start (root (first (second (third c))))
@@ -47,17 +47,17 @@ Inside c r = 4 * r + 4 ≤ length (start c).args.words.now
 dict : (c : tie.Else-head_of-ne-KIND_DICT) {n : ℕ} (f : Formed c n) → kind f.value.label ≡ 10
 dict c f = root_dict f _ c.head_of.ensures c.if-head_of-ne-KIND_DICT.false
 
-the_answers : (c : tie.After-seek-answers) {n : ℕ} (f : Formed c.before.before.before n) → Found c.before.before.before (answers f.value) 10 c.seek-answers.result
-the_answers c f = let d = dict c.before.before.before f in c.seek-answers.ensures _ (entries_lie f d) (entries-count f d)
+the_answers : (c : tie.After-seek-answers) {n : ℕ} (f : Formed c.before.before.before.before n) → Found c.before.before.before.before (answers f.value) 10 c.seek-answers.result
+the_answers c f = let d = dict c.before.before.before.before f in c.seek-answers.ensures _ (entries_lie f d) (entries-count f d)
 
-the_reverse : (c : tie.After-seek-reverse) {n : ℕ} (f : Formed (root c.before.before) n) → Found (root c.before.before) (reverse f.value) 8 c.seek-reverse.result
-the_reverse c f = let d = dict (root c.before.before) f in c.seek-reverse.ensures _ (entries_lie f d) (entries-count f d)
+the_reverse : (c : tie.After-seek-reverse) {n : ℕ} (f : Formed (root c.before.before.before) n) → Found (root c.before.before.before) (reverse f.value) 8 c.seek-reverse.result
+the_reverse c f = let d = dict (root c.before.before.before) f in c.seek-reverse.ensures _ (entries_lie f d) (entries-count f d)
 
-the_flipped : (c : tie.After-seek-flipped) {n : ℕ} (f : Formed (root (first c.before.before)) n) → Found (root (first c.before.before)) (flipped f.value) 1 c.seek-flipped.result
-the_flipped c f = let d = dict (root (first c.before.before)) f in c.seek-flipped.ensures _ (entries_lie f d) (entries-count f d)
+the_flipped : (c : tie.After-seek-flipped) {n : ℕ} (f : Formed (root (first c.before.before.before)) n) → Found (root (first c.before.before.before)) (flipped f.value) 1 c.seek-flipped.result
+the_flipped c f = let d = dict (root (first c.before.before.before)) f in c.seek-flipped.ensures _ (entries_lie f d) (entries-count f d)
 
-the_highest : (c : tie.After-seek-highest) {n : ℕ} (f : Formed (root (first (second c.before.before))) n) → Found (root (first (second c.before.before))) (highest_answer f.value) 2 c.seek-highest.result
-the_highest c f = let d = dict (root (first (second c.before.before))) f in c.seek-highest.ensures _ (entries_lie f d) (entries-count f d)
+the_highest : (c : tie.After-seek-highest) {n : ℕ} (f : Formed (root (first (second c.before.before.before))) n) → Found (root (first (second c.before.before.before))) (highest_answer f.value) 2 c.seek-highest.result
+the_highest c f = let d = dict (root (first (second c.before.before.before))) f in c.seek-highest.ensures _ (entries_lie f d) (entries-count f d)
 
 in_answers : (c : tie.Else-answers-eq0) → Inside (root c) c.seek-answers.result
 in_answers c = sought_inside (the_answers c.before (start (root c)).requires.formed) (omega arith)
@@ -83,25 +83,25 @@ shared-slice-read-entries : tie.Need-bounds-words-1
 shared-slice-read-entries c = omega (arith, root_inside (start c.before).requires.formed)
 
 seek-requires : tie.Need-seek-answers-requires
-seek-requires c κs = let d = c.before.before in let f = (start d).requires.formed in (entries_lain f (dict d f), omega arith)
+seek-requires c κs = let d = c.before.before.before in let f = (start d).requires.formed in (entries_lain f (dict d f), omega arith)
 
 returns-2 : tie.Need-returns-then-answers-eq0
 returns-2 c n f = off_answers f.value ((the_answers c.before f).missing c.if-answers-eq0.true)
 
 seek-requires-2 : tie.Need-seek-reverse-requires
-seek-requires-2 c κs = let d = root c.before in let f = (start d).requires.formed in (entries_lain f (dict d f), omega arith)
+seek-requires-2 c κs = let d = root c.before.before in let f = (start d).requires.formed in (entries_lain f (dict d f), omega arith)
 
 returns-3 : tie.Need-returns-then-reverse-eq0
 returns-3 c n f = off_reverse f.value ((the_reverse c.before f).missing c.if-reverse-eq0.true)
 
 seek-requires-3 : tie.Need-seek-flipped-requires
-seek-requires-3 c κs = let d = root (first c.before) in let f = (start d).requires.formed in (entries_lain f (dict d f), omega arith)
+seek-requires-3 c κs = let d = root (first c.before.before) in let f = (start d).requires.formed in (entries_lain f (dict d f), omega arith)
 
 returns-4 : tie.Need-returns-then-flipped-eq0
 returns-4 c n f = off_flipped f.value ((the_flipped c.before f).missing c.if-flipped-eq0.true)
 
 seek-requires-4 : tie.Need-seek-highest-requires
-seek-requires-4 c κs = let d = root (first (second c.before)) in let f = (start d).requires.formed in (entries_lain f (dict d f), omega arith)
+seek-requires-4 c κs = let d = root (first (second c.before.before)) in let f = (start d).requires.formed in (entries_lain f (dict d f), omega arith)
 
 returns-5 : tie.Need-returns-then-highest-eq0
 returns-5 c n f = off_highest f.value ((the_highest c.before f).missing c.if-highest-eq0.true)
@@ -194,7 +194,7 @@ pub assess_spec : {M : Type 1} → statement M
 assess_spec =
     tie.close
     (tie.spec
-    shared-slice-read-head-of (λ c κs. search rules) returns shared-slice-read-entries (λ c. search rules) seek-requires returns-2 (λ c. search rules)
-    seek-requires-2 returns-3 (λ c. search rules) seek-requires-3 returns-4 (λ c. search rules) seek-requires-4 returns-5 is-between-requires returns-6
+    shared-slice-read-head-of (λ c κs. search rules) returns shared-slice-read-entries seek-requires returns-2
+    seek-requires-2 returns-3 seek-requires-3 returns-4 seek-requires-4 returns-5 is-between-requires returns-6
     mul-max add-max mul-max-2 shared-slice-read-max mul-mark add-mark mul-mark-2 shared-slice-read-mark add-tally-answers mul-tally-answers add-tally-answers-2 mul-tally-answers-2
     shared-slice-read-tally-answers add-tally-answers-3 mul-tally-answers-3 add-tally-answers-4 mul-tally-answers-4 shared-slice-read-tally-answers-2 tally-answers-requires returns-7)
