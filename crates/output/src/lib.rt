@@ -25,7 +25,7 @@ pub fn put_run(run: &[u8], output: &mut [u8], at: usize) -> usize
     ensures { Put output.old at run.now output.new result }
 {
     let end = at + run.len();
-    bytes::copy(run, &mut output[at..end]);
+    output[at..end].copy_from_slice(run);
     end
 }
 

@@ -5,10 +5,10 @@ use Rattle.float.proofs.divided.Tie as tie
 use Rattle.float.specs.Nearest.{whole_fits}
 use Rattle.float.proofs.Tens.{quotient_number, quotient_bits}
 
-int-to-float-result : tie.Need-int-to-float-result
-int-to-float-result c = whole_fits c.before.args.w c.before.requires.1
+int-to-float-result : tie.Need-int_to_float-result
+int-to-float-result c = whole_fits c.args.w c.requires.1
 
-float-to-bits-result : tie.Need-float-to-bits-result
+float-to-bits-result : tie.Need-float_to_bits-result
 float-to-bits-result c = let s = c.before in quotient_number s.args.w s.args.e s.requires.0 s.requires.1 s.requires.2
 
 returns : tie.Need-returns

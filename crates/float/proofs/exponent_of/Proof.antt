@@ -6,18 +6,18 @@ use mathlib.Core.Path.{◌∙◌}
 use native.Mathlib.Omega.{arith}
 use Rattle.float.proofs.Scans.{exponent_empty, exponent-read, exponent-none}
 
-returns : tie.Need-returns
-returns c = exponent_empty c.before.before.args.text.now (omega arith)
+returns : tie.Need-returns-then-text-eq0
+returns c = exponent_empty c.args.text.now (omega arith)
 
-returns-2 : tie.Need-returns-2
+returns-2 : tie.Need-returns-in-69
 returns-2 c =
-    let s = c.before.before.before.before.before.before.before.before.args.text.now in
-    let u = c.before.after-sign in
-    let m = c.before.before.is-minus in
-    c.power-of.ensures ∙ exponent-read s (omega arith) u.result.now m.result c.before.before.before.match.keys1 m.ensures u.ensures
+    let s = c.args.text.now in
+    let u = c.after_sign in
+    let m = c.is_minus in
+    c.power_of.ensures ∙ exponent-read s (omega arith) u.result.now m.result c.in-69.is m.ensures u.ensures
 
-returns-3 : tie.Need-returns-3
-returns-3 c = exponent-none c.before.before.before.before.before.args.text.now (omega arith) c.match.rest.1
+returns-3 : tie.Need-returns-in_default
+returns-3 c = exponent-none c.args.text.now (omega arith) c.in_default.in_default-own.rest.1
 
 pub exponent_of_spec : {M : Type 1} → statement M
 exponent_of_spec =

@@ -6,22 +6,22 @@ use mathlib.Core.Path.{sym, ◌∙◌}
 use Rattle.float.specs.Literal.{f64_read}
 use Rattle.float.proofs.Values.{float_named, float_number}
 
-returns : tie.Need-returns
+returns : tie.Need-returns-then-is_named
 unfolding f64_read
 returns c =
-    let s = c.before.before.before.before.args.text.now in
-    let u = c.before.before.after-sign in
-    float_named s u.result.now u.ensures (sym c.before.is-named.ensures ∙ c.if1.true)
+    let s = c.args.text.now in
+    let u = c.after_sign-rest in
+    float_named s u.result.now u.ensures (sym c.is_named.ensures ∙ c.if-is_named.true)
 
-returns-2 : tie.Need-returns-2
+returns-2 : tie.Need-returns
 returns-2 c =
-    let s = c.before.before.before.before.before.before.args.text.now in
-    let u = c.before.before.before.before.after-sign in
-    let m = c.before.is-minus in
-    c.number_of.ensures ∙ float_number s u.result.now m.result u.ensures (sym c.before.before.before.is-named.ensures ∙ c.before.before.if1.false) m.ensures
+    let s = c.args.text.now in
+    let u = c.after_sign-rest in
+    let m = c.is_minus in
+    c.number_of.ensures ∙ float_number s u.result.now m.result u.ensures (sym c.is_named.ensures ∙ c.if-is_named.false) m.ensures
 
-pub float-text_spec : {M : Type 1} → statement M
-float-text_spec =
+pub float_text_spec : {M : Type 1} → statement M
+float_text_spec =
     tie.close
     (tie.spec
     (λ c κs. search rules)

@@ -5,13 +5,13 @@ use Rattle.float.proofs.parse_f64.Tie as tie
 use mathlib.Core.Path.{sym, ap, ◌∙◌}
 use Rattle.float.specs.Literal.{f64_read, float_literal, parse_f64}
 
-returns : tie.Need-returns
+returns : tie.Need-returns-then-valid
 unfolding parse_f64
-returns c = rw (sym c.before.before.before.valid.ensures ∙ c.before.before.if1.true) (c.float-text.ensures ∙ ap float_literal c.before.trim.ensures)
+returns c = rw (sym c.valid.ensures ∙ c.if-valid.true) (c.float_text.ensures ∙ ap float_literal c.trim.ensures)
 
-returns-2 : tie.Need-returns-2
+returns-2 : tie.Need-returns
 unfolding parse_f64 f64_read
-returns-2 c = rw (sym c.before.valid.ensures ∙ c.if1.false)
+returns-2 c = rw (sym c.valid.ensures ∙ c.if-valid.false)
 
 pub parse_f64_spec : {M : Type 1} → statement M
 parse_f64_spec = tie.close (tie.spec (λ c κs. search rules) (λ c κs. search rules) (λ c κs. search rules) returns returns-2)
