@@ -11,12 +11,10 @@ use Rattle.output.specs.Put.{Put, Room, sets_last}
 
 -- ---- put_run: what is copied to the front of a part, in the part's place
 
-pub run_put : (o b p : List ℕ) (at : ℕ) → Room o at b → p ≡ take (length b) b ++ drop (length b) (take (at + length b - at) (drop at o)) → Put o at b (take at o ++ (p ++ drop (at + length b - at) (drop at o))) (at + length b)
-run_put o b p at r e =
+pub run_put : (o b p : List ℕ) (at : ℕ) → Room o at b → p ≡ b → Put o at b (take at o ++ (p ++ drop (at + length b - at) (drop at o))) (at + length b)
+run_put o b p at r whole =
     let n = length b in
     let k : at + n - at ≡ n = omega arith in
-    let z : drop n (take n (drop at o)) ≡ [] = drop_of_length-le (take n (drop at o)) {i = n} (omega (arith, length-take n (drop at o))) in
-    let whole : p ≡ b = e ∙ rw (k, z, take_all n b (omega arith)) (append-nil b) in
     record { wrote = rw (whole, k, drop-drop n at o) (sym (sets-eq b o at r.fits ∙ append_assoc (take at o) b (drop (at + n) o))); ends = refl }
 
 -- ---- put_figures: the last digit is stored first

@@ -83,6 +83,7 @@ insert_has v (node l c r) = go (order v w) refl (insert_has v r)
 
 insert_keeps : (u v : Value) (f : Forest) → Among u f → Among u (insert v f)
 unfolding insert by
+insert_keeps u v nil a = elim a [ ]
 insert_keeps u v (node l c r) a = go (order v (record { label = l; contents = c })) a (insert_keeps u v r)
   where
     go : (o : Ordering) → Among u (node l c r) → (Among u r → Among u (insert v r)) → Among u (by o (before v (node l c r)) (node l c r) (node l c (insert v r)))
@@ -109,11 +110,13 @@ insert-only u v (node l c r) a = go (order v (record { label = l; contents = c }
 -- every item given is there, and no other
 pub set_has : (v : Value) (f : Forest) → Among v f → Among v (as_set f)
 unfolding as_set
+set_has v nil x' = elim x' [ ]
 set_has v (node l c r) (first e) = rw e (insert_has (record { label = l; contents = c }) (as_set r))
 set_has v (node l c r) (after a) = insert_keeps v (record { label = l; contents = c }) (as_set r) (set_has v r a)
 
 pub set-only : (v : Value) (f : Forest) → Among v (as_set f) → Among v f
 unfolding as_set
+set-only v nil a = elim a [ ]
 set-only v (node l c r) a = go (insert-only v (record { label = l; contents = c }) (as_set r) a) (set-only v r)
   where
     go : Among v (node l c (as_set r)) → (Among v (as_set r) → Among v r) → Among v (node l c r)
@@ -165,6 +168,8 @@ pub data Last (v w : Value) : Forest → Type 0 where
 
 enter_keeps : (u x v w : Value) (f : Forest) → Entry u x f → Entry u x (enter v w f)
 unfolding enter by
+enter_keeps u x v w nil a = elim a [ ]
+enter_keeps u x v w (node l c nil) a = elim a [ ]
 enter_keeps u x v w (node l c (node m d r)) a = go (order v (record { label = l; contents = c })) a (enter_keeps u x v w r)
   where
     go : (o : Ordering) → Entry u x (node l c (node m d r)) → (Entry u x r → Entry u x (enter v w r)) → Entry u x (by o (before v (before w (node l c (node m d r)))) (node l c (node m d r)) (node l c (node m d (enter v w r))))
@@ -205,6 +210,8 @@ enter_has v w (node l c (node m d r)) n = go (order v k) refl (enter_has v w r (
 -- a key below the first of ascending ones is none of them
 not_under : (v x : Value) (f : Forest) → Ascending (keys f) → Under v (keys f) → Entry v x f → ⊥
 unfolding Ascending Under keys
+not_under v x nil a h x7 = elim x7 [ ]
+not_under v x (node l c nil) a h x12 = elim x12 [ ]
 not_under v x (node l c (node m d r)) a h (first e f) = order_self v (rw (← e) at h)
 not_under v x (node l c (node m d r)) a h (after b) = not_under v x r a.1 (under (keys r) a.0) b
   where
@@ -261,12 +268,16 @@ enter-only u x v w (node l c (node m d r)) s a = go (order v k) refl a (enter-on
 -- every key given is there
 pub dict_key : (v x : Value) (f : Forest) → Entry v x f → (y : Value) × Entry v y (as_dict f)
 unfolding as_dict
+dict_key v x nil x3 = elim x3 [ ]
+dict_key v x (node l c nil) x6 = elim x6 [ ]
 dict_key v x (node l c (node m d r)) (first e g) = rw e (enter_key (record { label = l; contents = c }) (record { label = m; contents = d }) (as_dict r))
 dict_key v x (node l c (node m d r)) (after b) = let h = dict_key v x r b in (h.0, enter_keeps v h.0 (record { label = l; contents = c }) (record { label = m; contents = d }) (as_dict r) h.1)
 
 -- and its value is its last one
 pub dict-only : (v x : Value) (f : Forest) → Entry v x (as_dict f) → Last v x f
 unfolding as_dict
+dict-only v x nil a = elim a [ ]
+dict-only v x (node l c nil) a = elim a [ ]
 dict-only v x (node l c (node m d r)) a = go (enter-only v x k (record { label = m; contents = d }) (as_dict r) (dict-ascending r) a) (dict-only v x r)
   where
     k : Value
@@ -281,6 +292,8 @@ dict-only v x (node l c (node m d r)) a = go (enter-only v x k (record { label =
 
 pub dict-last : (v x : Value) (f : Forest) → Last v x f → Entry v x (as_dict f)
 unfolding as_dict
+dict-last v x nil x3 = elim x3 [ ]
+dict-last v x (node l c nil) x6 = elim x6 [ ]
 dict-last v x (node l c (node m d r)) (first e g n) =
     rw (e, g) (enter_has (record { label = l; contents = c }) (record { label = m; contents = d }) (as_dict r) (λ y b. n y (was y (dict-only (record { label = l; contents = c }) y r b))))
   where

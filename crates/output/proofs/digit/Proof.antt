@@ -5,13 +5,13 @@ use Rattle.output.specs.Decimal.{figure}
 use Rattle.output.proofs.digit.Statement.{statement}
 use Rattle.output.proofs.digit.Tie as tie
 
-returns : tie.Need-returns
+returns : tie.Need-returns-then-value-lt10
 unfolding figure
-returns c = simp (lt-ltb c.before.args.value 10 c.if1.true)
+returns c = simp (lt-ltb c.args.value 10 c.if-value-lt10.true)
 
-returns-2 : tie.Need-returns-2
+returns-2 : tie.Need-returns
 unfolding figure
-returns-2 c = simp (le-ltb c.before.args.value 10 c.if1.false)
+returns-2 c = simp (le-ltb c.args.value 10 c.if-value-lt10.false)
 
 pub digit_spec : {M : Type 1} → statement M
 digit_spec =

@@ -5,11 +5,11 @@ use Rattle.output.specs.Decimal.{decimal-figures}
 use Rattle.output.proofs.put_decimal.Statement.{statement}
 use Rattle.output.proofs.put_decimal.Tie as tie
 
-put-figures-requires : tie.Need-put-figures-requires
-put-figures-requires c κs = let e = decimal-figures c.before.before.before.args.n c.before.digits.result (omega arith) c.before.digits.ensures in (omega arith, (omega arith, rw e c.before.before.before.requires))
+put-figures-requires : tie.Need-put_figures-requires
+put-figures-requires c κs = let e = decimal-figures c.args.n c.digits.result (omega arith) c.digits.ensures in (omega arith, (omega arith, rw e c.requires))
 
 returns : tie.Need-returns
-returns c = let e = decimal-figures c.before.before.before.before.before.before.args.n c.before.before.before.before.digits.result (omega arith) c.before.before.before.before.digits.ensures in rw e at c.before.before.put-figures.ensures
+returns c = let e = decimal-figures c.args.n c.digits.result (omega arith) c.digits.ensures in rw e at c.put_figures.ensures
 
 pub put_decimal_spec : {M : Type 1} → statement M
 put_decimal_spec =

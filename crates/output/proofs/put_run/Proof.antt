@@ -5,7 +5,7 @@ use Rattle.output.proofs.put_run.Statement.{statement}
 use Rattle.output.proofs.put_run.Tie as tie
 
 returns : tie.Need-returns
-returns c = run_put _ _ _ _ c.before.before.before.before.before.before.requires c.before.before.copy.ensures.1
+returns c = run_put _ _ _ _ c.requires c.copy_from_slice.ensures.1
 
 pub put_run_spec : {M : Type 1} → statement M
 put_run_spec =

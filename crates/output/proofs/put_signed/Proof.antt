@@ -6,20 +6,20 @@ use Rattle.output.proofs.Laws.{signed_low, signed_high}
 use Rattle.output.proofs.put_signed.Statement.{statement}
 use Rattle.output.proofs.put_signed.Tie as tie
 
-put-decimal-requires : tie.Need-put-decimal-requires
-put-decimal-requires c κs = let e = signed_low c.before.before.before.args.bits (omega (arith, c.before.if1.true)) in rw e at c.before.before.before.requires
+put-decimal-requires : tie.Need-put_decimal-requires
+put-decimal-requires c κs = let e = signed_low c.args.bits (omega (arith, c.if-bits-lt9223372036854775808.true)) in rw e at c.requires
 
-returns : tie.Need-returns
-returns c = let e = signed_low c.before.before.before.before.before.before.args.bits (omega (arith, c.before.before.before.before.if1.true)) in rw e c.before.before.put-decimal.ensures
+returns : tie.Need-returns-then-bits-lt9223372036854775808
+returns c = let e = signed_low c.args.bits (omega (arith, c.if-bits-lt9223372036854775808.true)) in rw e c.put_decimal.ensures
 
-put-byte-requires : tie.Need-put-byte-requires
-put-byte-requires c κs = let e = signed_high c.before.before.before.args.bits (omega (arith, c.before.if1.false)) (omega arith) in room_first _ (rw e at c.before.before.before.requires)
+put-byte-requires : tie.Need-put_byte-next-requires
+put-byte-requires c κs = let e = signed_high c.args.bits (omega (arith, c.if-bits-lt9223372036854775808.false)) (omega arith) in room_first _ (rw e at c.requires)
 
-put-decimal-requires-2 : tie.Need-put-decimal-requires-2
-put-decimal-requires-2 c κs = let e = signed_high c.before.before.before.before.before.before.before.args.bits (omega (arith, c.before.before.before.before.before.if1.false)) (omega arith) in room_then _ c.before.before.before.put_byte.ensures (rw e at c.before.before.before.before.before.before.before.requires)
+put-decimal-requires-2 : tie.Need-put_decimal-requires-2
+put-decimal-requires-2 c κs = let e = signed_high c.args.bits (omega (arith, c.if-bits-lt9223372036854775808.false)) (omega arith) in room_then _ c.put_byte-next.ensures (rw e at c.requires)
 
-returns-2 : tie.Need-returns-2
-returns-2 c = let e = signed_high c.before.before.before.before.before.before.before.before.before.before.args.bits (omega (arith, c.before.before.before.before.before.before.before.before.if1.false)) (omega arith) in rw e (put_then c.before.before.before.before.before.before.put_byte.ensures c.before.before.put-decimal2.ensures)
+returns-2 : tie.Need-returns
+returns-2 c = let e = signed_high c.args.bits (omega (arith, c.if-bits-lt9223372036854775808.false)) (omega arith) in rw e (put_then c.put_byte-next.ensures c.put_decimal-2.ensures)
 
 pub put_signed_spec : {M : Type 1} → statement M
 put_signed_spec =

@@ -9,14 +9,14 @@ use Rattle.output.proofs.Laws.{signed_low, signed_high}
 use Rattle.output.proofs.signed_len.Statement.{statement}
 use Rattle.output.proofs.signed_len.Tie as tie
 
-returns : tie.Need-returns
-returns c = c.digits.ensures ∙ sym (ap length (signed_low c.before.before.args.bits (omega (arith, c.before.if1.true))))
+returns : tie.Need-returns-then-bits-lt9223372036854775808
+returns c = c.digits.ensures ∙ sym (ap length (signed_low c.args.bits (omega (arith, c.if-bits-lt9223372036854775808.true))))
 
-add-result : tie.Need-overflow-add-result
-add-result c = omega (arith, c.digits2.ensures, decimal-short (0xFFFFFFFFFFFFFFFF - c.before.before.args.bits + 1))
+add-result : tie.Need-overflow_add-result
+add-result c = omega (arith, c.digits-2.ensures, decimal-short (0xFFFFFFFFFFFFFFFF - c.args.bits + 1))
 
-returns-2 : tie.Need-returns-2
-returns-2 c = omega (arith, c.digits2.ensures, ap length (signed_high c.before.before.args.bits (omega (arith, c.before.if1.false)) (omega arith)))
+returns-2 : tie.Need-returns
+returns-2 c = omega (arith, c.digits-2.ensures, ap length (signed_high c.args.bits (omega (arith, c.if-bits-lt9223372036854775808.false)) (omega arith)))
 
 pub signed_len_spec : {M : Type 1} → statement M
 signed_len_spec =

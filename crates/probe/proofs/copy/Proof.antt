@@ -7,10 +7,10 @@ use native.Mathlib.Omega.{arith}
 use Rattle.probe.proofs.copy.Statement.{statement}
 use Rattle.probe.proofs.copy.Tie as tie
 
-abbrev invariant-loop : tie.invariant-loop
+abbrev invariant-loop : tie.invariant-loop-i
 invariant-loop from room₀ i₀ room i = (i ≤ length from) × (length room ≡ length room₀)
 
-abbrev decreases-loop : tie.decreases-loop
+abbrev decreases-loop : tie.decreases-loop-i
 decreases-loop from room₀ i₀ room i = length from - i
 
 pub copy_spec : {M : Type 1} → statement M

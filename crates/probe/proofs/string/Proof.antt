@@ -8,10 +8,10 @@ use native.Mathlib.Omega.{arith}
 use Rattle.text.specs.Text.{quoted_says}
 use Rattle.text.specs.Answers.{quoted_escaped}
 
-unescape-string-requires : tie.Need-unescape-string-requires
+unescape-string-requires : tie.Need-unescape_string-n-requires
 unescape-string-requires c κs =
-    let l = c.before.before.before.before.before.before.before.before.args.line.now in
-    let h = quoted_escaped l c.before.before.before.len.given.0.0 (sym (ap (quoted_says l) c.before.before.before.len.given.1) ∙ c.before.before.before.before.before.string_len.ensures) in
+    let l = c.args.line.now in
+    let h = quoted_escaped l c.in-Escaped.len (sym (ap (quoted_says l) c.in-Escaped.is) ∙ c.string_len.ensures) in
     record { is = h.0; fits = omega (arith, h.1) }
 
 pub string_spec : {M : Type 1} → statement M

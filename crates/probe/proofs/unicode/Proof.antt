@@ -8,9 +8,9 @@ use native.Mathlib.Omega.{arith}
 use Rattle.text.specs.Text.{decoded_says, unescape_unicode}
 use Rattle.text.specs.Answers.{decoded_len}
 
-unescape-unicode-requires : tie.Need-unescape-unicode-requires
+unescape-unicode-requires : tie.Need-unescape_unicode-n-requires
 unescape-unicode-requires c κs =
-    let h = decoded_len (unescape_unicode c.before.before.before.before.before.before.before.before.args.line.now) c.before.before.before.len.given.0.0 (sym (ap decoded_says c.before.before.before.len.given.1) ∙ c.before.before.before.before.before.unicode_len.ensures) in
+    let h = decoded_len (unescape_unicode c.args.line.now) c.in-Len.len (sym (ap decoded_says c.in-Len.is) ∙ c.unicode_len.ensures) in
     record { is = h.0; fits = omega (arith, h.1) }
 
 pub unicode_spec : {M : Type 1} → statement M

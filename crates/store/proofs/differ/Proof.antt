@@ -15,7 +15,7 @@ use Rattle.store.proofs.differ.Tie as tie
 returns : tie.Need-returns
 unfolding together
 returns c =
-    let a = c.before.before.before.before.before.before.before.before.args in
+    let a = c.args in
     λ h j l m.
     let e : a.from + (j - a.from) ≡ j = omega arith in
     let differs = together-each (not (eqb (get_or a.keys.now a.from 0) a.k)) (λ i. not (eqb (get_or a.keys.now (a.from + i) 0) a.k)) (rw add-zero) 7 h in
