@@ -9,16 +9,16 @@ ghost use Rattle.store.specs.Rooms.{Absent, Passed, Numbered};
 use refusal::Refusal;
 
 // A node's place in the node table.
-#[derive(Drop)]
+#[derive(Clone, Copy)]
 pub struct NodeId(pub usize);
 
 // A number that a pickle gives an entry of the memo.
-#[derive(Drop)]
+#[derive(Clone, Copy)]
 pub struct MemoKey(pub u32);
 
 // The place in the pickle, and how much of each room is used; of stack and marks also how much ever was. `greatest` is above every
 // number in the memo.
-#[derive(Drop)]
+#[derive(Clone, Copy)]
 pub struct Counts {
     pub at: usize,
     pub nodes: usize,
@@ -32,7 +32,7 @@ pub struct Counts {
 }
 
 // What an opcode comes to, with the counts after what it read and took.
-#[derive(Drop)]
+#[derive(Clone, Copy)]
 pub enum Effect {
     Push(Counts, u64, u64),
     Share(Counts, NodeId),

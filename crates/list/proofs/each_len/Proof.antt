@@ -9,23 +9,23 @@ use Rattle.list.proofs.Laws.{rest, rest_all, rest-none, rest-length, listed_one}
 use Rattle.list.proofs.each_len.Statement.{statement}
 use Rattle.list.proofs.each_len.Tie as tie
 
-abbrev invariant-loop : tie.invariant-loop
+abbrev invariant-loop : tie.invariant-loop-i
 invariant-loop text from count end i₀ sum₀ i sum = (i ≤ from + count) × (sum + length (rest text (from + count) i) ≡ length (listed_text (take count (drop from text))))
 
-abbrev decreases-loop : tie.decreases-loop
+abbrev decreases-loop : tie.decreases-loop-i
 decreases-loop text from count end i₀ sum₀ i sum = from + count - i
 
-loop-holds : tie.Need-loop-init invariant-loop decreases-loop
-loop-holds c = let a = c.before.args in (omega arith, omega (arith, ap length (rest_all a.text.now a.from a.count)))
+loop-holds : tie.Need-loop-i-init invariant-loop decreases-loop
+loop-holds c = let a = c.args in (omega arith, omega (arith, ap length (rest_all a.text.now a.from a.count)))
 
-loop-again : tie.Need-loop-preserved invariant-loop decreases-loop
+loop-again : tie.Need-loop-i-preserved invariant-loop decreases-loop
 loop-again c =
     let l = c.before.before.before in
-    let a = l.before.before.args in
-    (omega arith, omega (arith, rest-length a.text.now (a.from + a.count) l.loop.i 1 (omega arith), ap length (listed_one a.text.now l.loop.i (omega arith))))
+    let a = l.args in
+    (omega arith, omega (arith, rest-length a.text.now (a.from + a.count) l.loop-i.i 1 (omega arith), ap length (listed_one a.text.now l.loop-i.i (omega arith))))
 
 returns : tie.Need-returns invariant-loop decreases-loop
-returns c = omega (arith, ap length (rest-none c.before.before.before.args.text.now _ _ c.loop-test.false))
+returns c = omega (arith, ap length (rest-none c.args.text.now _ _ c.loop-i-test.false))
 
 pub each_len_spec : {M : Type 1} → statement M
 each_len_spec =

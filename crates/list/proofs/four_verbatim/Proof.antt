@@ -18,9 +18,9 @@ returns c =
     (both t i 2 1
     (both t i 1 1
     (verbatim_one t i (omega arith) one.verbatim.ensures)
-    (verbatim_one t (i + 1) (omega arith) two.verbatim2.ensures))
-    (verbatim_one t (i + 2) (omega arith) three.verbatim3.ensures))
-    (verbatim_one t (i + 3) (omega arith) c.verbatim4.ensures)
+    (verbatim_one t (i + 1) (omega arith) two.verbatim-2.ensures))
+    (verbatim_one t (i + 2) (omega arith) three.verbatim-3.ensures))
+    (verbatim_one t (i + 3) (omega arith) c.verbatim-4.ensures)
 
 pub four_verbatim_spec : {M : Type 1} → statement M
 four_verbatim_spec =

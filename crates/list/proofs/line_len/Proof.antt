@@ -5,11 +5,11 @@ use Rattle.list.proofs.Record.{Opened, known, line-length}
 use Rattle.list.proofs.line_len.Statement.{statement}
 use Rattle.list.proofs.line_len.Tie as tie
 
-abbrev start : tie.After-head-of → tie.Start
+abbrev start : tie.After-head_of-head → tie.Start
 start c = c.before.before.before.before
 
-opened : (c : tie.After-head-of) → Opened (start c).args.words.now (start c).args.text.now (start c).args.i c.head_of.result
-opened c = record { reads = (start c).requires.0; head = c.head_of.ensures }
+opened : (c : tie.After-head_of-head) → Opened (start c).args.words.now (start c).args.text.now (start c).args.i c.head_of-head.result
+opened c = record { reads = (start c).requires.0; head = c.head_of-head.ensures }
 
 returns : tie.Need-returns
 returns c = let h = c.before.before.before in omega (arith, line-length (opened h) (start h).args.depth)

@@ -7,18 +7,18 @@ use Rattle.list.proofs.Laws.{rest_all, run_length}
 use Rattle.list.proofs.listed_len.Statement.{statement}
 use Rattle.list.proofs.listed_len.Tie as tie
 
-each-len-requires : tie.Need-each-len-requires
+each-len-requires : tie.Need-each_len-requires
 each-len-requires c κs =
     let start = c.before.before in
     let a = start.args in
-    (omega arith, omega (arith, run_length c.run-by-eight.ensures start.requires.0, ap length (rest_all a.text.now a.from a.count)))
+    (omega arith, omega (arith, run_length c.run_by_eight-stop.ensures start.requires.0, ap length (rest_all a.text.now a.from a.count)))
 
 returns : tie.Need-returns
 returns c =
     let run = c.before in
     let start = run.before.before in
     let a = start.args in
-    omega (arith, run_length run.run-by-eight.ensures start.requires.0, ap length (rest_all a.text.now a.from a.count))
+    omega (arith, run_length run.run_by_eight-stop.ensures start.requires.0, ap length (rest_all a.text.now a.from a.count))
 
 pub listed_len_spec : {M : Type 1} → statement M
 listed_len_spec =

@@ -5,17 +5,17 @@ use Rattle.output.specs.Put.{put_same, room_same}
 use Rattle.list.proofs.put_eight.Statement.{statement}
 use Rattle.list.proofs.put_eight.Tie as tie
 
-put-run-requires : tie.Need-put-run-requires
+put-run-requires : tie.Need-put_run-requires
 put-run-requires c κs =
     let part = c.before in
     let test = part.before.before in
-    room_same (part.part.ensures ∙ sym (test.eight-verbatim.ensures part.before.if1.true)) test.before.before.before.requires.1
+    room_same (part.part.ensures ∙ sym (test.eight_verbatim.ensures part.if-eight_verbatim.true)) test.requires.1
 
-returns : tie.Need-returns
+returns : tie.Need-returns-then-eight_verbatim
 returns c =
     let put = c.before.before in
     let part = put.before.before in
-    put_same (part.part.ensures ∙ sym (part.before.before.eight-verbatim.ensures part.before.if1.true)) put.put-run.ensures
+    put_same (part.part.ensures ∙ sym (part.eight_verbatim.ensures part.if-eight_verbatim.true)) put.put_run.ensures
 
 pub put_eight_spec : {M : Type 1} → statement M
 put_eight_spec =

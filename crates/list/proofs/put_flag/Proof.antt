@@ -4,13 +4,13 @@ use Rattle.list.specs.Listing.{flag}
 use Rattle.list.proofs.put_flag.Statement.{statement}
 use Rattle.list.proofs.put_flag.Tie as tie
 
-returns : tie.Need-returns
+returns : tie.Need-returns-then-value
 unfolding flag
-returns c = let put = c.before.before in rw put.before.before.if1.true put.put_byte.ensures
+returns c = let put = c.before.before in rw put.if-value.true put.put_byte.ensures
 
-returns-2 : tie.Need-returns-2
+returns-2 : tie.Need-returns
 unfolding flag
-returns-2 c = let put = c.before.before in rw put.before.before.if1.false put.put-byte2.ensures
+returns-2 c = let put = c.before.before in rw put.if-value.false put.put_byte-2.ensures
 
 pub put_flag_spec : {M : Type 1} → statement M
 put_flag_spec =

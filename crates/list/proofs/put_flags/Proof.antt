@@ -10,7 +10,7 @@ returns c =
     let tab = state.before.before.before.before in
     let new = tab.before.before.before.before in
     let first = new.before.before.before.before in
-    put_then first.put_byte.ensures (put_then new.put-flag.ensures (put_then tab.put-byte2.ensures state.put-flag2.ensures))
+    put_then first.put_byte-first.ensures (put_then new.put_flag-end.ensures (put_then tab.put_byte-second.ensures state.put_flag.ensures))
 
 pub put_flags_spec : {M : Type 1} → statement M
 put_flags_spec =

@@ -7,61 +7,61 @@ use Rattle.list.proofs.Laws.{listed_slash, listed-printable, listed_escape}
 use Rattle.list.proofs.put_listed.Statement.{statement}
 use Rattle.list.proofs.put_listed.Tie as tie
 
-put-byte-requires : tie.Need-put-byte-requires
-put-byte-requires c κs = let slash = c.before in room_first _ (rw (listed_slash slash.if1.true) at slash.before.before.requires)
+put-byte-requires : tie.Need-put_byte-second-requires
+put-byte-requires c κs = let slash = c.before in room_first _ (rw (listed_slash slash.if-byte-eq92.true) at slash.requires)
 
-put-byte-requires-2 : tie.Need-put-byte-requires-2
+put-byte-requires-2 : tie.Need-put_byte-requires
 put-byte-requires-2 c κs =
     let first = c.before.before.before in
     let slash = first.before.before in
-    room_then _ first.put_byte.ensures (rw (listed_slash slash.if1.true) at slash.before.before.requires)
+    room_then _ first.put_byte-second.ensures (rw (listed_slash slash.if-byte-eq92.true) at slash.requires)
 
-returns : tie.Need-returns
+returns : tie.Need-returns-then-byte-eq92
 returns c =
     let second = c.before.before in
     let first = second.before.before.before.before in
-    rw (listed_slash first.before.before.if1.true) (put_then first.put_byte.ensures second.put-byte2.ensures)
+    rw (listed_slash first.if-byte-eq92.true) (put_then first.put_byte-second.ensures second.put_byte.ensures)
 
-put-byte-requires-3 : tie.Need-put-byte-requires-3
+put-byte-requires-3 : tie.Need-put_byte-requires-then-stands
 put-byte-requires-3 c κs =
     let test = c.before.before in
-    rw (listed-printable test.before.if1.false (sym test.stands.ensures ∙ c.before.if2.true)) at test.before.before.before.requires
+    rw (listed-printable test.if-byte-eq92.false (sym test.stands.ensures ∙ c.if-stands.true)) at test.requires
 
-returns-2 : tie.Need-returns-2
+returns-2 : tie.Need-returns-then-stands
 returns-2 c =
     let put = c.before.before in
     let test = put.before.before.before in
-    rw (listed-printable test.before.if1.false (sym test.stands.ensures ∙ put.before.before.if2.true)) put.put-byte3.ensures
+    rw (listed-printable test.if-byte-eq92.false (sym test.stands.ensures ∙ put.if-stands.true)) put.put_byte-then-stands.ensures
 
-put-byte-requires-4 : tie.Need-put-byte-requires-4
+put-byte-requires-4 : tie.Need-put_byte-slash-requires
 put-byte-requires-4 c κs =
     let s = c.before.before in
-    room_first _ (rw (listed_escape s.before.if1.false (sym s.stands.ensures ∙ c.before.if2.false)) at s.before.before.before.requires)
+    room_first _ (rw (listed_escape s.if-byte-eq92.false (sym s.stands.ensures ∙ c.if-stands.false)) at s.requires)
 
-put-byte-requires-5 : tie.Need-put-byte-requires-5
+put-byte-requires-5 : tie.Need-put_byte-next-requires
 put-byte-requires-5 c κs =
     let slash = c.before.before.before in
     let other = slash.before.before in
     let s = other.before in
-    room_first _ (room_then _ slash.put-byte4.ensures (rw (listed_escape s.before.if1.false (sym s.stands.ensures ∙ other.if2.false)) at s.before.before.before.requires))
+    room_first _ (room_then _ slash.put_byte-slash.ensures (rw (listed_escape s.if-byte-eq92.false (sym s.stands.ensures ∙ other.if-stands.false)) at s.requires))
 
-put-figures-requires : tie.Need-put-figures-requires
+put-figures-requires : tie.Need-put_figures-requires
 put-figures-requires c κs =
     let x = c.before.before.before in
     let slash = x.before.before.before.before in
     let other = slash.before.before in
     let s = other.before in
-    let r = room_then _ slash.put-byte4.ensures (rw (listed_escape s.before.if1.false (sym s.stands.ensures ∙ other.if2.false)) at s.before.before.before.requires) in
-    (omega arith, (omega arith, room_then _ x.put-byte5.ensures r))
+    let r = room_then _ slash.put_byte-slash.ensures (rw (listed_escape s.if-byte-eq92.false (sym s.stands.ensures ∙ other.if-stands.false)) at s.requires) in
+    (omega arith, (omega arith, room_then _ x.put_byte-next.ensures r))
 
-returns-3 : tie.Need-returns-3
+returns-3 : tie.Need-returns
 returns-3 c =
     let figures = c.before.before in
     let x = figures.before.before.before.before in
     let slash = x.before.before.before.before in
     let other = slash.before.before in
     let s = other.before in
-    rw (listed_escape s.before.if1.false (sym s.stands.ensures ∙ other.if2.false)) (put_then slash.put-byte4.ensures (put_then x.put-byte5.ensures figures.put-figures.ensures))
+    rw (listed_escape s.if-byte-eq92.false (sym s.stands.ensures ∙ other.if-stands.false)) (put_then slash.put_byte-slash.ensures (put_then x.put_byte-next.ensures figures.put_figures.ensures))
 
 pub put_listed_spec : {M : Type 1} → statement M
 put_listed_spec =

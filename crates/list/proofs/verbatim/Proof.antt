@@ -11,7 +11,7 @@ use Rattle.list.proofs.verbatim.Tie as tie
 
 returns : tie.Need-returns
 returns c h =
-    let b = c.before.args.byte in
+    let b = c.args.byte in
     let s = c.stands in
     listed-printable (eqb-false b 0x5C (not-true _ (and_right s.result (not (eqb b 0x5C)) h))) (sym s.ensures ∙ and_left s.result (not (eqb b 0x5C)) h)
 
