@@ -9,32 +9,32 @@ use Rattle.decoder.specs.Items.{TakesMark}
 use Rattle.decoder.specs.StackSteps.{took_below, dict_underflow, dict_odd, dict_makes}
 
 -- the mark that was found
-taken : (c : tie.After-m) → let a = c.before.before.before.before.args in TakesMark a.c a.marks.now (From c.m.given.0.0)
-taken c = rw c.m.given.1 at c.before.before.above-mark.ensures
+taken : (c : tie.In-From) → let a = c.args in TakesMark a.c a.marks.now (From c.in-From.m)
+taken c = rw c.in-From.is at c.above_mark.ensures
 
-sub-if1 : tie.Need-overflow-sub-if1
-sub-if1 c = let b = took_below _ _ _ (taken c.before.before) c.before.before.before.before.before.before.requires in omega arith
+sub-if1 : tie.Need-overflow_sub-c
+sub-if1 c = let b = took_below _ _ _ (taken c.before) c.requires in omega arith
 
 -- what is above it comes in pairs
-abbrev mark : tie.After-struct-known2 → tie.After-m
-mark c = c.before.before.before.before
+abbrev mark : tie.After-struct_known-then-c-m-eq0-1 → tie.In-From
+mark c = c.before.before.before
 
-returns : tie.Need-returns
+returns : tie.Need-returns-in-Short
 unfolding Decides TakesMark
-returns c = λ r s q. says_refused _ r _ _ (dict_underflow r _ s (rw c.enum_told.given.1 at c.before.before.above-mark.ensures r s q))
+returns c = λ r s q. says_refused _ r _ _ (dict_underflow r _ s (rw c.in-Short.is at c.above_mark.ensures r s q))
 
-returns-2 : tie.Need-returns-2
+returns-2 : tie.Need-returns-then-c-m-eq0
 unfolding Decides TakesMark
-returns-2 c = λ r s q. rw c.cut-to.ensures (dict_makes r _ s _ (taken (mark c.before) r s q) c.before.before.if1.true)
+returns-2 c = λ r s q. rw c.cut_to.ensures (dict_makes r _ s _ (taken (mark c.before) r s q) c.if-c-m-eq0.true)
 
-returns-3 : tie.Need-returns-3
+returns-3 : tie.Need-returns-else-c-m-eq0
 unfolding Decides TakesMark
-returns-3 c = λ r s q. says_refused _ r _ _ (dict_odd r _ s _ (taken c.before.before.before r s q) c.if1.false)
+returns-3 c = λ r s q. says_refused _ r _ _ (dict_odd r _ s _ (taken c.before.before r s q) c.if-c-m-eq0.false)
 
 pub dict_spec : {M : Type 1} → statement M
 dict_spec =
     tie.close
     (tie.spec
     (λ c κs. search rules) (λ c. search rules) (λ c. search rules) sub-if1
-    (λ c. let b = took_below _ _ _ (taken (mark c)) (mark c).before.before.before.before.requires in omega arith) (λ c κs. search rules) returns
+    (λ c. let b = took_below _ _ _ (taken (mark c)) (mark c).requires in omega arith) (λ c κs. search rules) returns
     returns-2 returns-3)

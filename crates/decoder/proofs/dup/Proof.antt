@@ -7,16 +7,16 @@ use native.Mathlib.Omega.{arith}
 use Rattle.store.specs.Effects.{Decides, says_refused}
 use Rattle.decoder.specs.StackSteps.{stack_room, dup_underflow, dup_lent}
 
-returns : tie.Need-returns
+returns : tie.Need-returns-then-c-eq0
 unfolding Decides
-returns c = λ r s q. says_refused _ r _ _ (dup_underflow r _ s c.if1.true)
+returns c = λ r s q. says_refused _ r _ _ (dup_underflow r _ s c.if-c-eq0.true)
 
-shared-slice-read-t8 : tie.Need-shared-slice-read-t8
-shared-slice-read-t8 c = let l = c.before.before.before.before.requires in omega (arith, stack_room _ l.rooms l.sound _ l.agrees, c.before.before.if1.false)
+shared-slice-read-t8 : tie.Need-bounds-stack-i
+shared-slice-read-t8 c = let l = c.requires in omega (arith, stack_room _ l.rooms l.sound _ l.agrees, c.if-c-eq0.false)
 
-returns-2 : tie.Need-returns-2
+returns-2 : tie.Need-returns
 unfolding Decides
-returns-2 c = λ r s q. dup_lent _ _ r s q c.before.before.if1.false
+returns-2 c = λ r s q. dup_lent _ _ r s q c.if-c-eq0.false
 
 pub dup_spec : {M : Type 1} → statement M
-dup_spec = tie.close (tie.spec returns (λ c. search rules) (λ c. search rules) shared-slice-read-t8 (λ c. omega (arith, c.shared-slice-known.given (c.before.before.before.before.args.c.stack - 1))) returns-2)
+dup_spec = tie.close (tie.spec returns (λ c. search rules) (λ c. search rules) shared-slice-read-t8 (λ c. omega (arith, c.shared_slice_known-1.given (c.args.c.stack - 1))) returns-2)

@@ -9,5 +9,5 @@ returns : tie.Need-returns
 unfolding first
 returns c = refl
 
-pub first-word_spec : {M : Type 1} → statement M
-first-word_spec = tie.close (tie.spec (λ c. search rules) (λ c. search rules) (λ c. search rules) returns)
+pub first_word_spec : {M : Type 1} → statement M
+first_word_spec = tie.close (tie.spec (λ c. search rules) (λ c. search rules) (λ c. search rules) returns)

@@ -9,22 +9,22 @@ use Rattle.decoder.specs.Items.{TakesMark}
 use Rattle.decoder.specs.StackSteps.{took_below, gathered_underflow, gathered_makes}
 
 -- the mark that was found
-taken : (c : tie.After-m) → let a = c.before.before.before.before.args in TakesMark a.c a.marks.now (From c.m.given.0.0)
-taken c = rw c.m.given.1 at c.before.before.above-mark.ensures
+taken : (c : tie.In-From) → let a = c.args in TakesMark a.c a.marks.now (From c.in-From.m)
+taken c = rw c.in-From.is at c.above_mark.ensures
 
-sub-cut-to : tie.Need-overflow-sub-cut-to
-sub-cut-to c = let m = c.before.before in omega (arith, (took_below _ _ _ (taken m) m.before.before.before.before.requires.0).1)
+sub-cut-to : tie.Need-overflow_sub-c
+sub-cut-to c = let m = c.before in omega (arith, (took_below _ _ _ (taken m) m.requires.0).1)
 
-returns : tie.Need-returns
+returns : tie.Need-returns-in-Short
 unfolding Decides TakesMark
-returns c = λ r s q. says_refused _ r _ _ (gathered_underflow r _ s _ (rw c.enum_told.given.1 at c.before.before.above-mark.ensures r s q))
+returns c = λ r s q. says_refused _ r _ _ (gathered_underflow r _ s _ (rw c.in-Short.is at c.above_mark.ensures r s q))
 
-returns-2 : tie.Need-returns-2
+returns-2 : tie.Need-returns-in-From
 unfolding Decides TakesMark
-returns-2 c = λ r s q. let m = c.before.before.before in rw c.cut-to.ensures (gathered_makes r _ s _ _ m.before.before.before.before.requires.1 (taken m r s q))
+returns-2 c = λ r s q. let m = c.before.before in rw c.cut_to.ensures (gathered_makes r _ s _ _ m.requires.1 (taken m r s q))
 
 pub gather_spec : {M : Type 1} → statement M
 gather_spec =
     tie.close
     (tie.spec
-    (λ c κs. c.before.requires.0) (λ c. search rules) (λ c. search rules) sub-cut-to (λ c κs. search rules) returns returns-2)
+    (λ c κs. c.requires.0) (λ c. search rules) (λ c. search rules) sub-cut-to (λ c κs. search rules) returns returns-2)

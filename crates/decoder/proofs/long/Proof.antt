@@ -11,33 +11,33 @@ use Rattle.steps.specs.Opcodes.{long}
 use Rattle.decoder.proofs.LawsPickle.{long-whole, long_bad}
 
 -- where the line ends
-ends : (c : tie.After-end) → let a = c.before.before.before.before.args in LineAt a.pickle.now a.c.at c.end.given.0.0
-ends c = line_found _ _ c.before.before.newline.ensures c.before.before.before.before.requires c.end.given.1
+ends : (c : tie.In-At) → let a = c.args in LineAt a.pickle.now a.c.at c.in-At.end
+ends c = line_found _ _ c.newline.ensures c.requires c.in-At.is
 
 -- the line that was read
-abbrev end : tie.After-long-text → tie.After-end
-end c = c.before.before.before
+abbrev end : tie.After-long_text → tie.In-At
+end c = c.before.before
 
-returns : tie.Need-returns
+returns : tie.Need-returns-in-End
 unfolding long
-returns c = line_ends _ _ long_literal (λ z. I64L (bits64 z)) c.before.before.newline.ensures c.enum_told.given.1
+returns c = line_ends _ _ long_literal (λ z. I64L (bits64 z)) c.newline.ensures c.in-End.is
 
-returns-2 : tie.Need-returns-2
+returns-2 : tie.Need-returns-in-Value
 unfolding long
 returns-2 c =
-    let r = c.before.before.before.before in
-    line-push _ _ long_literal (λ z. I64L (bits64 z)) (ends (end r)) r.before.line.ensures (long-whole _ _ r.long-text.ensures _ c.before.before.v.given.1) (makes_i64 _ _) c.read-to.ensures
+    let r = c.before.before in
+    line-push _ _ long_literal (λ z. I64L (bits64 z)) (ends (end r)) r.line.ensures (long-whole _ _ r.long_text.ensures _ c.in-Value.is) (makes_i64 _ _) c.read_to.ensures
 
-returns-3 : tie.Need-returns-3
+returns-3 : tie.Need-returns-in-Invalid
 unfolding long
 returns-3 c =
-    let r = c.before.before in
-    line_bad _ _ long_literal (λ z. I64L (bits64 z)) (ends (end r)) r.before.line.ensures (long_bad _ _ r.long-text.ensures c.enum-told2.given.1)
+    let r = c.before in
+    line_bad _ _ long_literal (λ z. I64L (bits64 z)) (ends (end r)) r.line.ensures (long_bad _ _ r.long_text.ensures c.in-Invalid.is)
 
 pub long_spec : {M : Type 1} → statement M
 long_spec =
     tie.close
     (tie.spec
-    (λ c κs. search rules) (λ c. search rules) (λ c. search rules) (λ c κs. let e = ends c.before in (e.low, e.inside)) (λ c κs. search rules)
-    (λ c. search rules) (λ c. let e = ends (end c.before.before.before) in omega arith) (λ c κs. search rules) (λ c. search rules) returns
+    (λ c κs. search rules) (λ c. search rules) (λ c. search rules) (λ c κs. let e = ends c in (e.low, e.inside)) (λ c κs. search rules)
+    (λ c. search rules) (λ c. let e = ends (end c.before) in omega arith) (λ c κs. search rules) (λ c. search rules) returns
     returns-2 returns-3)

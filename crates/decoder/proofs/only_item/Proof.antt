@@ -6,4 +6,4 @@ use native.Mathlib.Omega.{arith}
 use Prim.Native.Nat.{◌/◌}
 
 pub only_item_spec : {M : Type 1} → statement M
-only_item_spec = tie.close (tie.spec (λ c. search rules) (λ c. search rules) (λ c. omega (arith, c.shared-slice-known.given (c.before.args.word / 0x1_0000_0000))) (λ c. search rules))
+only_item_spec = tie.close (tie.spec (λ c. search rules) (λ c. search rules) (λ c. omega (arith, c.shared_slice_known-1.given (c.args.word / 0x1_0000_0000))) (λ c. search rules))

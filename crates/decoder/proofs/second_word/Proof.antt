@@ -9,5 +9,5 @@ returns : tie.Need-returns
 unfolding second
 returns c = rw add-one
 
-pub second-word_spec : {M : Type 1} → statement M
-second-word_spec = tie.close (tie.spec (λ c. search rules) (λ c. search rules) (λ c. search rules) (λ c. search rules) returns)
+pub second_word_spec : {M : Type 1} → statement M
+second_word_spec = tie.close (tie.spec (λ c. search rules) (λ c. search rules) (λ c. search rules) (λ c. search rules) returns)

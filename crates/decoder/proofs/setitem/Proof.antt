@@ -7,16 +7,16 @@ use Rattle.store.specs.Effects.{Decides, says_refused}
 use Rattle.decoder.specs.Items.{Adds, dicts}
 use Rattle.decoder.specs.StackSteps.{setitem_underflow, setitem_adds}
 
-returns : tie.Need-returns
+returns : tie.Need-returns-then-c-lt2
 unfolding Decides
-returns c = λ r s q. says_refused _ r _ _ (setitem_underflow r _ s c.if1.true)
+returns c = λ r s q. says_refused _ r _ _ (setitem_underflow r _ s c.if-c-lt2.true)
 
-returns-2 : tie.Need-returns-2
+returns-2 : tie.Need-returns
 unfolding Decides Adds
-returns-2 c = λ r s q. rw (setitem_adds r _ s c.before.before.if1.false) at (c.grown.ensures r s q.0 q.1)
+returns-2 c = λ r s q. rw (setitem_adds r _ s c.if-c-lt2.false) at (c.grown.ensures r s q.0 q.1)
 
 pub setitem_spec : {M : Type 1} → statement M
 setitem_spec =
     tie.close
     (tie.spec
-    returns (λ c κs. (c.before.before.before.before.before.requires, (omega arith, omega arith, dicts refl))) returns-2)
+    returns (λ c κs. (c.requires, (omega arith, omega arith, dicts refl))) returns-2)

@@ -9,7 +9,7 @@ use Rattle.decoder.specs.Items.{gathered}
 
 gather-requires : tie.Need-gather-requires
 unfolding kind_in
-gather-requires c κs = (c.before.requires, a_tuple refl)
+gather-requires c κs = (c.requires, a_tuple refl)
 
 returns : tie.Need-returns
 unfolding tuple gathered node_is kind_in

@@ -8,15 +8,15 @@ use Rattle.value.specs.Value.{I64L}
 use Rattle.input.specs.Bytes.{low_first}
 use Rattle.steps.specs.State.{push}
 
-returns : tie.Need-returns
-returns c = same_step _ _ (unsigned _) (fixed _ (λ b. I64L (low_first b))) _ (λ s. low_is _ s (λ q. push (I64L q.0) q.1)) (bytes_end _ _ _ (λ b. I64L (low_first b)) c.if1.true)
+returns : tie.Need-returns-then-pickle-at
+returns c = same_step _ _ (unsigned _) (fixed _ (λ b. I64L (low_first b))) _ (λ s. low_is _ s (λ q. push (I64L q.0) q.1)) (bytes_end _ _ _ (λ b. I64L (low_first b)) c.if-pickle-at.true)
 
-returns-2 : tie.Need-returns-2
-returns-2 c = same_step _ _ (unsigned _) (fixed _ (λ b. I64L (low_first b))) _ (λ s. low_is _ s (λ q. push (I64L q.0) q.1)) (bytes-push _ _ _ (λ b. I64L (low_first b)) _ _ _ (lent_at _ _ c.before.before.before.before.requires.0) (omega arith) (makes_as _ _ _ _ _ c.low-at.ensures.0 (makes_i64 _ _)) c.before.read-to.ensures)
+returns-2 : tie.Need-returns
+returns-2 c = same_step _ _ (unsigned _) (fixed _ (λ b. I64L (low_first b))) _ (λ s. low_is _ s (λ q. push (I64L q.0) q.1)) (bytes-push _ _ _ (λ b. I64L (low_first b)) _ _ _ (lent_at _ _ c.requires.0) (omega arith) (makes_as _ _ _ _ _ c.low_at.ensures.0 (makes_i64 _ _)) c.read_to.ensures)
 
 pub unsigned_spec : {M : Type 1} → statement M
 unsigned_spec =
     tie.close
     (tie.spec
-    (λ c. let h = lent_at _ _ c.before.requires.0 in omega arith) returns (λ c. search rules) (λ c κs. search rules)
-    (λ c κs. let h = lent_at _ _ c.before.before.before.requires.0 in (omega arith, c.before.before.before.requires.1)) returns-2)
+    (λ c. let h = lent_at _ _ c.requires.0 in omega arith) returns (λ c. search rules) (λ c κs. search rules)
+    (λ c κs. let h = lent_at _ _ c.requires.0 in (omega arith, c.requires.1)) returns-2)
