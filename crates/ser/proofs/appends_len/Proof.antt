@@ -6,13 +6,13 @@ use mathlib.Core.Path.{sym, ◌∙◌}
 use borrow.Author.Tests.{lt-ltb, le-ltb}
 use Rattle.ser.specs.Length.{appends_take}
 
-returns : tie.Need-returns
+returns : tie.Need-returns-then-count-lt2
 unfolding appends_take
-returns c = sym (rw (lt-ltb c.before.args.count 2 c.if1.true))
+returns c = sym (rw (lt-ltb c.args.count 2 c.if-count-lt2.true))
 
-returns-2 : tie.Need-returns-2
+returns-2 : tie.Need-returns
 unfolding appends_take
-returns-2 c = c.batches-len.ensures ∙ sym (rw (le-ltb c.before.before.args.count 2 c.before.if1.false))
+returns-2 c = c.batches_len.ensures ∙ sym (rw (le-ltb c.args.count 2 c.if-count-lt2.false))
 
 pub appends_len_spec : {M : Type 1} → statement M
 appends_len_spec = tie.close (tie.spec returns (λ c κs. search rules) returns-2)

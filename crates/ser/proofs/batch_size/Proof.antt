@@ -4,13 +4,13 @@ use Rattle.ser.specs.Image.{batch_size}
 use Rattle.ser.proofs.batch_size.Statement.{statement}
 use Rattle.ser.proofs.batch_size.Tie as tie
 
-returns : tie.Need-returns
+returns : tie.Need-returns-then-entries
 unfolding batch_size
-returns c = rw c.if1.true
+returns c = rw c.if-entries.true
 
-returns-2 : tie.Need-returns-2
+returns-2 : tie.Need-returns
 unfolding batch_size
-returns-2 c = rw c.if1.false
+returns-2 c = rw c.if-entries.false
 
-pub batch-size_spec : {M : Type 1} → statement M
-batch-size_spec = tie.close (tie.spec (λ c. search rules) returns returns-2)
+pub batch_size_spec : {M : Type 1} → statement M
+batch_size_spec = tie.close (tie.spec (λ c. search rules) returns returns-2)

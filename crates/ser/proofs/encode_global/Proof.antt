@@ -7,52 +7,52 @@ use Rattle.ser.proofs.Laws.{global_parts}
 
 -- ---- the places: behind each of the first four calls
 
-abbrev start : tie.After-put-byte → tie.Start
+abbrev start : tie.After-put_byte-a → tie.Start
 start c = c.before.before.before.before.before
 
-abbrev first : tie.After-put-run → tie.After-put-byte
+abbrev first : tie.After-put_run-b → tie.After-put_byte-a
 first c = c.before.before.before.before
 
-abbrev second : tie.After-put-byte2 → tie.After-put-run
+abbrev second : tie.After-put_byte-c → tie.After-put_run-b
 second c = c.before.before.before.before
 
-abbrev third : tie.After-put-run2 → tie.After-put-byte2
+abbrev third : tie.After-put_run-d → tie.After-put_byte-c
 third c = c.before.before.before.before
 
 -- ---- the needs
 
-put-byte-requires : tie.Need-put-byte-requires
+put-byte-requires : tie.Need-put_byte-a-requires
 put-byte-requires c κs = let s = c.before.before.before.before in room_first _ (rw (global_parts s.args.«module».now s.args.name.now) at s.requires)
 
-put-run-requires : tie.Need-put-run-requires
+put-run-requires : tie.Need-put_run-b-requires
 put-run-requires c κs =
     let w = c.before.before.before in
     let s = start w in
-    room_first _ (room_then _ w.put_byte.ensures (rw (global_parts s.args.«module».now s.args.name.now) at s.pre))
+    room_first _ (room_then _ w.put_byte-a.ensures (rw (global_parts s.args.«module».now s.args.name.now) at s.requires))
 
-put-byte-requires-2 : tie.Need-put-byte-requires-2
+put-byte-requires-2 : tie.Need-put_byte-c-requires
 put-byte-requires-2 c κs =
     let x = c.before.before.before in
     let w = first x in
     let s = start w in
-    room_first _ (room_then _ x.put-run.ensures (room_then _ w.put_byte.ensures (rw (global_parts s.args.«module».now s.args.name.now) at s.pre)))
+    room_first _ (room_then _ x.put_run-b.ensures (room_then _ w.put_byte-a.ensures (rw (global_parts s.args.«module».now s.args.name.now) at s.requires)))
 
-put-run-requires-2 : tie.Need-put-run-requires-2
+put-run-requires-2 : tie.Need-put_run-d-requires
 put-run-requires-2 c κs =
     let y = c.before.before.before in
     let x = second y in
     let w = first x in
     let s = start w in
-    room_first _ (room_then _ y.put-byte2.ensures (room_then _ x.put-run.ensures (room_then _ w.put_byte.ensures (rw (global_parts s.args.«module».now s.args.name.now) at s.pre))))
+    room_first _ (room_then _ y.put_byte-c.ensures (room_then _ x.put_run-b.ensures (room_then _ w.put_byte-a.ensures (rw (global_parts s.args.«module».now s.args.name.now) at s.requires))))
 
-put-byte-requires-3 : tie.Need-put-byte-requires-3
+put-byte-requires-3 : tie.Need-put_byte-requires
 put-byte-requires-3 c κs =
     let z = c.before.before.before in
     let y = third z in
     let x = second y in
     let w = first x in
     let s = start w in
-    room_then _ z.put-run2.ensures (room_then _ y.put-byte2.ensures (room_then _ x.put-run.ensures (room_then _ w.put_byte.ensures (rw (global_parts s.args.«module».now s.args.name.now) at s.pre))))
+    room_then _ z.put_run-d.ensures (room_then _ y.put_byte-c.ensures (room_then _ x.put_run-b.ensures (room_then _ w.put_byte-a.ensures (rw (global_parts s.args.«module».now s.args.name.now) at s.requires))))
 
 returns : tie.Need-returns
 returns c =
@@ -61,10 +61,10 @@ returns c =
     let x = second y in
     let w = first x in
     let a = (start w).args in
-    rw (global_parts a.«module».now a.name.now) (put_then w.put_byte.ensures (put_then x.put-run.ensures (put_then y.put-byte2.ensures (put_then z.put-run2.ensures c.before.before.put-byte3.ensures))))
+    rw (global_parts a.«module».now a.name.now) (put_then w.put_byte-a.ensures (put_then x.put_run-b.ensures (put_then y.put_byte-c.ensures (put_then z.put_run-d.ensures c.put_byte.ensures))))
 
-pub encode-global_spec : {M : Type 1} → statement M
-encode-global_spec =
+pub encode_global_spec : {M : Type 1} → statement M
+encode_global_spec =
     tie.close
     (tie.spec
     put-byte-requires put-run-requires put-byte-requires-2 put-run-requires-2 put-byte-requires-3 (λ c. search rules) returns)

@@ -5,11 +5,11 @@ use Rattle.ser.proofs.encode_names.Tie as tie
 use Rattle.output.specs.Put.{put_same, room_same}
 use Rattle.ser.proofs.Laws.{names-global}
 
-encode-global-requires : tie.Need-encode-global-requires
-encode-global-requires c κs = room_same (names-global c.before.before.before.before.before.args.text.now c.before.before.before.before.before.args.from c.before.before.before.before.before.args.lengths _ _ c.before.before.part.ensures c.before.part2.ensures) c.before.before.before.before.before.requires.1
+encode-global-requires : tie.Need-encode_global-requires
+encode-global-requires c κs = room_same (names-global c.args.text.now c.args.from c.args.lengths _ _ c.part.ensures c.part-2.ensures) c.requires.1
 
 returns : tie.Need-returns
-returns c = put_same (names-global c.before.before.before.before.before.before.before.before.args.text.now c.before.before.before.before.before.before.before.before.args.from c.before.before.before.before.before.before.before.before.args.lengths _ _ c.before.before.before.before.before.part.ensures c.before.before.before.before.part2.ensures) c.before.before.encode-global.ensures
+returns c = put_same (names-global c.args.text.now c.args.from c.args.lengths _ _ c.part.ensures c.part-2.ensures) c.encode_global.ensures
 
-pub encode-names_spec : {M : Type 1} → statement M
-encode-names_spec = tie.close (tie.spec (λ c κs. search rules) (λ c. search rules) (λ c κs. search rules) encode-global-requires (λ c. search rules) returns)
+pub encode_names_spec : {M : Type 1} → statement M
+encode_names_spec = tie.close (tie.spec (λ c κs. search rules) (λ c. search rules) (λ c κs. search rules) encode-global-requires (λ c. search rules) returns)

@@ -5,20 +5,20 @@ use Rattle.ser.proofs.encode_set.Tie as tie
 use Rattle.output.specs.Put.{put_then, room_first, room_then}
 use Rattle.ser.proofs.Laws.{set_parts}
 
-encode-global-requires : tie.Need-encode-global-requires
+encode-global-requires : tie.Need-encode_global-next-requires
 encode-global-requires c κs =
-    let e = set_parts c.before.before.before.before.args.name.now in
-    room_first _ (rw e at c.before.before.before.before.requires)
+    let e = set_parts c.args.name.now in
+    room_first _ (rw e at c.requires)
 
-put-byte-requires : tie.Need-put-byte-requires
+put-byte-requires : tie.Need-put_byte-requires
 put-byte-requires c κs =
-    let e = set_parts c.before.before.before.before.before.before.before.before.args.name.now in
-    room_then _ c.before.before.before.encode-global.ensures (rw e at c.before.before.before.before.before.before.before.before.requires)
+    let e = set_parts c.args.name.now in
+    room_then _ c.encode_global-next.ensures (rw e at c.requires)
 
 returns : tie.Need-returns
 returns c =
-    let e = set_parts c.before.before.before.before.before.before.before.before.before.before.before.args.name.now in
-    rw e (put_then c.before.before.before.before.before.before.encode-global.ensures c.before.before.put_byte.ensures)
+    let e = set_parts c.args.name.now in
+    rw e (put_then c.encode_global-next.ensures c.put_byte.ensures)
 
-pub encode-set_spec : {M : Type 1} → statement M
-encode-set_spec = tie.close (tie.spec (λ c. search rules) encode-global-requires put-byte-requires (λ c. search rules) returns)
+pub encode_set_spec : {M : Type 1} → statement M
+encode_set_spec = tie.close (tie.spec encode-global-requires put-byte-requires (λ c. search rules) returns)

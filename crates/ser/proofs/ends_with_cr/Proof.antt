@@ -6,10 +6,10 @@ use Rattle.input.specs.Bytes.{last_byte}
 use Rattle.ser.specs.Writable.{ends_cr}
 use Rattle.ser.proofs.Laws.{empty_no_cr}
 
-returns : tie.Need-returns
-returns c = empty_no_cr c.before.args.name.now c.if1.true
+returns : tie.Need-returns-then-len-eq0
+returns c = empty_no_cr c.args.name.now c.if-len-eq0.true
 
-returns-2 : tie.Need-returns-2
+returns-2 : tie.Need-returns
 unfolding ends_cr last_byte
 returns-2 c = search rules
 

@@ -6,11 +6,11 @@ use mathlib.Core.Path.{sym, ◌∙◌}
 use borrow.Author.Tests.{not-true, not-false}
 use Rattle.ser.proofs.Laws.{module_not, module_and}
 
-returns : tie.Need-returns
-returns c = module_not c.before.before.before.before.args.text.now c.before.before.before.before.args.from c.before.before.before.before.args.lengths c.before.before.part.ensures (sym c.before.name-is-writable.ensures ∙ not-true _ c.if1.true)
+returns : tie.Need-returns-then-not-name_is_writable
+returns c = module_not c.args.text.now c.args.from c.args.lengths c.part.ensures (sym c.name_is_writable.ensures ∙ not-true _ c.if-not-name_is_writable.true-raw)
 
-returns-2 : tie.Need-returns-2
-returns-2 c = c.name-is-writable2.ensures ∙ module_and c.before.before.before.before.before.before.args.text.now c.before.before.before.before.before.before.args.from c.before.before.before.before.before.before.args.lengths c.before.before.before.before.part.ensures (sym c.before.before.before.name-is-writable.ensures ∙ not-false _ c.before.before.if1.false) c.before.part2.ensures
+returns-2 : tie.Need-returns
+returns-2 c = c.name_is_writable-2.ensures ∙ module_and c.args.text.now c.args.from c.args.lengths c.part.ensures (sym c.name_is_writable.ensures ∙ not-false _ c.if-not-name_is_writable.false-raw) c.part-2.ensures
 
 pub names_are_writable_spec : {M : Type 1} → statement M
 names_are_writable_spec = tie.close (tie.spec (λ c κs. search rules) (λ c κs. search rules) returns (λ c. search rules) (λ c κs. search rules) (λ c κs. search rules) returns-2)
