@@ -88,6 +88,19 @@ object-made {m = m} {k = k} a false rest q x z =
 
 object_returns : (m k : List ℕ) (new : Bool) (c : Forest) → Arguments m k new c → Named m k → AllReturn c → Returns (ObjectL m k new) c
 unfolding Returns opening contents object_image images in_node unsettled joined AllReturn ◌⊕◌ count
+object_returns m k new nil x4 w h s rest e = elim x4 [ ]
+object_returns m k new (node NoneL a r) x10 w h s rest e = elim x10 [ ]
+object_returns m k new (node (BoolL _) a r) x12 w h s rest e = elim x12 [ ]
+object_returns m k new (node (I64L _) a r) x13 w h s rest e = elim x13 [ ]
+object_returns m k new (node (F64L _) a r) x14 w h s rest e = elim x14 [ ]
+object_returns m k new (node (BytesL _) a r) x15 w h s rest e = elim x15 [ ]
+object_returns m k new (node (StringL _) a r) x16 w h s rest e = elim x16 [ ]
+object_returns m k new (node ListL a r) x16 w h s rest e = elim x16 [ ]
+object_returns m k new (node SetL a r) x17 w h s rest e = elim x17 [ ]
+object_returns m k new (node FrozenSetL a r) x18 w h s rest e = elim x18 [ ]
+object_returns m k new (node DictL a r) x19 w h s rest e = elim x19 [ ]
+object_returns m k new (node (GlobalL _ _) a r) x22 w h s rest e = elim x22 [ ]
+object_returns m k new (node (ObjectL _ _ _) a r) x24 w h s rest e = elim x24 [ ]
 object_returns m k new (node TupleL a r) (arguments n q) w h s rest e =
     let r₄ = state_image (images r) ++ rest in
     let r₃ = code_of (object_opcode new) ∷ r₄ in

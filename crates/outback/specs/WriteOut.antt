@@ -47,6 +47,7 @@ record WriteOutOfOne (t : List Node) (i : ℕ) (n : ℕ) : Type 0 where
 
 part_of : {t : List Node} {i : ℕ} {is : List ℕ} {f : Forest} → WritesOut t is f → In i is → WriteOutOfOne t i (size f)
 unfolding size
+part_of {t = t} {i = i} nothing x4 = elim x4 [ ]
 part_of (afresh a b) here = record { forest = node _ _ nil; out = afresh a nothing; less = omega arith }
 part_of (afresh a b) (there m) = let x = part_of b m in record { forest = x.forest; out = x.out; less = omega (arith, x.less) }
 

@@ -60,4 +60,5 @@ module _ (t : List Node) (inside : (i j : ℕ) → In j (at t i).kids → j < le
       settled_stands t nowhere beyond s.kids (resolves_empty t nowhere beyond c.resolves) c.resolves.ordered (λ m. let z = w nowhere m in omega arith) x (root ∷ []) (one (tree t root)) only (tree_stands t nowhere beyond k root d)
     where
       only : (j : ℕ) → In j (root ∷ []) → Final nowhere (walked t nowhere (suc k) root).after.done j
+      only j (there x5) = elim x5 [ ]
       only j here = root_final t nowhere beyond k root

@@ -25,6 +25,7 @@ final_more (inr m) = inr (there m)
 
 pub ordered_closed : {nowhere : ℕ} {g : Kids} {done : List ℕ} → ChildrenFirst nowhere g done → (i : ℕ) → In i done → (j : ℕ) → In j (g i)
     → Final nowhere done j
+ordered_closed {nowhere = nowhere} {g = g} o_nil i x5 j h = elim x5 [ ]
 ordered_closed (o_next f c o) i here j h = final_more (c j h)
 ordered_closed (o_next f c o) i (there m) j h = final_more (ordered_closed o i m j h)
 

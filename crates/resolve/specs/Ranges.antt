@@ -81,18 +81,23 @@ module _ (starts : List ℕ) (n : ℕ) (sorted : List ℕ) (g : Kids) (l : Lists
 -- ---- every child is a node
 
 pub in_at : (l : List ℕ) (k : ℕ) → k < length l → In (get_or l k 0) l
+in_at [] k h = elim h [ ]
 in_at (x ∷ l) zero h = here
 in_at (x ∷ l) (suc k) h = there (in_at l k (omega arith))
 
 pub in_take : {x : ℕ} (n : ℕ) (l : List ℕ) → In x (take n l) → In x l
+in_take zero l x'' = elim x'' [ ]
+in_take (suc n) [] x4 = elim x4 [ ]
 in_take (suc n) (y ∷ l) here = here
 in_take (suc n) (y ∷ l) (there m) = there (in_take n l m)
 
 pub in_drop : {x : ℕ} (n : ℕ) (l : List ℕ) → In x (drop n l) → In x l
+in_drop (suc n) [] m = elim m [ ]
 in_drop zero l m = m
 in_drop (suc n) (y ∷ l) m = there (in_drop n l m)
 
 in_below : {x : ℕ} (n : ℕ) (l : List ℕ) → ((k : ℕ) → k < length l → get_or l k 0 < n) → In x l → x < n
+in_below n [] h x3 = elim x3 [ ]
 in_below n (y ∷ l) h here = h 0 (omega arith)
 in_below n (y ∷ l) h (there m) = in_below n l (λ k q. h (suc k) (omega arith)) m
 

@@ -168,6 +168,7 @@ module _ (t : List Node) (nowhere : ℕ) (beyond : length t ≤ nowhere) where
           record { value = o.value; keeps = o.keeps; stays = o.stays; stands = frame (later_frame r (overwrite_later s n l) z (open_not_done r n e)) only o.stands }
         where
           only : (i : ℕ) → In i (j ∷ []) → Final nowhere s.done i
+          only i (there x4) = elim x4 [ ]
           only i here = inr m
 
   -- a stage for a fresh node: taken, or None for good

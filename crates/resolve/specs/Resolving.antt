@@ -73,6 +73,7 @@ module _ (t : List Node) (nowhere : ℕ) (beyond : length t ≤ nowhere) where
       same_length {m} a = let b : m.after.kids n ≡ is ++ (i ∷ js) = a.later.kids_stay n tt (old_taken _ e) ∙ k in rw b (simp length-append)
 
       only : {m : WalkMade} → WalkCalled t nowhere s m → (j : ℕ) → In j (m.slot ∷ []) → Final nowhere m.after.done j
+      only {m = m} a j (there x7) = elim x7 [ ]
       only a j here = a.final
 
       fin : {m : WalkMade} {is' : List ℕ} {s₂ : WalkState} {q : Forest × WalkState} → WalkCalled t nowhere s m → WalkLater (λ j. j ≢ n) m.after q.1

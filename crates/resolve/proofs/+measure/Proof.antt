@@ -18,7 +18,7 @@ use Rattle.resolve.proofs.+measure.{statement}
 use Rattle.resolve.proofs.+measure.Tie.{close}
 use mathlib.Core.Bool.{false}
 use mathlib.Core.Path.{◌≡◌, refl, subst, ◌∙◌, ap}
-use mathlib.Core.Logic.{⊎_elim}
+use Rattle.resolve.proofs.+measure.Lts-measure.{in-Word+else-levels-k, in-Empty, in-Open+in-Empty-measure, in-Open+in-Word-measure}
 use native.Mathlib.Omega.{arith}
 use mathlib.Core.List.{List}
 use lib.ListN.{length, length-set, get_or, set}
@@ -47,12 +47,12 @@ below t = and 6 kinds.ps (falls 6 kinds.ps ◌<◌ μ t) reads.Pre
 abbrev calls : ℕ → lts.Claims
 calls t = (blocked-reads.Asked, blocked-reads.Learnt, own-text-len-reads.Asked, own-text-len-reads.Learnt, known-reads.Asked, known-reads.Learnt, below t, reads.Post, most-reads.Asked, most-reads.Learnt, note-reads.Asked, note-reads.Learnt, measure-word-reads.Asked, measure-word-reads.Learnt)
 
-abbrev invariant-loop : lts.invariant-loop
+abbrev invariant-loop : lts.invariant-loop-i
 invariant-loop node levels starts sorted₀ pickle nodes measures₀ dues₀ n kind at end texts₀ deepest₀ values₀ i₀ sorted measures dues texts deepest values i =
     (length sorted ≡ length sorted₀) × (length dues ≡ length dues₀) × (length measures ≡ length measures₀) × (values ≤ 1 + 4096 * i) × (texts ≤ 131072 * (i + 1)) × (deepest ≤ 127)
     × ((I : LoopBegins pickle nodes starts measures₀ sorted₀ dues₀ n) → Midway I (levels - 1) texts₀ measures sorted dues deepest values texts i)
 
-abbrev decreases-loop : lts.decreases-loop
+abbrev decreases-loop : lts.decreases-loop-i
 decreases-loop node levels starts sorted₀ pickle nodes measures₀ dues₀ n kind at end texts₀ deepest₀ values₀ i₀ sorted measures dues texts deepest values i = end - i
 
 -- ---- a turn of the loop, over plain lists: so that a need names the facts of its place and nothing else
@@ -178,18 +178,18 @@ module _ (t : ℕ) where
 
   -- the rooms are known
   abbrev Rooms : Type 0
-  Rooms = lts.After-slice-known3 (calls t) (own t) reads.Post invariant-loop decreases-loop
+  Rooms = lts.After-slice_known-3-1 (calls t) (own t) reads.Post invariant-loop decreases-loop
 
   -- the node's own text is measured
   abbrev Texted : Type 0
-  Texted = lts.After-own-text-len (calls t) (own t) reads.Post invariant-loop decreases-loop
+  Texted = lts.After-own_text_len-texts (calls t) (own t) reads.Post invariant-loop decreases-loop
 
   abbrev Head : Type 0
-  Head = lts.At-loop (calls t) (own t) reads.Post invariant-loop decreases-loop
+  Head = lts.At-loop-i (calls t) (own t) reads.Post invariant-loop decreases-loop
 
   -- a level is left for the child
   abbrev Deeper : Type 0
-  Deeper = lts.Else2 (calls t) (own t) reads.Post invariant-loop decreases-loop
+  Deeper = lts.Else-levels-eq1 (calls t) (own t) reads.Post invariant-loop decreases-loop
 
   -- what is known of the child
   abbrev Known : Type 0
@@ -203,7 +203,7 @@ module _ (t : ℕ) where
   start c = c.before.before.before.before.before.before
 
   abbrev rooms : Texted → Rooms
-  rooms c = c.before.before.before.before.before.before.before.before.before
+  rooms c = c.before.before.before.before.before.before.before
 
   abbrev texted : Head → Texted
   texted c = c.before.before.before
@@ -218,9 +218,9 @@ module _ (t : ℕ) where
   deeper c = c.before.before.before
 
   abbrev known : Measured → Known
-  known c = c.before.before.before.before.before.before.before.before
+  known c = c.before.before.before.before.before.before.before
 
-  abbrev measured : lts.After-slice-known9 (calls t) (own t) reads.Post invariant-loop decreases-loop → Measured
+  abbrev measured : lts.After-slice_known-in-Open-3-1 (calls t) (own t) reads.Post invariant-loop decreases-loop → Measured
   measured c = c.before.before.before.before.before.before
 
   -- ---- what is known there
@@ -236,126 +236,133 @@ module _ (t : ℕ) where
   end s = get_or s.args.starts.now (s.args.node.0 + 1) 0
 
   free : (c : Texted) (o : Open (start (rooms c))) → blocked o.nodes o.state.stages (start (rooms c)).args.node.0 ≡ false
-  free c o = open_free o c.before.before.before.blocked.ensures c.before.before.if1.false
+  free c o = open_free o c.blocked.ensures c.if-blocked.false
 
   few : (c : Head) → end (begin c) < 65536
-  few c = let a = (texted c).before.before.before.before.before.before in omega (arith, a.shared-slice-known6.given ((start (rooms (texted c))).args.node.0 + 1))
+  few c = omega (arith, (texted c).shared_slice_known-6-1.given ((start (rooms (texted c))).args.node.0 + 1))
 
-  measures_long : (c : Head) → length c.loop.measures ≡ length (begin c).args.measures.now
-  measures_long c = c.loop.invariant.2 ∙ simp length-set (texted c).own-text-len.auto.1.1.1.1.0
+  measures_long : (c : Head) → length c.loop-i.measures ≡ length (begin c).args.measures.now
+  measures_long c = c.loop-i.invariant.2 ∙ simp length-set (texted c).own_text_len-texts.auto.measures
 
   -- the loop has come to a child
-  turn : (c : lts.In-loop (calls t) (own t) reads.Post invariant-loop decreases-loop) → let h = c.before in let a = (begin h).args in let x = (texted h).own-text-len in
-      Turn a.pickle.now a.nodes.now a.starts.now a.measures.now a.sorted.now a.dues.now a.node.0 a.levels x.last.1.1.1.1.0 x.result h.loop.measures h.loop.sorted h.loop.dues h.loop.deepest h.loop.values h.loop.texts h.loop.i
-  turn c = let h = c.before in record { owns = (texted h).own-text-len.ensures; midway = h.loop.invariant.6; child = c.loop-test.true; level = (begin h).requires.1.0.0 }
+  turn : (c : lts.In-loop-i (calls t) (own t) reads.Post invariant-loop decreases-loop) → let h = c.before in let a = (begin h).args in let x = (texted h).own_text_len-texts in
+      Turn a.pickle.now a.nodes.now a.starts.now a.measures.now a.sorted.now a.dues.now a.node.0 a.levels x.new.measures x.result h.loop-i.measures h.loop-i.sorted h.loop-i.dues h.loop-i.deepest h.loop-i.values h.loop-i.texts h.loop-i.i
+  turn c = let h = c.before in record { owns = (texted h).own_text_len-texts.ensures; midway = h.loop-i.invariant.6; child = c.loop-i-test.true; level = (begin h).requires.1.0.0 }
 
   -- the measures after the child is looked up
   abbrev looked : Known → List ℕ
-  looked k = k.known.last.1.1.1.0
+  looked k = k.known.new.measures
 
   learns : (k : Known) → let h = head (deeper k) in let a = (begin h).args in
-      Learns a.pickle.now a.nodes.now h.loop.measures (looked k) (get_or h.loop.sorted h.loop.i 0) k.known.result
+      Learns a.pickle.now a.nodes.now h.loop-i.measures (looked k) (get_or h.loop-i.sorted h.loop-i.i 0) k.known.result
   learns k = k.known.ensures
 
   -- the child's levels
   levels : (c : Deeper) → (1 ≤ (begin (head c)).args.levels - 1) × ((begin (head c)).args.levels - 1 ≤ 64)
-  levels c = let l = (begin (head c)).pre.1.0 in (omega (arith, l, c.if2.false), omega (arith, l))
+  levels c = let l = (begin (head c)).requires.1.0 in (omega (arith, l, c.if-levels-eq1.false), omega (arith, l))
 
   -- where the arms of a turn meet
-  arms : (c : lts.After-row-known (calls t) (own t) reads.Post invariant-loop decreases-loop) (d : ℕ) → d ≡ max (head (deeper c.before.before.before.before)).loop.deepest (deep_w c.before.match.w)
-      → let m = c.before.match in Done (turn (deeper c.before.before.before.before).before) m.measures m.sorted m.dues m.w d
+  arms : (c : lts.After-row_known-1 (calls t) (own t) reads.Post invariant-loop decreases-loop) (d : ℕ) → d ≡ max (head (deeper c.before.before.before.before)).loop-i.deepest (deep_w c.match-known.w)
+      → let m = c.match-known in Done (turn (deeper c.before.before.before.before).before) m.measures m.sorted m.dues m.w d
   arms c deep most =
       let k = c.before.before.before.before in
       let d = deeper k in
-      let m = c.before.match in
+      let m = c.match-known in
       let T = turn d.before in
-      let kept = k.known.auto.1.1.1.0 in
-      ⊎_elim (λ x. word_known T (levels d) (looked k) k.known.result (learns k) kept m.measures m.sorted m.dues m.w deep most x.1.given.0.0 x.1.given.1 x.3.left x.4 x.5 x.6 x.7)
-      (⊎_elim (λ x. empty_known T (levels d) (looked k) k.known.result (learns k) kept m.measures m.sorted m.dues m.w deep most x.1.given.1 x.2 x.3 x.4 x.5)
-      (⊎_elim (λ x. let r = x.5 in let l = r.last.1.1.1 in let z = r.kept.1.1.1 in empty_walked T (levels d) (looked k) k.known.result (learns k) kept m.measures m.sorted m.dues m.w deep most l.1.1.1.0 l.0 l.1.1.1.1.0 r.result r.ensures x.1.given.1 z.1.1.1.0 z.0 z.1.1.1.1.0 x.13.given.1 x.14 x.15 x.16 x.17)
-      (λ x. let r = x.5 in let l = r.last.1.1.1 in let z = r.kept.1.1.1 in word-walked T (levels d) (looked k) k.known.result (learns k) kept m.measures m.sorted m.dues m.w deep most l.1.1.1.0 l.0 l.1.1.1.1.0 r.result r.ensures x.1.given.1 z.1.1.1.0 z.0 z.1.1.1.1.0 x.13.given.0.0 x.13.given.1 x.15 x.16 x.17 x.18)))
-      m.branch
+      let kept = k.known.auto.measures in
+      elim m.branch [
+        in-Word+else-levels-k x ↦ word_known T (levels d) (looked k) k.known.result (learns k) kept m.measures m.sorted m.dues m.w deep most x.in-Word.k x.in-Word.is x.if-levels-k.false x.sorted-is x.measures-is x.dues-is x.w-is
+      | in-Empty x ↦ empty_known T (levels d) (looked k) k.known.result (learns k) kept m.measures m.sorted m.dues m.w deep most x.in-Empty.is x.sorted-is x.measures-is x.dues-is x.w-is
+      | in-Open+in-Empty-measure x ↦
+          let r = x.measure in
+          empty_walked T (levels d) (looked k) k.known.result (learns k) kept m.measures m.sorted m.dues m.w deep most r.new.measures r.new.sorted r.new.dues r.result r.ensures x.in-Open.is
+          r.auto.measures r.auto.sorted r.auto.dues x.in-Empty-measure.is x.sorted-is x.measures-is x.dues-is x.w-is
+      | in-Open+in-Word-measure x ↦
+          let r = x.measure in
+          word-walked T (levels d) (looked k) k.known.result (learns k) kept m.measures m.sorted m.dues m.w deep most r.new.measures r.new.sorted r.new.dues r.result r.ensures x.in-Open.is
+          r.auto.measures r.auto.sorted r.auto.dues x.in-Word-measure.k x.in-Word-measure.is x.sorted-is x.measures-is x.dues-is x.w-is
+      ]
 
   -- ---- the needs
 
-  mul-kind : lts.Need-overflow-mul-kind (calls t) (own t) reads.Post invariant-loop decreases-loop
+  mul-kind : lts.Need-overflow_mul-kind (calls t) (own t) reads.Post invariant-loop decreases-loop
   mul-kind c = omega (arith, open_words (opens (start c)))
 
-  mul-kind-2 : lts.Need-overflow-mul-kind-2 (calls t) (own t) reads.Post invariant-loop decreases-loop
+  mul-kind-2 : lts.Need-offset_bounds-nodes-n (calls t) (own t) reads.Post invariant-loop decreases-loop
   mul-kind-2 c = omega (arith, open_words (opens (start c)))
 
-  shared-slice-read-kind : lts.Need-shared-slice-read-kind (calls t) (own t) reads.Post invariant-loop decreases-loop
+  shared-slice-read-kind : lts.Need-bounds-nodes-n (calls t) (own t) reads.Post invariant-loop decreases-loop
   shared-slice-read-kind c = omega (arith, open_words (opens (start c.before)))
 
-  mul_at : lts.Need-overflow-mul-at (calls t) (own t) reads.Post invariant-loop decreases-loop
+  mul_at : lts.Need-offset_bounds-starts-n (calls t) (own t) reads.Post invariant-loop decreases-loop
   mul_at c = omega (arith, open_starts (opens (start c.before)))
 
-  shared-slice-read-at : lts.Need-shared-slice-read-at (calls t) (own t) reads.Post invariant-loop decreases-loop
+  shared-slice-read-at : lts.Need-bounds-starts-n (calls t) (own t) reads.Post invariant-loop decreases-loop
   shared-slice-read-at c = omega (arith, open_starts (opens (start c.before.before)))
 
-  cast-at : lts.Need-overflow-cast-at (calls t) (own t) reads.Post invariant-loop decreases-loop
-  cast-at c = omega (arith, c.shared-slice-known5.given (start c.before.before).args.node.0)
+  cast-at : lts.Need-overflow_cast-at (calls t) (own t) reads.Post invariant-loop decreases-loop
+  cast-at c = omega (arith, c.shared_slice_known-5-1.given (start c.before.before).args.node.0)
 
-  add-end : lts.Need-overflow-add-end (calls t) (own t) reads.Post invariant-loop decreases-loop
+  add-end : lts.Need-overflow_add-end (calls t) (own t) reads.Post invariant-loop decreases-loop
   add-end c = omega (arith, open_starts (opens (start c.before.before)))
 
-  mul-end : lts.Need-overflow-mul-end (calls t) (own t) reads.Post invariant-loop decreases-loop
+  mul-end : lts.Need-offset_bounds-starts-n-2 (calls t) (own t) reads.Post invariant-loop decreases-loop
   mul-end c = omega (arith, open_starts (opens (start c.before.before)))
 
-  shared-slice-read-end : lts.Need-shared-slice-read-end (calls t) (own t) reads.Post invariant-loop decreases-loop
+  shared-slice-read-end : lts.Need-bounds-starts-n-2 (calls t) (own t) reads.Post invariant-loop decreases-loop
   shared-slice-read-end c = omega (arith, open_starts (opens (start c.before.before.before)))
 
-  cast-end : lts.Need-overflow-cast-end (calls t) (own t) reads.Post invariant-loop decreases-loop
-  cast-end c = omega (arith, c.shared-slice-known6.given ((start c.before.before.before).args.node.0 + 1))
+  cast-end : lts.Need-overflow_cast-end (calls t) (own t) reads.Post invariant-loop decreases-loop
+  cast-end c = omega (arith, c.shared_slice_known-6-1.given ((start c.before.before.before).args.node.0 + 1))
 
   blocked-requires : lts.Need-blocked-requires (calls t) (own t) reads.Post invariant-loop decreases-loop
-  blocked-requires c κs = let f = opens (start c.before.before.before.before.before) in (open_end f, open_first f)
+  blocked-requires c κs = let f = opens (start c.before.before.before) in (open_end f, open_first f)
 
-  mul-measures : lts.Need-overflow-mul-measures (calls t) (own t) reads.Post invariant-loop decreases-loop
-  mul-measures c = omega (arith, open_measured (opens (start c.before.before.before.before.before.before.before)))
+  mul-measures : lts.Need-offset_bounds-measures-n (calls t) (own t) reads.Post invariant-loop decreases-loop
+  mul-measures c = omega (arith, open_measured (opens (start c.before.before.before.before.before)))
 
-  slice-write-measures : lts.Need-slice-write-measures (calls t) (own t) reads.Post invariant-loop decreases-loop
-  slice-write-measures c = omega (arith, open_measured (opens (start c.before.before.before.before.before.before.before)))
+  slice-write-measures : lts.Need-bounds-measures-n (calls t) (own t) reads.Post invariant-loop decreases-loop
+  slice-write-measures c = omega (arith, open_measured (opens (start c.before.before.before.before.before)))
 
-  returns : lts.Need-returns (calls t) (own t) reads.Post invariant-loop decreases-loop
+  returns : lts.Need-returns-then-blocked (calls t) (own t) reads.Post invariant-loop decreases-loop
   unfolding Walks
-  returns c o = ends_blocked o _ (start c.before.before.before.before.before.before.before).pre.1.0.0 c.before.blocked.ensures c.if1.true
+  returns c o = ends_blocked o _ (start c.before.before.before.before.before).requires.1.0.0 c.blocked.ensures c.if-blocked.true
 
-  own-text-len-requires : lts.Need-own-text-len-requires (calls t) (own t) reads.Post invariant-loop decreases-loop
-  own-text-len-requires c κs = open_owned (opens (start c.before.before.before.before.before.before.before.before))
+  own-text-len-requires : lts.Need-own_text_len-texts-requires (calls t) (own t) reads.Post invariant-loop decreases-loop
+  own-text-len-requires c κs = open_owned (opens (start c.before.before.before.before.before.before))
 
-  mul-measures-2 : lts.Need-overflow-mul-measures-2 (calls t) (own t) reads.Post invariant-loop decreases-loop
-  mul-measures-2 c = omega (arith, open_measured (opens (start (rooms c.before.before))), c.before.before.own-text-len.auto.1.1.1.1.0)
+  mul-measures-2 : lts.Need-offset_bounds-measures-n-2 (calls t) (own t) reads.Post invariant-loop decreases-loop
+  mul-measures-2 c = omega (arith, open_measured (opens (start (rooms c.before.before))), c.own_text_len-texts.auto.measures)
 
-  slice-write-measures-2 : lts.Need-slice-write-measures-2 (calls t) (own t) reads.Post invariant-loop decreases-loop
-  slice-write-measures-2 c = omega (arith, open_measured (opens (start (rooms c.before.before))), c.before.before.own-text-len.auto.1.1.1.1.0)
+  slice-write-measures-2 : lts.Need-bounds-measures-n-2 (calls t) (own t) reads.Post invariant-loop decreases-loop
+  slice-write-measures-2 c = omega (arith, open_measured (opens (start (rooms c.before.before))), c.own_text_len-texts.auto.measures)
 
-  loop-holds : lts.Need-loop-init (calls t) (own t) reads.Post invariant-loop decreases-loop
+  loop-holds : lts.Need-loop-i-init (calls t) (own t) reads.Post invariant-loop decreases-loop
   loop-holds c =
       let x = c.before.before in
-      (refl, refl, refl, omega arith, omega (arith, own_len (opens (start (rooms x))) _ _ x.own-text-len.ensures), omega arith, λ I. mid_start I _ _)
+      (refl, refl, refl, omega arith, omega (arith, own_len (opens (start (rooms x))) _ _ x.own_text_len-texts.ensures), omega arith, λ I. mid_start I _ _)
 
-  same-length-3 : lts.Need-same-length-3 (calls t) (own t) reads.Post invariant-loop decreases-loop
-  same-length-3 c = c.before.before.loop.invariant.0
+  same-length-3 : lts.Need-shape_of-sorted-then-levels-eq1 (calls t) (own t) reads.Post invariant-loop decreases-loop
+  same-length-3 c = c.loop-i.invariant.0
 
-  same-length-4 : lts.Need-same-length-4 (calls t) (own t) reads.Post invariant-loop decreases-loop
+  same-length-4 : lts.Need-shape_of-measures-then-levels-eq1 (calls t) (own t) reads.Post invariant-loop decreases-loop
   same-length-4 c = measures_long c.before.before
 
-  same-length-5 : lts.Need-same-length-5 (calls t) (own t) reads.Post invariant-loop decreases-loop
-  same-length-5 c = c.before.before.loop.invariant.1
+  same-length-5 : lts.Need-shape_of-dues-then-levels-eq1 (calls t) (own t) reads.Post invariant-loop decreases-loop
+  same-length-5 c = c.loop-i.invariant.1
 
-  returns-2 : lts.Need-returns-2 (calls t) (own t) reads.Post invariant-loop decreases-loop
+  returns-2 : lts.Need-returns-then-levels-eq1 (calls t) (own t) reads.Post invariant-loop decreases-loop
   unfolding Walks
-  returns-2 c o = level_out (turn c.before) o (free (texted c.before.before) o) _ _ _ c.if2.true
+  returns-2 c o = level_out (turn c.before) o (free (texted c.before.before) o) _ _ _ c.if-levels-eq1.true
 
-  mul-t40 : lts.Need-overflow-mul-t40 (calls t) (own t) reads.Post invariant-loop decreases-loop
-  mul-t40 c = omega (arith, open_end (opens (begin (head c))), c.before.loop-test.true, (head c).loop.invariant.0)
+  mul-t40 : lts.Need-offset_bounds-sorted-i (calls t) (own t) reads.Post invariant-loop decreases-loop
+  mul-t40 c = omega (arith, open_end (opens (begin (head c))), c.loop-i-test.true, (head c).loop-i.invariant.0)
 
-  slice-read-t42 : lts.Need-slice-read-t42 (calls t) (own t) reads.Post invariant-loop decreases-loop
-  slice-read-t42 c = let d = c.before in omega (arith, open_end (opens (begin (head d))), d.before.loop-test.true, (head d).loop.invariant.0)
+  slice-read-t42 : lts.Need-bounds-sorted-i (calls t) (own t) reads.Post invariant-loop decreases-loop
+  slice-read-t42 c = let d = c.before in omega (arith, open_end (opens (begin (head d))), d.loop-i-test.true, (head d).loop-i.invariant.0)
 
-  cast-t43 : lts.Need-overflow-cast-t43 (calls t) (own t) reads.Post invariant-loop decreases-loop
-  cast-t43 c = omega (arith, c.slice-known5.given (head c.before).loop.i)
+  cast-t43 : lts.Need-overflow_cast-child (calls t) (own t) reads.Post invariant-loop decreases-loop
+  cast-t43 c = omega (arith, c.slice_known-in-loop-i-1.given (head c.before).loop-i.i)
 
   known-requires : lts.Need-known-requires (calls t) (own t) reads.Post invariant-loop decreases-loop
   known-requires c κs =
@@ -364,121 +371,121 @@ module _ (t : ℕ) where
       let b = child_node (turn d.before) o in
       (o.facts.readable _ b.0, b.1)
 
-  same-length-6 : lts.Need-same-length-6 (calls t) (own t) reads.Post invariant-loop decreases-loop
-  same-length-6 c = (head (deeper c.before.before.before.before.before.before)).loop.inv.0
+  same-length-6 : lts.Need-shape_of-sorted-then-levels-k (calls t) (own t) reads.Post invariant-loop decreases-loop
+  same-length-6 c = (head (deeper c.before.before.before.before)).loop-i.invariant.0
 
-  same-length-7 : lts.Need-same-length-7 (calls t) (own t) reads.Post invariant-loop decreases-loop
-  same-length-7 c = let k = c.before.before.before.before.before.before in k.known.auto.1.1.1.0 ∙ measures_long (head (deeper k))
+  same-length-7 : lts.Need-shape_of-measures-then-levels-k (calls t) (own t) reads.Post invariant-loop decreases-loop
+  same-length-7 c = let k = c.before.before.before.before in k.known.auto.measures ∙ measures_long (head (deeper k))
 
-  same-length-8 : lts.Need-same-length-8 (calls t) (own t) reads.Post invariant-loop decreases-loop
-  same-length-8 c = (head (deeper c.before.before.before.before.before.before)).loop.inv.1
+  same-length-8 : lts.Need-shape_of-dues-then-levels-k (calls t) (own t) reads.Post invariant-loop decreases-loop
+  same-length-8 c = (head (deeper c.before.before.before.before)).loop-i.invariant.1
 
-  returns-3 : lts.Need-returns-3 (calls t) (own t) reads.Post invariant-loop decreases-loop
+  returns-3 : lts.Need-returns-then-levels-k (calls t) (own t) reads.Post invariant-loop decreases-loop
   unfolding Walks
   returns-3 c o =
-      let k = c.before.before.before.before.before.before in
+      let k = c.before.before.before.before in
       let d = deeper k in
-      word-deep (turn d.before) o (free (texted (head d)) o) _ _ _ (levels d) (looked k) k.known.result (learns k) c.before.before.k.given.0.0 c.before.before.k.given.1 c.if3.true
+      word-deep (turn d.before) o (free (texted (head d)) o) _ _ _ (levels d) (looked k) k.known.result (learns k) c.in-Word.k c.in-Word.is c.if-levels-k.true
 
-  mul-sorted : lts.Need-overflow-mul-sorted (calls t) (own t) reads.Post invariant-loop decreases-loop
-  mul-sorted c = let d = deeper c.before.before.before.before in let h = head d in omega (arith, open_end (opens (begin h)), d.before.loop-test.taken, h.loop.inv.0, few h)
+  mul-sorted : lts.Need-offset_bounds-sorted-i-in-Empty (calls t) (own t) reads.Post invariant-loop decreases-loop
+  mul-sorted c = let d = deeper c.before.before.before in let h = head d in omega (arith, open_end (opens (begin h)), d.loop-i-test.true, h.loop-i.invariant.0, few h)
 
-  slice-write-sorted : lts.Need-slice-write-sorted (calls t) (own t) reads.Post invariant-loop decreases-loop
-  slice-write-sorted c = let d = deeper c.before.before.before.before in let h = head d in omega (arith, open_end (opens (begin h)), d.before.loop-test.taken, h.loop.inv.0)
+  slice-write-sorted : lts.Need-bounds-sorted-i-in-Empty (calls t) (own t) reads.Post invariant-loop decreases-loop
+  slice-write-sorted c = let d = deeper c.before.before.before in let h = head d in omega (arith, open_end (opens (begin h)), d.loop-i-test.true, h.loop-i.invariant.0)
 
-  sub-measure : lts.Need-overflow-sub-measure (calls t) (own t) reads.Post invariant-loop decreases-loop
-  sub-measure c = omega (arith, (begin (head (deeper c.before.before.before.before))).pre.1.0)
+  sub-measure : lts.Need-overflow_sub-levels (calls t) (own t) reads.Post invariant-loop decreases-loop
+  sub-measure c = omega (arith, (begin (head (deeper c.before.before.before))).requires.1.0)
 
   measure-requires : lts.Need-measure-requires (calls t) (own t) reads.Post invariant-loop decreases-loop
   measure-requires c κs =
-      let k = c.before.before.before.before.before.before.before in
+      let k = c.before.before.before.before.before.before in
       let d = deeper k in
       let s = begin (head d) in
-      (omega (arith, s.pre.0, s.pre.1.0), (levels d, to_walk (turn d.before) (levels d) (looked k) k.known.result (learns k) c.before.before.before.enum-told2.given.1 (opens s)))
+      (omega (arith, s.requires.0, s.requires.1.0), (levels d, to_walk (turn d.before) (levels d) (looked k) k.known.result (learns k) c.in-Open.is (opens s)))
 
-  same-length-9 : lts.Need-same-length-9 (calls t) (own t) reads.Post invariant-loop decreases-loop
-  same-length-9 c = let m = measured c.before.before in m.measure.kept.1.1.1.0 ∙ (head (deeper (known m))).loop.inv.0
+  same-length-9 : lts.Need-shape_of-sorted-in-TooDeep (calls t) (own t) reads.Post invariant-loop decreases-loop
+  same-length-9 c = let m = measured c.before in m.measure.auto.sorted ∙ (head (deeper (known m))).loop-i.invariant.0
 
-  same-length-10 : lts.Need-same-length-10 (calls t) (own t) reads.Post invariant-loop decreases-loop
-  same-length-10 c = let m = measured c.before.before in let k = known m in m.measure.kept.1.1.1.1.1.1.0 ∙ k.known.kept.1.1.1.0 ∙ measures_long (head (deeper k))
+  same-length-10 : lts.Need-shape_of-measures-in-TooDeep (calls t) (own t) reads.Post invariant-loop decreases-loop
+  same-length-10 c = let m = measured c.before in let k = known m in m.measure.auto.measures ∙ k.known.auto.measures ∙ measures_long (head (deeper k))
 
-  same-length-11 : lts.Need-same-length-11 (calls t) (own t) reads.Post invariant-loop decreases-loop
-  same-length-11 c = let m = measured c.before.before in m.measure.kept.1.1.1.1.1.1.1.0 ∙ (head (deeper (known m))).loop.inv.1
+  same-length-11 : lts.Need-shape_of-dues-in-TooDeep (calls t) (own t) reads.Post invariant-loop decreases-loop
+  same-length-11 c = let m = measured c.before in m.measure.auto.dues ∙ (head (deeper (known m))).loop-i.invariant.1
 
-  returns-4 : lts.Need-returns-4 (calls t) (own t) reads.Post invariant-loop decreases-loop
+  returns-4 : lts.Need-returns-in-TooDeep (calls t) (own t) reads.Post invariant-loop decreases-loop
   unfolding Walks
   returns-4 c o =
-      let x = measured c.before.before in
+      let x = measured c.before in
       let k = known x in
       let d = deeper k in
-      let m = x.measure.last.1.1.1 in
-      walk_too (turn d.before) o (free (texted (head d)) o) _ _ _ (levels d) (looked k) k.known.result (learns k) m.1.1.1.0 m.0 m.1.1.1.1.0 x.measure.result x.measure.ensures
-      x.before.before.before.before.enum-told2.given.1 c.enum-told3.given.1
+      let m = x.measure.new in
+      walk_too (turn d.before) o (free (texted (head d)) o) _ _ _ (levels d) (looked k) k.known.result (learns k) m.measures m.sorted m.dues x.measure.result x.measure.ensures
+      x.in-Open.is c.in-TooDeep.is
 
-  mul-sorted-2 : lts.Need-overflow-mul-sorted-2 (calls t) (own t) reads.Post invariant-loop decreases-loop
+  mul-sorted-2 : lts.Need-offset_bounds-sorted-i-in-Empty-measure (calls t) (own t) reads.Post invariant-loop decreases-loop
   mul-sorted-2 c =
-      let m = measured c.before.before in
+      let m = measured c.before in
       let d = deeper (known m) in
       let h = head d in
-      omega (arith, open_end (opens (begin h)), d.before.loop-test.taken, h.loop.inv.0, few h, m.measure.kept.1.1.1.0)
+      omega (arith, open_end (opens (begin h)), d.loop-i-test.true, h.loop-i.invariant.0, few h, m.measure.auto.sorted)
 
-  slice-write-sorted-2 : lts.Need-slice-write-sorted-2 (calls t) (own t) reads.Post invariant-loop decreases-loop
+  slice-write-sorted-2 : lts.Need-bounds-sorted-i-in-Empty-measure (calls t) (own t) reads.Post invariant-loop decreases-loop
   slice-write-sorted-2 c =
-      let m = measured c.before.before in
+      let m = measured c.before in
       let d = deeper (known m) in
       let h = head d in
-      omega (arith, open_end (opens (begin h)), d.before.loop-test.taken, h.loop.inv.0, m.measure.kept.1.1.1.0)
+      omega (arith, open_end (opens (begin h)), d.loop-i-test.true, h.loop-i.invariant.0, m.measure.auto.sorted)
 
-  add-values : lts.Need-overflow-add-values (calls t) (own t) reads.Post invariant-loop decreases-loop
-  add-values c = let d = deeper c.before.before.before.before.before in let l = (head d).loop in fits_values l.values (c.before.before.match.w / 128) l.i _ l.inv.3 d.before.loop-test.taken (few (head d))
+  add-values : lts.Need-overflow_add-values (calls t) (own t) reads.Post invariant-loop decreases-loop
+  add-values c = let d = deeper c.before.before.before.before.before in let l = (head d).loop-i in fits_values l.values (c.match-known.w / 128) l.i _ l.invariant.3 d.loop-i-test.true (few (head d))
 
-  add-texts : lts.Need-overflow-add-texts (calls t) (own t) reads.Post invariant-loop decreases-loop
-  add-texts c = let d = deeper c.before.before.before.before.before in let l = (head d).loop in fits_texts l.texts (c.before.before.match.w / 524288) l.i _ l.inv.4 d.before.loop-test.taken (few (head d))
+  add-texts : lts.Need-overflow_add-texts (calls t) (own t) reads.Post invariant-loop decreases-loop
+  add-texts c = let d = deeper c.before.before.before.before.before in let l = (head d).loop-i in fits_texts l.texts (c.match-known.w / 524288) l.i _ l.invariant.4 d.loop-i-test.true (few (head d))
 
-  add-i : lts.Need-overflow-add-i (calls t) (own t) reads.Post invariant-loop decreases-loop
-  add-i c = let d = deeper c.before.before.before.before.before in fits_next (head d).loop.i _ d.before.loop-test.taken (few (head d))
+  add-i : lts.Need-overflow_add-i (calls t) (own t) reads.Post invariant-loop decreases-loop
+  add-i c = let d = deeper c.before.before.before.before.before in fits_next (head d).loop-i.i _ d.loop-i-test.true (few (head d))
 
-  loop-less : lts.Need-loop-smaller (calls t) (own t) reads.Post invariant-loop decreases-loop
-  loop-less c = let d = deeper c.before.before.before.before.before in falls_by_one (head d).loop.i _ d.before.loop-test.taken
+  loop-less : lts.Need-loop-i-smaller (calls t) (own t) reads.Post invariant-loop decreases-loop
+  loop-less c = let d = deeper c.before.before.before.before.before in falls_by_one (head d).loop-i.i _ d.loop-i-test.true
 
-  loop-again : lts.Need-loop-preserved (calls t) (own t) reads.Post invariant-loop decreases-loop
+  loop-again : lts.Need-loop-i-preserved (calls t) (own t) reads.Post invariant-loop decreases-loop
   loop-again c =
-      let l = (head (deeper c.before.before.before.before.before)).loop in
-      let w = c.before.before.match.w in
-      let s = sums l.values (w / 128) l.texts (w / 524288) l.i l.deepest w c.most.result l.inv.3 l.inv.4 l.inv.5 c.most.ensures in
-      let r = arms c.before c.most.result c.most.ensures in
-      (r.sorted_long ∙ l.inv.0, r.dues-long ∙ l.inv.1, r.measures_long ∙ l.inv.2, s.0, s.1, s.2, r.next)
+      let l = (head (deeper c.before.before.before.before.before)).loop-i in
+      let w = c.match-known.w in
+      let s = sums l.values (w / 128) l.texts (w / 524288) l.i l.deepest w c.most-deepest.result l.invariant.3 l.invariant.4 l.invariant.5 c.most-deepest.ensures in
+      let r = arms c.before c.most-deepest.result c.most-deepest.ensures in
+      (r.sorted_long ∙ l.invariant.0, r.dues-long ∙ l.invariant.1, r.measures_long ∙ l.invariant.2, s.0, s.1, s.2, r.next)
 
   note-requires : lts.Need-note-requires (calls t) (own t) reads.Post invariant-loop decreases-loop
   note-requires c κs =
       let h = c.before.before in
-      let I = enter (moved (opens (begin h)) _ _ (texted h).own-text-len.ensures) in
-      mid_room I _ (h.loop.invariant.6 I)
+      let I = enter (moved (opens (begin h)) _ _ (texted h).own_text_len-texts.ensures) in
+      mid_room I _ (h.loop-i.invariant.6 I)
 
-  add-measure-word : lts.Need-overflow-add-measure-word (calls t) (own t) reads.Post invariant-loop decreases-loop
-  add-measure-word c = omega (arith, c.before.before.before.before.before.loop.invariant.5)
+  add-measure-word : lts.Need-overflow_add-deepest (calls t) (own t) reads.Post invariant-loop decreases-loop
+  add-measure-word c = omega (arith, c.loop-i.invariant.5)
 
-  measure-word-requires : lts.Need-measure-word-requires (calls t) (own t) reads.Post invariant-loop decreases-loop
-  measure-word-requires c κs = omega (arith, c.before.before.before.before.before.loop.invariant.5)
+  measure-word-requires : lts.Need-measure_word-w-requires (calls t) (own t) reads.Post invariant-loop decreases-loop
+  measure-word-requires c κs = omega (arith, c.loop-i.invariant.5)
 
   -- the turns are over
-  abbrev over : lts.After-measure-word (calls t) (own t) reads.Post invariant-loop decreases-loop → Head
+  abbrev over : lts.After-measure_word-w (calls t) (own t) reads.Post invariant-loop decreases-loop → Head
   over c = c.before.before.before.before.before.before
 
-  measured_still : (c : lts.After-measure-word (calls t) (own t) reads.Post invariant-loop decreases-loop) → (begin (over c)).args.node.0 < length (over c).loop.measures
+  measured_still : (c : lts.After-measure_word-w (calls t) (own t) reads.Post invariant-loop decreases-loop) → (begin (over c)).args.node.0 < length (over c).loop-i.measures
   measured_still c = omega (arith, open_measured (opens (begin (over c))), measures_long (over c))
 
-  same-length-13 : lts.Need-same-length-13 (calls t) (own t) reads.Post invariant-loop decreases-loop
-  same-length-13 c = length-set (over c).loop.measures (begin (over c)).args.node.0 c.measure-word.result ∙ measures_long (over c)
+  same-length-13 : lts.Need-shape_of-measures (calls t) (own t) reads.Post invariant-loop decreases-loop
+  same-length-13 c = length-set (over c).loop-i.measures (begin (over c)).args.node.0 c.measure_word-w.result ∙ measures_long (over c)
 
-  returns-5 : lts.Need-returns-5 (calls t) (own t) reads.Post invariant-loop decreases-loop
+  returns-5 : lts.Need-returns (calls t) (own t) reads.Post invariant-loop decreases-loop
   unfolding Walks pack_w
   returns-5 c o =
       let h = over c in
       let x = texted h in
-      let m = moved o _ _ x.own-text-len.ensures in
-      ends_done m _ (begin h).pre.1.0.0 (free x o) (h.loop.inv.6 (enter m)) _ _ (begin h).pre.1.0.1 c.before.before.before.before.before.loop-test.false c.before.before.before.note.ensures
-      (own_len o _ _ x.own-text-len.ensures) c.measure-word.ensures
+      let m = moved o _ _ x.own_text_len-texts.ensures in
+      ends_done m _ (begin h).requires.1.0.0 (free x o) (h.loop-i.invariant.6 (enter m)) _ _ (begin h).requires.1.0.1 c.loop-i-test.false c.note.ensures
+      (own_len o _ _ x.own_text_len-texts.ensures) c.measure_word-w.ensures
 
 pub +measure_spec : {M : Type 1} → statement M
 +measure_spec =
@@ -487,9 +494,9 @@ pub +measure_spec : {M : Type 1} → statement M
     (mul-kind t) (mul-kind-2 t) (shared-slice-read-kind t) (mul_at t) (shared-slice-read-at t) (cast-at t) (add-end t) (mul-end t)
     (shared-slice-read-end t) (cast-end t) (blocked-requires t) (mul-measures t) (slice-write-measures t) (λ c. refl) (λ c. simp length-set)
     (returns t) (own-text-len-requires t) (mul-measures-2 t) (slice-write-measures-2 t) (loop-holds t) (same-length-3 t) (same-length-4 t) (same-length-5 t)
-    (returns-2 t) (mul-t40 t) (slice-read-t42 t) (cast-t43 t) (known-requires t) (λ c. c.match.keys1) (same-length-6 t) (same-length-7 t)
-    (same-length-8 t) (returns-3 t) (λ c. c.match.keys2) (mul-sorted t) (slice-write-sorted t) (λ c. c.match.keys3) (sub-measure t)
-    (measure-requires t) (λ c. c.match2.keys1) (same-length-9 t) (same-length-10 t) (same-length-11 t) (returns-4 t) (λ c. c.match2.keys2)
-    (mul-sorted-2 t) (slice-write-sorted-2 t) (λ c. c.match2.keys3) (λ c κs. tt) (add-values t) (add-texts t) (add-i t) (loop-less t)
+    (returns-2 t) (mul-t40 t) (slice-read-t42 t) (cast-t43 t) (known-requires t) (λ c. c.in-Word-1.keys1) (same-length-6 t) (same-length-7 t)
+    (same-length-8 t) (returns-3 t) (λ c. c.in-Empty-1.keys2) (mul-sorted t) (slice-write-sorted t) (λ c. c.in-Open-1.keys3) (sub-measure t)
+    (measure-requires t) (λ c. c.in-TooDeep-1.keys1) (same-length-9 t) (same-length-10 t) (same-length-11 t) (returns-4 t) (λ c. c.in-Empty-measure-1.keys2)
+    (mul-sorted-2 t) (slice-write-sorted-2 t) (λ c. c.in-Word-measure-1.keys3) (λ c κs. tt) (add-values t) (add-texts t) (add-i t) (loop-less t)
     (loop-again t) (note-requires t) (add-measure-word t) (measure-word-requires t) (λ c. omega (arith, measured_still t c)) (measured_still t)
-    (λ c. (over t c).loop.invariant.0) (same-length-13 t) (λ c. c.before.before.before.note.auto.1.1.0 ∙ (over t c).loop.invariant.1) (returns-5 t)
+    (λ c. (over t c).loop-i.invariant.0) (same-length-13 t) (λ c. c.note.auto.dues ∙ (over t c).loop-i.invariant.1) (returns-5 t)

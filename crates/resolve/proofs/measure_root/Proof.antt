@@ -7,26 +7,26 @@ use Rattle.resolve.specs.Rooted.{Roots, root_reads, root_open, root_word, root_e
 
 known-requires : tie.Need-known-requires
 known-requires c κs =
-    let b = c.before.before.before.before.before.before.before.requires in
+    let b = c.requires in
     (root_reads b, omega (arith, b.below, b.many))
 
 measure-requires : tie.Need-measure-requires
 measure-requires c κs =
-    let b = c.before.before.before.before.before.before.before.before.before.before.before.before.before.before.before.requires in
-    let r = c.before.before.before.enum-told2.given.1 in
-    ((omega arith, omega arith), root_open b _ (rw r at c.before.before.before.before.before.before.before.known.ensures))
+    let b = c.requires in
+    let r = c.in-Open.is in
+    ((omega arith, omega arith), root_open b _ (rw r at c.known.ensures))
 
-returns : tie.Need-returns
+returns : tie.Need-returns-in-Word
 unfolding Roots
-returns c = λ b. let r = c.before.w.given.1 in root_word b _ _ (rw r at c.before.before.before.before.before.known.ensures)
+returns c = λ b. let r = c.in-Word.is in root_word b _ _ (rw r at c.known.ensures)
 
-returns-2 : tie.Need-returns-2
+returns-2 : tie.Need-returns-in-Empty
 unfolding Roots
-returns-2 c = λ b. let r = c.enum_told.given.1 in absurd (root_empty b _ (rw r at c.before.before.before.before.known.ensures))
+returns-2 c = λ b. let r = c.in-Empty.is in absurd (root_empty b _ (rw r at c.known.ensures))
 
-returns-3 : tie.Need-returns-3
+returns-3 : tie.Need-returns-in-Open
 unfolding Roots
-returns-3 c = λ b. let r = c.before.before.before.before.before.before.before.before.before.before.enum-told2.given.1 in root_walk b _ (rw r at c.before.before.before.before.before.before.before.before.before.before.before.before.before.before.known.ensures) _ _ _ _ c.before.before.before.before.before.before.measure.ensures
+returns-3 c = λ b. let r = c.in-Open.is in root_walk b _ (rw r at c.known.ensures) _ _ _ _ c.measure.ensures
 
 pub measure_root_spec : {M : Type 1} → statement M
 measure_root_spec =

@@ -8,5 +8,5 @@ returns : tie.Need-returns
 unfolding pack_w
 returns c = search rules
 
-pub measure-word_spec : {M : Type 1} → statement M
-measure-word_spec = tie.close (tie.spec (λ c κs. tt) (λ c. search rules) (λ c. search rules) (λ c κs. tt) (λ c. search rules) (λ c. search rules) returns)
+pub measure_word_spec : {M : Type 1} → statement M
+measure_word_spec = tie.close (tie.spec (λ c κs. tt) (λ c. search rules) (λ c. search rules) (λ c κs. tt) (λ c. search rules) (λ c. search rules) returns)

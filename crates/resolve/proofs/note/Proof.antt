@@ -8,11 +8,11 @@ use native.Mathlib.Omega.{arith}
 use lib.ListN.{length-set}
 use Rattle.resolve.specs.DuesRoom.{note_other, note_due}
 
-returns : tie.Need-returns
-returns c = note_other _ _ _ (sym c.before.is_sorted.ensures ∙ not-true _ c.if1.true)
+returns : tie.Need-returns-then-not-is_sorted
+returns c = note_other _ _ _ (sym c.is_sorted.ensures ∙ not-true _ c.if-not-is_sorted.true-raw)
 
-returns-2 : tie.Need-returns-2
-returns-2 c = note_due _ _ _ _ refl (sym c.before.before.before.is_sorted.ensures ∙ not-false _ c.before.before.if1.false)
+returns-2 : tie.Need-returns
+returns-2 c = note_due _ _ _ _ refl (sym c.is_sorted.ensures ∙ not-false _ c.if-not-is_sorted.false-raw)
 
 pub note_spec : {M : Type 1} → statement M
 note_spec =

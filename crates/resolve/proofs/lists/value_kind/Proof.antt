@@ -6,17 +6,17 @@ use mathlib.Core.Path.{sym}
 use Rattle.value.specs.Shape.{kind_in}
 use Rattle.resolve.specs.Kinds.{kind-same, kind-line, kind-none}
 
-returns : tie.Need-returns
+returns : tie.Need-returns-then-kind-lt-KIND_ESCAPED
 unfolding kind_in
-returns c = sym (kind-same _ c.if1.true)
+returns c = sym (kind-same _ c.if-kind-lt-KIND_ESCAPED.true)
 
-returns-2 : tie.Need-returns-2
+returns-2 : tie.Need-returns-then-kind-lt-NODE_KINDS
 unfolding kind_in
-returns-2 c = sym (kind-line _ c.before.if1.false c.if2.true)
+returns-2 c = sym (kind-line _ c.if-kind-lt-KIND_ESCAPED.false c.if-kind-lt-NODE_KINDS.true)
 
-returns-3 : tie.Need-returns-3
+returns-3 : tie.Need-returns
 unfolding kind_in
-returns-3 c = sym (kind-none _ c.if2.false)
+returns-3 c = sym (kind-none _ c.if-kind-lt-NODE_KINDS.false)
 
-pub value-kind_spec : {M : Type 1} → statement M
-value-kind_spec = tie.close (tie.spec returns (λ c. search rules) returns-2 returns-3)
+pub value_kind_spec : {M : Type 1} → statement M
+value_kind_spec = tie.close (tie.spec returns (λ c. search rules) returns-2 returns-3)

@@ -3,17 +3,17 @@ use Rattle.resolve.proofs.texts.kind_has_text.Statement.{statement}
 use Rattle.resolve.proofs.texts.kind_has_text.Tie as tie
 use Rattle.resolve.specs.TextsDue.{kind-below_4, kind-below_6, kind-below_11, kind-behind}
 
-returns : tie.Need-returns
-returns c = kind-below_4 c.before.args.kind c.if1.true
+returns : tie.Need-returns-then-kind-lt-KIND_BYTES
+returns c = kind-below_4 c.args.kind c.if-kind-lt-KIND_BYTES.true
 
-returns-2 : tie.Need-returns-2
-returns-2 c = kind-below_6 c.before.before.args.kind c.before.if1.false c.if2.true
+returns-2 : tie.Need-returns-then-kind-lt-KIND_LIST
+returns-2 c = kind-below_6 c.args.kind c.if-kind-lt-KIND_BYTES.false c.if-kind-lt-KIND_LIST.true
 
-returns-3 : tie.Need-returns-3
-returns-3 c = kind-below_11 c.before.before.before.args.kind c.before.before.if1.false c.before.if2.false c.if3.true
+returns-3 : tie.Need-returns-then-kind-lt-KIND_GLOBAL
+returns-3 c = kind-below_11 c.args.kind c.if-kind-lt-KIND_BYTES.false c.if-kind-lt-KIND_LIST.false c.if-kind-lt-KIND_GLOBAL.true
 
-returns-4 : tie.Need-returns-4
-returns-4 c = kind-behind c.before.before.before.args.kind c.before.before.if1.false c.before.if2.false c.if3.false
+returns-4 : tie.Need-returns
+returns-4 c = kind-behind c.args.kind c.if-kind-lt-KIND_BYTES.false c.if-kind-lt-KIND_LIST.false c.if-kind-lt-KIND_GLOBAL.false
 
-pub kind-has_text_spec : {M : Type 1} → statement M
-kind-has_text_spec = tie.close (tie.spec returns returns-2 returns-3 returns-4)
+pub kind_has_text_spec : {M : Type 1} → statement M
+kind_has_text_spec = tie.close (tie.spec returns returns-2 returns-3 returns-4)

@@ -8,8 +8,8 @@ use Rattle.resolve.specs.Spell.{sets_back}
 returns : tie.Need-returns
 returns c =
     record {
-      count = c.before.before.from-utf8-lossy.ensures.0;
-      bytes = sets_back (repair c.before.before.before.before.before.before.args.bytes.now) c.before.before.before.before.before.before.args.decoded.now c.before.before.from-utf8-lossy.new.1.0 c.before.before.before.before.before.before.args.at c.before.before.before.before.before.before.requires c.before.before.from-utf8-lossy.ensures.1;
+      count = c.from_utf8_lossy.ensures.0;
+      bytes = sets_back (repair c.args.bytes.now) c.args.decoded.now c.from_utf8_lossy.new.out c.args.at c.requires c.from_utf8_lossy.ensures.1;
     }
 
 pub put_repaired_spec : {M : Type 1} → statement M

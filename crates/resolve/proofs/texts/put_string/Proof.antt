@@ -10,33 +10,33 @@ use Rattle.text.specs.Text.{unescape_string}
 use Rattle.text.specs.Answers.{quoted_plain, quoted_escaped, quoted_bad}
 use Rattle.resolve.specs.Spell.{put_back}
 
-unescape-string-requires : tie.Need-unescape-string-requires
+unescape-string-requires : tie.Need-unescape_string-requires
 unfolding is_read
 unescape-string-requires c κs =
-    let e = quoted_plain c.before.before.before.before.before.before.args.line.now (rw c.before.enum-told2.given.1 at c.before.before.before.string_len.ensures) in
-    record { is = rw e; fits = simp (length-take, length-drop) (omega (arith, c.before.before.before.before.before.before.requires)) }
+    let e = quoted_plain c.args.line.now (rw c.in-Plain.is at c.string_len.ensures) in
+    record { is = rw e; fits = simp (length-take, length-drop) (omega (arith, c.requires)) }
 
-unescape-string-requires-2 : tie.Need-unescape-string-requires-2
-unescape-string-requires-2 c κs = record { is = (quoted_escaped c.before.before.before.before.before.before.args.line.now _ (rw c.before.enum-told3.given.1 at c.before.before.before.string_len.ensures)).0; fits = simp (length-take, length-drop) (omega (arith, c.before.before.before.before.before.before.requires)) }
+unescape-string-requires-2 : tie.Need-unescape_string-requires-in-Escaped
+unescape-string-requires-2 c κs = record { is = (quoted_escaped c.args.line.now _ (rw c.in-Escaped.is at c.string_len.ensures)).0; fits = simp (length-take, length-drop) (omega (arith, c.requires)) }
 
-returns : tie.Need-returns
+returns : tie.Need-returns-in-Refused
 unfolding bytes_of
 returns c =
-    let e = quoted_bad c.before.before.before.before.before.args.line.now _ (rw c.enum_told.given.1 at c.before.before.string_len.ensures) in
+    let e = quoted_bad c.args.line.now _ (rw c.in-Refused.is at c.string_len.ensures) in
     rw e (record { count = refl; bytes = refl })
 
-returns-2 : tie.Need-returns-2
+returns-2 : tie.Need-returns-in-Plain
 returns-2 c =
     record {
-      count = c.before.before.unescape-string.ensures.count;
-      bytes = put_back (bytes_of (unescape_string c.before.before.before.before.before.before.before.before.before.args.line.now)) c.before.before.before.before.before.before.before.before.before.args.decoded.now c.before.before.unescape-string.new.1.0 c.before.before.before.before.before.before.before.before.before.args.at c.before.before.before.before.before.before.before.before.before.requires c.before.before.unescape-string.ensures.bytes;
+      count = c.unescape_string.ensures.count;
+      bytes = put_back (bytes_of (unescape_string c.args.line.now)) c.args.decoded.now c.unescape_string.new.out c.args.at c.requires c.unescape_string.ensures.bytes;
     }
 
-returns-3 : tie.Need-returns-3
+returns-3 : tie.Need-returns-in-Escaped
 returns-3 c =
     record {
-      count = c.before.before.unescape-string2.ensures.count;
-      bytes = put_back (bytes_of (unescape_string c.before.before.before.before.before.before.before.before.before.args.line.now)) c.before.before.before.before.before.before.before.before.before.args.decoded.now c.before.before.unescape-string2.new.1.0 c.before.before.before.before.before.before.before.before.before.args.at c.before.before.before.before.before.before.before.before.before.requires c.before.before.unescape-string2.ensures.bytes;
+      count = c.unescape_string-in-Escaped.ensures.count;
+      bytes = put_back (bytes_of (unescape_string c.args.line.now)) c.args.decoded.now c.unescape_string-in-Escaped.new.out c.args.at c.requires c.unescape_string-in-Escaped.ensures.bytes;
     }
 
 pub put_string_spec : {M : Type 1} → statement M

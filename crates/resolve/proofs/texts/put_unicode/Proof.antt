@@ -10,20 +10,20 @@ use Rattle.text.specs.Text.{unescape_unicode}
 use Rattle.text.specs.Answers.{decoded_len, decoded_bad}
 use Rattle.resolve.specs.Spell.{put_back}
 
-unescape-unicode-requires : tie.Need-unescape-unicode-requires
-unescape-unicode-requires c κs = record { is = (decoded_len (unescape_unicode c.before.before.before.before.before.before.args.line.now) _ (rw c.before.enum-told2.given.1 at c.before.before.before.unicode_len.ensures)).0; fits = simp (length-take, length-drop) (omega (arith, c.before.before.before.before.before.before.requires)) }
+unescape-unicode-requires : tie.Need-unescape_unicode-requires
+unescape-unicode-requires c κs = record { is = (decoded_len (unescape_unicode c.args.line.now) _ (rw c.in-Len.is at c.unicode_len.ensures)).0; fits = simp (length-take, length-drop) (omega (arith, c.requires)) }
 
-returns : tie.Need-returns
+returns : tie.Need-returns-in-Refused
 unfolding bytes_of
 returns c =
-    let e = decoded_bad (unescape_unicode c.before.before.before.before.before.args.line.now) _ (rw c.enum_told.given.1 at c.before.before.unicode_len.ensures) in
+    let e = decoded_bad (unescape_unicode c.args.line.now) _ (rw c.in-Refused.is at c.unicode_len.ensures) in
     rw e (record { count = refl; bytes = refl })
 
-returns-2 : tie.Need-returns-2
+returns-2 : tie.Need-returns-in-Len
 returns-2 c =
     record {
-      count = c.before.before.unescape-unicode.ensures.count;
-      bytes = put_back (bytes_of (unescape_unicode c.before.before.before.before.before.before.before.before.before.args.line.now)) c.before.before.before.before.before.before.before.before.before.args.decoded.now c.before.before.unescape-unicode.new.1.0 c.before.before.before.before.before.before.before.before.before.args.at c.before.before.before.before.before.before.before.before.before.requires c.before.before.unescape-unicode.ensures.bytes;
+      count = c.unescape_unicode.ensures.count;
+      bytes = put_back (bytes_of (unescape_unicode c.args.line.now)) c.args.decoded.now c.unescape_unicode.new.out c.args.at c.requires c.unescape_unicode.ensures.bytes;
     }
 
 pub put_unicode_spec : {M : Type 1} → statement M

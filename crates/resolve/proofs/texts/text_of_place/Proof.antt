@@ -9,7 +9,7 @@ use Rattle.resolve.specs.Place.{part_end}
 
 returns : tie.Need-returns
 unfolding placed
-returns c = c.part.ensures ∙ part_end (pick c.before.before.before.before.before.before.args.place.decoded c.before.before.before.before.before.before.args.decoded.now c.before.before.before.before.before.before.args.pickle.now) c.before.before.before.before.before.before.args.place.at c.before.before.before.before.before.before.args.place.len _ _ _ c.before.before.before.held-len.ensures c.before.before.least.ensures c.before.least2.ensures
+returns c = c.part.ensures ∙ part_end (pick c.args.place.decoded c.args.decoded.now c.args.pickle.now) c.args.place.at c.args.place.len _ _ _ c.held_len-held.ensures c.least-from.ensures c.least.ensures
 
-pub text_of-place_spec : {M : Type 1} → statement M
-text_of-place_spec = tie.close (tie.spec (λ c κs. search rules) (λ c κs. search rules) (λ c. search rules) (λ c κs. search rules) (λ c. search rules) (λ c κs. search rules) returns)
+pub text_of_place_spec : {M : Type 1} → statement M
+text_of_place_spec = tie.close (tie.spec (λ c κs. search rules) (λ c κs. search rules) (λ c. search rules) (λ c κs. search rules) (λ c. search rules) (λ c κs. search rules) returns)

@@ -10,5 +10,5 @@ returns : tie.Need-returns
 unfolding placed pick within
 returns c = λ p d. refl
 
-pub text-place_spec : {M : Type 1} → statement M
-text-place_spec = tie.close (tie.spec returns)
+pub text_place_spec : {M : Type 1} → statement M
+text_place_spec = tie.close (tie.spec returns)
