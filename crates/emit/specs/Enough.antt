@@ -59,6 +59,7 @@ items_fewer (node l c r) =
 -- a finished node weighs no more than all together
 one_spent : (weight : Label → Forest → ℕ) (d : Stages) (l : List ℕ) (i : ℕ) → In i l → weight_of weight (d i) ≤ spent weight d l
 unfolding spent
+one_spent weight d [] i x' = elim x' [ ]
 one_spent weight d (j ∷ l) i here = omega arith
 one_spent weight d (j ∷ l) i (there m) = let a = one_spent weight d l i m in omega arith
 

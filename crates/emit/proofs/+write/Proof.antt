@@ -21,7 +21,7 @@ use Rattle.emit.proofs.+write.Tie.{close}
 use mathlib.Core.Bool.{Bool, true, false}
 use mathlib.Core.List.{List}
 use mathlib.Core.Path.{◌≡◌, refl, sym, ◌∙◌}
-use mathlib.Core.Logic.{⊎_elim}
+use Rattle.emit.proofs.+write.Lts-write.{then-is_below, else-is_below+then-is_below-2, else-is_below+else-is_below-2+then-is_open, else-is_below+else-is_below-2+else-is_open}
 use native.Mathlib.Omega.{arith}
 use lib.ListN.{length, length-set, get_or}
 use Rattle.resolve.specs.Shown.{node_label}
@@ -38,10 +38,10 @@ own t = and 8 kinds.ps (is 8 kinds.ps μ t) reads.Pre
 abbrev below : ℕ → In 8 kinds.ps
 below t = and 8 kinds.ps (falls 8 kinds.ps ◌<◌ μ t) reads.Pre
 
-abbrev invariant-loop : lts.invariant-loop
+abbrev invariant-loop : lts.invariant-loop-j
 invariant-loop node levels to starts sorted log pickle decoded nodes measures₀ table₀ text₀ range from end at lengths next₀ j₀ measures table text next j = (E : OpenWithText pickle decoded nodes starts sorted log levels node.0 to measures₀ table₀ text₀) → WrittenChildren E.walk.ready.t E.walk.ready.h E.walk.ready.v node.0 to from measures₀ table₀ text₀ next j measures table text
 
-abbrev decreases-loop : lts.decreases-loop
+abbrev decreases-loop : lts.decreases-loop-j
 decreases-loop node levels to starts sorted log pickle decoded nodes measures₀ table₀ text₀ range from end at lengths next₀ j₀ measures table text next j = end - j
 
 -- what is known of the calls
@@ -91,24 +91,24 @@ module _ (t : ℕ) where
 
   -- where the node's children are
   abbrev Ranged : Type 0
-  Ranged = lts.After-range-of (calls t) (own t) reads.Post invariant-loop decreases-loop
+  Ranged = lts.After-range_of-range (calls t) (own t) reads.Post invariant-loop decreases-loop
 
   -- its class is written
   abbrev Classed : Type 0
-  Classed = lts.After-put-class (calls t) (own t) reads.Post invariant-loop decreases-loop
+  Classed = lts.After-put_class-lengths (calls t) (own t) reads.Post invariant-loop decreases-loop
 
   abbrev Head : Type 0
-  Head = lts.At-loop (calls t) (own t) reads.Post invariant-loop decreases-loop
+  Head = lts.At-loop-j (calls t) (own t) reads.Post invariant-loop decreases-loop
 
   -- the child at hand
   abbrev Item : Type 0
-  Item = lts.After-item (calls t) (own t) reads.Post invariant-loop decreases-loop
+  Item = lts.After-item-child (calls t) (own t) reads.Post invariant-loop decreases-loop
 
   abbrev start : Ranged → Start
-  start c = c.before.before.before.before.before.before.before.before.before.before.before
+  start c = c.before.before.before.before.before.before.before.before.before.before
 
   abbrev ranged : Classed → Ranged
-  ranged c = c.before.before.before
+  ranged c = c.before.before
 
   abbrev classed : Head → Classed
   classed c = c.before.before.before.before
@@ -128,143 +128,153 @@ module _ (t : ℕ) where
   opens s = s.requires.1
 
   abbrev Enters : Classed → Type 0
-  Enters c = let a = (start (ranged c)).args in OpenWithText a.pickle.now a.decoded.now a.nodes.now a.starts.now a.sorted.now a.log.now a.levels a.node.0 a.to a.measures.now a.table.now c.put-class.new.1.1.1.1.1.0
+  Enters c = let a = (start (ranged c)).args in OpenWithText a.pickle.now a.decoded.now a.nodes.now a.starts.now a.sorted.now a.log.now a.levels a.node.0 a.to a.measures.now a.table.now c.put_class-lengths.new.text
 
   abbrev enters : (c : Classed) → Enters c
-  enters c = text_entered (opens (start (ranged c))) _ _ c.put-class.ensures
+  enters c = text_entered (opens (start (ranged c))) _ _ c.put_class-lengths.ensures
 
   -- a child is left
-  left : (c : lts.In-loop (calls t) (own t) reads.Post invariant-loop decreases-loop) (E : Enters (classed c.before)) → (c.before.loop.invariant E).k < length (E.walk.ready.h (start (list c.before)).args.node.0)
-  left c E = turn_left E (c.before.loop.invariant E) _ (list c.before).range-of.ensures refl c.loop-test.true
+  left : (c : lts.In-loop-j (calls t) (own t) reads.Post invariant-loop decreases-loop) (E : Enters (classed c.before)) → (c.loop-j.invariant E).k < length (E.walk.ready.h (start (list c.before)).args.node.0)
+  left c E = turn_left E (c.loop-j.invariant E) _ (list c.before).range_of-range.ensures refl c.loop-j-test.true
 
   abbrev Ready : Item → Type 0
-  Ready c = let l = (head c).loop in let a = (start (list (head c))).args in ReadyNode a.pickle.now a.decoded.now a.nodes.now a.starts.now a.sorted.now a.log.now c.item.result.0 l.next l.measures l.table l.text
+  Ready c = let l = (head c).loop-j in let a = (start (list (head c))).args in ReadyNode a.pickle.now a.decoded.now a.nodes.now a.starts.now a.sorted.now a.log.now c.item-child.result.0 l.next l.measures l.table l.text
 
   module _ (c : Item) (E : Enters (classed (head c))) where
-    item : c.item.result.0 ≡ get_or (E.walk.ready.h (start (list (head c))).args.node.0) ((head c).loop.invariant E).k 0
-    item = turn_item E ((head c).loop.invariant E) _ (list (head c)).range-of.ensures refl (left c.before E) _ c.item.ensures
+    item : c.item-child.result.0 ≡ get_or (E.walk.ready.h (start (list (head c))).args.node.0) ((head c).loop-j.invariant E).k 0
+    item = turn_item E ((head c).loop-j.invariant E) _ (list (head c)).range_of-range.ensures refl (left c.before E) _ c.item-child.ensures
 
     ready : Ready c
-    ready = turn_ready E ((head c).loop.invariant E) (left c.before E) _ item
+    ready = turn_ready E ((head c).loop-j.invariant E) (left c.before E) _ item
 
   -- from what the function was given
   given : (c : Item) → Ready c
   given c = ready c (enters (classed (head c)))
 
   -- where the arms of a turn meet
-  arms : (c : lts.Joined1 (calls t) (own t) reads.Post invariant-loop decreases-loop) (E : Enters (classed (head c.before.before))) → let i = c.before.before in let m = c.if1 in Next E ((head i).loop.invariant E) (left i.before E) i.item.result.0 (item i E) m.measures m.table m.text m.next
+  arms : (c : lts.Joined-is_below (calls t) (own t) reads.Post invariant-loop decreases-loop) (E : Enters (classed (head c.before.before))) → let i = c.before.before in let m = c.if-is_below in Next E ((head i).loop-j.invariant E) (left i.before E) i.item-child.result.0 (item i E) m.measures m.table m.text m.next
   arms c E =
       let i = c.before.before in
-      let T = (head i).loop.invariant E in
+      let T = (head i).loop-j.invariant E in
       let k = left i.before E in
       let e = item i E in
-      let m = c.if1 in
-      ⊎_elim (λ y. let w = y.2 in atom E T k i.item.result.0 e m.measures m.table m.text m.next w.last.1.1.1.0 w.result c.before.is_below.result w.kept.1.1.1.0 c.before.is_below.ensures y.0.taken w.ensures y.5 y.6 y.7 y.8)
-      (⊎_elim (λ y. let w = y.6 in leaf E T k i.item.result.0 e m.measures m.table m.text m.next w.last.1.1.1.1.1.1.0 w.result y.1.result w.kept.1.1.1.1.1.1.0 w.last.1.1.1.1.1.1.1.0 w.kept.1.1.1.1.1.1.1.0 y.1.ensures y.2.taken w.ensures y.11 y.12 y.13 y.14)
-      (⊎_elim (λ y. let w = y.9 in let l = w.last.1.1.1.1.1.1.1.1.1 in let z = w.kept.1.1.1.1.1.1.1.1.1 in walked E T k i.item.result.0 e m.measures m.table m.text m.next l.1.0 w.result y.4.result z.1.0 l.1.1.0 z.1.1.0 l.0 z.0 y.4.ensures y.5.taken w.ensures y.16 y.17 y.18 y.19)
-      (λ y. let w = y.9 in flat E T k i.item.result.0 e m.measures m.table m.text m.next w.last.1.1.1.1.1.1.0 w.result y.4.result w.kept.1.1.1.1.1.1.0 w.last.1.1.1.1.1.1.1.0 w.kept.1.1.1.1.1.1.1.0 y.4.ensures y.5.left w.ensures y.14 y.15 y.16 y.17)))
-      m.branch
+      let m = c.if-is_below in
+      elim m.branch [
+        then-is_below y ↦
+          let w = y.write_atom-next in
+          atom E T k i.item-child.result.0 e m.measures m.table m.text m.next w.new.table w.result c.is_below.result w.auto.table c.is_below.ensures y.if-is_below.true w.ensures y.measures-is y.table-is y.text-is y.next-is
+      | else-is_below+then-is_below-2 y ↦
+          let w = y.write_text-next in
+          let b = y.is_below-else-is_below in
+          leaf E T k i.item-child.result.0 e m.measures m.table m.text m.next w.new.table w.result b.result w.auto.table w.new.text w.auto.text b.ensures y.if-is_below-2.true w.ensures y.measures-is y.table-is y.text-is y.next-is
+      | else-is_below+else-is_below-2+then-is_open y ↦
+          let w = y.write-next in
+          walked E T k i.item-child.result.0 e m.measures m.table m.text m.next w.new.table w.result y.is_open.result w.auto.table w.new.text w.auto.text w.new.measures w.auto.measures y.is_open.ensures y.if-is_open.true w.ensures y.measures-is y.table-is y.text-is y.next-is
+      | else-is_below+else-is_below-2+else-is_open y ↦
+          let w = y.write_flat-next in
+          flat E T k i.item-child.result.0 e m.measures m.table m.text m.next w.new.table w.result y.is_open.result w.auto.table w.new.text w.auto.text y.is_open.ensures y.if-is_open.false w.ensures y.measures-is y.table-is y.text-is y.next-is
+      ]
 
   -- ---- the needs
 
-  range-of-requires : lts.Need-range-of-requires (calls t) (own t) reads.Post invariant-loop decreases-loop
-  range-of-requires c κs = open_listed (opens c.before.before.before.before.before.before.before.before.before.before)
+  range-of-requires : lts.Need-range_of-range-requires (calls t) (own t) reads.Post invariant-loop decreases-loop
+  range-of-requires c κs = open_listed (opens c.before.before.before.before.before.before.before.before.before)
 
-  put-class-requires : lts.Need-put-class-requires (calls t) (own t) reads.Post invariant-loop decreases-loop
-  put-class-requires c κs = let o = opens (start c.before.before) in (open_text o, open_kind o)
+  put-class-requires : lts.Need-put_class-lengths-requires (calls t) (own t) reads.Post invariant-loop decreases-loop
+  put-class-requires c κs = let o = opens (start c.before) in (open_text o, open_kind o)
 
-  behind-requires : lts.Need-behind-requires (calls t) (own t) reads.Post invariant-loop decreases-loop
-  behind-requires c κs = let p = c.before.before in open_behind (opens (start (ranged p))) _ p.put-class.ensures.lengths
+  behind-requires : lts.Need-behind-next-requires (calls t) (own t) reads.Post invariant-loop decreases-loop
+  behind-requires c κs = let p = c.before.before in open_behind (opens (start (ranged p))) _ p.put_class-lengths.ensures.lengths
 
-  loop-holds : lts.Need-loop-init (calls t) (own t) reads.Post invariant-loop decreases-loop
-  loop-holds c E = turn_start E _ _ c.before.before.before.put-class.ensures.lengths c.behind.ensures
+  loop-holds : lts.Need-loop-j-init (calls t) (own t) reads.Post invariant-loop decreases-loop
+  loop-holds c E = turn_start E _ _ c.put_class-lengths.ensures.lengths c.behind-next.ensures
 
-  item-requires : lts.Need-item-requires (calls t) (own t) reads.Post invariant-loop decreases-loop
-  item-requires c κs = let r = list c.before in omega (arith, list_room (opens (start r)) _ r.range-of.ensures, c.loop-test.true)
+  item-requires : lts.Need-item-child-requires (calls t) (own t) reads.Post invariant-loop decreases-loop
+  item-requires c κs = let r = list c.before in omega (arith, list_room (opens (start r)) _ r.range_of-range.ensures, c.loop-j-test.true)
 
-  is-below-requires : lts.Need-is-below-requires (calls t) (own t) reads.Post invariant-loop decreases-loop
+  is-below-requires : lts.Need-is_below-requires (calls t) (own t) reads.Post invariant-loop decreases-loop
   is-below-requires c κs = (λ h. (ready_inside (given c) h).0, ready_most (given c))
 
-  write-atom-requires : lts.Need-write-atom-requires (calls t) (own t) reads.Post invariant-loop decreases-loop
-  write-atom-requires c κs = let b = c.before.before in atom_ready (below_ready (given b.before) 4 (omega arith) (sym b.is_below.ensures ∙ c.before.if1.true))
+  write-atom-requires : lts.Need-write_atom-next-requires (calls t) (own t) reads.Post invariant-loop decreases-loop
+  write-atom-requires c κs = let b = c.before.before in atom_ready (below_ready (given b.before) 4 (omega arith) (sym b.is_below.ensures ∙ c.if-is_below.true))
 
-  is-below-requires-2 : lts.Need-is-below-requires-2 (calls t) (own t) reads.Post invariant-loop decreases-loop
+  is-below-requires-2 : lts.Need-is_below-requires-else-is_below (calls t) (own t) reads.Post invariant-loop decreases-loop
   is-below-requires-2 c κs = let n = given c.before.before in (λ h. (ready_inside n h).0, ready_most n)
 
-  write-text-requires : lts.Need-write-text-requires (calls t) (own t) reads.Post invariant-loop decreases-loop
+  write-text-requires : lts.Need-write_text-next-requires (calls t) (own t) reads.Post invariant-loop decreases-loop
   write-text-requires c κs =
-      let d = c.before.before.before.before in
+      let d = c.before.before.before in
       let b = d.before.before in
       let n = given b.before in
-      let o = sym d.is-below2.ensures ∙ c.before.before.before.if2.true in
-      (below_ready n 6 (omega arith) o, (not_below n 6 (omega arith) o 4 (sym b.is_below.ensures ∙ d.before.if1.false), below-kind n 6 (omega arith) o))
+      let o = sym d.is_below-else-is_below.ensures ∙ c.if-is_below-2.true in
+      (below_ready n 6 (omega arith) o, (not_below n 6 (omega arith) o 4 (sym b.is_below.ensures ∙ d.if-is_below.false), below-kind n 6 (omega arith) o))
 
-  is-open-requires : lts.Need-is-open-requires (calls t) (own t) reads.Post invariant-loop decreases-loop
-  is-open-requires c κs = let n = given c.before.before.before.before.before in (ready_inside n, ready_most n)
+  is-open-requires : lts.Need-is_open-requires (calls t) (own t) reads.Post invariant-loop decreases-loop
+  is-open-requires c κs = let n = given c.before.before.before.before in (ready_inside n, ready_most n)
 
-  sub-write : lts.Need-overflow-sub-write (calls t) (own t) reads.Post invariant-loop decreases-loop
-  sub-write c = open_levels (opens (start (list (head c.before.before.before.before.before.before.before))))
+  sub-write : lts.Need-overflow_sub-levels (calls t) (own t) reads.Post invariant-loop decreases-loop
+  sub-write c = open_levels (opens (start (list (head c.before.before.before.before.before.before))))
 
-  write-requires : lts.Need-write-requires (calls t) (own t) reads.Post invariant-loop decreases-loop
+  write-requires : lts.Need-write-next-requires (calls t) (own t) reads.Post invariant-loop decreases-loop
   write-requires c κs =
-      let i = c.before.before.before.before.before.before.before.before.before.before in
+      let i = c.before.before.before.before.before.before.before.before.before in
       let h = head i in
       let s = start (list h) in
       let E = enters (classed h) in
-      (omega (arith, open_levels (opens s), s.pre.0), child_open E (h.loop.inv E) (left i.before E) _ (item i E) (sym c.before.before.before.before.is_open.ensures ∙ c.before.before.before.if3.true))
+      (omega (arith, open_levels (opens s), s.requires.0), child_open E (h.loop-j.invariant E) (left i.before E) _ (item i E) (sym c.is_open.ensures ∙ c.if-is_open.true))
 
-  write-flat-requires : lts.Need-write-flat-requires (calls t) (own t) reads.Post invariant-loop decreases-loop
+  write-flat-requires : lts.Need-write_flat-next-requires (calls t) (own t) reads.Post invariant-loop decreases-loop
   write-flat-requires c κs =
-      let i = c.before.before.before.before.before.before.before.before.before.before in
+      let i = c.before.before.before.before.before.before.before.before in
       let E = enters (classed (head i)) in
-      child_flat E ((head i).loop.invariant E) (left i.before E) _ (item i E) (sym c.before.before.before.before.is_open.ensures ∙ c.before.before.before.if3.false)
+      child_flat E ((head i).loop-j.invariant E) (left i.before E) _ (item i E) (sym c.is_open.ensures ∙ c.if-is_open.false)
 
-  add-j : lts.Need-overflow-add-j (calls t) (own t) reads.Post invariant-loop decreases-loop
-  add-j c = omega (arith, c.before.before.before.loop-test.true)
+  add-j : lts.Need-overflow_add-j (calls t) (own t) reads.Post invariant-loop decreases-loop
+  add-j c = omega (arith, c.loop-j-test.true)
 
-  loop-less : lts.Need-loop-smaller (calls t) (own t) reads.Post invariant-loop decreases-loop
-  loop-less c = omega (arith, c.before.before.before.loop-test.true)
+  loop-less : lts.Need-loop-j-smaller (calls t) (own t) reads.Post invariant-loop decreases-loop
+  loop-less c = omega (arith, c.loop-j-test.true)
 
-  loop-again : lts.Need-loop-preserved (calls t) (own t) reads.Post invariant-loop decreases-loop
+  loop-again : lts.Need-loop-j-preserved (calls t) (own t) reads.Post invariant-loop decreases-loop
   loop-again c E = arms c E
 
-  sub-finish : lts.Need-overflow-sub-finish (calls t) (own t) reads.Post invariant-loop decreases-loop
-  sub-finish c = let r = list c.before in omega (arith, list_end (opens (start r)) _ r.range-of.ensures)
+  sub-finish : lts.Need-overflow_sub-end (calls t) (own t) reads.Post invariant-loop decreases-loop
+  sub-finish c = let r = list c.before in omega (arith, list_end (opens (start r)) _ r.range_of-range.ensures)
 
-  finish-requires : lts.Need-finish-requires (calls t) (own t) reads.Post invariant-loop decreases-loop
+  finish-requires : lts.Need-finish-measure-requires (calls t) (own t) reads.Post invariant-loop decreases-loop
   finish-requires c κs =
       let h = c.before.before in
       let E = enters (classed h) in
-      turn_finish E (h.loop.invariant E) _ (list h).range-of.ensures refl _ refl
+      turn_finish E (h.loop-j.invariant E) _ (list h).range_of-range.ensures refl _ refl
 
-  mul-measures : lts.Need-overflow-mul-measures (calls t) (own t) reads.Post invariant-loop decreases-loop
+  mul-measures : lts.Need-offset_bounds-measures-i (calls t) (own t) reads.Post invariant-loop decreases-loop
   mul-measures c =
       let h = c.before.before.before.before.before in
       let o = opens (start (list h)) in
-      omega (arith, open_small o, (h.loop.invariant (enters (classed h))).measures_long, (open_listed o).decreases)
+      omega (arith, open_small o, (h.loop-j.invariant (enters (classed h))).measures_long, (open_listed o).measured)
 
-  slice-write-measures : lts.Need-slice-write-measures (calls t) (own t) reads.Post invariant-loop decreases-loop
+  slice-write-measures : lts.Need-bounds-measures-i (calls t) (own t) reads.Post invariant-loop decreases-loop
   slice-write-measures c =
       let h = c.before.before.before.before.before in
       let o = opens (start (list h)) in
-      omega (arith, open_small o, (h.loop.invariant (enters (classed h))).measures_long, (open_listed o).decreases)
+      omega (arith, open_small o, (h.loop-j.invariant (enters (classed h))).measures_long, (open_listed o).measured)
 
-  same_length : lts.Need-same-length (calls t) (own t) reads.Post invariant-loop decreases-loop
-  same_length c = let h = c.before.before.before.before.before in simp length-set (h.loop.invariant (enters (classed h))).measures_long
+  same_length : lts.Need-shape_of-measures (calls t) (own t) reads.Post invariant-loop decreases-loop
+  same_length c = let h = c.before.before.before.before.before in simp length-set (h.loop-j.invariant (enters (classed h))).measures_long
 
-  same-length-2 : lts.Need-same-length-2 (calls t) (own t) reads.Post invariant-loop decreases-loop
-  same-length-2 c = let h = c.before.before.before.before.before in c.before.before.finish.auto.1.1.1.1.1.1.0 ∙ (h.loop.invariant (enters (classed h))).table-long
+  same-length-2 : lts.Need-shape_of-table (calls t) (own t) reads.Post invariant-loop decreases-loop
+  same-length-2 c = let h = c.before.before.before.before.before in c.finish-measure.auto.table ∙ (h.loop-j.invariant (enters (classed h))).table-long
 
-  same-length-3 : lts.Need-same-length-3 (calls t) (own t) reads.Post invariant-loop decreases-loop
-  same-length-3 c = let h = c.before.before.before.before.before in (h.loop.invariant (enters (classed h))).text-long ∙ (classed h).put-class.auto.1.1.1.1.1.0
+  same-length-3 : lts.Need-shape_of-text (calls t) (own t) reads.Post invariant-loop decreases-loop
+  same-length-3 c = let h = c.before.before.before.before.before in (h.loop-j.invariant (enters (classed h))).text-long ∙ (classed h).put_class-lengths.auto.text
 
   returns : lts.Need-returns (calls t) (own t) reads.Post invariant-loop decreases-loop
   returns c O =
       let h = c.before.before.before.before.before in
-      let g = (list h).range-of.ensures in
-      let p = (classed h).put-class.ensures in
+      let g = (list h).range_of-range.ensures in
+      let p = (classed h).put_class-lengths.ensures in
       let E = text_entered O _ _ p in
-      open_done O _ _ p (h.loop.invariant E) (turn_over E (h.loop.invariant E) _ g refl c.before.before.before.before.loop-test.false) _ _ _ (omega (arith, list_end O _ g)) c.before.before.finish.ensures
+      open_done O _ _ p (h.loop-j.invariant E) (turn_over E (h.loop-j.invariant E) _ g refl c.loop-j-test.false) _ _ _ (omega (arith, list_end O _ g)) c.finish-measure.ensures
 
 pub +write_spec : {M : Type 1} → statement M
 +write_spec =

@@ -9,28 +9,28 @@ use lib.ListN.{length}
 use lib.Seq.{length-sets}
 use Rattle.emit.specs.Leaves.{names_room, texts-names}
 
-abbrev start : tie.After-trail-part → tie.Start
+abbrev start : tie.After-trail_part-name → tie.Start
 start c = c.before.before.before.before.before.before.before
 
 -- past the first text, and past the second
-abbrev first : tie.After-put-bytes-arg2 → tie.After-trail-part
+abbrev first : tie.After-put_bytes-arg-2-1 → tie.After-trail_part-name
 first c = c.before.before.before.before.before
 
-abbrev second : tie.After-slice-known3 → tie.After-trail-part
+abbrev second : tie.After-slice_known-3-1 → tie.After-trail_part-name
 second c = first c.before.before.before
 
 -- both texts have room
-room : (c : tie.After-trail-part) → let lead = c.before.lead-part.result.now in let trail = c.trail-part.result.now in ((start c).args.at + (length lead + length trail) ≤ length (start c).args.text.now) × (length lead + length trail ≤ 65536)
-room c = let s = start c in names_room _ _ _ _ _ _ _ s.pre.0 _ refl (omega (arith, s.pre.1)) (omega (arith, s.pre.1)) s.pre.1 _ _ c.before.lead-part.ensures c.trail-part.ensures
+room : (c : tie.After-trail_part-name) → let lead = c.lead_part-module.result.now in let trail = c.trail_part-name.result.now in ((start c).args.at + (length lead + length trail) ≤ length (start c).args.text.now) × (length lead + length trail ≤ 65536)
+room c = let s = start c in names_room _ _ _ _ _ _ _ s.requires.0 _ refl (omega (arith, s.requires.1)) (omega (arith, s.requires.1)) s.requires.1 _ _ c.lead_part-module.ensures c.trail_part-name.ensures
 
-put-bytes-requires-2 : tie.Need-put-bytes-requires-2
-put-bytes-requires-2 c κs = omega (arith, (room (first c)).0, simp length-sets at (ap length c.before.before.before.put-bytes.ensures))
+put-bytes-requires-2 : tie.Need-put_bytes-requires-2
+put-bytes-requires-2 c κs = omega (arith, (room (first c)).0, simp length-sets at (ap length c.put_bytes.ensures))
 
 returns : tie.Need-returns
 returns c =
     let t = second c in
-    let p = (start t).pre in
-    texts-names _ _ _ _ _ _ _ p.0 _ refl (omega (arith, p.1)) (omega (arith, p.1)) p.1 _ _ t.before.lead-part.ensures t.trail-part.ensures _ _ c.before.before.before.before.before.before.put-bytes.ensures c.before.before.put-bytes2.ensures
+    let p = (start t).requires in
+    texts-names _ _ _ _ _ _ _ p.0 _ refl (omega (arith, p.1)) (omega (arith, p.1)) p.1 _ _ t.lead_part-module.ensures t.trail_part-name.ensures _ _ c.put_bytes.ensures c.put_bytes-2.ensures
 
 pub put_names_spec : {M : Type 1} → statement M
 put_names_spec =

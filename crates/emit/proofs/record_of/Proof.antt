@@ -8,29 +8,29 @@ use Rattle.value.specs.Shape.{fresh_in}
 use Rattle.resolve.specs.Kinds.{kind-small}
 use Rattle.emit.specs.Words.{from-object, from-none, from_bool, from-dict, from-names, from_number, from-text, from-items}
 
-returns : tie.Need-returns
-returns c = let a = c.before.before.before.before.args in let k = c.before.before.before.value-kind.result in let e = c.before.before.before.value-kind.ensures in let h = c.before.head_of.ensures in let w = rw h at c.word_of.ensures in let f = rw (← e) at c.before.before.before.before.requires in rw (← e) (from-object k (fresh_in a.first) a.second a.lengths a.at a.values a.size c.word_of.result w c.before.before.if1.true (f c.before.before.if1.true))
+returns : tie.Need-returns-then-kind-eq-KIND_OBJECT
+returns c = let a = c.args in let k = c.value_kind-kind.result in let e = c.value_kind-kind.ensures in let h = c.head_of-head.ensures in let w = rw h at c.word_of-word.ensures in let f = rw (← e) at c.requires in rw (← e) (from-object k (fresh_in a.first) a.second a.lengths a.at a.values a.size c.word_of-word.result w c.if-kind-eq-KIND_OBJECT.true (f c.if-kind-eq-KIND_OBJECT.true))
 
-returns-2 : tie.Need-returns-2
-returns-2 c = let a = c.before.before.before.before.args in let k = c.before.before.before.value-kind.result in let e = c.before.before.before.value-kind.ensures in rw (← e) (from-none k (fresh_in a.first) a.second a.lengths a.at a.values a.size c.before.plain_word.result c.before.plain_word.ensures c.if2.true)
+returns-2 : tie.Need-returns-then-kind-eq-KIND_NONE
+returns-2 c = let a = c.args in let k = c.value_kind-kind.result in let e = c.value_kind-kind.ensures in rw (← e) (from-none k (fresh_in a.first) a.second a.lengths a.at a.values a.size c.plain_word-word.result c.plain_word-word.ensures c.if-kind-eq-KIND_NONE.true)
 
-returns-3 : tie.Need-returns-3
-returns-3 c = let a = c.before.before.before.before.before.args in let k = c.before.before.before.before.value-kind.result in let e = c.before.before.before.before.value-kind.ensures in rw (← e) (from_bool k (fresh_in a.first) a.second a.lengths a.at a.values a.size c.before.before.plain_word.result c.before.before.plain_word.ensures c.if3.true)
+returns-3 : tie.Need-returns-then-kind-eq-KIND_BOOL
+returns-3 c = let a = c.args in let k = c.value_kind-kind.result in let e = c.value_kind-kind.ensures in rw (← e) (from_bool k (fresh_in a.first) a.second a.lengths a.at a.values a.size c.plain_word-word.result c.plain_word-word.ensures c.if-kind-eq-KIND_BOOL.true)
 
-returns-4 : tie.Need-returns-4
-returns-4 c = let a = c.before.before.before.before.before.before.args in let k = c.before.before.before.before.before.value-kind.result in let e = c.before.before.before.before.before.value-kind.ensures in rw (← e) (from_number k (fresh_in a.first) a.second a.lengths a.at a.values a.size c.before.before.before.plain_word.result c.before.before.before.plain_word.ensures c.before.before.if2.false c.before.if3.false c.if4.true)
+returns-4 : tie.Need-returns-then-kind-lt-KIND_BYTES
+returns-4 c = let a = c.args in let k = c.value_kind-kind.result in let e = c.value_kind-kind.ensures in rw (← e) (from_number k (fresh_in a.first) a.second a.lengths a.at a.values a.size c.plain_word-word.result c.plain_word-word.ensures c.if-kind-eq-KIND_NONE.false c.if-kind-eq-KIND_BOOL.false c.if-kind-lt-KIND_BYTES.true)
 
-returns-5 : tie.Need-returns-5
-returns-5 c = let a = c.before.before.before.before.before.before.before.args in let k = c.before.before.before.before.before.before.value-kind.result in let e = c.before.before.before.before.before.before.value-kind.ensures in rw (← e) (from-text k (fresh_in a.first) a.second a.lengths a.at a.values a.size c.before.before.before.before.plain_word.result c.before.before.before.before.plain_word.ensures c.before.before.before.if2.false c.before.before.if3.false c.before.if4.false c.if5.true)
+returns-5 : tie.Need-returns-then-kind-lt-KIND_LIST
+returns-5 c = let a = c.args in let k = c.value_kind-kind.result in let e = c.value_kind-kind.ensures in rw (← e) (from-text k (fresh_in a.first) a.second a.lengths a.at a.values a.size c.plain_word-word.result c.plain_word-word.ensures c.if-kind-eq-KIND_NONE.false c.if-kind-eq-KIND_BOOL.false c.if-kind-lt-KIND_BYTES.false c.if-kind-lt-KIND_LIST.true)
 
-returns-6 : tie.Need-returns-6
-returns-6 c = let a = c.before.before.before.before.before.before.before.before.args in let k = c.before.before.before.before.before.before.before.value-kind.result in let e = c.before.before.before.before.before.before.before.value-kind.ensures in rw (← e) (from-items k (fresh_in a.first) a.second a.lengths a.at a.values a.size c.before.before.before.before.before.plain_word.result c.before.before.before.before.before.plain_word.ensures c.before.before.before.before.if2.false c.before.before.before.if3.false c.before.if5.false c.if6.true)
+returns-6 : tie.Need-returns-then-kind-lt-KIND_DICT
+returns-6 c = let a = c.args in let k = c.value_kind-kind.result in let e = c.value_kind-kind.ensures in rw (← e) (from-items k (fresh_in a.first) a.second a.lengths a.at a.values a.size c.plain_word-word.result c.plain_word-word.ensures c.if-kind-eq-KIND_NONE.false c.if-kind-eq-KIND_BOOL.false c.if-kind-lt-KIND_LIST.false c.if-kind-lt-KIND_DICT.true)
 
-returns-7 : tie.Need-returns-7
-returns-7 c = let a = c.before.before.before.before.before.before.before.before.before.args in let k = c.before.before.before.before.before.before.before.before.value-kind.result in let e = c.before.before.before.before.before.before.before.before.value-kind.ensures in rw (← e) (from-dict k (fresh_in a.first) a.second a.lengths a.at a.values a.size c.before.before.before.before.before.before.plain_word.result c.before.before.before.before.before.before.plain_word.ensures c.if7.true)
+returns-7 : tie.Need-returns-then-kind-eq-KIND_DICT
+returns-7 c = let a = c.args in let k = c.value_kind-kind.result in let e = c.value_kind-kind.ensures in rw (← e) (from-dict k (fresh_in a.first) a.second a.lengths a.at a.values a.size c.plain_word-word.result c.plain_word-word.ensures c.if-kind-eq-KIND_DICT.true)
 
-returns-8 : tie.Need-returns-8
-returns-8 c = let a = c.before.before.before.before.before.before.before.before.before.args in let k = c.before.before.before.before.before.before.before.before.value-kind.result in let e = c.before.before.before.before.before.before.before.before.value-kind.ensures in let s : k < 13 = rw e (kind-small a.first) in rw (← e) (from-names k (fresh_in a.first) a.second a.lengths a.at a.values a.size c.before.before.before.before.before.before.plain_word.result c.before.before.before.before.before.before.plain_word.ensures s c.before.before.before.before.before.before.before.if1.false c.before.if6.false c.if7.false)
+returns-8 : tie.Need-returns
+returns-8 c = let a = c.args in let k = c.value_kind-kind.result in let e = c.value_kind-kind.ensures in let s : k < 13 = rw e (kind-small a.first) in rw (← e) (from-names k (fresh_in a.first) a.second a.lengths a.at a.values a.size c.plain_word-word.result c.plain_word-word.ensures s c.if-kind-eq-KIND_OBJECT.false c.if-kind-lt-KIND_DICT.false c.if-kind-eq-KIND_DICT.false)
 
 pub record_of_spec : {M : Type 1} → statement M
-record_of_spec = tie.close (tie.spec (λ c κs. search rules) (λ c κs. search rules) (λ c κs. search rules) returns (λ c κs. let e = c.before.value-kind.ensures in rw e (omega (arith, kind-small c.before.before.args.first))) returns-2 (λ c. search rules) returns-3 returns-4 returns-5 returns-6 returns-7 returns-8)
+record_of_spec = tie.close (tie.spec (λ c κs. search rules) (λ c κs. search rules) (λ c κs. search rules) returns (λ c κs. let e = c.value_kind-kind.ensures in rw e (omega (arith, kind-small c.args.first))) returns-2 (λ c. search rules) returns-3 returns-4 returns-5 returns-6 returns-7 returns-8)

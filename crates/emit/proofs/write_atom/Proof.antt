@@ -7,7 +7,7 @@ use Prim.Native.Nat.{◌*◌, ◌%◌}
 use lib.Seq.{sets}
 
 returns : tie.Need-returns
-returns c = record { table_is = c.before.before.put_record.ensures ∙ ap (sets c.before.before.before.before.before.before.before.before.before.args.table.now (4 * (c.before.before.before.before.before.before.before.before.before.args.to % 4096))) c.before.before.before.before.record_of.ensures; next = refl }
+returns c = record { table_is = c.put_record.ensures ∙ ap (sets c.args.table.now (4 * (c.args.to % 4096))) c.record_of-words.ensures; next = refl }
 
 pub write_atom_spec : {M : Type 1} → statement M
 write_atom_spec = tie.close (tie.spec (λ c. search rules) (λ c. search rules) (λ c. search rules) (λ c. search rules) (λ c. search rules) (λ c. search rules) (λ c. search rules) (λ c κs. search rules) (λ c κs. search rules) (λ c. search rules) (λ c. search rules) returns)

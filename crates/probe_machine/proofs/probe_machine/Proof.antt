@@ -5,7 +5,7 @@ use borrow.Author.Rules.{rules}
 use Rattle.machine.specs.Ran.{made-long}
 
 run-requires : tie.Need-run-requires
-run-requires c κs = made-long _ c.before.before.before.before.before.before.before.if1.false
+run-requires c κs = made-long _ c.if-pickle-gt65536.false
 
 pub probe_machine_spec : {M : Type 1} → statement M
 probe_machine_spec =
