@@ -139,12 +139,15 @@ module _ {p ws starts sorted noted measures₀ : List ℕ} {t : List Node} {root
       empty = resolves_empty t 4096 m.limited.worded.beyond m.holds.fits.resolves
 
       nodes : (i : ℕ) → Final 4096 [] i → (i ≡ 4096) ⊎ (i < length t)
+      nodes i (inr x') = elim x' [ ]
       nodes i (inl e) = inl e
 
       closed : (i : ℕ) → Final 4096 [] i → (j : ℕ) → In j (after.kids i) → Final 4096 [] j
+      closed i (inr x'') j n = elim x'' [ ]
       closed i (inl e) j n = let a : In j (after.kids 4096) = rw e at n in let b : In j [] = rw empty at a in elim b [ ]
 
       no_node : (i : ℕ) → Final 4096 [] i → i < length t → ⊥
+      no_node i (inr x'') l = elim x'' [ ]
       no_node i (inl e) l = omega (arith, m.limited.worded.beyond)
 
   pub spelt : (log list : List ℕ) → 8192 ≤ length log → length list ≡ 2048 → Spelt p d ws starts sorted noted measures log list t root

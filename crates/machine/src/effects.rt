@@ -13,7 +13,7 @@ use refusal::Refusal;
 use store::{Counts, MemoKey, NodeId, slot};
 
 // What a step comes to: the counts with which the machine goes on or has stopped, or why it refuses.
-#[derive(Drop)]
+#[derive(Clone, Copy)]
 pub enum Step {
     Next(Counts),
     Stop(Counts),

@@ -166,7 +166,7 @@ pub fn take_step(
 }
 
 // What a run comes to: the counts at STOP, or those at the refusal.
-#[derive(Drop)]
+#[derive(Clone, Copy)]
 pub enum Outcome {
     Stopped(Counts),
     Refused(Counts, Refusal),

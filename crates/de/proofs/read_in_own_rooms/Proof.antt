@@ -4,7 +4,7 @@ use Rattle.de.specs.Call.{own_rooms, own_calls}
 use Rattle.de.proofs.read_in_own_rooms.Statement.{statement}
 use Rattle.de.proofs.read_in_own_rooms.Tie as tie
 
-abbrev called : tie.After-slice-known4 → tie.After-reading
+abbrev called : tie.After-slice_known-4-1 → tie.After-reading
 called c = c.before.before.before.before.before.before.before.before.before.before.before.before.before.before.before
 
 returns : tie.Need-returns
@@ -16,4 +16,4 @@ read_in_own_rooms_spec =
     tie.close
     (tie.spec
     (λ c. refl) (λ c. refl) (λ c. refl) (λ c. refl) (λ c. refl) (λ c. refl) (λ c. refl) (λ c. refl) (λ c. refl) (λ c. refl) (λ c. refl) (λ c κs. tt)
-    (λ c. (called c).reading.auto.1.1.1.1.1.1.1.1.1.1.1.1.1.1.0) (λ c. (called c).reading.auto.1.1.1.1.1.1.1.1.1.1.1.1.1.1.1.0) returns)
+    (λ c. (called c).reading.auto.table) (λ c. (called c).reading.auto.text) returns)
