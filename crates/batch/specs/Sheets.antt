@@ -128,5 +128,9 @@ slices_as_long [] = tt
 slices_as_long (s ∷ l) = (refl, slices_as_long l)
 
 pub as_long_still : (l m n : Slices) → SlicesAsLong l m → SlicesAsLong m n → SlicesAsLong l n
+as_long_still [] [] (u ∷ n) a b = elim b [ ]
+as_long_still [] (t ∷ m) n a b = elim a [ ]
+as_long_still (s ∷ l) [] n a b = elim a [ ]
+as_long_still (s ∷ l) (t ∷ m) [] a b = elim b [ ]
 as_long_still [] [] [] a b = tt
 as_long_still (s ∷ l) (t ∷ m) (u ∷ n) a b = (a.0 ∙ b.0, as_long_still l m n a.1 b.1)

@@ -1,7 +1,7 @@
 -- The numbers 1, 2 and 11 of the two public readings, exactly: 1 where a slice is short; where none is, 2 for a pickle over the limit, and
 -- 11, of the whole reading alone, where the prefix reading succeeds and leaves bytes.
 use Rattle.std.specs.Prelude.{ℕ, ◌<◌, Bool, true, false, cond, List, ◌↔◌, ◌≡◌, refl, length}
-use Rattle.std.proofs.Math.Logic.{Iff·trans, Iff·and, Iff·rfl}
+use mathlib.Core.Logic as Logic
 use Rattle.std.proofs.Common.{sym, ◌∙◌, ap, arith}
 use Rattle.refusal.specs.declared.Answer.{Answer}
 use Rattle.op.specs.declared.Edition.{Edition}
@@ -35,7 +35,7 @@ module _ (x : Reading) (l l' : Slices) (a : Answer) (c : ReadCall x l l' a) wher
 
   -- any other number is the reading's, under its rule
   call_other : (k : ℕ) → ¬ (k ≡ 1) → (Rule : Type 0) → (x.answer.number ≡ k) ↔ Rule → (a.number ≡ k) ↔ ((short stated l ≡ false) × Rule)
-  call_other k h Rule r = Iff·trans (is_other (short stated l) x.answer.number a.number (answered x l l' a c) k h) (Iff·and Iff·rfl r)
+  call_other k h Rule r = Logic.Iff.trans (is_other (short stated l) x.answer.number a.number (answered x l l' a c) k h) (Logic.Iff.and Logic.Iff.rfl r)
 
 -- ---- the two calls, in any edition
 

@@ -6,13 +6,13 @@ use Rattle.batch.specs.Sheets.{store_four}
 use Rattle.batch.proofs.put.Statement.{statement}
 use Rattle.batch.proofs.put.Tie as tie
 
-slice-write-answers-2 : tie.Need-slice-write-answers-2
+slice-write-answers-2 : tie.Need-bounds-answers-at-2
 slice-write-answers-2 c = rw length-set (omega (arith, c.requires))
 
-slice-write-answers-3 : tie.Need-slice-write-answers-3
+slice-write-answers-3 : tie.Need-bounds-answers-at-3
 slice-write-answers-3 c = rw (length-set, length-set) (omega (arith, c.requires))
 
-slice-write-answers-4 : tie.Need-slice-write-answers-4
+slice-write-answers-4 : tie.Need-bounds-answers-at-4
 slice-write-answers-4 c = rw (length-set, length-set, length-set) (omega (arith, c.requires))
 
 returns : tie.Need-returns

@@ -5,7 +5,7 @@ use Rattle.replay_machine.proofs.in_rooms.Tie as tie
 use Rattle.machine.specs.Ran.{made-long}
 
 show-requires : tie.Need-show-requires
-show-requires c κs = made-long _ c.before.before.before.before.before.before.before.before.requires
+show-requires c κs = made-long _ c.requires
 
 pub in_rooms_spec : {M : Type 1} → statement M
 in_rooms_spec =

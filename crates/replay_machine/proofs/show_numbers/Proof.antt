@@ -6,14 +6,14 @@ use borrow.Author.Rules.{rules}
 use lib.ListN.{length}
 use native.Mathlib.Omega.{arith}
 
-abbrev invariant-loop : tie.invariant-loop
+abbrev invariant-loop : tie.invariant-loop-i
 invariant-loop numbers n i₀ i = i ≤ length numbers
 
-abbrev decreases-loop : tie.decreases-loop
+abbrev decreases-loop : tie.decreases-loop-i
 decreases-loop numbers n i₀ i = length numbers - i
 
-cast-print-hex : tie.Need-overflow-cast-print-hex invariant-loop decreases-loop
-cast-print-hex c = omega (arith, c.shared-slice-known2.given c.before.before.before.loop.i)
+cast-print-hex : tie.Need-overflow_cast-numbers invariant-loop decreases-loop
+cast-print-hex c = omega (arith, c.shared_slice_known-in-loop-i-1.given c.loop-i.i)
 
 pub show_numbers_spec : {M : Type 1} → statement M
 show_numbers_spec =
