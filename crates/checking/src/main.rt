@@ -151,7 +151,7 @@ fn check_night(edition: Edition, lengths: &mut [u64], answers: &mut [u64]) {
     show_all(answers);
 }
 
-fn main() {
+fn main(rt: HostRuntime) {
     let mut lengths = [0u64; 1024];
     let mut answers = [0u64; 4096];
     let NumberOrEnd::Number(count) = read_number() else {
@@ -164,7 +164,7 @@ fn main() {
     }
     let n = count as usize;
     check_night(
-        console::edition(),
+        console::edition(&rt),
         &mut lengths[0..n],
         &mut answers[0..4 * n],
     );

@@ -1,14 +1,18 @@
 // What the programs that take pickles on standard input share: the edition that is asked for, the beginning of a buffer, and the line of a
 // refusal.
 #![tactic(auto)]
+
 use op::Edition;
+use std::env::FillError;
+use std::rt::Env;
 
 // The edition to read in: that of plain data where the program was started with a word, whatever it is.
-pub fn edition() -> Edition {
-    if os::arg_count() > 1 {
-        return Edition::Plain;
+pub fn edition(rt: &impl Env) -> Edition {
+    let mut word = [0u8; 1]; // a longer word does not fit, but is there
+    match rt.arg(1, &mut word) {
+        Err(FillError::NotPresent) => Edition::Full,
+        _ => Edition::Plain,
     }
-    Edition::Full
 }
 
 // The first n bytes, or all where there are fewer.

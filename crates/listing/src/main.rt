@@ -25,14 +25,14 @@ fn show(read: Answer, table: &[u64], text: &[u8], output: &mut [u8]) {
     io::write_all(1, console::first(output, listed.length as usize));
 }
 
-fn main() {
+fn main(rt: HostRuntime) {
     let mut table = [0u64; 8192];
     let mut text = [0u8; 65536];
     let mut output = [0u8; 65536];
     let mut input = [0u8; 65537]; // a byte more than a pickle may have: enough to know that it is too long
     let n = io::read_full(0, &mut input);
     let pickle = console::first(&input, n);
-    let read = de::read_in_own_rooms(console::edition(), pickle, &mut table, &mut text);
+    let read = de::read_in_own_rooms(console::edition(&rt), pickle, &mut table, &mut text);
     if read.number != 0 {
         console::show_refusal(read.number, read.detail);
         return;

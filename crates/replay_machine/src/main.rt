@@ -2,6 +2,7 @@
 // the machine does with it. Numbers are hexadecimal and of a fixed length: a step is the counts before an opcode in two words; at STOP
 // the length read, the node on top of the stack, and then the rooms as they are used, in words.
 #![tactic(auto)]
+
 ghost use Rattle.std.specs.Prelude.{◌≤◌, length};
 ghost use Rattle.store.specs.Effects.{Lengths};
 ghost use Rattle.machine.specs.RoomsOf.{lent_rooms};

@@ -1,6 +1,7 @@
 // Replays stored answers of the Rust: for each byte of standard input, taken as a pickle of that one byte, whether the Rust
 // knows the opcode, or refuses it with number 4.
 #![tactic(auto)]
+
 use refusal::Refusal;
 
 fn known(code: u8) -> bool {

@@ -3,6 +3,7 @@
 // texts. For each a line has the answer, of list and write with the number of bytes changed behind its length;
 // after one of these that succeeds its output follows.
 #![tactic(auto)]
+
 ghost use Rattle.std.specs.Prelude.{◌≤◌, ◌<◌, length};
 ghost use Rattle.replay_table.specs.Small.{Small};
 
