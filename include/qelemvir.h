@@ -1,6 +1,6 @@
 /* Qelemvir: reads, writes, orders, lists and scores pickles of Python 2 (protocols 0 to 2), without calling anything that they name.
 
-   The functions are those of the static library that `rt staticlib pickle` makes, an archive for x86-64 with the System V calling
+   The functions are those of the static library that `./prove pickle_c` makes, an archive for x86-64 with the System V calling
    convention. Each is proved to accept all inputs, to end, and to touch nothing but what it is lent: it keeps nothing and allocates
    nothing, and may be called from several threads at once with slices of their own. A slice is a pointer and a length in elements.
    The pointer must be valid and aligned for its element, also where the length is 0; no slice that is written may overlap another.

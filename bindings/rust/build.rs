@@ -1,4 +1,4 @@
-//! Links libpickle.a, the proved code, which `rt staticlib pickle` makes: from the folder QELEMVIR_LIB (a relative path counts from
+//! Links libpickle.a, the proved code, which `./prove pickle_c` makes: from the folder QELEMVIR_LIB (a relative path counts from
 //! this package), or else from the repository's target/staticlib.
 
 use std::{env, path::PathBuf};
@@ -12,7 +12,7 @@ fn main() {
     let archive = folder.join("libpickle.a");
     println!("cargo:rerun-if-changed={}", archive.display());
     let archive = archive.canonicalize().unwrap_or_else(|why| {
-        panic!("{}: {why}; `rt staticlib pickle` makes it, and QELEMVIR_LIB may name its folder", archive.display())
+        panic!("{}: {why}; `./prove pickle_c` makes it, and QELEMVIR_LIB may name its folder", archive.display())
     });
     println!("cargo:rustc-link-search=native={}", archive.parent().unwrap().display());
     println!("cargo:rustc-link-lib=static=pickle");

@@ -1,8 +1,5 @@
 //! All tests of the crate, as one program of plain assertions. Its last line counts them.
 
-// Rust's own start reads the memory map of its process, of which the kit's emulator dies: the C library calls `main` here.
-#![no_main]
-
 #[path = "../../examples/show.rs"]
 mod show;
 mod stored;
@@ -12,8 +9,7 @@ use std::cmp::Ordering;
 use qelemvir::{rooms, Error, Night, Read, Reader, Record, Value, Wanted, Which};
 use stored::{Case, Due};
 
-#[no_mangle]
-extern "C" fn main() -> i32 {
+fn main() {
     let cases = stored::cases();
     let values = readings(&cases);
     nights(&cases);
@@ -32,7 +28,6 @@ extern "C" fn main() -> i32 {
     names_of_errors();
     example();
     println!("rust: {} pickles, {} values, all as due", cases.len(), values.len());
-    0
 }
 
 /// Both readings of every stored pickle, all by one reader; the values read.
