@@ -1,6 +1,7 @@
 // The opcodes of de.rs's `Decoder`, each as a function of its own: it reads the pickle and the rooms, changes nothing, and answers the
 // effect that its step has. specs/ has what each answers; steps has the state and the opcodes' definitions, store what the rooms and an effect mean.
 #![tactic(auto)]
+
 ghost use Rattle.std.specs.Prelude.{true, List, ◌≡◌, ℕ, ◌+◌, ◌-◌, ◌*◌, ◌^◌, ◌/◌, ◌<◌, ◌≤◌, length, get_or, take, drop};
 ghost use Rattle.steps.specs.State.{get, put};
 ghost use Rattle.steps.specs.Opcodes.{proto, pop_one, pop_to_mark, dup, int, binint, long, long_n, float, binfloat, string, binstring, short_binstring, unicode, binunicode, global, list, tuple, tuple_n, dict, append, appends, setitem, setitems, low_bytes, reduce, newobj, build_state};

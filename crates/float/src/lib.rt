@@ -1,6 +1,7 @@
 // FLOAT: de.rs's `parse::<f64>` of a line, for the literals whose double is one product or quotient of two exact doubles.
 // The others are told apart from bad ones, and refused.
 #![tactic(auto)]
+
 ghost use Rattle.std.specs.Prelude.{◌≡◌, true, map, ◌+◌, ◌-◌, ◌*◌, ◌^◌, ◌<◌, ◌≤◌, min};
 ghost use Rattle.number.specs.Space.{same};
 ghost use Rattle.float.specs.Digits.{digit};

@@ -1,5 +1,6 @@
 // The reading methods of de.rs's `Decoder`, over the pickle's slice and a place in it: `array` at each fixed width, `line`, `long`.
 #![tactic(auto)]
+
 ghost use Rattle.std.specs.Prelude.{◌≡◌, ◌≤◌, ◌<◌, ◌+◌, ◌^◌, length, get_or, take, drop};
 ghost use Rattle.input.specs.Bytes.{low_first, high_first, padded_to};
 ghost use Rattle.input.specs.Line.{line_end, newline_of, line_of};

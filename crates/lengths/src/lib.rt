@@ -1,5 +1,6 @@
 // Lengths that cut a buffer into parts which lie end to end: whether they add up to it. Where they do not, the refusal is BadLengths.
 #![tactic(auto)]
+
 ghost use Rattle.std.specs.Prelude.{◌≡◌, eqb};
 ghost use Rattle.lengths.specs.Sum.{sum};
 

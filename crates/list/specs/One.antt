@@ -2,7 +2,7 @@
 use Rattle.std.specs.Prelude.{ℕ, suc, ◌+◌, ◌*◌, ◌^◌, ◌<◌, List, [], ◌++◌, ◌≡◌, refl, T, length, drop}
 use Rattle.std.proofs.Common.{append_assoc, sym, ◌∙◌, ap, arith, take-append-drop}
 use Rattle.input.specs.Bytes.{Bytes}
-use Rattle.value.specs.Value.{Label, Forest, one, text_of, text, count, size, count-size, words, record_of, table, nil, node}
+use Rattle.value.specs.Value.{Label, Forest, one, text_of, text, count, size, count-size, record_of, table, nil, node}
 use Rattle.value.specs.Shape.{Words, fitting, shaped, and_l, and_r}
 use Rattle.value.specs.WellFormed.{WellFormed}
 use Rattle.table.specs.CompareLaws.{Identical}

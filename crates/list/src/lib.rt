@@ -1,6 +1,7 @@
 // The list call: one line a record of a table (RULES A9.1 to A9.3, Ask 2.1). The lines are measured first,
 // `.._len` by `.._len`; then every `put_` function writes one field from `at` on, and answers the next place.
 #![tactic(auto)]
+
 ghost use Rattle.std.specs.Prelude.{true, ◌≡◌, [], ◌∷◌, ◌+◌, ◌^◌, ◌≤◌, ◌<◌, length, take, drop};
 ghost use Rattle.value.specs.Shape.{names_end};
 ghost use Rattle.value.specs.Stands.{label_at, arity_at, Reads};

@@ -1,6 +1,7 @@
 // The run of de.rs's `Decoder`: `decide` has the one match over the opcode byte and answers an effect, `apply` has it, `run` goes on to
 // STOP. What it used of the rooms is cleared by the counts, by those who lend them.
 #![tactic(auto)]
+
 pub mod effects;
 
 ghost use Rattle.steps.specs.Run.{step};

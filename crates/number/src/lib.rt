@@ -1,5 +1,6 @@
 // de.rs's `parse` for integers, with what INT and LONG do to the line before it. No line is refused beforehand: each gets an answer.
 #![tactic(auto)]
+
 ghost use Rattle.std.specs.Prelude.{◌≡◌, [], ◌∷◌, reverse, ◌≤◌, leb, length, take, drop};
 ghost use Rattle.number.specs.Space.{same, space, width, trim_start, trim_end, trimmed};
 ghost use Rattle.input.specs.Long.{in_i64, bits64};

@@ -1,6 +1,7 @@
 // The opcodes of protocols 0 to 2 (mod.rs's `op`), under the Rust's names and in its order. The `pickle!` macro is left out.
 // specs/ has their table from pickletools, the decision over an opcode byte by it, and the editions of the reader.
 #![tactic(auto)]
+
 ghost use Rattle.std.specs.Prelude.{◌≡◌};
 ghost use Rattle.op.specs.Table.{code_of};
 ghost use Rattle.op.specs.Edition.{against, highest};

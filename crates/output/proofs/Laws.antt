@@ -1,10 +1,10 @@
 -- One law for each turn and each end of the code's loops, on plain values. Assumes nothing.
 use Prim.Native.Nat.{ℕ, suc, zero, ◌+◌, ◌-◌, ◌^◌, ◌/◌, ◌%◌, ◌≤◌, ◌<◌}
-use mathlib.Core.List.{List, [], ◌∷◌, ◌++◌, append-nil, append_assoc}
+use mathlib.Core.List.{List, [], ◌∷◌, ◌++◌, append_assoc}
 use mathlib.Core.Path.{◌≡◌, refl, sym, ◌∙◌}
 use native.Mathlib.Omega.{arith}
-use lib.ListN.{length, set, take, drop, length-take, drop_of_length-le}
-use lib.Seq.{sets, sets-eq, take_all, drop-drop}
+use lib.ListN.{length, set, take, drop}
+use lib.Seq.{sets, sets-eq, drop-drop}
 use borrow.Author.Tests.{lt-ltb, le-ltb}
 use Rattle.output.specs.Decimal.{figure, figures, decimal_text, signed_text, no_zeros, figures-length, length_one, length_more, below_more, places}
 use Rattle.output.specs.Put.{Put, Room, sets_last}

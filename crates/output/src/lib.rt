@@ -1,6 +1,7 @@
 // Bytes put into a lent output that has room for them: a byte, a run of bytes, the text of a number. Each function writes from `at`
 // on and answers the next place. The calls that write a table's value (crates list and ser) rest on this one; they measure first.
 #![tactic(auto)]
+
 ghost use Rattle.std.specs.Prelude.{◌≡◌, [], ◌∷◌, ◌≤◌, ◌<◌, length};
 ghost use Rattle.output.specs.Decimal.{figure, figures, decimal_text, signed_text};
 ghost use Rattle.output.specs.Put.{Put, Room};

@@ -1,6 +1,7 @@
 // For tests only: reads a pickle that is one literal and STOP, by the leaves alone, and answers in numbers and a lent slice, so
 // that a program or another language can hold each leaf against the Rust.
 #![tactic(auto)]
+
 ghost use Rattle.std.specs.Prelude.{◌+◌, ◌≤◌, length};
 
 use float::F64Literal;

@@ -1,6 +1,7 @@
 // Why a call refuses (`DeError` of de.rs, with the refusals that are added here), and what every public call answers.
 // Below every other crate. An enum cannot be exported, so a call answers its number and detail.
 #![tactic(auto)]
+
 ghost use Rattle.std.specs.Prelude.{◌≡◌};
 ghost use Rattle.refusal.specs.Numbers.{wanted_detail, which_detail, number_of, refused_answer};
 

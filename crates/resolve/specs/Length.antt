@@ -1,5 +1,5 @@
 -- How long the text of a node is, off its words: no text is decoded for it.
-use Rattle.std.specs.Prelude.{ℕ, ◌+◌, ◌-◌, ◌*◌, ◌^◌, ◌/◌, ◌%◌, ◌<◌, ◌≤◌, List, ◌++◌, ◌≡◌, ◌≢◌, get_or, set, replicate}
+use Rattle.std.specs.Prelude.{ℕ, ◌+◌, ◌-◌, ◌*◌, ◌/◌, ◌%◌, ◌<◌, ◌≤◌, List, ◌++◌, ◌≡◌, ◌≢◌, get_or, set, replicate}
 use Rattle.std.proofs.Math.Path.{sym, ap}
 use Rattle.std.proofs.Common.{◌∙◌, length-append, length-take, length-drop, get_or-set_other, add-one, arith}
 use Rattle.std.proofs.Math.ListN.{length, get_or-map, get_or-eq_default}

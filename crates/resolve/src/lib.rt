@@ -3,6 +3,7 @@
 // are finished. The walk decodes, orders and writes nothing, so that what comes after is bounded by what it finds out. Module siblings comes before
 // it; lists and texts are how the passes behind it read a node off the rooms.
 #![tactic(auto)]
+
 pub mod lists;
 pub mod siblings;
 pub mod texts;

@@ -1,6 +1,7 @@
 // Rooms made zero, up to a count: the only loops that clear. `clear_words` and its kin store zeros; `zero_words` and its kin look first, which
 // is quicker where a whole room is zero already, as it is after a reading.
 #![tactic(auto)]
+
 ghost use Rattle.std.specs.Prelude.{true, ◌≡◌, ◌≤◌, length};
 ghost use Rattle.rooms.specs.Cleared.{cleared};
 

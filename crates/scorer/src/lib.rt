@@ -1,6 +1,7 @@
 // The score of a sheet (RULES, Ask 3), from the table that a reading gave. It stands on the reader's promises about tables: that
 // `well_formed` decides, and what a well-formed table says.
 #![tactic(auto)]
+
 ghost use Rattle.std.specs.Prelude.{◌≡◌, ◌+◌, ◌*◌, ◌≤◌, ◌<◌, length, eqb};
 ghost use Rattle.std.proofs.Math.Dec.{compare_is_eq};
 ghost use Rattle.value.specs.Value.{bit};

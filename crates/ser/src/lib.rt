@@ -2,6 +2,7 @@
 // and what is written then has room; as in crate `output`, a function writes from `at` on and answers the next place. `to_writer`
 // is left out.
 #![tactic(auto)]
+
 ghost use Rattle.std.specs.Prelude.{◌≡◌, ◌&&◌, ◌+◌, ◌*◌, ◌^◌, ◌≤◌, ◌<◌, suc, min, length, drop};
 ghost use Rattle.value.specs.Value.{bit};
 ghost use Rattle.value.specs.Stands.{word_at, label_at, arity_at, Reads};

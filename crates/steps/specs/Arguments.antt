@@ -2,7 +2,6 @@
 -- reads exactly these and then has its effect.
 use Rattle.std.specs.Prelude.{ℕ, suc, ◌+◌, ◌-◌, ◌≤◌, ◌≡◌, length, get_or, take, drop, ℤ, pos, negsuc}
 use mathlib.Core.List.{List, []}
-use Rattle.std.proofs.Math.Option.{none}
 use Rattle.std.proofs.Math.Path.{refl}
 use Rattle.std.proofs.Common.{ap, subst, ◌∙◌, length-drop, drop-drop, leb→le, arith}
 use Rattle.refusal.specs.Read.{Read, got, refused}

@@ -1,6 +1,7 @@
 // What the machine keeps in its rooms: nodes and memo numbers, the counts of what is used, and the effect that an opcode decides on. The
 // opcodes read it, the effects write it, the passes behind STOP go on from it. specs/ has what rooms and counts say of the state.
 #![tactic(auto)]
+
 ghost use Rattle.std.specs.Prelude.{true, ◌≡◌, ℕ, ◌+◌, ◌*◌, ◌<◌, ◌≤◌, length, get_or};
 ghost use Rattle.value.specs.Shape.{kind_in};
 ghost use Rattle.steps.specs.NodeWords.{first};

@@ -1,6 +1,7 @@
 // The table of a value (RULES A2): whether any lent words, count and text are well formed, the order of two of them, and the
 // length of a table's text. Each set item or dict key is compared once with the one before it.
 #![tactic(auto)]
+
 ghost use Rattle.std.specs.Prelude.{false, ◌≢◌, ◌≡◌, ◌+◌, ◌*◌, ◌<◌, ◌≤◌, min, length, drop};
 ghost use Rattle.value.specs.Value.{Forest, Value, one, count as count_of};
 ghost use Rattle.value.specs.Order.{order};

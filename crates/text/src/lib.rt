@@ -1,6 +1,7 @@
 // The texts of STRING and UNICODE lines: `unescape_string` and `unescape_unicode` of de.rs. Each is decided and measured by a
 // call that changes nothing, and written by another into a lent slice. A line comes without its newline and CR.
 #![tactic(auto)]
+
 ghost use Rattle.std.specs.Prelude.{◌≡◌, ◌+◌, ◌-◌, ◌<◌, ◌≤◌, length, take, drop};
 ghost use Rattle.std.proofs.lemmas.List.Edits.{sets};
 ghost use Rattle.utf8.specs.Utf8.{encode};

@@ -1,6 +1,7 @@
 // UTF-8 as chapter 3 of the Unicode standard has it: whether bytes are well formed (Rust's `str::from_utf8`), and their repair
 // (`String::from_utf8_lossy`) with its length known before. One function decides the piece at a place, and the three go by it.
 #![tactic(auto)]
+
 ghost use Rattle.std.specs.Prelude.{true, ◌≡◌, ◌+◌, ◌≤◌, ◌<◌, length, take, drop};
 ghost use Rattle.std.proofs.lemmas.List.Edits.{sets};
 ghost use Rattle.utf8.specs.Utf8.{fffd, valid as valid_text, repair};

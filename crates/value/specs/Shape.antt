@@ -5,7 +5,7 @@ use Rattle.std.proofs.Math.Seq.{take-append_seam, drop-append_seam}
 use Rattle.std.proofs.Math.Pow.{high, low}
 use borrow.Author.Tests.{lt-ltb, le-ltb, ne_eqb, eqb-true, ltb-false}
 use Rattle.value.specs.declared.Head.{Head}
-use Rattle.value.specs.Value.{Label, Forest, bit, half, kind, text_of, count, word0, words, NoneL, BoolL, I64L, F64L, BytesL, StringL, ListL, TupleL, SetL, FrozenSetL, DictL, GlobalL, ObjectL, nil, node}
+use Rattle.value.specs.Value.{Label, Forest, bit, half, text_of, count, word0, words, NoneL, BoolL, I64L, F64L, BytesL, StringL, ListL, TupleL, SetL, FrozenSetL, DictL, GlobalL, ObjectL, nil, node}
 
 -- every word is below 2^64, as in a slice of u64
 abbrev pub Words : List ℕ → Type 0

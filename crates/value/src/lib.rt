@@ -1,6 +1,7 @@
 // Values (value.rs): the words of a table's record, and the order of values that stand in tables. `Display`, the `From`
 // conversions, `Value::dict` and `Value::object` are left out.
 #![tactic(auto)]
+
 ghost use Rattle.std.specs.Prelude.{◌≡◌, true, length, take, drop};
 ghost use Prim.Native.Nat.{◌+◌, ◌*◌, ◌^◌, ◌≤◌, ◌<◌, min, max, compare};
 ghost use Rattle.value.specs.Value.{Value, one};

@@ -271,16 +271,16 @@ module _ (t : ℕ) where
       let T = turn d.before in
       let kept = k.known.auto.measures in
       elim m.branch [
-        in-Word+else-levels-k x ↦ word_known T (levels d) (looked k) k.known.result (learns k) kept m.measures m.sorted m.dues m.w deep most x.in-Word.k x.in-Word.is x.if-levels-k.false x.sorted-is x.measures-is x.dues-is x.w-is
-      | in-Empty x ↦ empty_known T (levels d) (looked k) k.known.result (learns k) kept m.measures m.sorted m.dues m.w deep most x.in-Empty.is x.sorted-is x.measures-is x.dues-is x.w-is
-      | in-Open+in-Empty-measure x ↦
-          let r = x.measure in
-          empty_walked T (levels d) (looked k) k.known.result (learns k) kept m.measures m.sorted m.dues m.w deep most r.new.measures r.new.sorted r.new.dues r.result r.ensures x.in-Open.is
-          r.auto.measures r.auto.sorted r.auto.dues x.in-Empty-measure.is x.sorted-is x.measures-is x.dues-is x.w-is
-      | in-Open+in-Word-measure x ↦
-          let r = x.measure in
-          word-walked T (levels d) (looked k) k.known.result (learns k) kept m.measures m.sorted m.dues m.w deep most r.new.measures r.new.sorted r.new.dues r.result r.ensures x.in-Open.is
-          r.auto.measures r.auto.sorted r.auto.dues x.in-Word-measure.k x.in-Word-measure.is x.sorted-is x.measures-is x.dues-is x.w-is
+        | in-Word+else-levels-k x ↦ word_known T (levels d) (looked k) k.known.result (learns k) kept m.measures m.sorted m.dues m.w deep most x.in-Word.k x.in-Word.is x.if-levels-k.false x.sorted-is x.measures-is x.dues-is x.w-is
+        | in-Empty x ↦ empty_known T (levels d) (looked k) k.known.result (learns k) kept m.measures m.sorted m.dues m.w deep most x.in-Empty.is x.sorted-is x.measures-is x.dues-is x.w-is
+        | in-Open+in-Empty-measure x ↦
+            let r = x.measure in
+            empty_walked T (levels d) (looked k) k.known.result (learns k) kept m.measures m.sorted m.dues m.w deep most r.new.measures r.new.sorted r.new.dues r.result r.ensures x.in-Open.is
+            r.auto.measures r.auto.sorted r.auto.dues x.in-Empty-measure.is x.sorted-is x.measures-is x.dues-is x.w-is
+        | in-Open+in-Word-measure x ↦
+            let r = x.measure in
+            word-walked T (levels d) (looked k) k.known.result (learns k) kept m.measures m.sorted m.dues m.w deep most r.new.measures r.new.sorted r.new.dues r.result r.ensures x.in-Open.is
+            r.auto.measures r.auto.sorted r.auto.dues x.in-Word-measure.k x.in-Word-measure.is x.sorted-is x.measures-is x.dues-is x.w-is
       ]
 
   -- ---- the needs

@@ -43,7 +43,6 @@ use Rattle.ser.proofs.+encode_encode_appends_encode_batch_encode_batches_encode_
 }
 use borrow.Author.Rules.{rules}
 use mathlib.Core.List.{List, [], ◌∷◌, ◌++◌}
-use mathlib.Core.Logic.{⊎_elim}
 use mathlib.Core.Path.{refl, sym, ◌∙◌}
 use borrow.Author.Tests.{not-true, not-false}
 use native.Mathlib.Omega.{arith}
@@ -290,8 +289,8 @@ module _ (t : ℕ) where
       let h = c.before.before in
       let l = h.before.before in
       elim c.if-holds.branch [
-        then-holds w ↦ rw (w.output-is, w.i-is, w.next-is) (going_again (cuts l) (turn l).loop-left.invariant w.encode-end.ensures)
-      | else-holds w ↦ rw (w.output-is, w.i-is, w.next-is) (going_again (cuts l) (turn l).loop-left.invariant (leaf_wrote (value-reads (due l)) h.head_of.ensures (sym c.holds.ensures ∙ w.if-holds.false) w.encode_opening-next.ensures))
+        | then-holds w ↦ rw (w.output-is, w.i-is, w.next-is) (going_again (cuts l) (turn l).loop-left.invariant w.encode-end.ensures)
+        | else-holds w ↦ rw (w.output-is, w.i-is, w.next-is) (going_again (cuts l) (turn l).loop-left.invariant (leaf_wrote (value-reads (due l)) h.head_of.ensures (sym c.holds.ensures ∙ w.if-holds.false) w.encode_opening-next.ensures))
       ]
 
   -- `encode_object` has written its opcode: what it was lent, the arguments before

@@ -1,7 +1,6 @@
 -- `text::octal_escape` meets its contract: the value so far, followed by the digits that are left, is what the whole is. Assumes nothing.
 use native.Mathlib.Omega.{arith}
 use mathlib.Core.Path.{◌≡◌, refl, ◌∙◌}
-use mathlib.Core.Logic.{⊎_elim}
 use Prim.Native.Nat.{◌+◌, ◌-◌, ◌^◌, ◌≤◌, ◌<◌}
 use lib.Dec.{lit<}
 use lib.ListN.{length, drop}
@@ -59,8 +58,8 @@ returns c =
     let a = c.args in
     let done = octal_done a.text.now a.at l.i l.value l.left l.invariant.0 l.invariant.1 in
     elim c.loop-left-test.branch [
-      else-loop-left-test w ↦ done (octals-none _ _ w.loop-left-test.false)
-    | then-loop-left-test+then-d-ge8 w ↦ done (octals-stop _ _ (rw w.octal_digit-d.ensures at w.if-d-ge8.true))
+      | else-loop-left-test w ↦ done (octals-none _ _ w.loop-left-test.false)
+      | then-loop-left-test+then-d-ge8 w ↦ done (octals-stop _ _ (rw w.octal_digit-d.ensures at w.if-d-ge8.true))
     ]
 
 pub octal_escape_spec : {M : Type 1} → statement M

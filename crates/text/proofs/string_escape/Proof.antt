@@ -2,7 +2,6 @@
 use native.Mathlib.Omega.{arith}
 use borrow.Author.Rules.{rules}
 use mathlib.Core.Path.{◌∙◌}
-use mathlib.Core.Logic.{⊎_elim}
 use Rattle.text.proofs.Places.{string_end, string_hex, string_octal, string_letter}
 use Rattle.text.proofs.string_escape.Statement.{statement}
 use Rattle.text.proofs.string_escape.Tie as tie
@@ -23,8 +22,8 @@ returns-4 : tie.Need-returns-in_default
 returns-4 c =
     rw c.letter.ensures
     (string_letter _ _ c.if-text-at.false c.in_default-1.rest.1 (elim c.in_default.branch [
-      in_default-via-then-c-lt48 w ↦ λ h. omega arith
-    | in_default-via-else-c-lt48+else-c-lt56 w ↦ λ h. omega arith
+      | in_default-via-then-c-lt48 w ↦ λ h. omega arith
+      | in_default-via-else-c-lt48+else-c-lt56 w ↦ λ h. omega arith
     ]))
 
 pub string_escape_spec : {M : Type 1} → statement M
