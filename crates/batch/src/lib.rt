@@ -1,6 +1,7 @@
 // Ask 1: a night's sheets, which lie end to end in one buffer, read by one call. The rooms are made zero once, and each sheet pays for what
 // it used of them.
 #![tactic(auto)]
+
 ghost use Rattle.std.specs.Prelude.{◌+◌, ◌*◌, ◌≤◌, [], ◌∷◌, ◌≡◌, length};
 ghost use Rattle.std.proofs.lemmas.List.Edits.{sets};
 ghost use Rattle.lengths.specs.Sum.{sum};

@@ -3,6 +3,7 @@
 // shorter than stated, the rooms made zero, then the inner one. A call that reads many pickles makes its rooms zero once. `read_in_own_rooms` is
 // `from_bytes` in rooms that it makes. Module build has the answer of a run.
 #![tactic(auto)]
+
 mod build;
 
 ghost use Rattle.std.specs.Prelude.{true, [], ◌∷◌, map, ◌≡◌, length};

@@ -3,7 +3,6 @@ use Rattle.std.specs.Prelude.{ℕ, ◌+◌, ◌*◌, ◌≤◌, true, false, Lis
 use Rattle.std.proofs.Common.{sym, ◌∙◌, ap, inl, take-append-drop, arith}
 use Rattle.value.specs.Value.{Value, one, text, size, depth, table as table_of, table-length}
 use Rattle.steps.specs.State.{Node}
-use Rattle.reading.specs.Build.{at}
 use Rattle.resolve.specs.Resolved.{Kids, StandsFor}
 use Rattle.resolve.specs.Ordered.{Final}
 use Rattle.emit.specs.Leaves.{opened}

@@ -2,6 +2,7 @@
 // it. A container is written once; at any other place its records and its text are copied, text places moved. Before it module arrange puts Sets
 // and Dicts in order, by module order.
 #![tactic(auto)]
+
 pub mod arrange;
 mod order;
 

@@ -1,6 +1,7 @@
 // The public calls (mod.rs's `pub use`), exported for other languages: numbers and slices go in, a slice as a pointer and a length, and a
 // struct comes back. Every input is accepted, and every call ends. Each calls the function that does the work; so do the programs here.
 #![tactic(auto)]
+
 ghost use Rattle.std.specs.Prelude.{[], ◌∷◌, ◌≡◌};
 ghost use Rattle.op.specs.declared.Edition.TheVariants.{Plain};
 ghost use Rattle.reading.specs.Reading.{prefix, whole, prefix_in, whole_in};

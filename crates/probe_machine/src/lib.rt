@@ -1,5 +1,6 @@
 // For benchmarks only: the machine's run in rooms of its own, which it makes zero at each call, for a driver in another language.
 #![tactic(auto)]
+
 use machine::Outcome;
 use op::Edition;
 use refusal::{Answer, Refusal};

@@ -160,19 +160,19 @@ module _ (t : ℕ) where
       let e = item i E in
       let m = c.if-is_below in
       elim m.branch [
-        then-is_below y ↦
-          let w = y.write_atom-next in
-          atom E T k i.item-child.result.0 e m.measures m.table m.text m.next w.new.table w.result c.is_below.result w.auto.table c.is_below.ensures y.if-is_below.true w.ensures y.measures-is y.table-is y.text-is y.next-is
-      | else-is_below+then-is_below-2 y ↦
-          let w = y.write_text-next in
-          let b = y.is_below-else-is_below in
-          leaf E T k i.item-child.result.0 e m.measures m.table m.text m.next w.new.table w.result b.result w.auto.table w.new.text w.auto.text b.ensures y.if-is_below-2.true w.ensures y.measures-is y.table-is y.text-is y.next-is
-      | else-is_below+else-is_below-2+then-is_open y ↦
-          let w = y.write-next in
-          walked E T k i.item-child.result.0 e m.measures m.table m.text m.next w.new.table w.result y.is_open.result w.auto.table w.new.text w.auto.text w.new.measures w.auto.measures y.is_open.ensures y.if-is_open.true w.ensures y.measures-is y.table-is y.text-is y.next-is
-      | else-is_below+else-is_below-2+else-is_open y ↦
-          let w = y.write_flat-next in
-          flat E T k i.item-child.result.0 e m.measures m.table m.text m.next w.new.table w.result y.is_open.result w.auto.table w.new.text w.auto.text y.is_open.ensures y.if-is_open.false w.ensures y.measures-is y.table-is y.text-is y.next-is
+        | then-is_below y ↦
+            let w = y.write_atom-next in
+            atom E T k i.item-child.result.0 e m.measures m.table m.text m.next w.new.table w.result c.is_below.result w.auto.table c.is_below.ensures y.if-is_below.true w.ensures y.measures-is y.table-is y.text-is y.next-is
+        | else-is_below+then-is_below-2 y ↦
+            let w = y.write_text-next in
+            let b = y.is_below-else-is_below in
+            leaf E T k i.item-child.result.0 e m.measures m.table m.text m.next w.new.table w.result b.result w.auto.table w.new.text w.auto.text b.ensures y.if-is_below-2.true w.ensures y.measures-is y.table-is y.text-is y.next-is
+        | else-is_below+else-is_below-2+then-is_open y ↦
+            let w = y.write-next in
+            walked E T k i.item-child.result.0 e m.measures m.table m.text m.next w.new.table w.result y.is_open.result w.auto.table w.new.text w.auto.text w.new.measures w.auto.measures y.is_open.ensures y.if-is_open.true w.ensures y.measures-is y.table-is y.text-is y.next-is
+        | else-is_below+else-is_below-2+else-is_open y ↦
+            let w = y.write_flat-next in
+            flat E T k i.item-child.result.0 e m.measures m.table m.text m.next w.new.table w.result y.is_open.result w.auto.table w.new.text w.auto.text y.is_open.ensures y.if-is_open.false w.ensures y.measures-is y.table-is y.text-is y.next-is
       ]
 
   -- ---- the needs
