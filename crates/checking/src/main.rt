@@ -6,6 +6,7 @@
 //
 // Started with a word, it reads plain data only (RULES, Ask 7.6): sheet by sheet, since the profile has no batch.
 #![tactic(auto)]
+
 ghost use Rattle.std.specs.Prelude.{◌≡◌, length};
 ghost use Rattle.lengths.specs.Sum.{sum};
 

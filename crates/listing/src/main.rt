@@ -2,6 +2,7 @@
 // (RULES A9.4); of a refusal only the line `refused`, its number and its detail. Started with a word, it reads plain
 // data only (RULES, Ask 7.6).
 #![tactic(auto)]
+
 use refusal::Answer;
 
 fn show_header(read: Answer) {

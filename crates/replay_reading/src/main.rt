@@ -3,6 +3,7 @@
 // text, in hex. Every element of the rooms and outputs is lent with a mark in it, another one for each case: the line ends with `dirty` where
 // a room is not all zero after the reading, and with `spilled` where an output has changed behind what the reading filled.
 #![tactic(auto)]
+
 use op::Edition;
 use refusal::Answer;
 

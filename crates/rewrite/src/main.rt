@@ -1,6 +1,7 @@
 // Writes the pickle on standard input, which it reads as whole data, anew: the bytes that the writer gives its value; of a refusal only the
 // line `refused`, its number and its detail. The output is as long as the longest image.
 #![tactic(auto)]
+
 use op::Edition;
 
 fn show(count: usize, table: &[u64], text: &[u8], output: &mut [u8]) {

@@ -1,6 +1,7 @@
 // Scores the sheet on standard input, a pickle that it reads as whole data: the line `score`, the score and how many items were answered;
 // of a refusal, of the reading or of the scoring, the line `refused`, its number and its detail.
 #![tactic(auto)]
+
 use op::Edition;
 use refusal::Answer;
 use scorer::Scored;
