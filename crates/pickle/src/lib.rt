@@ -1,5 +1,6 @@
-// The public calls (mod.rs's `pub use`), exported for other languages: numbers and slices go in, a slice as a pointer and a length, and a
-// struct comes back. Every input is accepted, and every call ends. Each calls the function that does the work; so do the programs here.
+// The public calls (mod.rs's `pub use`), as crate pickle_c exports them to other languages: numbers and slices go in, a slice as a pointer and
+// a length, and a struct comes back. Every input is accepted, and every call ends. Each calls the function that does the work; so do the
+// programs here.
 #![tactic(auto)]
 
 ghost use Rattle.std.specs.Prelude.{[], ◌∷◌, ◌≡◌};
