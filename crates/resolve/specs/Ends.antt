@@ -82,6 +82,10 @@ head_taken_lem t measures s (x ∷ l) n b = go (is_container (at t x).label) ref
 
 -- ---- the returns
 
+-- a node that is taken has no value yet
+pub taken_apart : (v : Value) → taken ≡ kept v → ⊥
+taken_apart v e = cc
+
 module _ {p ws starts measures sorted room : List ℕ} {n : ℕ} (o : Opens p ws starts measures sorted room n) where
   kids_at : slice (get_or starts n 0) (get_or starts (suc n) 0) sorted ≡ (at o.nodes n).kids
   kids_at = o.holds.fits.lies.lists n o.below ∙ o.kids_are
@@ -120,7 +124,7 @@ module _ {p ws starts measures sorted room : List ℕ} {n : ℕ} (o : Opens p ws
   }
     where
       small_taken : (j : ℕ) (v : Value) → stage n taken o.state.stages j ≡ kept v → Staged n taken o.state.stages j → (value_measure v).deep ≤ 64
-      small_taken j v x (same a d) = absurd (let z : ◌≡◌ {A = ℕ} 0 1 = cc in omega arith)
+      small_taken j v x (same a d) = absurd (taken_apart v (sym d ∙ x))
       small_taken j v x (other a d) = o.holds.small j v (sym d ∙ x)
 
   module _ (levels : ℕ) (l : 1 ≤ levels) where
