@@ -12,7 +12,6 @@ pub mod Leaves
 pub mod Adding
 pub mod Items
 pub mod Making
-pub mod Values
 pub mod Reading
 pub mod Tables
 pub mod Theorem

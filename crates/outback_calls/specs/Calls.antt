@@ -25,7 +25,8 @@ use Rattle.de.specs.Theorems.{call_answer, call-table, call-text}
 use Rattle.outback.specs.Added.{added}
 use Rattle.outback.specs.SetCalls.{two_arguments_in}
 use Rattle.outback.specs.Tables.{true_of}
-use Rattle.outback.specs.Theorem.{Outgoing, image, gives, out_and_back, no_beginning}
+use Rattle.outback.specs.Theorem.{Outgoing, image, gives}
+use Rattle.outback.proofs.Theorem.{out_and_back, no_beginning}
 
 -- ---- the writing
 

@@ -11,7 +11,8 @@ use Rattle.reading.specs.Reading.{pickle_limit, reading_of, consumed, prefix_in,
 use Rattle.rooms.specs.Stated.{Slices}
 use Rattle.de.specs.Call.{ReadCall}
 use Rattle.de.specs.Theorems.{ShownIn, place_shows, LateItems, late_items_show}
-use Rattle.run_laws.specs.Late.{Item, Has, what, late_item}
+use Rattle.run_laws.specs.Late.{Item, Has, what}
+use Rattle.run_laws.proofs.Late.{late_item}
 
 -- in a write-out of nodes at STOP
 pub at_each-place : (ed : Edition) (p : List ℕ) (z : State) → run ed p ≡ ok z → {is : List ℕ} {f : Forest} {w : WritesOut z.nodes is f} → (x : Next) (i j : ℕ) → Has ed p x i j → (c : Forest) → ShownIn i c is f w → Item z.nodes (what x i j) j c

@@ -8,7 +8,8 @@ use Rattle.op.specs.declared.Edition.{Edition}
 use Rattle.reading.specs.Reading.{Reading, pickle_limit, prefix_in, whole_in}
 use Rattle.rooms.specs.Stated.{Slices, stated, short}
 use Rattle.de.specs.Call.{Left, reading, ReadCall}
-use Rattle.run_laws.specs.Numbers.{LeavesBytes, prefix_two, prefix_never_one, prefix_never_eleven, whole_two, whole_eleven, whole_never_one}
+use Rattle.run_laws.specs.Numbers.{LeavesBytes}
+use Rattle.run_laws.proofs.Numbers.{prefix_two, prefix_never_one, prefix_never_eleven, whole_two, whole_eleven, whole_never_one}
 
 number_of : (b : Bool) (x y : Left) → (cond b x y).answer.number ≡ cond b x.answer.number y.answer.number
 number_of true x y = refl
