@@ -99,8 +99,8 @@ module _ {s ns o : List ℕ} {l : Slices} {o' : List ℕ} {l' : Slices} {a : Ans
   four_numbers i h = ap (λ (x : List ℕ). four_at x i) r.answers ∙ four_at_lem (sheets_of s ns) (drop (length (answers_of (sheets_of s ns))) o) i (rw sheets_count h)
 
   -- so they are those that `from_bytes` answers for the sheet's bytes, in whatever slices that are long enough
-  pub as_from-bytes : (i : ℕ) → i < length ns → (m m' : Slices) (b : Answer) → short stated m ≡ false → ReadCall (whole (sheet_at s ns i)) m m' b → four_at o' i ≡ four b
-  as_from-bytes i h m m' b e c = four_numbers i h ∙ ap four (sym (call_answer (whole (sheet_at s ns i)) m m' b c e))
+  pub as_from_bytes : (i : ℕ) → i < length ns → (m m' : Slices) (b : Answer) → short stated m ≡ false → ReadCall (whole (sheet_at s ns i)) m m' b → four_at o' i ≡ four b
+  as_from_bytes i h m m' b e c = four_numbers i h ∙ ap four (sym (call_answer (whole (sheet_at s ns i)) m m' b c e))
 
 -- ps read by calls of `from_bytes` one after the other, in slices that were l and are l' behind the last; bs are their answers
 pub data Separately : List (List ℕ) → Slices → Slices → List Answer → Type 0 where

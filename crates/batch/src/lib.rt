@@ -44,7 +44,7 @@ fn read_all(
     table: &mut [u64],
     text: &mut [u8],
 )
-    requires sheets_len { length sheets.now ≡ sum lengths.now }
+    requires lengths_add_up { length sheets.now ≡ sum lengths.now }
     requires lengths_in_bounds { 4 * length lengths.now ≤ length answers.old }
     requires ready { Ready
         (nodes.old ∷ owners.old ∷ children.old ∷ stack.old ∷ marks.old ∷ keys.old ∷ held.old

@@ -53,8 +53,8 @@ place_shows i c (shown_inside p) = place_shows i c p
 place_shows i c (shown_after p) = place_shows i c p
 
 -- so any two places of a node show the same
-pub same_at_each-place : {t : List Node} (i : ℕ) (c d : Forest) {is js : List ℕ} {f g : Forest} {w : WritesOut t is f} {x : WritesOut t js g} → ShownIn i c is f w → ShownIn i d js g x → c ≡ d
-same_at_each-place i c d p q = write_out_unique (place_shows i c p) (place_shows i d q)
+pub same_at_each_place : {t : List Node} (i : ℕ) (c d : Forest) {is js : List ℕ} {f g : Forest} {w : WritesOut t is f} {x : WritesOut t js g} → ShownIn i c is f w → ShownIn i d js g x → c ≡ d
+same_at_each_place i c d p q = write_out_unique (place_shows i c p) (place_shows i d q)
 
 -- a node that is listed has a place
 listed-placed : {t : List Node} (i : ℕ) (is : List ℕ) (f : Forest) → In i is → (w : WritesOut t is f) → (c : Forest) × ShownIn i c is f w
@@ -123,9 +123,9 @@ module _ (x : Reading) (l l' : Slices) (a : Answer) (c : ReadCall x l l' a) wher
     call_refused why e = (call_answer ∙ ap (λ (y : Reading). y.answer) e, call_slices ∙ ap (λ (y : Reading). filled y.words y.bytes (blank room_lengths l)) e ∙ filled_none (blank room_lengths l))
 
   -- success means that no slice was short
-  pub call-long_enough : a.number ≡ 0 → short stated l ≡ false
+  pub call_long_enough : a.number ≡ 0 → short stated l ≡ false
   unfolding reading
-  call-long_enough z = go (short stated l) refl
+  call_long_enough z = go (short stated l) refl
     where
       go : (b : Bool) → short stated l ≡ b → b ≡ false
       go false e = refl
@@ -135,7 +135,7 @@ module _ (x : Reading) (l l' : Slices) (a : Answer) (c : ReadCall x l l' a) wher
 
   -- and that the reading is no refusal
   pub not_refused : (why : Refusal) → a.number ≡ 0 → x ≡ refuses why → ⊥
-  not_refused why z e = refusal_number why (ap (λ (y : Reading). y.answer.number) (sym e) ∙ ap (λ (y : Answer). y.number) (sym (call_answer (call-long_enough z))) ∙ z)
+  not_refused why z e = refusal_number why (ap (λ (y : Reading). y.answer.number) (sym e) ∙ ap (λ (y : Answer). y.number) (sym (call_answer (call_long_enough z))) ∙ z)
 
   -- on success the table and the text that its records say are well formed: what compare, list and write ask
   pub call-well_formed : Formed x → a.number ≡ 0 → WellFormed (table_slice l') a.count (take (text_length (table_slice l') a.count) (text_slice l'))
@@ -143,7 +143,7 @@ module _ (x : Reading) (l l' : Slices) (a : Answer) (c : ReadCall x l l' a) wher
   call-well_formed f e = go (f (ap (λ (y : Answer). y.number) (sym answer) ∙ e))
     where
       long : short stated l ≡ false
-      long = call-long_enough e
+      long = call_long_enough e
 
       answer : a ≡ x.answer
       answer = call_answer long
@@ -156,11 +156,11 @@ module _ (x : Reading) (l l' : Slices) (a : Answer) (c : ReadCall x l l' a) wher
 
 -- both readings, of bytes
 module _ (ed : Edition) (p : List ℕ) (b : Bytes p) (l l' : Slices) (a : Answer) (e : a.number ≡ 0) where
-  pub prefix-call_formed : ReadCall (prefix_in ed p) l l' a → WellFormed (table_slice l') a.count (take (text_length (table_slice l') a.count) (text_slice l'))
-  prefix-call_formed c = call-well_formed (prefix_in ed p) l l' a c (prefix-well_formed ed p b) e
+  pub prefix_call_formed : ReadCall (prefix_in ed p) l l' a → WellFormed (table_slice l') a.count (take (text_length (table_slice l') a.count) (text_slice l'))
+  prefix_call_formed c = call-well_formed (prefix_in ed p) l l' a c (prefix-well_formed ed p b) e
 
-  pub whole-call_formed : ReadCall (whole_in ed p) l l' a → WellFormed (table_slice l') a.count (take (text_length (table_slice l') a.count) (text_slice l'))
-  whole-call_formed c = call-well_formed (whole_in ed p) l l' a c (whole-well_formed ed p b) e
+  pub whole_call_formed : ReadCall (whole_in ed p) l l' a → WellFormed (table_slice l') a.count (take (text_length (table_slice l') a.count) (text_slice l'))
+  whole_call_formed c = call-well_formed (whole_in ed p) l l' a c (whole-well_formed ed p b) e
 
 -- ---- how a reading ends
 
@@ -212,7 +212,7 @@ module _ (ed : Edition) (p : List ℕ) (x : Reading) (l l' : Slices) (a : Answer
   read_length (refused why e) = absurd (not_refused x l l' a c why z e)
   read_length (read s f r e) =
       let y = consumed-rest ed p s r in
-      let n : a.length ≡ consumed p s = ap (λ (y : Answer). y.length) (call_answer x l l' a c (call-long_enough x l l' a c z)) ∙ ap (λ (y : Reading). y.answer.length) e in
+      let n : a.length ≡ consumed p s = ap (λ (y : Answer). y.length) (call_answer x l l' a c (call_long_enough x l l' a c z)) ∙ ap (λ (y : Reading). y.answer.length) e in
       (s, r, rw n y.2, rw n y.0, rw n y.1)
 
 module _ (ed : Edition) (p : List ℕ) (l l' : Slices) (a : Answer) (z : a.number ≡ 0) where
@@ -225,7 +225,7 @@ module _ (ed : Edition) (p : List ℕ) (l l' : Slices) (a : Answer) (z : a.numbe
   whole-call-length c = (read_length ed p (whole_in ed p) l l' a z c (whole_ends ed p), go (leaves p (prefix_in ed p)) refl (read_length ed p (whole_in ed p) l l' a z c (whole_ends ed p)))
     where
       answer : a ≡ (whole_in ed p).answer
-      answer = call_answer (whole_in ed p) l l' a c (call-long_enough (whole_in ed p) l l' a c z)
+      answer = call_answer (whole_in ed p) l l' a c (call_long_enough (whole_in ed p) l l' a c z)
 
       left : (n m : ℕ) → (eqb n 0 && ltb m (length p)) ≡ false → n ≡ 0 → length p ≤ m
       left n m e q = ltb-false m (length p) (sym (rw (q, eqb) refl) ∙ e)

@@ -474,7 +474,7 @@ fn grown(
     why: Wanted,
 ) -> Effect
     requires some_rooms { SomeRooms c (λ r. (r.nodes ≡ nodes.now) × (r.stack ≡ stack.now)) }
-    requires keep_le_stack { (keep ≤ c.stack) × (marks ≤ c.marks) × GrowingKind container }
+    requires within_stack { (keep ≤ c.stack) × (marks ≤ c.marks) × GrowingKind container }
     ensures { Adds c nodes.now stack.now keep marks container why result }
 {
     if keep == 0 {

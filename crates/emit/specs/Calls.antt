@@ -195,7 +195,7 @@ module _ (t : List Node) (h : Kids) (v : Value) (i to : ℕ) (table bytes : List
   records_there = rw (← same-value) x.records_end
 
   text_there : x.p + length (text (one v)) ≤ text_in to
-  text_there = rw (← same-value) x.text_end_lem
+  text_there = rw (← same-value) x.text_ends
 
   measure_there : w ≡ written_w x.a (size (one v)) x.p (length (text (one v)))
   measure_there = rw (← same-value) x.measure

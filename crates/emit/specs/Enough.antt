@@ -124,7 +124,7 @@ module _ (t : List Node) (inside : (i j : ℕ) → In j (at t i).kids → j < le
   unfolding spent
   walk_fits log list h k l =
       record {
-        listed = λ i m. (let a = its_contents i m in omega arith, let a = its_content-items i m in omega arith);
+        listed = λ i m. (let a = its_contents i m in omega arith, let a = its_content_items i m in omega arith);
         log_long = l;
         few = let a = all-items t after resolves after.done (λ i m. m) in let b = items-spent t 4096 beyond 64 root in omega arith;
       }
@@ -142,8 +142,8 @@ module _ (t : List Node) (inside : (i j : ℕ) → In j (at t i).kids → j < le
           let e : weight_of contents_count (after.stages i) ≡ count o.value.contents = ap (weight_of contents_count) o.keeps in
           omega arith
 
-      its_content-items : (i : ℕ) → In i after.done → length (items_n t after.kids (after.kids i)) ≤ size (one v)
-      its_content-items i m =
+      its_content_items : (i : ℕ) → In i after.done → length (items_n t after.kids (after.kids i)) ≤ size (one v)
+      its_content_items i m =
           let o = resolves.done_stands i m in
           let a = one_spent content_items after.stages after.done i m in
           let b = walk-spent content_items t 4096 beyond 64 root (walk_start t) (start_resolves t 4096 beyond) in

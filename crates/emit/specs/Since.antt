@@ -21,7 +21,7 @@ pub record Stored (t : List Node) (h : Kids) (records bytes : List ℕ) (e u v j
   pub measure : m ≡ written_w a (size (one value)) p (length (text (one value)))
   pub later : e ≤ a
   pub records_end : a + size (one value) ≤ u
-  pub text_end_lem : p + length (text (one value)) ≤ v
+  pub text_ends : p + length (text (one value)) ≤ v
 
 -- the measures m, and now m'
 abbrev pub Since : List Node → Kids → List ℕ → List ℕ → ℕ → ℕ → ℕ → List ℕ → List ℕ → Type 0
@@ -37,11 +37,11 @@ module _ (t : List Node) (h : Kids) where
         value = s.value;
         a = s.a;
         p = s.p;
-        written = written_stays records' bytes' s.a s.p u v s.written r b s.records_end s.text_end_lem;
+        written = written_stays records' bytes' s.a s.p u v s.written r b s.records_end s.text_ends;
         measure = s.measure;
         later = omega (arith, s.later);
         records_end = omega (arith, s.records_end);
-        text_end_lem = omega (arith, s.text_end_lem);
+        text_ends = omega (arith, s.text_ends);
       }
 
   -- one after the other
@@ -69,7 +69,7 @@ module _ (t : List Node) (h : Kids) where
         measure = s.measure;
         later = omega (arith, s.later);
         records_end = s.records_end;
-        text_end_lem = s.text_end_lem;
+        text_ends = s.text_ends;
       })
 
   -- a container gets its measure

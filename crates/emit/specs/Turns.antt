@@ -516,7 +516,7 @@ module _ {p d ws starts sorted log : List ℕ} {levels i to from : ℕ} {measure
               text-behind = T.text-behind;
             };
             since = since_measure R.t R.h table' bytes a (a + size (one R.v)) (q + length (text (one R.v))) measures₀ measures i w (omega (arith, open_below E.walk, R.begun.shown.measures_long, R.measures_long, T.measures_long)) S₂
-                (record { container = open_container E.walk; value = R.v; a = a; p = q; written = W; measure = w₁; later = omega arith; records_end = omega arith; text_end_lem = omega arith });
+                (record { container = open_container E.walk; value = R.v; a = a; p = q; written = W; measure = w₁; later = omega arith; records_end = omega arith; text_ends = omega arith });
           }
         where
           measured : (x y : ℕ) → w ≡ written_w (record_in to) (x - record_in to) (text_in to) (y - text_in to) → x ≡ record_in to + size (one E.walk.ready.v) → y ≡ text_in to + length (text (one E.walk.ready.v))

@@ -178,7 +178,7 @@ fn put_names<'a>(
     at: usize,
 ) -> u64
     requires text_ready { TextReady pickle.now decoded.now nodes.now measures.now node.0 text.old at }
-    requires bound { 11 ≤ kind_of (first nodes.now node.0) }
+    requires kind_bound { 11 ≤ kind_of (first nodes.now node.0) }
     ensures { TextPut pickle.now nodes.now node.0 text.old at text.new result }
 {
     let module = resolve::texts::lead_part(node, pickle, decoded, nodes, measures);
@@ -199,7 +199,7 @@ fn put_class<'a>(
     at: usize,
 ) -> u64
     requires text_ready { TextReady pickle.now decoded.now nodes.now measures.now node.0 text.old at }
-    requires node_value { container_kind (kind_of (first nodes.now node.0)) ≡ true }
+    requires is_container { container_kind (kind_of (first nodes.now node.0)) ≡ true }
     ensures { TextPut pickle.now nodes.now node.0 text.old at text.new result }
 {
     let i = node.0;
@@ -253,7 +253,7 @@ fn write_text<'a>(
     text: &mut [u8],
 ) -> u64
     requires leaf_ready { LeafReady pickle.now decoded.now nodes.now measures.now node.0 to table.old text.old }
-    requires bound { (4 ≤ kind_of (first nodes.now node.0)) × (kind_of (first nodes.now node.0) < 6) }
+    requires kind_bound { (4 ≤ kind_of (first nodes.now node.0)) × (kind_of (first nodes.now node.0) < 6) }
     ensures { LeafPut
         (node_label pickle.now nodes.now node.0) to table.old
         text.old table.new text.new result }

@@ -196,7 +196,7 @@ fn put_flag(value: bool, output: &mut [u8], at: usize) -> usize
 // A module and a name, whose texts stand side by side from `from` on; `lengths` has the module's in its upper half.
 fn listed_names_len(text: &[u8], from: u64, lengths: u64) -> usize
     requires lengths_in_bounds { names_end from lengths ≤ length text.now }
-    requires lengths_len_bound { length (names_at text.now from lengths) < 2 ^ 64 }
+    requires len_bound { length (names_at text.now from lengths) < 2 ^ 64 }
     ensures { result ≡ length (names_at text.now from lengths) }
 {
     let start = from as usize;
@@ -232,7 +232,7 @@ fn put_flags(new: bool, state: bool, output: &mut [u8], at: usize) -> usize
 // The content of record i.
 fn content_len(words: &[u64], text: &[u8], i: usize) -> usize
     requires reads { Reads words.now text.now i }
-    requires i_len_bound { length (content_of (label_at words.now text.now i) (arity_at words.now i)) < 2 ^ 64 }
+    requires len_bound { length (content_of (label_at words.now text.now i) (arity_at words.now i)) < 2 ^ 64 }
     ensures { result ≡ length (content_of (label_at words.now text.now i) (arity_at words.now i)) }
 {
     let kind = value::head_of(words[4 * i]).kind;
@@ -299,7 +299,7 @@ fn put_content(words: &[u64], text: &[u8], i: usize, output: &mut [u8], at: usiz
 // The line of record i.
 fn line_len(words: &[u64], text: &[u8], i: usize, depth: u64) -> usize
     requires reads { Reads words.now text.now i }
-    requires i_len_bound { length (record_line depth (label_at words.now text.now i) (arity_at words.now i)) < 2 ^ 64 }
+    requires len_bound { length (record_line depth (label_at words.now text.now i) (arity_at words.now i)) < 2 ^ 64 }
     ensures { result ≡ length (record_line depth (label_at words.now text.now i) (arity_at words.now i)) }
 {
     let head = value::head_of(words[4 * i]);

@@ -20,7 +20,7 @@ use Rattle.store.specs.RoomKeeps.{kept_start}
 use Rattle.store.specs.RoomMemo.{numbered-none}
 use Rattle.store.specs.Effects.{Lengths, AsLentBehind, Sound}
 use Rattle.machine.specs.declared.effects.Step.{Step}
-use Rattle.machine.specs.declared.effects.Step.TheVariants as step_of_lem
+use Rattle.machine.specs.declared.effects.Step.TheVariants as taken_step
 use Rattle.machine.specs.Done.{meant, Stays, Done}
 use Rattle.machine.specs.RoomsOf.{lent_rooms}
 use Rattle.machine.specs.declared.Outcome.{Outcome}
@@ -104,7 +104,7 @@ made-long p h = record { pickle = h; nodes = long 8192; owners = long 8192; chil
 -- ---- one step
 
 module _ (ed : Edition) (r r' : Rooms) (c : Counts) (s : Sound r c) where
-  module _ (d : Counts) (t : Done (step_of_lem.Next d) r r' (step ed (state_of r c))) where
+  module _ (d : Counts) (t : Done (taken_step.Next d) r r' (step ed (state_of r c))) where
     stepped : step ed (state_of r c) ≡ ok (goes (state_of r' d))
     unfolding meant
     stepped = sym t.means
@@ -125,12 +125,12 @@ module _ (ed : Edition) (r r' : Rooms) (c : Counts) (s : Sound r c) where
     pub step-goes : run_from ed (state_of r c) ≡ run_from ed (state_of r' d)
     step-goes = finish-goes ed (state_of r c) (state_of r' d) stepped
 
-  pub step_stops : (d : Counts) → Done (step_of_lem.Stop d) r r' (step ed (state_of r c)) → (run_from ed (state_of r c) ≡ ok (state_of r' d)) × Sound r' d
+  pub step_stops : (d : Counts) → Done (taken_step.Stop d) r r' (step ed (state_of r c)) → (run_from ed (state_of r c) ≡ ok (state_of r' d)) × Sound r' d
   unfolding meant Stays state_after
   step_stops d t =
       (finish_stops ed (state_of r c) (state_of r' d) (sym t.means), record { firm = t.stays; range = of_out (λ (n : Next). InRange (state_after n)) (step ed (state_of r c)) (stops (state_of r' d)) (step_range ed (state_of r c) s.range) (sym t.means) })
 
-  pub step-refuses : (d : Counts) (why : Refusal) → Done (step_of_lem.Refused d why) r r' (step ed (state_of r c)) → (run_from ed (state_of r c) ≡ no why) × (r' ≡ r)
+  pub step-refuses : (d : Counts) (why : Refusal) → Done (taken_step.Refused d why) r r' (step ed (state_of r c)) → (run_from ed (state_of r c) ≡ no why) × (r' ≡ r)
   unfolding meant Stays
   step-refuses d why t = (finish_refused ed (state_of r c) (state_of r c) why (sym t.means), t.stays)
 
@@ -145,17 +145,17 @@ pub running-start : (ed : Edition) (r : Rooms) → Sound r start_counts → Runn
 running-start ed r s = record { left = rw (start_of r) (sym (run_finish ed r.pickle)); sound = s; same = refl }
 
 module _ (ed : Edition) (p : List ℕ) (r r' : Rooms) (c : Counts) (h : Running ed p r c) (e : r'.pickle ≡ r.pickle) where
-  pub running_next : (d : Counts) → Done (step_of_lem.Next d) r r' (step ed (state_of r c)) → Running ed p r' d
+  pub running_next : (d : Counts) → Done (taken_step.Next d) r r' (step ed (state_of r c)) → Running ed p r' d
   running_next d t = record { left = sym (step-goes ed r r' c h.sound d t) ∙ h.left; sound = step_sound ed r r' c h.sound d t; same = e ∙ h.same }
 
-  pub running-less : (d : Counts) → Done (step_of_lem.Next d) r r' (step ed (state_of r c)) → length p - d.at < length p - c.at
+  pub running-less : (d : Counts) → Done (taken_step.Next d) r r' (step ed (state_of r c)) → length p - d.at < length p - c.at
   running-less d t = rw h.same at (step_further ed r r' c h.sound d t e)
 
-  pub ran_stopped : (d : Counts) → Done (step_of_lem.Stop d) r r' (step ed (state_of r c)) → Ran ed (outcome.Stopped d) p r'
+  pub ran_stopped : (d : Counts) → Done (taken_step.Stop d) r r' (step ed (state_of r c)) → Ran ed (outcome.Stopped d) p r'
   unfolding ended counts_of
   ran_stopped d t = let x = step_stops ed r r' c h.sound d t in record { means = sym x.0 ∙ h.left; sound = x.1; same = e ∙ h.same }
 
-  pub ran_refused : (d : Counts) (why : Refusal) → Done (step_of_lem.Refused d why) r r' (step ed (state_of r c)) → Ran ed (outcome.Refused c why) p r'
+  pub ran_refused : (d : Counts) (why : Refusal) → Done (taken_step.Refused d why) r r' (step ed (state_of r c)) → Ran ed (outcome.Refused c why) p r'
   unfolding ended counts_of
   ran_refused d why t = let x = step-refuses ed r r' c h.sound d why t in record { means = sym x.0 ∙ h.left; sound = rw x.1 h.sound; same = e ∙ h.same }
 
@@ -164,7 +164,7 @@ module _ (ed : Edition) (p : List ℕ) (r r' : Rooms) (c : Counts) (h : Running 
 -- rooms and counts, one step after the other, as the code takes them
 pub record Steps (ed : Edition) (f : ℕ → Rooms) (g : ℕ → Counts) (n : ℕ) : Type 0 where
   pub first : state_of (f 0) (g 0) ≡ begin (f 0).pickle
-  pub each : (i : ℕ) → i < n → Done (step_of_lem.Next (g (suc i))) (f i) (f (suc i)) (step ed (state_of (f i) (g i)))
+  pub each : (i : ℕ) → i < n → Done (taken_step.Next (g (suc i))) (f i) (f (suc i)) (step ed (state_of (f i) (g i)))
 
 -- a step behind a step: a machine that has stopped stays as it is
 unfoldable pub onward : Edition → Next → Res Next

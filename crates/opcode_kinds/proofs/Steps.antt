@@ -15,7 +15,7 @@ use Rattle.steps.specs.Out.{Out, weaken, bind}
 use Rattle.steps.specs.Arguments.{byte-read}
 use Rattle.steps.specs.Pickletools.{decided_own, byte-leads, admit_out}
 use Rattle.steps.specs.Keeps.{state_after}
-use Rattle.opcode_kinds.specs.StackWords.{Word, any, None, bool as aBool, int as an_int, int_or_bool, float as a_float, bytes_or_str, str, list as a_list, tuple as a_tuple, dict as a_dict, a_global, an_object, set_or_object, allows, Kinds, topmost, below_mark, mark_only, KindRow, pickletools, exceptions, kinds_in, kinds_of, is_any, all_any, says, says_row, say_more, exceptions-say_more}
+use Rattle.opcode_kinds.specs.StackWords.{Word, any, None, bool as a_bool, int as an_int, int_or_bool, float as a_float, bytes_or_str, str, list as a_list, tuple as a_tuple, dict as a_dict, a_global, an_object, set_or_object, allows, Kinds, topmost, below_mark, mark_only, KindRow, pickletools, exceptions, kinds_in, kinds_of, is_any, all_any, says, says_row, say_more, exceptions-say_more}
 use Rattle.opcode_kinds.specs.Kinds.{EachAllowed, Stocked, TakenAndLeft, FitsKinds, KindStepped, does-kinds}
 
 pub step-kinds : (ed : Edition) (s : State) → Out (KindStepped s) (step ed s)
@@ -32,7 +32,7 @@ any_allowed : (w : Word) (l : Label) → T (is_any w) → T (allows w l)
 unfolding is_any allows
 any_allowed any l h = tt
 any_allowed None l h = absurd h
-any_allowed aBool l h = absurd h
+any_allowed a_bool l h = absurd h
 any_allowed an_int l h = absurd h
 any_allowed int_or_bool l h = absurd h
 any_allowed a_float l h = absurd h

@@ -18,7 +18,7 @@ use Rattle.steps.specs.Out.{Out, out, weaken, both_out, bind, bind_any, bind_nee
 use Rattle.steps.specs.Effect.{labelled, values_count}
 use Rattle.steps.specs.Arguments.{argument_length, Claim, put_line_claim, put_bytes_claim}
 use Rattle.steps.specs.Keeps.{state_after}
-use Rattle.opcode_kinds.specs.StackWords.{Word, any, None, bool as aBool, int as an_int, int_or_bool, float as a_float, bytes_or_str, str, list as a_list, tuple as a_tuple, dict as a_dict, a_global, an_object, set_or_object, allows, Kinds, topmost, below_mark, mark_only, KindRow, kinds_in, kinds_of}
+use Rattle.opcode_kinds.specs.StackWords.{Word, any, None, bool as a_bool, int as an_int, int_or_bool, float as a_float, bytes_or_str, str, list as a_list, tuple as a_tuple, dict as a_dict, a_global, an_object, set_or_object, allows, Kinds, topmost, below_mark, mark_only, KindRow, kinds_in, kinds_of}
 
 -- ---- values by their words
 
@@ -434,8 +434,8 @@ does-kinds v NEWOBJ s = goes_kept _ s _ (newobj_kept s)
 does-kinds v TUPLE1 s = goes_kept _ s _ (tuple_n_kept (any ∷ []) s λ k. (tt, tt))
 does-kinds v TUPLE2 s = goes_kept _ s _ (tuple_n_kept (any ∷ any ∷ []) s λ k. (tt, (tt, tt)))
 does-kinds v TUPLE3 s = goes_kept _ s _ (tuple_n_kept (any ∷ any ∷ any ∷ []) s λ k. (tt, (tt, (tt, tt))))
-does-kinds v NEWTRUE s = goes_kept _ s _ (push_kept s aBool (BoolL true) tt)
-does-kinds v NEWFALSE s = goes_kept _ s _ (push_kept s aBool (BoolL false) tt)
+does-kinds v NEWTRUE s = goes_kept _ s _ (push_kept s a_bool (BoolL true) tt)
+does-kinds v NEWFALSE s = goes_kept _ s _ (push_kept s a_bool (BoolL false) tt)
 does-kinds v LONG1 s = goes_kept _ s _ (long_n_kept s 1)
 does-kinds v LONG4 s = goes_kept _ s _ (long_n_kept s 4)
 

@@ -1,5 +1,6 @@
--- Out and back (RULES, Ask 6): a value's pickle is read back as that value, and no further. Theorem has it for tables, Needed shows
--- that each premise is needed. From Steps to Values it is about bytes and opcodes, in Tables about table words; Returnable is the seam.
+-- Out and back (RULES, Ask 6): a value's pickle is read back as that value, and no further. proofs/Theorem has it for tables,
+-- Needed shows that each premise is needed. From Steps to Items and in proofs/Values it is about bytes and opcodes, in Tables about table
+-- words; Returnable is the seam.
 pub mod Added
 pub mod WriteOut
 pub mod Outcome

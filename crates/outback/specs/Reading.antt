@@ -1,4 +1,4 @@
--- The reading of a returnable value's pickle, whatever follows it: an added refusal, or that value and as many bytes as its pickle has.
+-- What the reading of a pickle gives back: an added refusal, or the value and as many bytes as its pickle has. That it does is in proofs/Reading.
 use Rattle.std.specs.Prelude.{not, ◌≡◌, T}
 use Rattle.std.proofs.Math.ListN.{length}
 use Rattle.refusal.specs.declared.Refusal.{Refusal}

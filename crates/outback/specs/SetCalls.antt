@@ -18,7 +18,7 @@ arguments (node l c r) = count c
 
 -- at least two arguments, if the class is one of these
 abbrev pub enough_arguments : Bool → ℕ → Bool
-enough_arguments ofSets n = not ofSets || leb 2 n
+enough_arguments of_sets n = not of_sets || leb 2 n
 
 -- an Object made without `new` from `__builtin__` `set` or `frozenset` has at least two arguments
 unfoldable pub two_arguments : Label → Forest → Bool

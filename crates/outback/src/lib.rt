@@ -1,2 +1,2 @@
-// Out and back: what is written is read back as it was. Definitions and laws only, in specs/.
+// Out and back: what is written is read back as it was. Definitions and laws only.
 #![tactic(auto)]

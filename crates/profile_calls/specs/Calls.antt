@@ -22,7 +22,7 @@ use Rattle.reading.specs.Measure.{measured}
 use Rattle.reading.specs.Settle as Settle
 use Rattle.reading.specs.Reading.{Reading, refuses, reads, reading_of, stopped, prefix_in, whole_in, prefix, whole, leaves}
 use Rattle.de.specs.Call.{reading, ReadCall, read_one}
-use Rattle.de.specs.Theorems.{call_answer, call-table, call-text, call-long_enough, not_refused, Ends, refused as ends-refused, read as ends_read, prefix_ends, whole_ends}
+use Rattle.de.specs.Theorems.{call_answer, call-table, call-text, call_long_enough, not_refused, Ends, refused as ends-refused, read as ends_read, prefix_ends, whole_ends}
 use Rattle.de.specs.Shared.{shared}
 use Rattle.profile_calls.specs.Alike.{Barred, Executes, executes}
 use Rattle.profile_calls.specs.Readings.{ReadAlike, reads_as_full, reads_barred, prefix_alike, whole_alike}
@@ -57,7 +57,7 @@ module _ (p : List ℕ) (x y : Reading) (same : ReadAlike p x y) (l l' l'' : Sli
   call-outside ends z n = go same ends
     where
       long : short stated l ≡ false
-      long = call-long_enough y l l'' b d z
+      long = call_long_enough y l l'' b d z
 
       go : ReadAlike p x y → Ends Full p y → Outside p a
       go (reads_as_full e) f = absurd (n (ap (λ (r : Answer). r.number) (sym (read_one y l l'' l' b a d (c ∙ ap (λ (r : Reading). reading r l) e)).0) ∙ z))
@@ -79,7 +79,7 @@ pub record Fills (p : List ℕ) (l l' : Slices) (a : Answer) : Type 0 where
 call_fills : (p : List ℕ) (x : Reading) (l l' : Slices) (a : Answer) → ReadCall x l l' a → a.number ≡ 0 → ReadsClassless p x → Fills p l l' a
 call_fills p x l l' a c z (refused why e) = absurd (not_refused x l l' a c why z e)
 call_fills p x l l' a c z (read s r d e h) =
-    let long = call-long_enough x l l' a c z in
+    let long = call_long_enough x l l' a c z in
     record {
       state = s;
       root = r;

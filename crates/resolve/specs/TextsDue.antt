@@ -113,19 +113,19 @@ module _ (a m : ℕ) where
       due_leaf l = rw (ne_eqb _ _ n, le-leb 128 m h, lt-ltb m (2 ^ 41) l) (and-true (text_kind (kind_in a)))
 
 module _ (k : ℕ) where
-  pub kind-below_4 : k < 4 → false ≡ text_kind k
+  pub kind_below_4 : k < 4 → false ≡ text_kind k
   unfolding text_kind
-  kind-below_4 h = rw (lt-ltb k 4 h)
+  kind_below_4 h = rw (lt-ltb k 4 h)
 
   module _ (h : 4 ≤ k) where
-    pub kind-below_6 : k < 6 → true ≡ text_kind k
+    pub kind_below_6 : k < 6 → true ≡ text_kind k
     unfolding text_kind
-    kind-below_6 l = rw (le-ltb k 4 h, lt-ltb k 6 l)
+    kind_below_6 l = rw (le-ltb k 4 h, lt-ltb k 6 l)
 
     module _ (l : 6 ≤ k) where
-      pub kind-below_11 : k < 11 → false ≡ text_kind k
+      pub kind_below_11 : k < 11 → false ≡ text_kind k
       unfolding text_kind
-      kind-below_11 m = rw (le-ltb k 4 h, le-ltb k 6 l, lt-ltb k 11 m)
+      kind_below_11 m = rw (le-ltb k 4 h, le-ltb k 6 l, lt-ltb k 11 m)
 
       pub kind-behind : 11 ≤ k → ltb k 15 ≡ text_kind k
       unfolding text_kind

@@ -237,7 +237,7 @@ fn measure(
     measures: &mut [u64],
     dues: &mut [u16],
 ) -> WalkAnswer
-    requires le_levels { (1 ≤ levels) × (levels ≤ 64) }
+    requires levels_in_range { (1 ≤ levels) × (levels ≤ 64) }
     requires opens { Opens pickle.now nodes.now starts.now measures.old sorted.old dues.old node.0 }
     ensures { Walks pickle.now nodes.now starts.now levels node.0
         measures.old sorted.old dues.old

@@ -15,8 +15,8 @@ use Rattle.run_laws.specs.Late.{Item, Has, what}
 use Rattle.run_laws.proofs.Late.{late_item}
 
 -- in a write-out of nodes at STOP
-pub at_each-place : (ed : Edition) (p : List ℕ) (z : State) → run ed p ≡ ok z → {is : List ℕ} {f : Forest} {w : WritesOut z.nodes is f} → (x : Next) (i j : ℕ) → Has ed p x i j → (c : Forest) → ShownIn i c is f w → Item z.nodes (what x i j) j c
-at_each-place ed p z stop x i j h c q = late_item ed p x i j h z stop c (place_shows i c q)
+pub at_each_place : (ed : Edition) (p : List ℕ) (z : State) → run ed p ≡ ok z → {is : List ℕ} {f : Forest} {w : WritesOut z.nodes is f} → (x : Next) (i j : ℕ) → Has ed p x i j → (c : Forest) → ShownIn i c is f w → Item z.nodes (what x i j) j c
+at_each_place ed p z stop x i j h c q = late_item ed p x i j h z stop c (place_shows i c q)
 
 -- every item that a list or dict had after some steps, at each place of it in the write-out f of the value left
 abbrev pub EachItem : (ed : Edition) (p : List ℕ) (z : State) (f : Forest) → WritesOut z.nodes (last z.stack ∷ []) f → Type 0
@@ -26,8 +26,8 @@ EachItem ed p z f w = (x : Next) (i j : ℕ) → Has ed p x i j → (c : Forest)
 module _ (ed : Edition) (p : List ℕ) (z : State) (fits : length p ≤ pickle_limit) (stop : run ed p ≡ ok z) (left : 0 < length z.stack) (apart : NothingContainsItself z.nodes (last z.stack)) where
   -- in what the prefix reading gives
   pub prefix_late_items : (f : Forest) × (w : WritesOut z.nodes (last z.stack ∷ []) f) × (prefix_in ed p ≡ reading_of (consumed p z) f) × EachItem ed p z f w
-  prefix_late_items = let o = written_out ed p z fits stop left apart in (o.0, o.1, o.2, λ x i j h c q. at_each-place ed p z stop x i j h c q)
+  prefix_late_items = let o = written_out ed p z fits stop left apart in (o.0, o.1, o.2, λ x i j h c q. at_each_place ed p z stop x i j h c q)
 
   -- and in that of the call, in which every node that the value left reaches has a place
   pub call_late_items : (l l' : Slices) (a : Answer) → ReadCall (prefix_in ed p) l l' a → (late : LateItems p z l l' a) × EachItem ed p z late.forest late.written
-  call_late_items l l' a c = (late_items_show ed p z fits stop left apart l l' a c, λ x i j h c q. at_each-place ed p z stop x i j h c q)
+  call_late_items l l' a c = (late_items_show ed p z fits stop left apart l l' a c, λ x i j h c q. at_each_place ed p z stop x i j h c q)

@@ -44,18 +44,18 @@ module _ (ed : Edition) (p : List ℕ) (l l' : Slices) (a : Answer) (c : ReadCal
   pub prefix-call_one : (a.number ≡ 1) ↔ (short stated l ≡ true)
   prefix-call_one = call_one (prefix_in ed p) l l' a c (prefix_never_one ed p)
 
-  pub prefix-call_two : (a.number ≡ 2) ↔ ((short stated l ≡ false) × (pickle_limit < length p))
-  prefix-call_two = call_other (prefix_in ed p) l l' a c 2 (λ q. omega arith) (pickle_limit < length p) (prefix_two ed p)
+  pub prefix_call_two : (a.number ≡ 2) ↔ ((short stated l ≡ false) × (pickle_limit < length p))
+  prefix_call_two = call_other (prefix_in ed p) l l' a c 2 (λ q. omega arith) (pickle_limit < length p) (prefix_two ed p)
 
-  pub prefix-call_never_eleven : ¬ (a.number ≡ 11)
-  prefix-call_never_eleven e = prefix_never_eleven ed p ((is_other (short stated l) (prefix_in ed p).answer.number a.number (answered (prefix_in ed p) l l' a c) 11 (λ q. omega arith)).0 e).1
+  pub prefix_call_never_eleven : ¬ (a.number ≡ 11)
+  prefix_call_never_eleven e = prefix_never_eleven ed p ((is_other (short stated l) (prefix_in ed p).answer.number a.number (answered (prefix_in ed p) l l' a c) 11 (λ q. omega arith)).0 e).1
 
 module _ (ed : Edition) (p : List ℕ) (l l' : Slices) (a : Answer) (c : ReadCall (whole_in ed p) l l' a) where
   pub whole-call_one : (a.number ≡ 1) ↔ (short stated l ≡ true)
   whole-call_one = call_one (whole_in ed p) l l' a c (whole_never_one ed p)
 
-  pub whole-call_two : (a.number ≡ 2) ↔ ((short stated l ≡ false) × (pickle_limit < length p))
-  whole-call_two = call_other (whole_in ed p) l l' a c 2 (λ q. omega arith) (pickle_limit < length p) (whole_two ed p)
+  pub whole_call_two : (a.number ≡ 2) ↔ ((short stated l ≡ false) × (pickle_limit < length p))
+  whole_call_two = call_other (whole_in ed p) l l' a c 2 (λ q. omega arith) (pickle_limit < length p) (whole_two ed p)
 
-  pub whole-call_eleven : (a.number ≡ 11) ↔ ((short stated l ≡ false) × LeavesBytes ed p)
-  whole-call_eleven = call_other (whole_in ed p) l l' a c 11 (λ q. omega arith) (LeavesBytes ed p) (whole_eleven ed p)
+  pub whole_call_eleven : (a.number ≡ 11) ↔ ((short stated l ≡ false) × LeavesBytes ed p)
+  whole_call_eleven = call_other (whole_in ed p) l l' a c 11 (λ q. omega arith) (LeavesBytes ed p) (whole_eleven ed p)

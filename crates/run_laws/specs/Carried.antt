@@ -1,5 +1,4 @@
--- Lists and dicts only grow, and at their end: what one contains after some steps is, in the same order, the beginning of what it contains
--- after any more steps, and at STOP.
+-- What it is that one list or dict begins as another. That they only grow, and at their end, is in proofs/Carried.
 use Prim.Native.Nat.{ℕ, ◌<◌}
 use Rattle.std.specs.Prelude.{Bool, ◌||◌, List, ◌≡◌, refl, length, get_or, take}
 use Rattle.std.proofs.Common.{sym, ◌∙◌, ap, length-take, get_or-take}

@@ -1,4 +1,4 @@
--- No opcode, no step, no run and no measure of a tree refuses with 1, 2 or 11.
+-- A result that is no refusal with 1, 2 or 11. That every opcode, step and run gives such a one is in proofs/InnerSteps.
 use Rattle.steps.specs.State.{Res, ok, no}
 use Rattle.run_laws.specs.Inner.{Inner}
 

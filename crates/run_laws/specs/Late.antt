@@ -1,5 +1,4 @@
--- Items added late, as late as may be: what an opcode adds to a list or dict at any step stands at its place in every write-out of what
--- that node contains at STOP.
+-- Items added late, as late as may be, and where they stand in a write-out. That they do stand there is in proofs/Late.
 use Prim.Native.Nat.{ℕ, suc, zero, ◌<◌}
 use Rattle.std.specs.Prelude.{List, ◌≡◌, length, T}
 use Rattle.std.proofs.Common.{arith}

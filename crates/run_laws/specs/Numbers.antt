@@ -1,5 +1,4 @@
--- The numbers 1, 2 and 11 of the two readings in any edition, exactly: 2 for a pickle over the limit; 11, of the whole reading alone, where the prefix
--- reading succeeds and leaves bytes; never 1.
+-- Where the prefix reading succeeds and leaves bytes: by this proofs/Numbers says when a reading answers 1, 2 or 11.
 use Rattle.std.specs.Prelude.{ℕ, ◌<◌, List, ◌≡◌, length}
 use Rattle.op.specs.declared.Edition.{Edition}
 use Rattle.reading.specs.Reading.{prefix_in}

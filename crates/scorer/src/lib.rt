@@ -7,7 +7,7 @@ ghost use Rattle.std.proofs.Math.Dec.{compare_is_eq};
 ghost use Rattle.value.specs.Value.{bit};
 ghost use Rattle.value.specs.Stands.{label_at, Reads};
 ghost use Rattle.value.specs.Told.{told as order_of};
-ghost use Rattle.scorer.specs.Sheet.{is_key, counted as countedAs};
+ghost use Rattle.scorer.specs.Sheet.{is_key, counted as counted_as};
 ghost use Rattle.scorer.specs.Steps.{between_at, hit_at, Tabled, Lain, Seeks, Both, AddsUp};
 ghost use Rattle.scorer.specs.Call.{unscored, Assesses, Scores};
 
@@ -118,7 +118,7 @@ fn hit(words: &[u64], j: usize, left: u64, item: u64) -> u64
 // What an answer counts; reversed is 0 or 1.
 fn counted(max: u64, flipped: bool, reversed: u64, answer: u64) -> u64
     requires { answer ≤ max }
-    ensures value { result ≡ countedAs max flipped (eqb reversed 1) answer }
+    ensures value { result ≡ counted_as max flipped (eqb reversed 1) answer }
     ensures upper_bound { result ≤ max }
 {
     if flipped {

@@ -21,7 +21,7 @@ use Rattle.reading.specs.Reading.{Reading, reads, reading_of, consumed, prefix, 
 use Rattle.reading.specs.Success.{Formed, prefix-well_formed}
 use Rattle.rooms.specs.Stated.{Slices, table_slice, text_slice, begun}
 use Rattle.de.specs.Call.{reading, ReadCall}
-use Rattle.de.specs.Theorems.{call_never_shows_sharing, call_answer, call-table, call-text, call-long_enough, not_refused, prefix-call_formed}
+use Rattle.de.specs.Theorems.{call_never_shows_sharing, call_answer, call-table, call-text, call_long_enough, not_refused, prefix_call_formed}
 use Rattle.scorer.specs.Call.{Scores}
 use Rattle.scorer.specs.Flip.{own_table}
 use Rattle.scorer.specs.Theorems.{words-behind}
@@ -67,12 +67,12 @@ module _ (p : List ℕ) (b : Bytes p) (s : State) (fits : length p ≤ pickle_li
           let g = settle f in
           let more = drop (length (table g 0)) (table_slice l) in
           let x : reading_of (consumed p s) f ≡ reads (consumed p s) g = (told_fits (consumed p s) f e).0 in
-          let long = call-long_enough (reading_of (consumed p s) f) l l' a call z in
+          let long = call_long_enough (reading_of (consumed p s) f) l l' a call z in
           let formed : WellFormed (table g 0) (size g) (text g) = subst Formed (sharing_never_shows Full p s fits stops left f apart w ∙ x) (prefix-well_formed Full p b) refl in
           let words : table_slice l' ≡ table g 0 ++ more = call-table (reading_of (consumed p s) f) l l' a call long ∙ ap (λ (y : Reading). begun y.words (table_slice l)) x in
           let bytes : text_slice l' ≡ begun (text g) (text_slice l) = call-text (reading_of (consumed p s) f) l l' a call long ∙ ap (λ (y : Reading). begun y.bytes (text_slice l)) x in
           let counted : a.count ≡ size g = ap (λ (y : Answer). y.count) (call_answer (reading_of (consumed p s) f) l l' a call long ∙ ap (λ (y : Reading). y.answer) x) in
-          let left-formed = prefix-call_formed Full p b l l' a z c in
+          let left-formed = prefix_call_formed Full p b l l' a z c in
           let same-words : take (4 * a.count) (table_slice l') ≡ take (4 * size g) (table g 0) = rw (words, counted) (take-append-le (4 * size g) (table g 0) more formed.lent) in
           let same_text : take (text_length (table_slice l') a.count) (text_slice l') ≡ text g = text_left (drop (length (text g)) (text_slice l)) left-formed formed counted same-words bytes in
           words-behind left-formed formed same-words same_text scored plain

@@ -239,7 +239,7 @@ fn batch_of(left: usize, entries: bool) -> usize
 
 // The value that begins at record i. This function and those below call one another; with each call fewer records are left, or as
 // many for a function that asks less of them.
-#[cycle(encode_encode_appends_encode_batch_encode_batches_encode_items_encode_object_encode_tuple)]
+#[cycle(encode)]
 fn encode(words: &[u64], text: &[u8], i: usize, output: &mut [u8], at: usize) -> Place
     requires { ReadyToWrite joined words.now text.now i 1 output.old at }
     ensures { Wrote joined words.now text.now i 1 output.old at output.new result.record result.at }
@@ -276,7 +276,7 @@ fn encode(words: &[u64], text: &[u8], i: usize, output: &mut [u8], at: usize) ->
 
 // `count` values that stand side by side from record `from` on, one after the other. A call costs more than most values do, so
 // only those that hold others are given to `encode`.
-#[cycle(encode_encode_appends_encode_batch_encode_batches_encode_items_encode_object_encode_tuple)]
+#[cycle(encode)]
 fn encode_items(
     words: &[u64],
     text: &[u8],
@@ -309,7 +309,7 @@ fn encode_items(
 }
 
 // A batch, of items or of entries.
-#[cycle(encode_encode_appends_encode_batch_encode_batches_encode_items_encode_object_encode_tuple)]
+#[cycle(encode)]
 fn encode_batch(
     words: &[u64],
     text: &[u8],
@@ -347,7 +347,7 @@ fn encode_batch(
 }
 
 // `count` values in batches.
-#[cycle(encode_encode_appends_encode_batch_encode_batches_encode_items_encode_object_encode_tuple)]
+#[cycle(encode)]
 fn encode_batches(
     words: &[u64],
     text: &[u8],
@@ -378,7 +378,7 @@ fn encode_batches(
 }
 
 // The items of a list, or of the list that is a set's argument.
-#[cycle(encode_encode_appends_encode_batch_encode_batches_encode_items_encode_object_encode_tuple)]
+#[cycle(encode)]
 fn encode_appends(
     words: &[u64],
     text: &[u8],
@@ -428,7 +428,7 @@ fn tuple_opcode(len: usize) -> u8
     op::TUPLE
 }
 
-#[cycle(encode_encode_appends_encode_batch_encode_batches_encode_items_encode_object_encode_tuple)]
+#[cycle(encode)]
 fn encode_tuple(
     words: &[u64],
     text: &[u8],
@@ -458,7 +458,7 @@ fn object_opcode(new: bool) -> u8
 }
 
 // An Object's arguments, which are a Tuple, and any state.
-#[cycle(encode_encode_appends_encode_batch_encode_batches_encode_items_encode_object_encode_tuple)]
+#[cycle(encode)]
 fn encode_object(
     words: &[u64],
     text: &[u8],
@@ -507,7 +507,7 @@ fn int_len(bits: u64) -> usize
 // What stands before the contents of a record, from its kind and its words 1 and 2.
 fn opening_len(kind: u64, second: u64, third: u64) -> usize
     requires kind_bound { kind < 13 }
-    requires third_bound { opening_takes kind second third < 2 ^ 64 }
+    requires len_bound { opening_takes kind second third < 2 ^ 64 }
     ensures { result ≡ opening_takes kind second third }
 {
     if kind > KIND_DICT {
@@ -597,9 +597,9 @@ fn contents_len(kind: u64, count: usize) -> usize
 // What record i takes without the values in it.
 fn record_len(words: &[u64], i: usize) -> usize
     requires i_in_bounds { 4 * i + 4 ≤ length words.now }
-    requires i_bound { kind_in (word_at words.now i 0) < 13 }
-    requires i_bound_2 { arity_at words.now i ≤ min 2048 (length words.now) }
-    requires i_bound_3 { record_takes words.now i < 2 ^ 64 }
+    requires kind_bound { kind_in (word_at words.now i 0) < 13 }
+    requires arity_bound { arity_at words.now i ≤ min 2048 (length words.now) }
+    requires len_bound { record_takes words.now i < 2 ^ 64 }
     ensures { result ≡ record_takes words.now i }
 {
     let kind = value::head_of(words[4 * i]).kind;
@@ -610,7 +610,7 @@ fn record_len(words: &[u64], i: usize) -> usize
 // What all records take, and PROTO 2 and STOP.
 fn pickle_len(words: &[u64], count: usize, text: &[u8]) -> usize
     requires records_readable { RecordsReadable words.now text.now 0 count }
-    requires count_bound { records_take words.now 0 count + 3 < 2 ^ 64 }
+    requires len_bound { records_take words.now 0 count + 3 < 2 ^ 64 }
     ensures { result ≡ records_take words.now 0 count + 3 }
 {
     let mut i = 0;

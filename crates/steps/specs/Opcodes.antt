@@ -312,7 +312,7 @@ frozenset_name = 102 ∷ 114 ∷ 111 ∷ 122 ∷ 101 ∷ 110 ∷ 115 ∷ 101 ∷
 
 -- an Object made of its class and arguments
 abbrev pub object : List ℕ × List ℕ → Bool → ℕ → Node
-object c isNew args = record { label = ObjectL c.0 c.1 isNew; kids = args ∷ [] }
+object c is_new args = record { label = ObjectL c.0 c.1 is_new; kids = args ∷ [] }
 
 -- a set of its one argument, without one of the empty tuple of arguments
 abbrev pub set_of : Label → ℕ → List ℕ → Node

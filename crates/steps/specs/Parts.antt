@@ -4,7 +4,7 @@ use Rattle.std.proofs.Common.{inl, inr, append-nil, sym, ap, ◌∙◌, length-t
 use Rattle.std.proofs.Math.Seq.{take-length}
 use Rattle.refusal.specs.declared.Refusal.{Refusal}
 use Rattle.op.specs.Table.{Stack, values, to_mark, a_mark}
-use Rattle.number.specs.Space.{same as sameText}
+use Rattle.number.specs.Space.{same as same_text}
 use Rattle.value.specs.Value.{Label, SetL, FrozenSetL, ListL, TupleL, DictL}
 use Rattle.steps.specs.State.{Node, State, Res, ◌>>=◌, kidless, links_limit, with_stack, with_marks, with_links, last, but_last, pop, top, pop_mark, pop_many, push_id, push_node, push, link, node_by, extend, get, put}
 use Rattle.steps.specs.Opcodes.{is_list, is_dict, is_tuple, mark, pop_one, pop_to_mark, dup, made, list, tuple, tuple_n, pairs, dict, add_items, append, appends, setitem, setitems, builtin, set_name, frozenset_name, object, set_of, reduced, called, reduce, newobj, build_state}
@@ -271,9 +271,9 @@ called_did makes s f = bind_pops _ s _ λ h. bind_any _ _ _ λ c e. bind_need _ 
     node_did (values 2) s (makes c (last s.stack) (node_by s (last s.stack)).kids) (take n s.stack) s.marks s.links (upto n s.stack) (beginning_of_all s.marks) k.known k.right (rw k.free (sym (add-zero s.links))) (λ u. u)
     λ t a b. by_values 2 1 n (length s.nodes ∷ []) s t (omega arith) (omega arith) (omega arith) a (omega arith) b
 
-object_calls : (s : State) (c : List ℕ × List ℕ) (isNew : Bool) (args : ℕ) → Known s args → T (is_tuple (node_by s args).label) → Calls s (object c isNew args)
+object_calls : (s : State) (c : List ℕ × List ℕ) (is_new : Bool) (args : ℕ) → Known s args → T (is_tuple (node_by s args).label) → Calls s (object c is_new args)
 unfolding Every Right held linked
-object_calls s c isNew args k v = record { known = (k, tt); right = (omega arith, omega arith, v); free = refl }
+object_calls s c is_new args k v = record { known = (k, tt); right = (omega arith, omega arith, v); free = refl }
 
 pub newobj_did : (s : State) → Out (Did (values 2) (values 1) s) (newobj s)
 unfolding newobj
@@ -281,7 +281,7 @@ newobj_did s = called_did _ s λ c args k v. object_calls s c true args k v
 
 pub reduce_did : (s : State) → Out (Did (values 2) (values 1) s) (reduce s)
 unfolding reduce reduced Every Right held linked
-reduce_did s = called_did reduced s λ c args k v. go c args k v (sameText c.0 builtin && leb (length (node_by s args).kids) 1) (sameText c.1 set_name) (sameText c.1 frozenset_name)
+reduce_did s = called_did reduced s λ c args k v. go c args k v (same_text c.0 builtin && leb (length (node_by s args).kids) 1) (same_text c.1 set_name) (same_text c.1 frozenset_name)
   where
     first : (args : ℕ) (l : List ℕ) → Known s args → Every (Known s) l → Known s (get_or l 0 args)
     first args [] k e = k

@@ -146,7 +146,7 @@ fn passed(keys: &[u32], memo: usize, k: u32) -> usize
 // The place of a memo number among the first `memo`, which are different ones, or `memo`: by a search, newest first.
 fn search(keys: &[u32], memo: usize, key: MemoKey) -> usize
     requires memo_in_bounds { memo ≤ length keys.now }
-    requires by_index { (i : ℕ) → i < memo → Absent keys.now i (get_or keys.now i 0) }
+    requires distinct { (i : ℕ) → i < memo → Absent keys.now i (get_or keys.now i 0) }
     ensures { (result ≤ memo) × Absent keys.now result key.0 × (result < memo → get_or keys.now result 0 ≡ key.0) }
 {
     let k = key.0;

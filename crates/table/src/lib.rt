@@ -17,7 +17,7 @@ ghost use Rattle.table.specs.Check.{Lent, HeadSays, LeafSays, Closes, sizes_righ
 ghost use Rattle.table.specs.Length.{has_text, end_of, text_length};
 ghost use Rattle.table.specs.Decides.{YesIff};
 ghost use Rattle.value.specs.Told.{told};
-ghost use Rattle.table.specs.Compare.{bad_table, ordered as orderedBy, Compares};
+ghost use Rattle.table.specs.Compare.{bad_table, ordered as ordered_by, Compares};
 
 use refusal::{Refusal, Which, detail, number};
 use utf8::valid;
@@ -260,7 +260,7 @@ fn sized(words: &[u64], i: usize, size: u64) -> bool
 // The record behind the value at record i.
 pub fn after(words: &[u64], i: usize) -> usize
     requires i_in_bounds { 4 * i + 4 ≤ length words.now }
-    requires i_in_bounds_2 { i + size_at words.now i ≤ length words.now }
+    requires size_in_bounds { i + size_at words.now i ≤ length words.now }
     ensures { result ≡ i + size_at words.now i }
 {
     i + size(words[4 * i], words[4 * i + 2], words[4 * i + 3]) as usize
@@ -291,10 +291,10 @@ fn precedes(order: Order) -> bool
 
 // The order of the values at records p and q. Most items and keys are Ints or Bytes: two of those need no walk.
 fn compare_items(words: &[u64], text: &[u8], p: usize, q: usize) -> Order
-    requires reads { Reads words.now text.now p }
-    requires reads_2 { Reads words.now text.now q }
-    requires begins { Begins words.now text.now p }
-    requires begins_2 { Begins words.now text.now q }
+    requires p_reads { Reads words.now text.now p }
+    requires q_reads { Reads words.now text.now q }
+    requires p_begins { Begins words.now text.now p }
+    requires q_begins { Begins words.now text.now q }
     ensures { (v u : Value)
         → Stands words.now text.now p (one v)
         → Stands words.now text.now q (one u)
@@ -319,8 +319,8 @@ fn compare_items(words: &[u64], text: &[u8], p: usize, q: usize) -> Order
 // The m values from record i on: items (entry 1), or keys with values (entry 2), strictly ascending.
 fn ascends(words: &[u64], text: &[u8], i: usize, m: usize, entry: usize) -> bool
     requires held { Held words.now text.now i m }
-    requires le { 1 ≤ entry }
-    requires bound { entry ≤ 2 }
+    requires entry_nonzero { 1 ≤ entry }
+    requires entry_bound { entry ≤ 2 }
     ensures { (f : Forest) → Stands words.now text.now i f → count_of f ≡ m → result ≡ ascending (picked entry f) }
 {
     let mut p = i;
@@ -339,8 +339,8 @@ fn ascends(words: &[u64], text: &[u8], i: usize, m: usize, entry: usize) -> bool
 // The m values from record i on are in order, as a label with word 0 a wants them.
 fn arranged(words: &[u64], text: &[u8], a: u64, i: usize, m: usize) -> bool
     requires held { Held words.now text.now i m }
-    requires le_m { kind_in a ≡ 12 → 1 ≤ m }
-    requires a_bound { kind_in a < 13 }
+    requires object_has_arguments { kind_in a ≡ 12 → 1 ≤ m }
+    requires kind_bound { kind_in a < 13 }
     ensures { (f : Forest) → Stands words.now text.now i f → count_of f ≡ m → result ≡ arranged_by (kind_in a) f }
 {
     let k = kind(a);
@@ -364,8 +364,8 @@ fn closes(words: &[u64], text: &[u8], i: usize, j: usize, m: usize) -> bool
     requires i_in_bounds { 4 * i + 4 ≤ length words.now }
     requires i_le_j { i ≤ j }
     requires held { Held words.now text.now (i + 1) m }
-    requires le_m { kind_in (word_at words.now i 0) ≡ 12 → 1 ≤ m }
-    requires i_bound { kind_in (word_at words.now i 0) < 13 }
+    requires object_has_arguments { kind_in (word_at words.now i 0) ≡ 12 → 1 ≤ m }
+    requires kind_bound { kind_in (word_at words.now i 0) < 13 }
     ensures { Closes words.now text.now i j m result }
 {
     if !sized(words, i, (j - i) as u64) {
@@ -379,7 +379,7 @@ fn leaf(words: &[u64], text: &[u8], i: usize, at: usize) -> Checked
     requires i_in_bounds { 4 * i + 4 ≤ length words.now }
     requires at_in_bounds { at ≤ length text.now }
     requires text_len_bound { length text.now ≤ 65536 }
-    requires i_value { holding (kind_in (word_at words.now i 0)) ≡ false }
+    requires holds_none { holding (kind_in (word_at words.now i 0)) ≡ false }
     ensures { LeafSays words.now text.now i at result }
 {
     let a = words[4 * i];
@@ -405,7 +405,7 @@ fn leaf(words: &[u64], text: &[u8], i: usize, at: usize) -> Checked
 }
 
 // The value at record i, with its text at `at`, at most so many levels deep.
-#[cycle(check_container_contents)]
+#[cycle(check)]
 fn check(words: &[u64], count: usize, text: &[u8], i: usize, at: usize, levels: u64) -> Checked
     requires lent { Lent words.now count text.now }
     requires i_le_count { i ≤ count }
@@ -425,7 +425,7 @@ fn check(words: &[u64], count: usize, text: &[u8], i: usize, at: usize, levels: 
 }
 
 // A record of a kind that holds values, and those in it.
-#[cycle(check_container_contents)]
+#[cycle(check)]
 fn container(words: &[u64], count: usize, text: &[u8], i: usize, at: usize, levels: u64) -> Checked
     requires lent { Lent words.now count text.now }
     requires i_lt_count { i < count }
@@ -456,7 +456,7 @@ fn container(words: &[u64], count: usize, text: &[u8], i: usize, at: usize, leve
 }
 
 // The m values from record i on, one after the other.
-#[cycle(check_container_contents)]
+#[cycle(check)]
 fn contents(
     words: &[u64],
     count: usize,
@@ -575,7 +575,7 @@ fn bad_table(which: Which) -> Compared
 }
 
 fn ordered(order: Order) -> Compared
-    ensures { result ≡ orderedBy (told order) }
+    ensures { result ≡ ordered_by (told order) }
 {
     match order {
         Order::Less => Compared {

@@ -21,7 +21,7 @@ lex (x ∷ xs) (y ∷ ys) = compare x y then lex xs ys
 abbrev pub by_value : ℕ → List ℕ
 by_value n = cond (ltb n (2 ^ 63)) (1 ∷ n ∷ []) (0 ∷ n ∷ [])
 
--- IEEE 754 total_order: sign, exponent, significand; the negative ones first and the other way round, NaNs at both ends. (The
+-- IEEE 754 totalOrder: sign, exponent, significand; the negative ones first and the other way round, NaNs at both ends. (The
 -- number at the end never decides below 2 ^ 64; with it, keys are equal for equal bits alone.)
 abbrev pub total_order : ℕ → List ℕ
 total_order n =

@@ -120,7 +120,7 @@ pub fn compare_ints(x: u64, y: u64) -> Order
     compare_numbers(x, y)
 }
 
-// Floats by total_order, from their 64 bits: below the sign bit the patterns are in order, the negative ones the other way round.
+// Floats by totalOrder, from their 64 bits: below the sign bit the patterns are in order, the negative ones the other way round.
 pub fn compare_floats(x: u64, y: u64) -> Order
     ensures { told result ≡ lex (total_order x) (total_order y) }
 {
@@ -153,8 +153,8 @@ pub fn most(a: usize, b: usize) -> usize
 
 // Eight bytes of two texts are the same: tested together, which is quicker than one by one.
 fn same_eight(a: &[u8], b: &[u8], i: usize) -> bool
-    requires i_in_bounds { i + 8 ≤ length a.now }
-    requires i_in_bounds_2 { i + 8 ≤ length b.now }
+    requires a_in_bounds { i + 8 ≤ length a.now }
+    requires b_in_bounds { i + 8 ≤ length b.now }
     ensures { result ≡ true → Alike a.now b.now i 8 }
 {
     (a[i] == b[i])
@@ -244,8 +244,8 @@ fn compare_names(s: &[u8], x: usize, p: u64, t: &[u8], y: usize, q: u64) -> Orde
 
 // Two records but for their contents.
 fn compare_labels(a: &[u64], i: usize, s: &[u8], b: &[u64], j: usize, t: &[u8]) -> Order
-    requires reads { Reads a.now s.now i }
-    requires reads_2 { Reads b.now t.now j }
+    requires a_reads { Reads a.now s.now i }
+    requires b_reads { Reads b.now t.now j }
     ensures { told result ≡ labels (label_at a.now s.now i) (label_at b.now t.now j) }
 {
     let kind = head_of(a[4 * i]).kind;
@@ -284,7 +284,7 @@ fn compare_labels(a: &[u64], i: usize, s: &[u8], b: &[u64], j: usize, t: &[u8]) 
 // How many values stand directly in a record.
 pub fn arity(words: &[u64], i: usize) -> usize
     requires i_in_bounds { 4 * i + 4 ≤ length words.now }
-    requires i_in_bounds_2 { arity_at words.now i ≤ length words.now }
+    requires arity_bound { arity_at words.now i ≤ length words.now }
     ensures { result ≡ arity_at words.now i }
 {
     let head = head_of(words[4 * i]);
@@ -380,8 +380,8 @@ fn step(walk: Walk, a: &[u64], k: usize, b: &[u64], l: usize) -> Walk
 // The order of the value that begins at record i of one table and the one at record j of another (or the same), by a walk
 // through both at once.
 pub fn compare_at(a: &[u64], i: usize, s: &[u8], b: &[u64], j: usize, t: &[u8]) -> Order
-    requires begins { Begins a.now s.now i }
-    requires begins_2 { Begins b.now t.now j }
+    requires a_begins { Begins a.now s.now i }
+    requires b_begins { Begins b.now t.now j }
     ensures { (v w : Value)
         → Stands a.now s.now i (one v)
         → Stands b.now t.now j (one w)

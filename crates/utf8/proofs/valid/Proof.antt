@@ -17,7 +17,7 @@ invariant-loop s i₀ i = (i ≤ length s) × (valid (drop i s) ≡ valid s)
 abbrev decreases-loop : tie.decreases-loop-i
 decreases-loop s i₀ i = length s - i
 
--- the piece in the arm of a well_formed_lem one
+-- the piece in the arm of a well-formed one
 whole : (c : tie.In-Whole invariant-loop decreases-loop) →
     let l = c.before.before.before.before in
     Turn l.args.s.now l.loop-i.i true c.in-Whole.len

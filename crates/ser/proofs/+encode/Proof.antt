@@ -6,26 +6,26 @@ use borrow.Fn.Kinds.{In, ParamKind}
 use borrow.Fn.PlainCycle.{Measures, is, falls, and}
 use Rattle.ser.proofs.encode.Reads as encode
 use Rattle.ser.proofs.encode.Kinds as encode-kinds
-use Rattle.ser.proofs.+encode_encode_appends_encode_batch_encode_batches_encode_items_encode_object_encode_tuple.Lts-encode as encode-lts
+use Rattle.ser.proofs.+encode.Lts-encode as encode-lts
 use Rattle.ser.proofs.encode_appends.Reads as encode-appends
 use Rattle.ser.proofs.encode_appends.Kinds as encode-appends-kinds
-use Rattle.ser.proofs.+encode_encode_appends_encode_batch_encode_batches_encode_items_encode_object_encode_tuple.Lts-encode_appends as encode-appends-lts
+use Rattle.ser.proofs.+encode.Lts-encode_appends as encode-appends-lts
 use Rattle.ser.proofs.encode_batch.Reads as encode-batch
 use Rattle.ser.proofs.encode_batch.Kinds as encode-batch-kinds
-use Rattle.ser.proofs.+encode_encode_appends_encode_batch_encode_batches_encode_items_encode_object_encode_tuple.Lts-encode_batch as encode-batch-lts
+use Rattle.ser.proofs.+encode.Lts-encode_batch as encode-batch-lts
 use Rattle.ser.proofs.encode_batches.Reads as encode-batches
 use Rattle.ser.proofs.encode_batches.Kinds as encode-batches-kinds
-use Rattle.ser.proofs.+encode_encode_appends_encode_batch_encode_batches_encode_items_encode_object_encode_tuple.Lts-encode_batches as encode-batches-lts
+use Rattle.ser.proofs.+encode.Lts-encode_batches as encode-batches-lts
 use Rattle.ser.proofs.encode_items.Reads as encode-items
 use Rattle.ser.proofs.encode_items.Kinds as encode-items-kinds
-use Rattle.ser.proofs.+encode_encode_appends_encode_batch_encode_batches_encode_items_encode_object_encode_tuple.Lts-encode_items as encode-items-lts
-use Rattle.ser.proofs.+encode_encode_appends_encode_batch_encode_batches_encode_items_encode_object_encode_tuple.Lts-encode_items.{then-holds, else-holds}
+use Rattle.ser.proofs.+encode.Lts-encode_items as encode-items-lts
+use Rattle.ser.proofs.+encode.Lts-encode_items.{then-holds, else-holds}
 use Rattle.ser.proofs.encode_object.Reads as encode-object
 use Rattle.ser.proofs.encode_object.Kinds as encode-object-kinds
-use Rattle.ser.proofs.+encode_encode_appends_encode_batch_encode_batches_encode_items_encode_object_encode_tuple.Lts-encode_object as encode-object-lts
+use Rattle.ser.proofs.+encode.Lts-encode_object as encode-object-lts
 use Rattle.ser.proofs.encode_tuple.Reads as encode-tuple
 use Rattle.ser.proofs.encode_tuple.Kinds as encode-tuple-kinds
-use Rattle.ser.proofs.+encode_encode_appends_encode_batch_encode_batches_encode_items_encode_object_encode_tuple.Lts-encode_tuple as encode-tuple-lts
+use Rattle.ser.proofs.+encode.Lts-encode_tuple as encode-tuple-lts
 use Rattle.output.proofs.put_byte.Reads as put-byte-reads
 use Rattle.ser.proofs.batch_of.Reads as batch-of-reads
 use Rattle.ser.proofs.encode_opening.Reads as encode-opening-reads
@@ -35,10 +35,10 @@ use Rattle.ser.proofs.tuple_opcode.Reads as tuple-opcode-reads
 use Rattle.value.proofs.arity.Reads as arity-reads
 use Rattle.value.proofs.head_of.Reads as head-of-reads
 use Rattle.value.proofs.holds.Reads as holds-reads
-use Rattle.ser.proofs.+encode_encode_appends_encode_batch_encode_batches_encode_items_encode_object_encode_tuple.{
+use Rattle.ser.proofs.+encode.{
   statement,
 }
-use Rattle.ser.proofs.+encode_encode_appends_encode_batch_encode_batches_encode_items_encode_object_encode_tuple.Tie.{
+use Rattle.ser.proofs.+encode.Tie.{
   close,
 }
 use borrow.Author.Rules.{rules}
@@ -334,8 +334,8 @@ module _ (t : ℕ) where
   encode-tuple-returns : encode-tuple-lts.Need-returns encode-tuple_claims encode-tuple_at encode-tuple.Post
   encode-tuple-returns c = let w = c.before.before.before.before.before.before.before in let b = w.before.before.before.before in wrote_as (tuple_parts b.args.count _ c.tuple_opcode.ensures) (wrote_after _ _ b.tuple_mark-next.ensures (wrote_before _ _ w.encode_items-end.ensures c.put_byte.ensures))
 
-pub +encode_encode_appends_encode_batch_encode_batches_encode_items_encode_object_encode_tuple_spec : {M : Type 1} → statement M
-+encode_encode_appends_encode_batch_encode_batches_encode_items_encode_object_encode_tuple_spec =
+pub +encode_spec : {M : Type 1} → statement M
++encode_spec =
     close μ_encode μ_encode-appends μ_encode-batch μ_encode-batches μ_encode-items μ_encode-object μ_encode-tuple
     (λ t. encode-lts.spec (encode_claims t) (encode_at t) encode.Post (λ c. let r = value-reads c.requires.1 in search rules) (λ c. let r = value-reads c.requires.1 in search rules) (λ c. let r = value-reads c.requires.1 in search rules) (λ c κs. search rules) (λ c κs. let y = c.requires.1 in (value-reads y, value_room y)) (λ c κs. search rules) (λ c. let v = c.before in omega (arith, (reads t v).inside)) (λ c. search rules) (encode-returns t) (λ c. let v = c.before.before in omega (arith, (reads t v).inside)) (encode-encode-object-requires t) (λ c. search rules) (encode-returns-2 t) (λ c κs. let v = c.before.before in ((reads t v).inside, value_arity (start t v).requires.1)) (λ c. let v = c.before.before.before.before in omega (arith, (reads t v).inside)) (encode-encode-appends-requires t) (λ c. search rules) (encode-returns-3 t) (λ c. let v = c.before.before.before.before.before in omega (arith, (reads t v).inside)) (encode-encode-tuple-requires t) (λ c. search rules) (encode-returns-4 t) (λ c. let v = c.before.before.before.before.before.before in omega (arith, (reads t v).inside)) (encode-encode-batches-requires t) (λ c. search rules) (encode-returns-5 t) (λ c. let v = c.before.before.before.before.before.before in omega (arith, (reads t v).inside)) (encode-encode-appends-requires-2 t) (encode-put-byte-requires t) (encode-put-byte-requires-2 t) (λ c. search rules) (encode-returns-6 t))
     (λ t. encode-appends-lts.spec (encode-appends_claims t) (encode-appends_at t) encode-appends.Post (encode-appends-encode-items-requires t) (encode-appends-put-byte-requires t) (λ c. search rules) (encode-appends-returns t) (encode-appends-encode-batches-requires t) (λ c. search rules) (encode-appends-returns-2 t))

@@ -5,20 +5,20 @@ use borrow.Fn.Kinds.{In}
 use borrow.Fn.PlainCycle.{Measures, is, falls, and}
 use Rattle.table.proofs.check.Reads as check
 use Rattle.table.proofs.check.Kinds as check-kinds
-use Rattle.table.proofs.+check_container_contents.Lts-check as check-lts
+use Rattle.table.proofs.+check.Lts-check as check-lts
 use Rattle.table.proofs.container.Reads as container
 use Rattle.table.proofs.container.Kinds as container-kinds
-use Rattle.table.proofs.+check_container_contents.Lts-container as container-lts
+use Rattle.table.proofs.+check.Lts-container as container-lts
 use Rattle.table.proofs.contents.Reads as contents
 use Rattle.table.proofs.contents.Kinds as contents-kinds
-use Rattle.table.proofs.+check_container_contents.Lts-contents as contents-lts
+use Rattle.table.proofs.+check.Lts-contents as contents-lts
 use Rattle.table.proofs.closes.Reads as closes-reads
 use Rattle.table.proofs.head.Reads as head-reads
 use Rattle.table.proofs.kind.Reads as kind-reads
 use Rattle.table.proofs.leaf.Reads as leaf-reads
 use Rattle.value.proofs.holds.Reads as holds-reads
-use Rattle.table.proofs.+check_container_contents.{statement}
-use Rattle.table.proofs.+check_container_contents.Tie.{close}
+use Rattle.table.proofs.+check.{statement}
+use Rattle.table.proofs.+check.Tie.{close}
 use borrow.Author.Rules.{rules}
 use mathlib.Core.Bool.{true, false}
 use mathlib.Core.Path.{◌≡◌, refl, sym, ◌∙◌}
@@ -182,8 +182,8 @@ contents_returns_2 t c =
     let l = c.loop-left in
     row_done (find a.words.now a.count a.text.now a.levels) l.left l.j l.end (omega arith) ∙ l.invariant.2
 
-pub +check_container_contents_spec : {M : Type 1} → statement M
-+check_container_contents_spec =
+pub +check_spec : {M : Type 1} → statement M
++check_spec =
     close μ_check μ_container μ_contents
     (λ t. check-lts.spec (check_calls t) (check_at t) check.Post (λ c. let a = c.args in is_bad _ (find_out a.words.now a.count a.text.now a.levels a.i a.at c.if-levels-eq0.true)) (λ c. let a = c.args in is_bad _ (find_past a.words.now a.count a.text.now a.levels a.i a.at c.if-i-count.true)) (λ c. search rules) (λ c. search rules) (λ c. search rules) (λ c κs. search rules) (λ c κs. search rules) (check_container_requires t) (λ c. c.container.ensures) (check_leaf_requires t) (check_returns_4 t))
     (λ t. container-lts.spec (container_calls t) (container_at t) container.Post (λ c κs. let s = c.before.before in (s.requires.1.0, (s.requires.1.1.0, s.requires.1.1.1.0))) (λ c. search rules) (λ c. search rules) (container-add-contents t) (container-add-contents-2 t) (λ c. search rules) (container-contents-requires t) (λ c. search rules) (λ c. search rules) (container-closes-requires t) (container-returns t) (container-returns-2 t) (container-returns-3 t) (container-returns-4 t))
