@@ -1,6 +1,4 @@
--- RULES, Ask 6, over the definitions. A table's pickle, whatever follows it, is read back as exactly that table and text, and
--- exactly what was written is consumed, unless an added refusal is met. So among pickles read without one none is the beginning of another,
--- and different values have different pickles.
+-- What RULES, Ask 6, assumes of a table, and what its pickle and the reading of it are. proofs/Theorem has the laws over these.
 use Rattle.std.specs.Prelude.{ℕ, ◌*◌, List, take, T}
 use Rattle.value.specs.Value.{one}
 use Rattle.value.specs.WellFormed.{WellFormed}
