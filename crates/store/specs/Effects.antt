@@ -1,12 +1,12 @@
 -- What the effect of an opcode means: the rest of its step, with the limits, over the rooms and the counts after what it read and took;
 -- and what holds of rooms and counts at every step.
-use Rattle.std.specs.Prelude.{ℕ, ◌*◌, ◌<◌, ◌≤◌, true, cond, List, [], ◌∷◌, ◌≡◌, refl, ◌≢◌, length, get_or, take, drop, set, ltb}
+use Rattle.std.specs.Prelude.{ℕ, ◌*◌, ◌<◌, ◌≤◌, true, cond, List, [], ◌∷◌, Result, Ok, Err, IfOk, ◌≡◌, refl, ◌≢◌, length, get_or, take, drop, set, ltb}
 use Rattle.std.proofs.Common.{sym}
 use Rattle.refusal.specs.declared.Refusal.{Refusal}
 use Rattle.refusal.specs.declared.Refusal.TheVariants.{MemoFull}
 use Rattle.value.specs.Shape.{kind_in}
 use Rattle.store.specs.declared.Effect.{Effect}
-use Rattle.store.specs.declared.Effect.TheVariants.{Push, Share, Mark, Go, Make, Extend, Remember, Build, Stop, Refused}
+use Rattle.store.specs.declared.Effect.TheVariants.{Push, Share, Mark, Go, Make, Extend, Remember, Build, Stop}
 use Rattle.steps.specs.State.{State, Res, ok, no, ◌>>=◌, need, memo_limit, nodes_limit, links_limit, stack_limit, marks_limit, with_nodes, with_memo, top, push_id, push_node, link, node_by, extend, memo_has, memo_insert, put}
 use Rattle.steps.specs.Opcodes.{mark, made}
 use Rattle.steps.specs.Run.{Next, goes, stops, going}
@@ -52,10 +52,14 @@ enacted (Mark c) r h = going (mark (state_of r c))
 enacted (Go c) r h = ok (goes (state_of r c))
 enacted (Make c k) r h = going (container k r (above c.stack h r.stack) (state_of r c))
 enacted (Extend c o) r h = going (grow o.0 (above c.stack h r.stack) (state_of r c))
-enacted (Remember c i w k) r h = going (remember k.0 i.0 (state_of r c))
+enacted (Remember c i k) r h = going (remember k.0 i.0 (state_of r c))
 enacted (Build c o i) r h = ok (goes (with_state o.0 i.0 (state_of r c)))
 enacted (Stop c) r h = ok (stops (state_of r c))
-enacted (Refused c v w why) r h = no why
+
+-- what an opcode's answer comes to: what its effect does, or the refusal
+abbrev pub comes_to : Result Effect Refusal → Rooms → ℕ → Res Next
+comes_to (Ok e) r h = enacted e r h
+comes_to (Err why) r h = no why
 
 -- ---- what holds of the rooms and counts
 
@@ -112,23 +116,17 @@ Fits (Mark c) r h = Firm r c
 Fits (Go c) r h = Firm r c
 Fits (Make c k) r h = Firm r c × (c.stack ≤ h) × (h ≤ c.deepest) × HoldsLinks k
 Fits (Extend c o) r h = Firm r c × (c.stack ≤ h) × (h ≤ c.deepest) × (o.0 < c.nodes) × HoldsLinks (first r.nodes o.0) × (kind_in (first r.nodes o.0) ≢ 7)
-Fits (Remember c i w k) r h = Firm r c × (i.0 < c.nodes)
+Fits (Remember c i k) r h = Firm r c × (i.0 < c.nodes)
 Fits (Build c o i) r h = Firm r c × (o.0 < c.nodes) × (i.0 < c.nodes) × (kind_in (first r.nodes o.0) ≡ 12)
 Fits (Stop c) r h = Firm r c
-Fits (Refused c v w why) r h = Unit {0}
 
--- e is the step n of the machine with the rooms r and counts c
-pub record IsStep (e : Effect) (r : Rooms) (c : Counts) (n : Res Next) : Type 0 where
-  pub enacts : enacted e r c.stack ≡ n
-  pub fits : Fits e r c.stack
+-- an opcode's answer is the step n of the machine with the rooms r and counts c
+pub record IsStep (answer : Result Effect Refusal) (r : Rooms) (c : Counts) (n : Res Next) : Type 0 where
+  pub comes : comes_to answer r c.stack ≡ n
+  pub fits : IfOk answer (λ e. Fits e r c.stack)
 
--- a refusal as the code answers it: counts and words only fill an effect's room, and mean nothing
-abbrev pub refusing : Counts → Refusal → Effect
-refusing c why = Refused c 0 0 why
-
-pub says_refused : (why : Refusal) (r : Rooms) (c : Counts) (n : Res Next) → n ≡ no why → IsStep (refusing c why) r c n
-unfolding enacted Fits
-says_refused why r c n e = record { enacts = sym e; fits = tt }
+pub says_refused : (why : Refusal) (r : Rooms) (c : Counts) (n : Res Next) → n ≡ no why → IsStep (Err why) r c n
+says_refused why r c n e = record { comes = sym e; fits = tt }
 
 -- some rooms of which P holds, with these counts
 pub record SomeRooms (c : Counts) (P : Rooms → Type 0) : Type 0 where
@@ -136,6 +134,6 @@ pub record SomeRooms (c : Counts) (P : Rooms → Type 0) : Type 0 where
   pub sound : Sound rooms c
   pub agrees : P rooms
 
--- in all such rooms e is the step that `does` is
-unfoldable pub Decides : Counts → (Rooms → Type 0) → (State → Res Next) → Effect → Type 0
-Decides c P does e = (r : Rooms) → Sound r c → P r → IsStep e r c (does (state_of r c))
+-- in all such rooms the answer is the step that `does` is
+unfoldable pub Decides : Counts → (Rooms → Type 0) → (State → Res Next) → Result Effect Refusal → Type 0
+Decides c P does answer = (r : Rooms) → Sound r c → P r → IsStep answer r c (does (state_of r c))

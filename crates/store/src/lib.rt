@@ -2,12 +2,10 @@
 // opcodes read it, the effects write it, the passes behind STOP go on from it. specs/ has what rooms and counts say of the state.
 #![tactic(auto)]
 
-ghost use Rattle.std.specs.Prelude.{true, ◌≡◌, ℕ, ◌+◌, ◌*◌, ◌<◌, ◌≤◌, length, get_or};
+ghost use Rattle.std.specs.Prelude.{true, ◌≡◌, ℕ, ◌+◌, ◌*◌, ◌<◌, ◌≤◌, length, get_or, MatchOption};
 ghost use Rattle.value.specs.Shape.{kind_in};
 ghost use Rattle.steps.specs.NodeWords.{first};
 ghost use Rattle.store.specs.Rooms.{Absent, Passed, Numbered};
-
-use refusal::Refusal;
 
 // A node's place in the node table.
 #[derive(Clone, Copy)]
@@ -41,10 +39,9 @@ pub enum Effect {
     Go(Counts),
     Make(Counts, u64),
     Extend(Counts, NodeId),
-    Remember(Counts, NodeId, u64, MemoKey),
+    Remember(Counts, NodeId, MemoKey),
     Build(Counts, NodeId, NodeId),
     Stop(Counts),
-    Refused(Counts, u64, u64, Refusal),
 }
 
 // Behind the kinds of a table's record, two more of a node's first word, of which only the line is known before STOP, quotes and all: Bytes
@@ -143,39 +140,35 @@ fn passed(keys: &[u32], memo: usize, k: u32) -> usize
     i
 }
 
-// The place of a memo number among the first `memo`, which are different ones, or `memo`: by a search, newest first.
-fn search(keys: &[u32], memo: usize, key: MemoKey) -> usize
+// The place of a memo number among the first `memo`, which are different ones: by a search, newest first.
+fn search(keys: &[u32], memo: usize, key: MemoKey) -> Option<usize>
     requires memo_in_bounds { memo ≤ length keys.now }
     requires distinct { (i : ℕ) → i < memo → Absent keys.now i (get_or keys.now i 0) }
-    ensures { (result ≤ memo) × Absent keys.now result key.0 × (result < memo → get_or keys.now result 0 ≡ key.0) }
+    ensures { MatchOption result
+        (Absent keys.now memo key.0)
+        (λ i. (i < memo) × Absent keys.now i key.0 × (get_or keys.now i 0 ≡ key.0)) }
 {
     let k = key.0;
-    let mut i = passed(keys, memo, k);
-    while 0 < i {
-        i -= 1;
-        if keys[i] == k {
-            return i;
-        }
-    }
-    memo
+    let left = passed(keys, memo, k);
+    keys[..left].iter().rposition(|other| *other == k)
 }
 
 // The same: at once where no number is so great, or where the numbers were put in order.
-pub fn slot(keys: &[u32], memo: usize, greatest: usize, key: MemoKey) -> usize
+pub fn slot(keys: &[u32], memo: usize, greatest: usize, key: MemoKey) -> Option<usize>
     requires { (memo ≤ length keys.now) × (0 < length keys.now) × Numbered keys.now memo greatest }
-    ensures { (result ≤ memo) × Absent keys.now result key.0 × (result < memo → get_or keys.now result 0 ≡ key.0) }
+    ensures { MatchOption result
+        (Absent keys.now memo key.0)
+        (λ i. (i < memo) × Absent keys.now i key.0 × (get_or keys.now i 0 ≡ key.0)) }
 {
     let k = key.0;
     if greatest <= k as usize {
-        return memo;
+        return None;
     }
     let first = keys[0];
     if first <= k {
         let guess = (k - first) as usize;
-        if guess < memo {
-            if keys[guess] == k {
-                return guess;
-            }
+        if guess < memo && keys[guess] == k {
+            return Some(guess);
         }
     }
     search(keys, memo, key)
