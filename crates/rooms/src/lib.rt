@@ -2,6 +2,8 @@
 // is quicker where a whole room is zero already, as it is after a reading.
 #![tactic(auto)]
 
+pub mod lending;
+
 ghost use Rattle.std.specs.Prelude.{true, ◌≡◌, ◌≤◌, length};
 ghost use Rattle.rooms.specs.Cleared.{cleared};
 
