@@ -7,43 +7,45 @@ use Prim.Native.Nat.{ℕ, zero, suc, ◌+◌, ◌-◌, ◌*◌, ◌^◌, ◌<◌
 use native.Mathlib.Nat.{pow-suc, pow-le-pow_right}
 use native.Mathlib.Numerals.{add-one}
 use native.Mathlib.Omega.{arith}
+use Rattle.std.specs.Prelude.{Option, Some, None, MatchOption}
+use Rattle.std.specs.List.{list_all, AllWithin, HoldsAt}
 use lib.Dec.{eqb, ltb}
-use lib.ListN.{length, get_or, take, drop, length-take, length-drop, drop_of_length-le}
-use lib.Seq.{drop-cons, take-suc, take-take, get_or-take, get_or-drop}
-use borrow.Author.Tests.{eq-eqb, ne_eqb}
+use lib.ListN.{get_or-eq_default, length, get_or, take, drop, length-take, length-drop, drop_of_length-le}
+use lib.Seq.{drop-cons, take-suc, get_or-drop}
 use Rattle.refusal.specs.Read.{got, refused}
 use Rattle.refusal.specs.declared.Refusal.TheVariants.{EndOfInput, IntegerTooLarge}
 use Rattle.input.specs.Bytes.{lt_or_le, Bytes, bytes_take, bytes_drop, low_first, high_first, last_byte, padded_to, filled-same, filled-length, filled_at}
-use Rattle.input.specs.Line.{first_from, newline_of, less_cr, line_of}
+use Rattle.input.specs.Line.{first_from, newline_of, of_hit, of_none}
 use Rattle.input.specs.Long.{denotes, bits64, long_of}
 use Rattle.input.specs.Rule01.{all_are, fill_of, sign_filled, rule01, long_by01, word-short, long_is_01}
 
--- the loops of `newline` and `repeats`: at the end, at a byte that decides, at any other
-module _ (p : List ℕ) (i : ℕ) where
-  pub newline_end : length p ≤ i → newline_of p i ≡ refused EndOfInput 0
-  unfolding first_from newline_of
-  newline_end h = simp (drop_of_length-le p h)
+-- a test of every byte tells what `all_are` says
+pub all_is : (x : ℕ) (l : List ℕ) → list_all (λ b. eqb b x) l ≡ all_are x l
+unfolding all_are
+all_is x [] = refl
+all_is x (b ∷ t) = ap (λ (c : Bool). eqb b x && c) (all_is x t)
 
-  pub newline_hit : i < length p → get_or p i 0 ≡ 10 → newline_of p i ≡ got i
-  unfolding first_from newline_of
-  newline_hit h e = simp (drop-cons p i 0 h, eq-eqb _ _ e)
+pub all-none : (x n : ℕ) (l : List ℕ) → length l ≤ n → all_are x (drop n l) ≡ true
+unfolding all_are
+all-none x n l h = simp (drop_of_length-le l h)
 
-  pub newline_more : i < length p → (get_or p i 0 ≡ 10 → ⊥) → newline_of p (i + 1) ≡ newline_of p i
-  unfolding first_from newline_of
-  newline_more h e = simp (drop-cons p i 0 h, ne_eqb _ _ e, add-one)
+pub newline_past : (p : List ℕ) (from : ℕ) → length p < from → newline_of p from ≡ refused EndOfInput 0
+unfolding newline_of first_from
+newline_past p from h = let k : length p ≤ from = omega arith in simp (drop_of_length-le p k)
 
-  module _ (x : ℕ) where
-    pub all_end : length p ≤ i → all_are x (drop i p) ≡ true
-    unfolding all_are
-    all_end h = simp (drop_of_length-le p h)
+-- what a search of the bytes from `from` on finds
+module _ (p : List ℕ) (from : ℕ) (r : Option ℕ) (h : MatchOption r (AllWithin (λ b. b ≡ 10 → ⊥) (drop from p) 0 (length (drop from p))) (λ i. (i < length (drop from p)) × HoldsAt (λ b. b ≡ 10) (drop from p) i × AllWithin (λ b. b ≡ 10 → ⊥) (drop from p) 0 i)) where
+  pub newline_absent : r ≡ None → newline_of p from ≡ refused EndOfInput 0
+  unfolding newline_of
+  newline_absent e =
+      let f = rw e at h in
+      of_none (drop from p) from (λ j q. ⊎_elim (λ l. f j 0 (omega arith) l q) (λ l. let z : get_or (drop from p) j 0 ≡ 0 = get_or-eq_default (drop from p) 0 l in omega arith) (lt_or_le j (length (drop from p))))
 
-    pub all_miss : i < length p → (get_or p i 0 ≡ x → ⊥) → all_are x (drop i p) ≡ false
-    unfolding all_are
-    all_miss h e = simp (drop-cons p i 0 h, ne_eqb _ _ e)
-
-    pub all_more : i < length p → get_or p i 0 ≡ x → all_are x (drop (i + 1) p) ≡ all_are x (drop i p)
-    unfolding all_are
-    all_more h e = simp (drop-cons p i 0 h, eq-eqb _ _ e, add-one)
+  pub newline_found : (n : ℕ) → r ≡ Some n → newline_of p from ≡ got (from + n)
+  unfolding newline_of
+  newline_found n e =
+      let f = rw e at h in
+      of_hit (drop from p) from n (record { inside = f.0; newline = f.1 0; before = λ k l. f.2 k 0 (omega arith) l })
 
 -- one more byte: the number stays below the next power, and in a u64
 pub grows : (k v b : ℕ) → v < 256 ^ k → b < 256 → v * 256 + b < 256 ^ (k + 1)
@@ -154,32 +156,3 @@ long_is l B x v a t e f g h =
     let z : a ≡ all_are (fill_of l) (drop 8 l) = cc in
     let u : t ≡ beq (ltb (low_first (padded_to 8 (fill_of l) l)) (2 ^ 63)) (ltb (last_byte l) 128) = sym h ∙ rw (y, e, s) in
     rw (z, u, y) (sym (long_is_01 l B))
-
--- a line: with a CR before its newline it ends there, else it is whole
-module _ (p : List ℕ) (from at : ℕ) (h : at < length p) where
-  part_length : length (take (at - from) (drop from p)) ≡ at - from
-  part_length = simp (length-take, length-drop) (omega arith)
-
-  last_is : from < at → last_byte (take (at - from) (drop from p)) ≡ get_or p (at - 1) 0
-  unfolding last_byte
-  last_is l =
-      let e : from + (at - from - 1) ≡ at - 1 = omega arith in
-      let k : at - from - 1 < at - from = omega arith in
-      rw (part_length, get_or-take (at - from) (drop from p) (at - from - 1) 0 k, get_or-drop from p (at - from - 1) 0, e)
-
-  pub line_cr : from < at → get_or p (at - 1) 0 ≡ 13 → take (at - 1 - from) (drop from p) ≡ line_of p from at
-  unfolding line_of less_cr
-  line_cr l e =
-      let k : at - from - 1 ≤ at - from = omega arith in
-      let m : at - 1 - from ≡ at - from - 1 = omega arith in
-      simp (eq-eqb _ 13 (last_is l ∙ e), part_length, m, take-take (at - from - 1) (at - from) (drop from p) k)
-
-  pub line-whole : (from < at → get_or p (at - 1) 0 ≡ 13 → ⊥) → take (at - from) (drop from p) ≡ line_of p from at
-  unfolding line_of less_cr last_byte
-  line-whole f = simp (ne_eqb _ 13 (λ q. ⊎_elim (λ l. f l (sym (last_is l) ∙ q)) (none q) (lt_or_le from at)))
-    where
-      none : last_byte (take (at - from) (drop from p)) ≡ 13 → at ≤ from → ⊥
-      none q l =
-          let z : at - from ≡ 0 = omega arith in
-          let y : last_byte [] ≡ 13 = rw z at q in
-          omega arith

@@ -8,14 +8,7 @@ use Rattle.std.proofs.Math.ListN.{length-take, length-drop}
 use Rattle.std.proofs.lemmas.Bool.{eqb-false}
 use Rattle.refusal.specs.Read.{Read, got, refused}
 use Rattle.refusal.specs.declared.Refusal.TheVariants.{EndOfInput}
-use Rattle.input.specs.declared.LineEnd.{LineEnd}
-use Rattle.input.specs.declared.LineEnd.TheVariants.{At, End}
 use Rattle.input.specs.Bytes.{last_byte}
-
--- what the answer of `newline` says: End is number 3
-unfoldable pub line_end : LineEnd → Read ℕ
-line_end (At i) = got i
-line_end End = refused EndOfInput 0
 
 -- the place of the first newline of a list whose first byte stands at k
 unfoldable pub first_from : List ℕ → ℕ → Read ℕ
@@ -49,10 +42,10 @@ pub record First (p : List ℕ) (from i : ℕ) : Type 0 where
   pub before : (k : ℕ) → from ≤ k → k < i → get_or p k 0 ≡ 10 → ⊥
 
 -- the same of a list from its start
-record Hit (l : List ℕ) (j : ℕ) : Type 0 where
-  inside : j < length l
-  newline : get_or l j 0 ≡ 10
-  before : (k : ℕ) → k < j → get_or l k 0 ≡ 10 → ⊥
+pub record Hit (l : List ℕ) (j : ℕ) : Type 0 where
+  pub inside : j < length l
+  pub newline : get_or l j 0 ≡ 10
+  pub before : (k : ℕ) → k < j → get_or l k 0 ≡ 10 → ⊥
 
 later : (b : ℕ) (t : List ℕ) (j : ℕ) → (b ≡ 10 → ⊥) → Hit t j → Hit (b ∷ t) (suc j)
 later b t j n h = record { inside = let z = h.inside in omega arith; newline = h.newline; before = prior }
@@ -77,7 +70,7 @@ hit_of (b ∷ t) k i e = go (eqb b 10) refl e (hit_of t (suc k) i)
         let y : i - k ≡ suc (i - suc k) = omega arith in
         (omega arith, rw y (later b t (i - suc k) (eqb-false b 10 q) m.1))
 
-of_hit : (l : List ℕ) (k j : ℕ) → Hit l j → first_from l k ≡ got (k + j)
+pub of_hit : (l : List ℕ) (k j : ℕ) → Hit l j → first_from l k ≡ got (k + j)
 unfolding first_from
 of_hit [] k j h = let z = h.inside in absurd (omega arith)
 of_hit (b ∷ t) k zero h = simp (eq-eqb b 10 h.newline) (ap got (omega arith))
@@ -86,7 +79,7 @@ of_hit (b ∷ t) k (suc j) h =
     let e : suc k + j ≡ k + suc j = omega arith in
     simp (ne_eqb b 10 (h.before 0 (omega arith))) (of_hit t (suc k) j r ∙ ap got e)
 
-of_none : (l : List ℕ) (k : ℕ) → ((j : ℕ) → get_or l j 0 ≡ 10 → ⊥) → first_from l k ≡ refused EndOfInput 0
+pub of_none : (l : List ℕ) (k : ℕ) → ((j : ℕ) → get_or l j 0 ≡ 10 → ⊥) → first_from l k ≡ refused EndOfInput 0
 unfolding first_from
 of_none [] k h = refl
 of_none (b ∷ t) k h = simp (ne_eqb b 10 (h 0)) (of_none t (suc k) (λ j. h (suc j)))

@@ -12,8 +12,6 @@ use Rattle.std.proofs.Math.Seq.{take-suc, take-length}
 use borrow.Author.Tests.{lt-ltb, le-ltb, le-leb, leb-true}
 use Rattle.refusal.specs.Read.{Read, got, refused}
 use Rattle.refusal.specs.declared.Refusal.TheVariants.{IntegerTooLarge}
-use Rattle.input.specs.declared.Integer.{Integer}
-use Rattle.input.specs.declared.Integer.TheVariants.{Value, TooLarge}
 use Rattle.input.specs.Bytes.{Bytes, low_first, last_byte, lt_or_le, low_append, low_below, bytes_take}
 
 -- PEP 307: the bytes as a whole number, less 256 ^ length where the last byte has its top bit set
@@ -32,11 +30,6 @@ bits64 (negsuc n) = 2 ^ 64 - suc n
 -- an integer within i64 is its 64 bits, any other number 9
 unfoldable pub long_of : List ℕ → Read ℕ
 long_of l = cond (in_i64 (denotes l)) (got (bits64 (denotes l))) (refused IntegerTooLarge 0)
-
--- what the answer of `long` says
-unfoldable pub integer_read : Integer → Read ℕ
-integer_read (Value bits) = got bits
-integer_read TooLarge = refused IntegerTooLarge 0
 
 -- opens the definitions for the examples
 unfoldable pub evaluates : Unit {0}

@@ -3,28 +3,12 @@
 
 ghost use Rattle.std.specs.Prelude.{◌≡◌, ◌≤◌, ◌<◌, ◌+◌, ◌^◌, length, get_or, take, drop};
 ghost use Rattle.input.specs.Bytes.{low_first, high_first, padded_to};
-ghost use Rattle.input.specs.Line.{line_end, newline_of, line_of};
-ghost use Rattle.input.specs.Long.{integer_read, long_of, denotes, bits64};
+ghost use Rattle.input.specs.Line.{newline_of, line_of};
+ghost use Rattle.input.specs.Long.{long_of, denotes, bits64};
 ghost use Rattle.input.specs.Rule01.{fill_of, all_are};
+ghost use Rattle.refusal.specs.Read.{answered};
 
-#[derive(Drop)]
-pub enum LineEnd {
-    At(usize),
-    End,
-}
-
-// The 64 bits of an i64, or an integer outside it.
-#[derive(Drop)]
-pub enum Integer {
-    Value(u64),
-    TooLarge,
-}
-
-fn byte_or(bytes: &[u8], i: usize, fill: u8) -> u8
-    ensures { result ≡ get_or bytes.now i fill }
-{
-    if i < bytes.len() { bytes[i] } else { fill }
-}
+use refusal::Refusal;
 
 // The number of the first `width` bytes, low byte first, with `fill` for those that are missing.
 fn low_first(bytes: &[u8], width: usize, fill: u8) -> u64
@@ -32,10 +16,9 @@ fn low_first(bytes: &[u8], width: usize, fill: u8) -> u64
     ensures { (result ≡ low_first (padded_to width fill bytes.now)) × (result < 256 ^ width) }
 {
     let mut value: u64 = 0;
-    let mut i = width;
-    while 0 < i {
-        i -= 1;
-        value = value * 256 + byte_or(bytes, i, fill) as u64;
+    for i in (0..width).rev() {
+        let b = bytes.get(i).copied().unwrap_or(fill);
+        value = value * 256 + b as u64;
     }
     value
 }
@@ -55,10 +38,8 @@ fn high_at(pickle: &[u8], at: usize, width: usize) -> u64
     ensures { (result ≡ high_first (take width (drop at pickle.now))) × (result < 256 ^ width) }
 {
     let mut value: u64 = 0;
-    let mut i = 0;
-    while i < width {
-        value = value * 256 + pickle[at + i] as u64;
-        i += 1;
+    for b in &pickle[at..at + width] {
+        value = value * 256 + *b as u64;
     }
     value
 }
@@ -78,14 +59,14 @@ pub fn u32_at(pickle: &[u8], at: usize) -> u32
 }
 
 // The byte that repeats the sign of the last one.
+#[tactic(auto, unfolding(crate::specs::Bytes::last_byte, crate::specs::Rule01::fill_of))]
 fn fill_of(bytes: &[u8]) -> u8
     ensures { result ≡ fill_of bytes.now }
 {
-    let len = bytes.len();
-    if len == 0 {
-        return 0;
+    match bytes.last() {
+        Some(last) if 128 <= *last => 0xFF,
+        _ => 0,
     }
-    if bytes[len - 1] < 128 { 0 } else { 0xFF }
 }
 
 // As the 64 bits of the i64 that it is.
@@ -107,64 +88,51 @@ pub fn f64_at(pickle: &[u8], at: usize) -> u64
 }
 
 // The place of the first newline at or after `from`, or the end of the input.
-pub fn newline(pickle: &[u8], from: usize) -> LineEnd
-    ensures { line_end result ≡ newline_of pickle.now from }
+pub fn newline(pickle: &[u8], from: usize) -> Result<usize, Refusal>
+    ensures { answered result ≡ newline_of pickle.now from }
 {
-    let mut i = from;
-    let at = loop {
-        if pickle.len() <= i {
-            return LineEnd::End;
-        }
-        if pickle[i] == b'\n' {
-            break i;
-        }
-        i += 1;
-    };
-    LineEnd::At(at)
+    if pickle.len() < from {
+        return Err(Refusal::EndOfInput);
+    }
+    match pickle[from..].iter().position(|b| *b == b'\n') {
+        Some(after) => Ok(from + after),
+        None => Err(Refusal::EndOfInput),
+    }
 }
 
 // The line from `from` to the newline at `at`, less one CR, as a part of the pickle.
+#[tactic(auto, unfolding(crate::specs::Bytes::last_byte, crate::specs::Line::less_cr, crate::specs::Line::line_of))]
 pub fn line(pickle: &[u8], from: usize, at: usize) -> &[u8]
     requires { (from ≤ at) × (at < length pickle.now) }
     ensures { result.now ≡ line_of pickle.now from at }
 {
-    if from == at {
-        return &pickle[from..at];
-    }
-    let last = at - 1;
+    let line = &pickle[from..at];
     // Text protocol pickles written on Windows.
-    if pickle[last] == b'\r' {
-        return &pickle[from..last];
+    match line {
+        [text @ .., last] if *last == b'\r' => text,
+        _ => line,
     }
-    &pickle[from..at]
 }
 
 // Whether every byte from `from` on is `fill`.
 fn repeats(bytes: &[u8], from: usize, fill: u8) -> bool
     ensures { result ≡ all_are fill (drop from bytes.now) }
 {
-    let mut i = from;
-    while i < bytes.len() {
-        if bytes[i] != fill {
-            return false;
-        }
-        i += 1;
-    }
-    true
+    bytes.len() <= from || bytes[from..].iter().all(|b| *b == fill)
 }
 
 // A two's complement integer, low byte first, of any length.
-pub fn long(bytes: &[u8]) -> Integer
-    ensures { integer_read result ≡ long_of bytes.now }
+pub fn long(bytes: &[u8]) -> Result<u64, Refusal>
+    ensures { answered result ≡ long_of bytes.now }
 {
     let fill = fill_of(bytes);
     if !repeats(bytes, 8, fill) {
-        return Integer::TooLarge;
+        return Err(Refusal::IntegerTooLarge);
     }
     let value = low_first(bytes, 8, fill);
     if (value < 0x8000_0000_0000_0000) == (fill == 0) {
-        Integer::Value(value)
+        Ok(value)
     } else {
-        Integer::TooLarge
+        Err(Refusal::IntegerTooLarge)
     }
 }
