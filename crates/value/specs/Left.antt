@@ -1,9 +1,9 @@
 -- What is left of a comparison as it walks through two tables, and that each step of the walk keeps it.
-use Prim.Native.Nat.{ℕ, suc, zero, ◌+◌, ◌-◌, ◌*◌, ◌^◌, ◌≤◌, ◌<◌, compare, Ordering}
-use Rattle.std.specs.Prelude.{Bool, true, false, ◌&&◌, not, List, ◌≡◌, refl, ◌≢◌, length, get_or, drop, eqb}
+use Prim.Native.Nat.{ℕ, suc, zero, ◌+◌, ◌-◌, ◌*◌, ◌^◌, ◌≤◌, ◌<◌, min, compare, Ordering}
+use Rattle.std.specs.Prelude.{Bool, true, false, ◌&&◌, not, List, ◌≡◌, refl, ◌≢◌, ◌⊎◌, length, get_or, drop, eqb}
 use Rattle.std.specs.Bool.{beq}
 use Rattle.std.proofs.Math.Path.{sym, ap}
-use Rattle.std.proofs.Common.{◌∙◌, ap₂, eqb→eq}
+use Rattle.std.proofs.Common.{◌∙◌, ap₂, eqb→eq, inl, inr}
 use Rattle.std.proofs.Math.Nat.{add-zero}
 use borrow.Author.Tests.{ne_eqb, eqb-true}
 use native.Mathlib.Omega.{arith}
@@ -14,6 +14,7 @@ use Rattle.value.specs.Shape.{kind_in, fresh_in, holding, labels_of, label_of, a
 use Rattle.value.specs.Stands.{◌⊕◌, count-append, word_at, label_at, arity_at, Reads, Stands, stands_append}
 use Rattle.value.specs.Walk.{first_values, count-first, stands_first, eq_then, compare_same, step_less, step_greater, step_same, step_shorter, step_longer, step_newer}
 use Rattle.value.specs.Labels.{kind_in_lem}
+use Rattle.value.specs.Told.{three, compare_less, compare_more}
 
 -- an Object's `new`, of the record at i
 unfoldable pub new_at : List ℕ → ℕ → Bool
@@ -157,7 +158,7 @@ module _ (a s b t : List ℕ) (k l : ℕ) (v o : Ordering) where
           let e₂ = y.0.arity in
           record { reads₁ = x.0.reads; reads₂ = y.0.reads; arity₁ = omega arith; arity₂ = omega arith; more = omega arith }
 
-  pub left_less : (left : ℕ) → left ≢ 0 → StillToCompare a s b t k l left v o → labels (label_at a s k) (label_at b t l) ≡ Ordering.lt → Ordering.lt ≡ o
+  left_less : (left : ℕ) → left ≢ 0 → StillToCompare a s b t k l left v o → labels (label_at a s k) (label_at b t l) ≡ Ordering.lt → Ordering.lt ≡ o
   unfolding Stands count
   left_less left n h e = go h.first h.second h.stands₁ h.stands₂ h.count₁ h.count₂ h.same
     where
@@ -166,7 +167,7 @@ module _ (a s b t : List ℕ) (k l : ℕ) (v o : Ordering) where
       go (node m d r) nil x y p q w = absurd (n (sym q))
       go (node m d r) (node m' d' r') x y p q w = sym (step_less m m' d d' r r' v (sym (ap₂ labels x.0.label y.0.label) ∙ e)) ∙ w
 
-  pub left_greater : (left : ℕ) → left ≢ 0 → StillToCompare a s b t k l left v o → labels (label_at a s k) (label_at b t l) ≡ Ordering.gt → Ordering.gt ≡ o
+  left_greater : (left : ℕ) → left ≢ 0 → StillToCompare a s b t k l left v o → labels (label_at a s k) (label_at b t l) ≡ Ordering.gt → Ordering.gt ≡ o
   unfolding Stands count
   left_greater left n h e = go h.first h.second h.stands₁ h.stands₂ h.count₁ h.count₂ h.same
     where
@@ -174,6 +175,11 @@ module _ (a s b t : List ℕ) (k l : ℕ) (v o : Ordering) where
       go nil g x y p q w = absurd (n (sym p))
       go (node m d r) nil x y p q w = absurd (n (sym q))
       go (node m d r) (node m' d' r') x y p q w = sym (step_greater m m' d d' r r' v (sym (ap₂ labels x.0.label y.0.label) ∙ e)) ∙ w
+
+  pub left_decided : (left : ℕ) → left ≢ 0 → StillToCompare a s b t k l left v o → (d : Ordering) → labels (label_at a s k) (label_at b t l) ≡ d → d ≢ Ordering.eq → d ≡ o
+  left_decided left n h Ordering.lt e f = left_less left n h e
+  left_decided left n h Ordering.eq e f = absurd (f refl)
+  left_decided left n h Ordering.gt e f = left_greater left n h e
 
   pub left_next : (left left' : ℕ) (v' : Ordering) → left ≢ 0 → StillToCompare a s b t k l left v o → labels (label_at a s k) (label_at b t l) ≡ Ordering.eq
       → NextToCompare left v (arity_at a k) (arity_at b l) (new_at a k) (new_at b l) left' v' → StillToCompare a s b t (k + 1) (l + 1) left' v' o
@@ -281,16 +287,6 @@ step_past a b k l left v m h =
 
 -- ---- what `next` answers
 
-compare_bits : (x y : Bool) → x ≢ y → x ≡ true → Ordering.gt ≡ compare (bit x) (bit y)
-compare_bits true true n e = absurd (n refl)
-compare_bits true false n e = refl
-compare_bits false y n e = absurd (let z : ◌≡◌ {A = ℕ} 0 1 = cc in omega arith)
-
-compare_bits_back : (x y : Bool) → x ≢ y → x ≡ false → Ordering.lt ≡ compare (bit x) (bit y)
-compare_bits_back false false n e = absurd (n refl)
-compare_bits_back false true n e = refl
-compare_bits_back true y n e = absurd (let z : ◌≡◌ {A = ℕ} 0 1 = cc in omega arith)
-
 differ : (x y : Bool) → not (beq x y) ≡ true → x ≢ y
 differ true true e f = let z : ◌≡◌ {A = ℕ} 0 1 = cc in omega arith
 differ true false e f = let z : ◌≡◌ {A = ℕ} 0 1 = cc in omega arith
@@ -305,17 +301,16 @@ agree false false e = refl
 
 -- the tests of the code, x and y being different or not
 module _ (left : ℕ) (v : Ordering) (n m : ℕ) (x y : Bool) where
-  pub next_new : not (beq x y) ≡ true → x ≡ true → NextToCompare left v n m x y 1 Ordering.gt
-  next_new u e = newer (differ x y u) refl (compare_bits x y (differ x y u) e)
+  pub next_newer : not (beq x y) ≡ true → (o : Ordering) → o ≡ compare (bit x) (bit y) → NextToCompare left v n m x y 1 o
+  next_newer u o e = newer (differ x y u) refl e
 
-  pub next_old : not (beq x y) ≡ true → x ≡ false → NextToCompare left v n m x y 1 Ordering.lt
-  next_old u e = newer (differ x y u) refl (compare_bits_back x y (differ x y u) e)
+  pub next_sized : not (beq x y) ≡ false → n ≢ m → (k : ℕ) → k ≡ min n m → (o : Ordering) → o ≡ compare n m → NextToCompare left v n m x y k o
+  next_sized u d k h o e = go (three n m)
+    where
+      go : (n < m) ⊎ ((n ≡ m) ⊎ (m < n)) → NextToCompare left v n m x y k o
+      go (inl l) = shorter (agree x y u) l (h ∙ omega arith) (e ∙ compare_less n m l)
+      go (inr (inl q)) = absurd (d q)
+      go (inr (inr l)) = longer (agree x y u) l (h ∙ omega arith) (e ∙ compare_more n m l)
 
-  pub next_shorter : not (beq x y) ≡ false → n < m → NextToCompare left v n m x y n Ordering.lt
-  next_shorter u h = shorter (agree x y u) h refl refl
-
-  pub next_longer : not (beq x y) ≡ false → m < n → NextToCompare left v n m x y m Ordering.gt
-  next_longer u h = longer (agree x y u) h refl refl
-
-  pub next_same : not (beq x y) ≡ false → m ≤ n → n ≤ m → NextToCompare left v n m x y (left - 1 + n) v
-  next_same u g h = same (agree x y u) (omega arith) refl refl
+  pub next_same : not (beq x y) ≡ false → n ≡ m → NextToCompare left v n m x y (left - 1 + n) v
+  next_same u e = same (agree x y u) e refl refl

@@ -203,14 +203,10 @@ module _ (a b k : ℕ) (e : k ≡ kind_in a) where
   unfolding arity_of
   arity_dict h = rw (← e, h)
 
-  pub arity_state : k ≡ 12 → state_in a ≡ true → 2 ≡ arity_of a b
+  pub arity_object : k ≡ 12 → (b' : ℕ) → b' ≡ bit (state_in a) → 1 + b' ≡ arity_of a b
   unfolding arity_of
-  arity_state h s = rw (← e, h, s)
+  arity_object h b' s = rw (← e, h, s) (omega arith)
 
-  pub arity_alone : k ≡ 12 → state_in a ≡ false → 1 ≡ arity_of a b
+  pub arity_other : 10 < k → k ≢ 12 → 0 ≡ arity_of a b
   unfolding arity_of
-  arity_alone h s = rw (← e, h, s)
-
-  pub arity_other : 6 ≤ k → 10 ≤ k → k ≢ 10 → k ≢ 12 → 0 ≡ arity_of a b
-  unfolding arity_of
-  arity_other g h m n = rw (← e, le-ltb k 6 g, le-ltb k 10 h, ne_eqb k 10 m, ne_eqb k 12 n)
+  arity_other h n = rw (← e, le-ltb k 6 (omega arith), le-ltb k 10 (omega arith), ne_eqb k 10 (omega arith), ne_eqb k 12 n)

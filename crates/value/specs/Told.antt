@@ -1,21 +1,39 @@
 -- What the comparison's answers mean, and the laws of numbers and keys that its leaves rest on.
-use Prim.Native.Nat.{ℕ, suc, zero, ◌+◌, ◌-◌, ◌^◌, ◌/◌, ◌%◌, ◌≤◌, ◌<◌, compare, Ordering}
-use Rattle.std.specs.Prelude.{Bool, true, false, not, List, [], ◌∷◌, ◌≡◌, refl, ◌⊎◌, T, ltb, length, get_or, drop}
-use Rattle.std.proofs.Common.{sym, ◌∙◌, ap, inl, inr, eqb→eq, ltb→lt, nltb→le, lit<, arith, add-zero, add-one}
+use Prim.Native.Nat.{ℕ, suc, ◌+◌, ◌-◌, ◌^◌, ◌/◌, ◌%◌, ◌≤◌, ◌<◌, compare, Ordering}
+use Rattle.std.specs.Prelude.{Bool, true, false, cond, not, List, [], ◌∷◌, ◌≡◌, ◌≢◌, refl, ◌⊎◌, T, ltb}
+use Rattle.std.proofs.Common.{sym, ◌∙◌, ap, inl, inr, eqb→eq, ltb→lt, nltb→le, lit<, arith}
+use Rattle.std.proofs.lemmas.Bool.Decides.{nat_tests}
 use Rattle.std.proofs.Math.Dec.{is_le, compare_is_eq, nleb→lt}
-use Rattle.std.proofs.Math.ListN.{drop_of_length-le}
-use Rattle.std.proofs.Math.Seq.{drop-cons}
 use borrow.Author.Tests.{lt-ltb, le-ltb}
-use Rattle.value.specs.declared.Order.{Order}
-use Rattle.value.specs.declared.Order.TheVariants.{Less, Equal, Greater}
-use Rattle.value.specs.Order.{lex, by_value, total_order}
+use Rattle.std.specs.declared.cmp.Ordering.{Ordering as Answer}
+use Rattle.std.specs.declared.cmp.Ordering.TheVariants.{Less, Equal, Greater}
+use Rattle.std.specs.Ordering.{nat_cmp, int_cmp, bool_cmp, ordering_then, is_ne, MatchOrdering}
+use Rattle.std.specs.Cmp.Lexicographic.{slice_cmp}
+use Rattle.std.specs.Int.{cast_signed}
+use Rattle.std.proofs.lemmas.Int.{ints}
+use lib.IntN.{pos, negsuc}
+use mir.Syntax.{w64}
+use Rattle.value.specs.Value.{bit}
+use Rattle.value.specs.Order.{◌then◌, lex, by_value, total_order}
 use Rattle.value.specs.OrderLaws.{compare_swap, lex_swap, swap}
 use Rattle.value.specs.Walk.{compare_same, eq_then, lt_then, gt_then, then_end}
 
-unfoldable pub told : Order → Ordering
+unfoldable pub told : Answer → Ordering
 told Less = Ordering.lt
 told Equal = Ordering.eq
 told Greater = Ordering.gt
+
+pub told_unequal : (o : Answer) → is_ne o ≡ true → told o ≢ Ordering.eq
+unfolding told
+told_unequal Less e h = cc
+told_unequal Equal e h = cc
+told_unequal Greater e h = cc
+
+pub told_equal : (o : Answer) → is_ne o ≡ false → told o ≡ Ordering.eq
+unfolding told
+told_equal Less e = cc
+told_equal Equal e = refl
+told_equal Greater e = cc
 
 -- ---- numbers
 
@@ -30,8 +48,51 @@ compare_less x y h = go (compare x y) (nleb→lt x y) (eqb→eq x y)
 pub compare_more : (x y : ℕ) → y < x → compare x y ≡ Ordering.gt
 compare_more x y h = compare_swap y x ∙ ap swap (compare_less y x h)
 
-pub numbers_equal : (x y : ℕ) → y ≤ x → x ≤ y → Ordering.eq ≡ compare x y
-numbers_equal x y a b = let e : x ≡ y = omega arith in rw e (sym (compare_same y))
+pub three : (x y : ℕ) → (x < y) ⊎ ((x ≡ y) ⊎ (y < x))
+three x y = go (ltb x y) (ltb y x) refl refl
+  where
+    go : (a b : Bool) → ltb x y ≡ a → ltb y x ≡ b → (x < y) ⊎ ((x ≡ y) ⊎ (y < x))
+    go true b p q = inl (ltb→lt x y (rw p tt))
+    go false true p q = inr (inr (ltb→lt y x (rw q tt)))
+    go false false p q = let l = nltb→le x y (rw p tt) in let m = nltb→le y x (rw q tt) in inr (inl (omega arith))
+
+module _ (x y : ℕ) where
+  pub told_numbers : told (nat_cmp x y) ≡ compare x y
+  unfolding told
+  told_numbers = go (three x y)
+    where
+      go : (x < y) ⊎ ((x ≡ y) ⊎ (y < x)) → told (nat_cmp x y) ≡ compare x y
+      go (inl l) = rw (compare_less x y l) (grind (arith, nat_tests))
+      go (inr (inl e)) = rw (e, compare_same y) (grind (arith, nat_tests))
+      go (inr (inr l)) = rw (compare_more x y l) (grind (arith, nat_tests))
+
+pub told_then : (a b : Answer) → told (ordering_then a b) ≡ (told a then told b)
+unfolding told ◌then◌
+told_then Less b = refl
+told_then Equal b = refl
+told_then Greater b = refl
+
+-- what `then_with` answers, where P is what the second is known to meet
+pub told_then_with : (o r : Answer) (P : Type 0) (x y : Ordering) → MatchOrdering o (r ≡ Less) P (r ≡ Greater) → told o ≡ x → (P → told r ≡ y) → told r ≡ (x then y)
+unfolding told ◌then◌
+told_then_with Less r P x y h e f = rw (h, ← e)
+told_then_with Equal r P x y h e f = rw (← e) (f h)
+told_then_with Greater r P x y h e f = rw (h, ← e)
+
+pub told_bits : (a b : Bool) → told (bool_cmp a b) ≡ compare (bit a) (bit b)
+unfolding told
+told_bits false false = refl
+told_bits false true = refl
+told_bits true false = refl
+told_bits true true = refl
+
+-- texts by their bytes
+pub told_texts : (a b : List ℕ) → told (slice_cmp nat_cmp a b) ≡ lex a b
+unfolding told lex
+told_texts [] [] = refl
+told_texts [] (y ∷ b) = refl
+told_texts (x ∷ a) [] = refl
+told_texts (x ∷ a) (y ∷ b) = told_then (nat_cmp x y) (slice_cmp nat_cmp a b) ∙ rw (told_numbers x y, told_texts a b)
 
 -- ---- integers and floats by their keys
 
@@ -64,14 +125,6 @@ fields x y e h = go (ltb (exponent x) (exponent y)) refl
     go : (b : Bool) → ltb (exponent x) (exponent y) ≡ b → (exponent x < exponent y) ⊎ ((exponent x ≡ exponent y) × (significand x < significand y))
     go true t = inl (ltb→lt (exponent x) (exponent y) (rw t tt))
     go false t = let l = nltb→le (exponent x) (exponent y) (rw t tt) in inr (omega arith, omega arith)
-
-three : (x y : ℕ) → (x < y) ⊎ ((x ≡ y) ⊎ (y < x))
-three x y = go (ltb x y) (ltb y x) refl refl
-  where
-    go : (a b : Bool) → ltb x y ≡ a → ltb y x ≡ b → (x < y) ⊎ ((x ≡ y) ⊎ (y < x))
-    go true b p q = inl (ltb→lt x y (rw p tt))
-    go false true p q = inr (inr (ltb→lt y x (rw q tt)))
-    go false false p q = let l = nltb→le x y (rw p tt) in let m = nltb→le y x (rw q tt) in inr (inl (omega arith))
 
 -- a key that is less where x is below y is ordered as the numbers are
 by_numbers : (f : ℕ → List ℕ) (P : ℕ → Type 0) → ((x y : ℕ) → P x → P y → x < y → lex (f x) (f y) ≡ Ordering.lt) → (x y : ℕ) → P x → P y → lex (f x) (f y) ≡ compare x y
@@ -130,47 +183,79 @@ unfolding Negative exponent significand
 floats_high = by_numbers_back total_order Negative (λ a b p q l.
     rw (high_key 0 0 a p.0, high_key 0 0 b q.0) (fields-less 0 _ _ _ _ _ _ (back (exponent a) (significand a) (exponent b) (significand b) (omega arith) (omega arith) (omega arith) (omega arith) (fields a b (omega arith) l))))
 
+-- numbers that are moved by one sum stay in order, and turn where they are taken from one number
+shifted : (x y k : ℕ) → compare (x + k) (y + k) ≡ compare x y
+shifted x y k = go (three x y)
+  where
+    go : (x < y) ⊎ ((x ≡ y) ⊎ (y < x)) → compare (x + k) (y + k) ≡ compare x y
+    go (inl l) = compare_less _ _ (omega arith) ∙ sym (compare_less x y l)
+    go (inr (inl e)) = rw e (compare_same _ ∙ sym (compare_same y))
+    go (inr (inr l)) = compare_more _ _ (omega arith) ∙ sym (compare_more x y l)
+
+turned : (x y k : ℕ) → x ≤ k → y ≤ k → compare (k - x) (k - y) ≡ compare y x
+turned x y k p q = go (three x y)
+  where
+    go : (x < y) ⊎ ((x ≡ y) ⊎ (y < x)) → compare (k - x) (k - y) ≡ compare y x
+    go (inl l) = compare_more _ _ (omega arith) ∙ sym (compare_more y x l)
+    go (inr (inl e)) = rw e (compare_same _ ∙ sym (compare_same y))
+    go (inr (inr l)) = compare_less _ _ (omega arith) ∙ sym (compare_less y x l)
+
+-- where a float stands among all patterns
+abbrev pub float_rank : ℕ → ℕ
+float_rank n = cond (ltb n (2 ^ 63)) (n + 2 ^ 63) (2 ^ 64 - 1 - n)
+
 -- what stands the other way round
-pub lex_turned : (f : ℕ → List ℕ) (x y : ℕ) → lex (f y) (f x) ≡ Ordering.gt → lex (f x) (f y) ≡ Ordering.lt
+lex_turned : (f : ℕ → List ℕ) (x y : ℕ) → lex (f y) (f x) ≡ Ordering.gt → lex (f x) (f y) ≡ Ordering.lt
 lex_turned f x y e = lex_swap (f y) (f x) ∙ ap swap e
 
--- ---- texts: what is left to compare from a place on, where all before it was equal
+is_low : (n : ℕ) → (n < 2 ^ 63) ⊎ (2 ^ 63 ≤ n)
+is_low n = go (ltb n (2 ^ 63)) refl
+  where
+    go : (b : Bool) → ltb n (2 ^ 63) ≡ b → (n < 2 ^ 63) ⊎ (2 ^ 63 ≤ n)
+    go true e = inl (ltb→lt n (2 ^ 63) (rw e tt))
+    go false e = inr (nltb→le n (2 ^ 63) (rw e tt))
 
-module _ (a b : List ℕ) (i : ℕ) where
-  unfoldable pub lex_from : Ordering
-  lex_from = lex (drop i a) (drop i b)
+module _ (x y : ℕ) (p : x < 2 ^ 64) (q : y < 2 ^ 64) where
+  low_rank : (n : ℕ) → n < 2 ^ 63 → float_rank n ≡ n + 2 ^ 63
+  low_rank n h = rw (lt-ltb n (2 ^ 63) h)
 
-  pub text-ended : i < length a → length b ≤ i → Ordering.gt ≡ lex_from
-  unfolding lex_from lex
-  text-ended h k = simp (drop-cons a i 0 h, drop_of_length-le b k)
+  high_rank : (n : ℕ) → 2 ^ 63 ≤ n → float_rank n ≡ 2 ^ 64 - 1 - n
+  high_rank n h = rw (le-ltb n (2 ^ 63) h)
 
-  pub text_beginning : length a ≤ i → i < length b → Ordering.lt ≡ lex_from
-  unfolding lex_from lex
-  text_beginning h k = simp (drop-cons b i 0 k, drop_of_length-le a h)
+  -- floats are in the order of their ranks
+  pub told_floats : told (nat_cmp (float_rank x) (float_rank y)) ≡ lex (total_order x) (total_order y)
+  unfolding Negative
+  told_floats = told_numbers (float_rank x) (float_rank y) ∙ go (is_low x) (is_low y)
+    where
+      go : (x < 2 ^ 63) ⊎ (2 ^ 63 ≤ x) → (y < 2 ^ 63) ⊎ (2 ^ 63 ≤ y) → compare (float_rank x) (float_rank y) ≡ lex (total_order x) (total_order y)
+      go (inl a) (inl b) = rw (low_rank x a, low_rank y b) (shifted x y (2 ^ 63) ∙ sym (floats_low x y a b))
+      go (inl a) (inr b) = rw (low_rank x a, high_rank y b) (compare_more _ _ (omega arith) ∙ sym (floats_mixed x y a b))
+      go (inr a) (inl b) = rw (high_rank x a, low_rank y b) (compare_less _ _ (omega arith) ∙ sym (lex_turned total_order x y (floats_mixed y x b a)))
+      go (inr a) (inr b) = rw (high_rank x a, high_rank y b) (turned x y (2 ^ 64 - 1) (omega arith) (omega arith) ∙ sym (floats_high x y (a, p) (b, q)))
 
-  pub text_equal : length a ≤ i → length b ≤ i → Ordering.eq ≡ lex_from
-  unfolding lex_from lex
-  text_equal h k = simp (drop_of_length-le a h, drop_of_length-le b k)
+  low_int : (n : ℕ) → n < 2 ^ 63 → cast_signed w64 n ≡ pos n
+  low_int n h = rw (lt-ltb n (2 ^ 63) h)
 
-  pub text-less : i < length a → i < length b → get_or a i 0 < get_or b i 0 → Ordering.lt ≡ lex_from
-  unfolding lex_from lex
-  text-less h k l = simp (drop-cons a i 0 h, drop-cons b i 0 k, compare_less _ _ l, lt_then)
+  high_int : (n : ℕ) → 2 ^ 63 ≤ n → cast_signed w64 n ≡ negsuc (2 ^ 64 - suc n)
+  high_int n h = rw (le-ltb n (2 ^ 63) h)
 
-  pub text_greater : i < length a → i < length b → get_or b i 0 < get_or a i 0 → Ordering.gt ≡ lex_from
-  unfolding lex_from lex
-  text_greater h k l = simp (drop-cons a i 0 h, drop-cons b i 0 k, compare_more _ _ l, gt_then)
+  -- integers are in the order of what their bits say
+  pub told_ints : told (int_cmp (cast_signed w64 x) (cast_signed w64 y)) ≡ lex (by_value x) (by_value y)
+  unfolding told
+  told_ints = go (is_low x) (is_low y)
+    where
+      low : (x < y) ⊎ ((x ≡ y) ⊎ (y < x)) → told (int_cmp (pos x) (pos y)) ≡ compare x y
+      low (inl l) = rw (compare_less x y l) (grind (arith, ints, nat_tests))
+      low (inr (inl e)) = rw (e, compare_same y) (grind (arith, ints, nat_tests))
+      low (inr (inr l)) = rw (compare_more x y l) (grind (arith, ints, nat_tests))
 
-pub text_more : (a b : List ℕ) (i : ℕ) → i < length a → i < length b → get_or b i 0 ≤ get_or a i 0 → get_or a i 0 ≤ get_or b i 0 → lex_from a b (i + 1) ≡ lex_from a b i
-unfolding lex_from lex
-text_more a b i h k l m = simp (drop-cons a i 0 h, drop-cons b i 0 k, ← (numbers_equal _ _ l m), eq_then, add-one)
+      high : (x < y) ⊎ ((x ≡ y) ⊎ (y < x)) → told (int_cmp (negsuc (2 ^ 64 - suc x)) (negsuc (2 ^ 64 - suc y))) ≡ compare x y
+      high (inl l) = rw (compare_less x y l) (grind (arith, ints, nat_tests))
+      high (inr (inl e)) = rw (e, compare_same y) (grind (arith, ints, nat_tests))
+      high (inr (inr l)) = rw (compare_more x y l) (grind (arith, ints, nat_tests))
 
--- n bytes from i on are the same in both
-abbrev pub Alike : List ℕ → List ℕ → ℕ → ℕ → Type 0
-Alike a b i n = (k : ℕ) → k < n → get_or a (i + k) 0 ≡ get_or b (i + k) 0
-
-pub text_run : (a b : List ℕ) (i n : ℕ) → i + n ≤ length a → i + n ≤ length b → Alike a b i n → lex_from a b (i + n) ≡ lex_from a b i
-text_run a b i zero h k e = rw add-zero
-text_run a b i (suc n) h k e =
-    let q = e n (omega arith) in
-    let d : i + suc n ≡ i + n + 1 = omega arith in
-    rw d (text_more a b (i + n) (omega arith) (omega arith) (omega arith) (omega arith)) ∙ text_run a b i n (omega arith) (omega arith) (λ j l. e j (omega arith))
+      go : (x < 2 ^ 63) ⊎ (2 ^ 63 ≤ x) → (y < 2 ^ 63) ⊎ (2 ^ 63 ≤ y) → told (int_cmp (cast_signed w64 x) (cast_signed w64 y)) ≡ lex (by_value x) (by_value y)
+      go (inl a) (inl b) = rw (low_int x a, low_int y b) (low (three x y) ∙ sym (ints_low x y a b))
+      go (inl a) (inr b) = rw (low_int x a, high_int y b) (sym (ints_mixed x y a b))
+      go (inr a) (inl b) = rw (high_int x a, low_int y b) (sym (lex_turned by_value x y (ints_mixed y x b a)))
+      go (inr a) (inr b) = rw (high_int x a, high_int y b) (high (three x y) ∙ sym (ints_high x y a b))
