@@ -4,7 +4,7 @@ ghost use Rattle.std.specs.Prelude.{◌≡◌};
 ghost use Rattle.rooms.specs.Stated.{room_lengths, stated, Long, short, blank};
 ghost use Rattle.rooms.specs.Lent.{slices_of, SameSlices};
 
-use crate::{zero_bytes, zero_ints, zero_shorts, zero_words};
+use crate::zero;
 
 #[derive(Drop)]
 pub struct Lent<'a> {
@@ -49,16 +49,16 @@ impl<'a> Lent<'a> {
         ensures after { slices_of self.new ≡ blank room_lengths (slices_of self.old) }
         ensures same_slices { SameSlices self.old self.new }
     {
-        zero_words(self.nodes, 8192);
-        zero_shorts(self.owners, 8192);
-        zero_shorts(self.children, 8192);
-        zero_shorts(self.stack, 2048);
-        zero_shorts(self.marks, 256);
-        zero_ints(self.keys, 2048);
-        zero_shorts(self.held, 1024);
-        zero_bytes(self.unescaped, 65536);
-        zero_shorts(self.starts, 4098);
-        zero_shorts(self.sorted, 16384);
-        zero_words(self.measures, 4096);
+        zero(self.nodes, 8192);
+        zero(self.owners, 8192);
+        zero(self.children, 8192);
+        zero(self.stack, 2048);
+        zero(self.marks, 256);
+        zero(self.keys, 2048);
+        zero(self.held, 1024);
+        zero(self.unescaped, 65536);
+        zero(self.starts, 4098);
+        zero(self.sorted, 16384);
+        zero(self.measures, 4096);
     }
 }

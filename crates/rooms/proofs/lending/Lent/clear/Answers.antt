@@ -6,14 +6,14 @@ use Rattle.rooms.proofs.lending.Lent.clear.Goals as goal
 pub returns-clause-after : goal.returns-clause-after
 unfolding blank
 returns-clause-after c =
-    same_slices c.zero_words.ensures
-    (same_slices c.zero_shorts.ensures
-    (same_slices c.zero_shorts-2.ensures
-    (same_slices c.zero_shorts-3.ensures
-    (same_slices c.zero_shorts-4.ensures
-    (same_slices c.zero_ints.ensures
-    (same_slices c.zero_shorts-5.ensures
-    (same_slices c.zero_bytes.ensures
-    (same_slices c.zero_shorts-6.ensures
-    (same_slices c.zero_shorts-7.ensures
-    (same_slices c.zero_words-2.ensures refl))))))))))
+    same_slices c.zero.ensures
+    (same_slices c.zero-2.ensures
+    (same_slices c.zero-3.ensures
+    (same_slices c.zero-4.ensures
+    (same_slices c.zero-5.ensures
+    (same_slices c.zero-6.ensures
+    (same_slices c.zero-7.ensures
+    (same_slices c.zero-8.ensures
+    (same_slices c.zero-9.ensures
+    (same_slices c.zero-10.ensures
+    (same_slices c.zero-11.ensures refl))))))))))

@@ -1,8 +1,0 @@
--- What is zero is as if it had been cleared.
-use borrow.Author.Rules.{rules}
-use mathlib.Core.Path.{sym}
-use Rattle.rooms.proofs.zero_bytes.Statement.{statement}
-use Rattle.rooms.proofs.zero_bytes.Tie as tie
-
-pub zero_bytes_spec : {M : Type 1} → statement M
-zero_bytes_spec = tie.close (tie.spec (λ c κs. search rules) (λ c. search rules) (λ c. sym (c.bytes_are_zero.ensures c.if-bytes_are_zero.true)) (λ c κs. search rules) (λ c. search rules) (λ c. search rules))
