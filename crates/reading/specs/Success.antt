@@ -2,7 +2,7 @@
 use Rattle.std.specs.Prelude.{ℕ, Bool, true, false, cond, List, ◌≡◌, refl}
 use Rattle.std.proofs.Common.{arith}
 use Rattle.refusal.specs.declared.Refusal.{Refusal}
-use Rattle.refusal.specs.declared.Refusal.TheVariants.{ShortRoom, TooLong, EndOfInput, UnsupportedOpcode, UnsupportedProtocol, StackUnderflow, MissingMemo, InvalidLiteral, IntegerTooLarge, Invalid, TrailingData, StackFull, MarksFull, MemoFull, NodesFull, LinksFull, TooDeep, TooManyValues, TextFull, FloatOutside, BadTable, OutputFull, UnwritableName, OutsideProfile}
+use Rattle.refusal.specs.declared.Refusal.TheVariants.{ShortRoom, TooLong, EndOfInput, UnsupportedOpcode, UnsupportedProtocol, StackUnderflow, MissingMemo, InvalidLiteral, IntegerTooLarge, Invalid, TrailingData, StackFull, MarksFull, MemoFull, NodesFull, LinksFull, TooDeep, TooManyValues, TextFull, FloatOutside, BadTable, OutputFull, BadLengths, SheetShape, UnwritableName, OutsideProfile}
 use Rattle.refusal.specs.Numbers.{number_of}
 use Rattle.op.specs.declared.Edition.{Edition}
 use Rattle.input.specs.Bytes.{Bytes}
@@ -42,6 +42,8 @@ refusal_number TextFull e = omega arith
 refusal_number FloatOutside e = omega arith
 refusal_number (BadTable which) e = omega arith
 refusal_number OutputFull e = omega arith
+refusal_number BadLengths e = omega arith
+refusal_number SheetShape e = omega arith
 refusal_number UnwritableName e = omega arith
 refusal_number (OutsideProfile code) e = omega arith
 

@@ -5,7 +5,7 @@ use Rattle.refusal.specs.declared.Wanted.TheVariants.{Length, DictItems, List, D
 use Rattle.refusal.specs.declared.Which.{Which}
 use Rattle.refusal.specs.declared.Which.TheVariants.{First, Second}
 use Rattle.refusal.specs.declared.Refusal.{Refusal}
-use Rattle.refusal.specs.declared.Refusal.TheVariants.{ShortRoom, TooLong, EndOfInput, UnsupportedOpcode, UnsupportedProtocol, StackUnderflow, MissingMemo, InvalidLiteral, IntegerTooLarge, Invalid, TrailingData, StackFull, MarksFull, MemoFull, NodesFull, LinksFull, TooDeep, TooManyValues, TextFull, FloatOutside, BadTable, OutputFull, UnwritableName, OutsideProfile}
+use Rattle.refusal.specs.declared.Refusal.TheVariants.{ShortRoom, TooLong, EndOfInput, UnsupportedOpcode, UnsupportedProtocol, StackUnderflow, MissingMemo, InvalidLiteral, IntegerTooLarge, Invalid, TrailingData, StackFull, MarksFull, MemoFull, NodesFull, LinksFull, TooDeep, TooManyValues, TextFull, FloatOutside, BadTable, OutputFull, BadLengths, SheetShape, UnwritableName, OutsideProfile}
 use Rattle.refusal.specs.declared.Answer.{Answer}
 
 -- the details of number 10
@@ -47,6 +47,8 @@ number_of TextFull = (19, 0)
 number_of FloatOutside = (20, 0)
 number_of (BadTable which) = (21, which_detail which)
 number_of OutputFull = (22, 0)
+number_of BadLengths = (23, 0)
+number_of SheetShape = (24, 0)
 number_of UnwritableName = (25, 0)
 number_of (OutsideProfile code) = (26, code)
 

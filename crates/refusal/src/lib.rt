@@ -3,12 +3,12 @@
 #![tactic(auto)]
 
 ghost use Rattle.std.specs.Prelude.{◌≡◌};
-ghost use Rattle.refusal.specs.Numbers.{wanted_detail, which_detail, number_of, refused_answer};
+ghost use Rattle.refusal.specs.Numbers.{number_of, refused_answer};
 
-// What an opcode found instead of the value that it needs: `DeError::Invalid`.
+// What an opcode found instead of the value that it needs: `DeError::Invalid`. Its detail is its number.
 #[derive(Clone, Copy)]
 pub enum Wanted {
-    Length,
+    Length = 1,
     DictItems,
     List,
     Dict,
@@ -17,10 +17,10 @@ pub enum Wanted {
     Object,
 }
 
-// Which of a call's tables is meant.
+// Which of a call's tables is meant, by its number.
 #[derive(Clone, Copy)]
 pub enum Which {
-    First,
+    First = 1,
     Second,
 }
 
@@ -48,6 +48,8 @@ pub enum Refusal {
     FloatOutside,
     BadTable(Which),
     OutputFull,
+    BadLengths,
+    SheetShape,
     UnwritableName,
     OutsideProfile(u8),
 }
@@ -62,98 +64,60 @@ pub struct Answer {
     pub count: u64,
 }
 
+// Number and detail, as the rules have them.
+fn number_of(why: Refusal) -> (u64, u64)
+    ensures { result ≡ number_of why }
+{
+    match why {
+        Refusal::ShortRoom => (1, 0),
+        Refusal::TooLong => (2, 0),
+        Refusal::EndOfInput => (3, 0),
+        Refusal::UnsupportedOpcode(code) => (4, code as u64),
+        Refusal::UnsupportedProtocol(proto) => (5, proto as u64),
+        Refusal::StackUnderflow => (6, 0),
+        Refusal::MissingMemo(index) => (7, index as u64),
+        Refusal::InvalidLiteral => (8, 0),
+        Refusal::IntegerTooLarge => (9, 0),
+        Refusal::Invalid(what) => (10, what as u64),
+        Refusal::TrailingData => (11, 0),
+        Refusal::StackFull => (12, 0),
+        Refusal::MarksFull => (13, 0),
+        Refusal::MemoFull => (14, 0),
+        Refusal::NodesFull => (15, 0),
+        Refusal::LinksFull => (16, 0),
+        Refusal::TooDeep => (17, 0),
+        Refusal::TooManyValues => (18, 0),
+        Refusal::TextFull => (19, 0),
+        Refusal::FloatOutside => (20, 0),
+        Refusal::BadTable(which) => (21, which as u64),
+        Refusal::OutputFull => (22, 0),
+        Refusal::BadLengths => (23, 0),
+        Refusal::SheetShape => (24, 0),
+        Refusal::UnwritableName => (25, 0),
+        Refusal::OutsideProfile(code) => (26, code as u64),
+    }
+}
+
 pub fn number(why: Refusal) -> u64
     ensures { result ≡ (number_of why).0 }
 {
-    match why {
-        Refusal::ShortRoom => 1,
-        Refusal::TooLong => 2,
-        Refusal::EndOfInput => 3,
-        Refusal::UnsupportedOpcode(_) => 4,
-        Refusal::UnsupportedProtocol(_) => 5,
-        Refusal::StackUnderflow => 6,
-        Refusal::MissingMemo(_) => 7,
-        Refusal::InvalidLiteral => 8,
-        Refusal::IntegerTooLarge => 9,
-        Refusal::Invalid(_) => 10,
-        Refusal::TrailingData => 11,
-        Refusal::StackFull => 12,
-        Refusal::MarksFull => 13,
-        Refusal::MemoFull => 14,
-        Refusal::NodesFull => 15,
-        Refusal::LinksFull => 16,
-        Refusal::TooDeep => 17,
-        Refusal::TooManyValues => 18,
-        Refusal::TextFull => 19,
-        Refusal::FloatOutside => 20,
-        Refusal::BadTable(_) => 21,
-        Refusal::OutputFull => 22,
-        Refusal::UnwritableName => 25,
-        Refusal::OutsideProfile(_) => 26,
-    }
-}
-
-fn wanted_detail(what: Wanted) -> u64
-    ensures { result ≡ wanted_detail what }
-{
-    match what {
-        Wanted::Length => 1,
-        Wanted::DictItems => 2,
-        Wanted::List => 3,
-        Wanted::Dict => 4,
-        Wanted::Class => 5,
-        Wanted::Arguments => 6,
-        Wanted::Object => 7,
-    }
-}
-
-fn which_detail(which: Which) -> u64
-    ensures { result ≡ which_detail which }
-{
-    match which {
-        Which::First => 1,
-        Which::Second => 2,
-    }
+    number_of(why).0
 }
 
 pub fn detail(why: Refusal) -> u64
     ensures { result ≡ (number_of why).1 }
 {
-    match why {
-        Refusal::ShortRoom => 0,
-        Refusal::TooLong => 0,
-        Refusal::EndOfInput => 0,
-        Refusal::UnsupportedOpcode(code) => code as u64,
-        Refusal::UnsupportedProtocol(proto) => proto as u64,
-        Refusal::StackUnderflow => 0,
-        Refusal::MissingMemo(index) => index as u64,
-        Refusal::InvalidLiteral => 0,
-        Refusal::IntegerTooLarge => 0,
-        Refusal::Invalid(what) => wanted_detail(what),
-        Refusal::TrailingData => 0,
-        Refusal::StackFull => 0,
-        Refusal::MarksFull => 0,
-        Refusal::MemoFull => 0,
-        Refusal::NodesFull => 0,
-        Refusal::LinksFull => 0,
-        Refusal::TooDeep => 0,
-        Refusal::TooManyValues => 0,
-        Refusal::TextFull => 0,
-        Refusal::FloatOutside => 0,
-        Refusal::BadTable(which) => which_detail(which),
-        Refusal::OutputFull => 0,
-        Refusal::UnwritableName => 0,
-        Refusal::OutsideProfile(code) => code as u64,
-    }
+    number_of(why).1
 }
 
 // The answer of a call that refuses.
 pub fn refused(why: Refusal) -> Answer
     ensures { result ≡ refused_answer why }
 {
+    let (number, detail) = number_of(why);
     Answer {
-        number: number(why),
-        detail: detail(why),
+        number,
+        detail,
         length: 0,
         count: 0,
     }
