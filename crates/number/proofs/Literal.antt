@@ -1,9 +1,9 @@
 -- Laws of the literals: the line's own tests before `parse`, and `parse` itself by whether the line is UTF-8. Assumes nothing.
-use Prim.Native.Nat.{ℕ, ◌-◌}
-use mathlib.Core.Bool.{true, false, ◌&&◌, and-false, and-true}
+use Prim.Native.Nat.{ℕ, ◌-◌, ◌≤◌}
+use mathlib.Core.Bool.{Bool, true, false, ◌&&◌}
 use mathlib.Core.List.{List, [], ◌∷◌}
-use mathlib.Core.Path.{◌≡◌, refl}
-use native.Mathlib.Nat as Nat
+use mathlib.Core.Path.{◌≡◌, refl, sym, ap}
+use Rattle.std.specs.Cmp.Lexicographic.{pointwise}
 use native.Mathlib.Omega.{arith}
 use borrow.Author.Tests.{eq-eqb, ne_eqb}
 use lib.Dec.{eqb}
@@ -32,27 +32,16 @@ module _ (s : List ℕ) where
   unfolding parse_u32
   u32_not h = simp h
 
--- `00` and `01` have two bytes
-pub pair_not : (s : List ℕ) (b : ℕ) → (length s ≡ 2 → ⊥) → false ≡ same s (0x30 ∷ b ∷ [])
+pointwise_is : (s t : List ℕ) → pointwise eqb s t ≡ same s t
 unfolding same
-pair_not [] b h = refl
-pair_not (x ∷ []) b h = simp and-false
-pair_not (x ∷ y ∷ []) b h = absurd (h refl)
-pair_not (x ∷ y ∷ z ∷ s) b h = simp and-false
+pointwise_is [] [] = refl
+pointwise_is [] (b ∷ t) = refl
+pointwise_is (a ∷ s) [] = refl
+pointwise_is (a ∷ s) (b ∷ t) = ap (λ (x : Bool). eqb a b && x) (pointwise_is s t)
 
-pub pair_is : (s : List ℕ) (b : ℕ) → length s ≡ 2 → same s (0x30 ∷ b ∷ []) ≡ (eqb (get_or s 0 0) 0x30 && eqb (get_or s 1 0) b)
-unfolding same
-pair_is [] b h = absurd (omega arith)
-pair_is (x ∷ []) b h = absurd (omega arith)
-pair_is (x ∷ y ∷ []) b h = simp and-true
-pair_is (x ∷ y ∷ z ∷ s) b h = absurd (omega arith)
-
-module _ (s : List ℕ) (b : ℕ) (h : length s ≡ 2) where
-  pub pair_lead : (get_or s 0 0 ≡ 0x30 → ⊥) → false ≡ same s (0x30 ∷ b ∷ [])
-  pair_lead e = rw (pair_is s b h, ne_eqb _ _ e)
-
-  pub pair_last : get_or s 0 0 ≡ 0x30 → eqb (get_or s 1 0) b ≡ same s (0x30 ∷ b ∷ [])
-  pair_last e = rw (pair_is s b h, eq-eqb _ _ e)
+-- what `==` says of two slices
+pub same_told : (s t u : List ℕ) (r : Bool) → u ≡ t → r ≡ pointwise eqb s u → same s t ≡ r
+same_told s t u r e h = rw (h, e) (sym (pointwise_is s t))
 
 module _ (s : List ℕ) where
   pub int_false : same s (0x30 ∷ 0x30 ∷ []) ≡ true → got (truth_bits false) ≡ turned int_bits (int_literal s)
@@ -72,16 +61,11 @@ module _ (s : List ℕ) where
         go (got z) = refl
         go (refused why at) = refl
 
-pub less_none : (s : List ℕ) → length s ≡ 0 → s ≡ less_l s
+pub less_cut : (s : List ℕ) → get_or s (length s - 1) 0 ≡ 0x4C → take (length s - 1) s ≡ less_l s
 unfolding less_l
-less_none [] h = refl
-less_none (b ∷ s) h = absurd (Nat.suc-ne-zero _ h)
+less_cut s h = simp (eq-eqb _ _ h)
 
-module _ (s : List ℕ) where
-  pub less_l_lem : get_or s (length s - 1) 0 ≡ 0x4C → take (length s - 1) s ≡ less_l s
-  unfolding less_l
-  less_l_lem h = simp (eq-eqb _ _ h)
-
-  pub less_other : (get_or s (length s - 1) 0 ≡ 0x4C → ⊥) → s ≡ less_l s
-  unfolding less_l
-  less_other h = simp (ne_eqb _ _ h)
+pub less_other : (s : List ℕ) → (1 ≤ length s → get_or s (length s - 1) 0 ≡ 0x4C → ⊥) → s ≡ less_l s
+unfolding less_l
+less_other [] h = refl
+less_other (b ∷ s) h = simp (ne_eqb _ _ (h (omega arith)))

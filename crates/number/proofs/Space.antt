@@ -1,15 +1,16 @@
 -- Laws of White_Space: which bytes are its forms, and how it is stripped from either end. Assumes nothing.
-use Prim.Native.Nat.{ℕ, zero, suc, ◌+◌, ◌-◌, ◌≤◌, ◌<◌}
+use Prim.Native.Nat.{ℕ, zero, suc, ◌-◌, ◌≤◌, ◌<◌}
 use mathlib.Core.Bool.{Bool, true, false, ◌&&◌, ◌||◌, beq, and-false, and-true, or-false}
-use mathlib.Core.List.{List, [], ◌∷◌, ◌++◌, reverse, reverse-append, reverse-reverse}
+use mathlib.Core.List.{List, [], ◌∷◌, reverse, reverse-append, reverse-reverse}
 use mathlib.Core.Logic.{⊎_elim}
 use mathlib.Core.Path.{◌≡◌, refl, sym, ap, ◌∙◌}
-use native.Mathlib.Nat.{not-suc-le-zero, eq-or-lt_of_le, add-zero}
+use native.Mathlib.Nat.{not-suc-le-zero, eq-or-lt_of_le}
 use native.Mathlib.Omega.{arith}
 use borrow.Author.Tests.{ne_eqb}
 use lib.Dec.{T, eqb, leb}
-use lib.ListN.{length, get_or, take, drop, length-drop, length-reverse, take-append-drop}
-use lib.Seq.{take-suc, take_all, drop-drop, get_or-drop, take-take, drop_at, length-take-le}
+use lib.ListN.{length, get_or, take, drop, length-take, length-drop, length-reverse, take-append-drop}
+use lib.Seq.{take_all, drop_at}
+use Rattle.std.proofs.lemmas.List.{get_or-reverse}
 use Rattle.utf8.specs.Utf8.{encode, trail}
 use Rattle.input.specs.Bytes.{lt_or_le}
 use Rattle.number.specs.Space.{white_space, spaces, same, one_of, space, width, strip}
@@ -61,9 +62,9 @@ module _ (a b c : ℕ) where
   unfolding spelt
   three_e2 e h = rw e (simp (ne_eqb b 0x80 h, and-true, or-false))
 
-  pub three-rest : (a ≡ 0xE2 → ⊥) → space (a ∷ b ∷ c ∷ []) ≡ ((eqb a 0xE1 && (eqb b 0x9A && eqb c 0x80)) || (eqb a 0xE3 && (eqb b 0x80 && eqb c 0x80)))
+  pub three_rest : (a ≡ 0xE2 → ⊥) → space (a ∷ b ∷ c ∷ []) ≡ ((eqb a 0xE1 && (eqb b 0x9A && eqb c 0x80)) || (eqb a 0xE3 && (eqb b 0x80 && eqb c 0x80)))
   unfolding spelt
-  three-rest h = simp (ne_eqb a 0xE2 h, and-false, and-true, or-false)
+  three_rest h = simp (ne_eqb a 0xE2 h, and-false, and-true, or-false)
 
 -- the first k of the bytes that `byte` numbers
 abbrev pub firsts : (ℕ → ℕ) → ℕ → List ℕ
@@ -125,73 +126,62 @@ module _ {read : List ℕ → List ℕ} {s : List ℕ} {n : ℕ} {byte : ℕ →
         go (suc (suc zero)) h f t = simp (f 1 (omega arith), f 2 (omega arith), t)
         go (suc (suc (suc k))) h f t = absurd (omega arith)
 
--- before the first byte: what is left of s from a place on, and a beginning of s from its end on
+-- before the first byte
 no_byte : (read : List ℕ → List ℕ) (s : List ℕ) → read [] ≡ [] → (j : ℕ) → j < 1 → space (read (take j s)) ≡ false
 no_byte read s e j h = let z : j ≡ 0 = omega arith in rw (z, e) no_space
 
--- the place i + j as the code has it
-abbrev place_on : ℕ → ℕ → ℕ
-place_on i zero = i
-place_on i (suc j) = i + suc j
-
-place_on_is : (i j : ℕ) → i + j ≡ place_on i j
-place_on_is i zero = omega arith
-place_on_is i (suc j) = refl
-
-module _ (s : List ℕ) (i : ℕ) where
+module _ (s : List ℕ) where
   abbrev pub Ahead : ℕ → Bool → Type 0
-  Ahead = Tested (λ p. p) (drop i s) (length s - i) (λ j. get_or s (place_on i j) 0)
+  Ahead = Tested (λ p. p) s (length s) (λ j. get_or s j 0)
 
-  pub ahead : NoSpaceSoFar (λ p. p) (drop i s) (length s - i) (λ j. get_or s (place_on i j) 0) 0
-  ahead = record {
-    long = length-drop i s;
-    is = λ j h. get_or-drop i s j 0 ∙ rw (place_on_is i j);
-    none = no_byte (λ p. p) (drop i s) refl;
+  pub ahead : NoSpaceSoFar (λ p. p) s (length s) (λ j. get_or s j 0) 0
+  ahead = record { long = refl; is = λ j h. refl; none = no_byte (λ p. p) s refl }
+
+  abbrev pub Behind : ℕ → Bool → Type 0
+  Behind = Tested reverse (reverse s) (length s) (λ j. get_or s (length s - suc j) 0)
+
+  pub behind : NoSpaceSoFar reverse (reverse s) (length s) (λ j. get_or s (length s - suc j) 0) 0
+  behind = record {
+    long = length-reverse s;
+    is = λ j h. let e : length s - 1 - j ≡ length s - suc j = omega arith in get_or-reverse s j 0 h ∙ rw e;
+    none = no_byte reverse (reverse s) refl;
   }
 
--- a beginning shorter by k, reversed, is the same less its first k
-pub drop-reverse : (s : List ℕ) (e k : ℕ) → e ≤ length s → k ≤ e → reverse (take (e - k) s) ≡ drop k (reverse (take e s))
-drop-reverse s e k h l =
-    let m : e - k ≤ e = omega arith in
-    let d : length (reverse (drop (e - k) (take e s))) ≡ k = simp (length-reverse, length-drop, length-take-le e s h) (omega arith) in
-    let w : take (e - k) s ++ drop (e - k) (take e s) ≡ take e s = rw (← take-take (e - k) e s m) (take-append-drop (e - k) (take e s)) in
-    sym (ap (drop k) (ap reverse (sym w) ∙ reverse-append (take (e - k) s) (drop (e - k) (take e s))) ∙ drop_at (reverse (drop (e - k) (take e s))) (reverse (take (e - k) s)) k d)
+  -- what is left of the text
+  module _ (k w : ℕ) (e : suc k ≡ w) where
+    pub rest_is : (0 < w) × (take (length s - suc k) (drop (suc k) s) ≡ drop w s)
+    rest_is = (omega arith, rw (← e) (take_all _ (drop (suc k) s) (omega (arith, length-drop (suc k) s))))
 
-module _ (s : List ℕ) (e : ℕ) where
-  abbrev pub Behind : ℕ → Bool → Type 0
-  Behind = Tested reverse (reverse (take e s)) e (λ j. get_or s (e - suc j) 0)
-
-  pub behind : e ≤ length s → NoSpaceSoFar reverse (reverse (take e s)) e (λ j. get_or s (e - suc j) 0) 0
-  behind h = record { long = length-reverse (take e s) ∙ length-take-le e s h; is = at; none = no_byte reverse (reverse (take e s)) refl }
-    where
-      at : (j : ℕ) → j < e → get_or (reverse (take e s)) j 0 ≡ get_or s (e - suc j) 0
-      at j l =
-          let f : ℕ = e - suc j in
-          let q : e - j ≡ suc f = omega arith in
-          let g : f < length s = omega arith in
-          let first : get_or (drop j (reverse (take e s))) 0 0 ≡ get_or (reverse (take e s)) j 0 = simp (get_or-drop, add-zero) in
-          sym first ∙ rw (← drop-reverse s e j h (omega arith), q, take-suc s f 0 g, reverse-append (take f s) (get_or s f 0 ∷ [])) refl
+    pub front_is : (0 < w) × (take (length s - suc k) s ≡ take (length s - w) s)
+    front_is = (omega arith, rw e)
 
 -- a turn of `trim_start`'s loop
-module _ (s : List ℕ) (i k : ℕ) (w : k ≡ width (λ p. p) (drop i s)) where
-  pub start_in : i ≤ length s → i + k ≤ length s
-  start_in h = omega (arith, width_le (λ p. p) no_space (drop i s), length-drop i s)
+module _ (s t : List ℕ) (h : (0 < width (λ p. p) s) × (t ≡ drop (width (λ p. p) s) s)) where
+  pub start_less : length t < length s
+  start_less = rw (h.1, length-drop (width (λ p. p) s) s) (omega (arith, h.0, width_le (λ p. p) no_space s))
 
-  pub start_more : 0 < k → strip (λ p. p) 0 (drop (i + k) s) ≡ strip (λ p. p) 0 (drop i s)
-  start_more h = rw (← drop-drop k i s) (strip_more (λ p. p) (drop i s) k w h)
+  pub start_more : strip (λ p. p) 0 t ≡ strip (λ p. p) 0 s
+  start_more = rw h.1 (strip_more (λ p. p) s _ refl h.0)
 
-  pub start-stop : k ≡ 0 → take (length s - i) (drop i s) ≡ strip (λ p. p) 0 (drop i s)
-  start-stop z =
-      let l : length (drop i s) ≤ length s - i = rw length-drop (omega arith) in
-      take_all _ (drop i s) l ∙ sym (strip-stop (λ p. p) (drop i s) (sym z ∙ w))
+pub start_stop : (s : List ℕ) → 0 ≡ width (λ p. p) s → s ≡ strip (λ p. p) 0 s
+start_stop s z = sym (strip-stop (λ p. p) s z)
+
+-- a beginning shorter by k, reversed, is the same less its first k
+reverse-take : (s : List ℕ) (k : ℕ) → k ≤ length s → reverse (take (length s - k) s) ≡ drop k (reverse s)
+reverse-take s k h =
+    let d : length (reverse (drop (length s - k) s)) ≡ k = simp (length-reverse, length-drop) (omega arith) in
+    sym (ap (drop k) (ap reverse (sym (take-append-drop (length s - k) s)) ∙ reverse-append (take (length s - k) s) (drop (length s - k) s)) ∙ drop_at (reverse (drop (length s - k) s)) (reverse (take (length s - k) s)) k d)
 
 -- a turn of `trim_end`'s loop
-module _ (s : List ℕ) (e k : ℕ) (w : k ≡ width reverse (reverse (take e s))) (h : e ≤ length s) where
-  pub end_in : k ≤ e
-  end_in = omega (arith, width_le reverse no_space (reverse (take e s)), length-reverse (take e s), length-take-le e s h)
+module _ (s t : List ℕ) (h : (0 < width reverse (reverse s)) × (t ≡ take (length s - width reverse (reverse s)) s)) where
+  wide : width reverse (reverse s) ≤ length s
+  wide = rw length-reverse at (width_le reverse no_space (reverse s))
 
-  pub end_more : 0 < k → strip reverse 0 (reverse (take (e - k) s)) ≡ strip reverse 0 (reverse (take e s))
-  end_more p = rw (drop-reverse s e k h end_in) (strip_more reverse (reverse (take e s)) k w p)
+  pub end_less : length t < length s
+  end_less = rw (h.1, length-take (length s - width reverse (reverse s)) s) (omega (arith, h.0, wide))
 
-  pub end_stop : k ≡ 0 → take e s ≡ reverse (strip reverse 0 (reverse (take e s)))
-  end_stop z = rw (strip-stop reverse (reverse (take e s)) (sym z ∙ w)) (sym (reverse-reverse (take e s)))
+  pub end_more : strip reverse 0 (reverse t) ≡ strip reverse 0 (reverse s)
+  end_more = rw (h.1, reverse-take s _ wide) (strip_more reverse (reverse s) _ refl h.0)
+
+pub end_stop : (s : List ℕ) → 0 ≡ width reverse (reverse s) → s ≡ reverse (strip reverse 0 (reverse s))
+end_stop s z = rw (strip-stop reverse (reverse s) z) (sym (reverse-reverse s))
