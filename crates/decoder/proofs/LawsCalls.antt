@@ -1,16 +1,16 @@
 -- What each return of the classes' opcodes says of their definitions. Assumes nothing.
 use Prim.Native.Nat.{ℕ, suc, zero, ◌+◌, ◌-◌, ◌*◌, ◌^◌, ◌/◌, ◌%◌, ◌<◌, ◌≤◌}
-use mathlib.Core.Bool.{Bool, true, false, cond, ◌&&◌}
+use mathlib.Core.Bool.{Bool, true, false, cond, not, not-not, ◌&&◌}
 use mathlib.Core.List.{List, [], ◌∷◌}
 use mathlib.Core.Path.{◌≡◌, refl, sym, ◌∙◌, ap}
 use mathlib.Core.Logic.{◌≢◌}
-use lib.ListN.{length, get_or, take, drop, drop_of_length-le, length-drop}
-use lib.Seq.{drop-cons, take_all}
+use lib.ListN.{length, get_or, take, drop}
 use lib.Dec.{eqb, leb}
-use borrow.Author.Tests.{eq-eqb, ne_eqb, le-leb, lt-leb}
-use native.Mathlib.Numerals.{add-one}
+use lib.Pointwise.{pointwise}
+use borrow.Author.Tests.{le-leb, lt-leb}
 use native.Mathlib.Decide.{dec_lt}
 use native.Mathlib.Omega.{arith}
+use Rattle.std.specs.Prelude.{Result, Ok, Err}
 use Rattle.refusal.specs.declared.Refusal.{Refusal}
 use Rattle.refusal.specs.declared.Refusal.TheVariants.{StackUnderflow, Invalid}
 use Rattle.refusal.specs.declared.Wanted.TheVariants.{Class as AClass, Arguments, Object}
@@ -18,16 +18,14 @@ use Rattle.number.specs.Space.{same}
 use Rattle.value.specs.Value.{Label, SetL, FrozenSetL}
 use Rattle.value.specs.Shape.{kind_in}
 use Rattle.store.specs.declared.NodeId.{NodeId}
-use Rattle.decoder.specs.declared.CallRead.{CallRead}
 use Rattle.store.specs.declared.Effect.TheVariants.{Push, Build}
-use Rattle.decoder.specs.declared.CallRead.TheVariants.{None, Of}
 use Rattle.steps.specs.Opcodes.{builtin, set_name, frozenset_name, object, set_of, reduced, called, build_state}
 use Rattle.steps.specs.Run.{going}
 use Rattle.store.specs.declared.Counts.{Counts}
 use Rattle.store.specs.Rooms.{Rooms, kids_of, state_of, Counted, Together, Placed}
 use Rattle.steps.specs.NodeWords.{first, second, within, module_of, name_of, node_is, HoldsLinks, a_list, a_tuple, a_dict, holds_below, object_word, object-made, object_node}
 use Rattle.store.specs.RoomKeeps.{class_none, class_made}
-use Rattle.store.specs.Effects.{Firm, Sound, SomeRooms, IsStep, Fits, enacted, refusing, says_refused}
+use Rattle.store.specs.Effects.{Firm, Sound, SomeRooms, IsStep, Fits, enacted, says_refused}
 use Rattle.decoder.specs.Reads.{cut_to, firm_cut}
 use Rattle.decoder.specs.StackSteps.{on_stack, stack_room}
 use Rattle.decoder.specs.ReadsCalls.{MadeByCall, CallOnTop, CallSaid, ReadsCall, lower_node, upper_node, build-short, build_no_object, build-object, CallMakes, a_set, a_frozen_set, an_object, made_of, call-short, call_no_class, call_no_arguments, call-both, made_kind, same-builtin, same_set, same-frozenset}
@@ -59,7 +57,7 @@ lent_two c ws st l h =
     record { lower = a.0; upper = b.0; lower_node = a.1; upper_node = b.1 }
 
 module _ (c : Counts) (ws st : List ℕ) where
-  pub reads_short : c.stack < 2 → ReadsCall c ws st (None StackUnderflow)
+  pub reads_short : c.stack < 2 → ReadsCall c ws st (Err StackUnderflow)
   unfolding ReadsCall CallSaid
   reads_short h r s e f = call-short r c s h
 
@@ -67,58 +65,35 @@ module _ (c : Counts) (ws st : List ℕ) where
   at r i f = ap (λ (l : List ℕ). get_or l i 0) f
 
   module _ (two : 2 ≤ c.stack) where
-    pub reads_no_class : kind_in (first ws (get_or st (c.stack - 2) 0)) ≢ 11 → ReadsCall c ws st (None (Invalid AClass))
+    pub reads_no_class : kind_in (first ws (get_or st (c.stack - 2) 0)) ≢ 11 → ReadsCall c ws st (Err (Invalid AClass))
     unfolding ReadsCall CallSaid
     reads_no_class d r s e f = call_no_class r c s two _ _ (at r (c.stack - 2) f) (at r (c.stack - 1) f) (rw e d)
 
     module _ (global : kind_in (first ws (get_or st (c.stack - 2) 0)) ≡ 11) where
-      pub reads_no_arguments : kind_in (first ws (get_or st (c.stack - 1) 0)) ≢ 7 → ReadsCall c ws st (None (Invalid Arguments))
+      pub reads_no_arguments : kind_in (first ws (get_or st (c.stack - 1) 0)) ≢ 7 → ReadsCall c ws st (Err (Invalid Arguments))
       unfolding ReadsCall CallSaid
       reads_no_arguments d r s e f = call_no_arguments r c s two _ _ (at r (c.stack - 2) f) (at r (c.stack - 1) f) (rw e global) (rw e d)
 
-      pub reads_both : (x y : NodeId) → get_or st (c.stack - 2) 0 ≡ x.0 → get_or st (c.stack - 1) 0 ≡ y.0 → kind_in (first ws (get_or st (c.stack - 1) 0)) ≡ 7 → ReadsCall c ws st (Of x y)
+      pub reads_both : (x y : NodeId) → get_or st (c.stack - 2) 0 ≡ x.0 → get_or st (c.stack - 1) 0 ≡ y.0 → kind_in (first ws (get_or st (c.stack - 1) 0)) ≡ 7 → ReadsCall c ws st (Ok (x, y))
       unfolding ReadsCall CallSaid
       reads_both x y p q t r s e f = rw (← p, ← q) (call-both r c s two _ _ (at r (c.stack - 2) f) (at r (c.stack - 1) f) (rw e global) (rw e t))
 
 -- ---- texts
 
-pub same_more : (s w : List ℕ) (at : ℕ) → at < length s → length s ≡ length w → get_or s at 0 ≡ get_or w at 0 → same (drop (at + 1) s) (drop (at + 1) w) ≡ same (drop at s) (drop at w)
+same_pointwise : (s w : List ℕ) → same s w ≡ pointwise eqb s w
 unfolding same
-same_more s w at h l e =
-    let g : at < length w = omega arith in
-    rw (add-one at, drop-cons s at 0 h, drop-cons w at 0 g, eq-eqb (get_or s at 0) (get_or w at 0) e)
+same_pointwise [] [] = refl
+same_pointwise [] (b ∷ w) = refl
+same_pointwise (a ∷ s) [] = refl
+same_pointwise (a ∷ s) (b ∷ w) = ap (λ x. eqb a b && x) (same_pointwise s w)
 
-pub same_differs : (s w : List ℕ) (at : ℕ) → at < length s → length s ≡ length w → get_or s at 0 ≢ get_or w at 0 → false ≡ same (drop at s) (drop at w)
-unfolding same
-same_differs s w at h l e =
-    let g : at < length w = omega arith in
-    rw (drop-cons s at 0 h, drop-cons w at 0 g, ne_eqb (get_or s at 0) (get_or w at 0) e)
+-- what a test of bytes says
+module _ {s w x y : List ℕ} {b : Bool} (p : x ≡ s) (q : y ≡ w) where
+  pub same_told : b ≡ pointwise eqb x y → same s w ≡ b
+  same_told e = rw (same_pointwise s w, e, p, q)
 
-pub same_end : (s w : List ℕ) (at : ℕ) → length s ≤ at → length s ≡ length w → true ≡ same (drop at s) (drop at w)
-unfolding same
-same_end s w at h l = rw (drop_of_length-le s h, drop_of_length-le w (rw l at h))
-
-pub same_length : (s w : List ℕ) → length s ≢ length w → false ≡ same s w
-unfolding same
-same_length [] [] h = absurd (h refl)
-same_length [] (c ∷ w) h = refl
-same_length (b ∷ s) [] h = refl
-same_length (b ∷ s) (c ∷ w) h = go (eqb b c) (same_length s w (λ e. h (ap suc e)))
-  where
-    go : (x : Bool) → false ≡ same s w → false ≡ (x && same s w)
-    go true e = e
-    go false e = refl
-
-module _ (p : List ℕ) (at len : ℕ) where
-  pub text-none : length p ≤ at → [] ≡ take len (drop at p)
-  text-none h = rw (drop_of_length-le p h) (go len)
-    where
-      go : (n : ℕ) → ◌≡◌ {A = List ℕ} [] (take n [])
-      go zero = refl
-      go (suc n) = refl
-
-  pub text-rest : length p - at < len → take (length p - at) (drop at p) ≡ take len (drop at p)
-  text-rest h = take_all (length p - at) (drop at p) (rw length-drop (omega arith)) ∙ sym (take_all len (drop at p) (rw length-drop (omega arith)))
+  pub other_told : b ≡ not (pointwise eqb x y) → same s w ≡ not b
+  other_told e = rw (same_pointwise s w, e, p, q) (sym (not-not (pointwise eqb s w)))
 
 -- ---- what REDUCE makes
 
@@ -163,12 +138,12 @@ module _ (p : List ℕ) (a b n : ℕ) where
 -- ---- calls
 
 -- what the code's answer says of rooms that it was read from
-module _ (c : Counts) (ws st : List ℕ) (k : CallRead) (reads : ReadsCall c ws st k) (r : Rooms) (s : Sound r c) (e : r.nodes ≡ ws) (f : r.stack ≡ st) where
-  pub call_of : (x y : NodeId) → k ≡ Of x y → CallOnTop c r x.0 y.0
+module _ (c : Counts) (ws st : List ℕ) (k : Result (NodeId × NodeId) Refusal) (reads : ReadsCall c ws st k) (r : Rooms) (s : Sound r c) (e : r.nodes ≡ ws) (f : r.stack ≡ st) where
+  pub call_of : (x y : NodeId) → k ≡ Ok (x, y) → CallOnTop c r x.0 y.0
   unfolding ReadsCall CallSaid
   call_of x y d = rw d at (reads r s e f)
 
-  pub call_refused : (makes : MadeByCall) (why : Refusal) → k ≡ None why → IsStep (refusing c why) r c (going (called makes (state_of r c)))
+  pub call_refused : (makes : MadeByCall) (why : Refusal) → k ≡ Err why → IsStep (Err why) r c (going (called makes (state_of r c)))
   unfolding ReadsCall CallSaid going
   call_refused makes why d = says_refused why r c (going (called makes (state_of r c))) (rw ((rw d at (reads r s e f)) makes))
 
@@ -190,7 +165,7 @@ module _ (r : Rooms) (c : Counts) (s : Sound r c) (x y : ℕ) (call : CallOnTop 
   name = (module_of r.pickle (first r.nodes x), name_of r.pickle (second r.nodes x))
 
   pub says-object : (makes : MadeByCall) (new : Bool) (c₁ : Counts) (a b : ℕ) → makes name y (kids_of r c y) ≡ object name new y → c₁ ≡ cut_to c c.at (c.stack - 2) c.marks → a ≡ object_word new x → b ≡ y
-      → IsStep (Push c₁ a b) r c (going (called makes (state_of r c)))
+      → IsStep (Ok (Push c₁ a b)) r c (going (called makes (state_of r c)))
   unfolding enacted Fits
   says-object makes new c₁ a b m e f g =
       let k = (object-made new x).0 in
@@ -202,7 +177,7 @@ module _ (r : Rooms) (c : Counts) (s : Sound r c) (x y : ℕ) (call : CallOnTop 
       })
 
   says-set : (l : Label) (c₁ : Counts) (k b : ℕ) → reduced name y (kids_of r c y) ≡ set_of l y (kids_of r c y) → c₁ ≡ cut_to c c.at (c.stack - 2) c.marks → b ≡ get_or (kids_of r c y) 0 y
-      → node_is r.pickle r.nodes [] k b ≡ record { label = l; kids = b ∷ [] } → 7 < kind_in k → kind_in k < 10 → IsStep (Push c₁ k b) r c (going (called reduced (state_of r c)))
+      → node_is r.pickle r.nodes [] k b ≡ record { label = l; kids = b ∷ [] } → 7 < kind_in k → kind_in k < 10 → IsStep (Ok (Push c₁ k b)) r c (going (called reduced (state_of r c)))
   unfolding enacted Fits
   says-set l c₁ k b m e f n low high =
       rw e
@@ -220,19 +195,19 @@ module _ (r : Rooms) (c : Counts) (s : Sound r c) (x y : ℕ) (call : CallOnTop 
     view : CallMakes name y (kids_of r c y) (reduced name y (kids_of r c y)) k
     view = rw (made, call-count) (made_of name y (kids_of r c y))
 
-    pub reduce-object : k ≡ 12 → (a b : ℕ) → a ≡ object_word false x → b ≡ y → IsStep (Push c₁ a b) r c (going (called reduced (state_of r c)))
+    pub reduce-object : k ≡ 12 → (a b : ℕ) → a ≡ object_word false x → b ≡ y → IsStep (Ok (Push c₁ a b)) r c (going (called reduced (state_of r c)))
     reduce-object e a b f g = go view
       where
-        go : CallMakes name y (kids_of r c y) (reduced name y (kids_of r c y)) k → IsStep (Push c₁ a b) r c (going (called reduced (state_of r c)))
+        go : CallMakes name y (kids_of r c y) (reduced name y (kids_of r c y)) k → IsStep (Ok (Push c₁ a b)) r c (going (called reduced (state_of r c)))
         go (a_set z m) = absurd (omega arith)
         go (a_frozen_set z m) = absurd (omega arith)
         go (an_object z m) = says-object reduced false c₁ a b m rest f g
 
-    pub reduce-set : k ≢ 12 → (b : ℕ) → b ≡ get_or (kids_of r c y) 0 y → IsStep (Push c₁ k b) r c (going (called reduced (state_of r c)))
+    pub reduce-set : k ≢ 12 → (b : ℕ) → b ≡ get_or (kids_of r c y) 0 y → IsStep (Ok (Push c₁ k b)) r c (going (called reduced (state_of r c)))
     unfolding node_is kind_in
     reduce-set d b f = go view
       where
-        go : CallMakes name y (kids_of r c y) (reduced name y (kids_of r c y)) k → IsStep (Push c₁ k b) r c (going (called reduced (state_of r c)))
+        go : CallMakes name y (kids_of r c y) (reduced name y (kids_of r c y)) k → IsStep (Ok (Push c₁ k b)) r c (going (called reduced (state_of r c)))
         go (a_set z m) = rw z (says-set SetL c₁ 8 b m rest f refl (omega arith) (omega arith))
         go (a_frozen_set z m) = rw z (says-set FrozenSetL c₁ 9 b m rest f refl (omega arith) (omega arith))
         go (an_object z m) = absurd (d z)
@@ -303,17 +278,17 @@ module _ (r : Rooms) (c : Counts) (x y w k : ℕ) (s : Sound r c) (f : Found r c
 -- ---- BUILD
 
 module _ (r : Rooms) (c : Counts) (s : Sound r c) (ws st : List ℕ) (e : r.nodes ≡ ws) (f : r.stack ≡ st) where
-  pub says-build-short : c.stack < 2 → IsStep (refusing c StackUnderflow) r c (going (build_state (state_of r c)))
+  pub says-build-short : c.stack < 2 → IsStep (Err StackUnderflow) r c (going (build_state (state_of r c)))
   unfolding going
   says-build-short h = says_refused StackUnderflow r c (going (build_state (state_of r c))) (rw (build-short r c s h))
 
   module _ (two : 2 ≤ c.stack) where
-    pub says_no_object : kind_in (first ws (get_or st (c.stack - 2) 0)) ≢ 12 → IsStep (refusing c (Invalid Object)) r c (going (build_state (state_of r c)))
+    pub says_no_object : kind_in (first ws (get_or st (c.stack - 2) 0)) ≢ 12 → IsStep (Err (Invalid Object)) r c (going (build_state (state_of r c)))
     unfolding going
     says_no_object d = says_refused (Invalid Object) r c (going (build_state (state_of r c))) (rw (build_no_object r c s two _ _ (at c ws st r (c.stack - 2) f) (at c ws st r (c.stack - 1) f) (rw e d)))
 
     pub says-build : (x y : NodeId) (c₁ : Counts) → get_or st (c.stack - 2) 0 ≡ x.0 → get_or st (c.stack - 1) 0 ≡ y.0 → kind_in (first ws (get_or st (c.stack - 2) 0)) ≡ 12 → c₁ ≡ cut_to c c.at (c.stack - 1) c.marks
-        → IsStep (Build c₁ x y) r c (going (build_state (state_of r c)))
+        → IsStep (Ok (Build c₁ x y)) r c (going (build_state (state_of r c)))
     unfolding enacted Fits going
     says-build x y c₁ p q k g =
         let lower = at c ws st r (c.stack - 2) f ∙ p in

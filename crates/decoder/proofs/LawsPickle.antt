@@ -8,7 +8,9 @@ use lib.IntN.{ℤ, pos, negsuc}
 use lib.Seq.{drop-drop, take-take}
 use native.Mathlib.Omega.{arith}
 use borrow.Author.Tests.{le-leb, lt-leb, ltb-true, ltb-false}
+use Rattle.std.specs.Prelude.{Result, Ok, Err}
 use Rattle.refusal.specs.Read.{Read, got, refused}
+use Rattle.refusal.specs.declared.Refusal.{Refusal}
 use Rattle.refusal.specs.declared.Refusal.TheVariants.{EndOfInput, UnsupportedProtocol, Invalid, InvalidLiteral, IntegerTooLarge, FloatOutside}
 use Rattle.refusal.specs.declared.Wanted.TheVariants.{Length}
 use Rattle.utf8.specs.Utf8.{repair}
@@ -37,22 +39,20 @@ use Rattle.text.specs.declared.Quoted.{Quoted}
 use Rattle.text.specs.declared.Quoted.TheVariants as quoted
 use Rattle.value.specs.Value.{Label, BoolL, I64L, F64L, BytesL, StringL, GlobalL}
 use Rattle.store.specs.declared.Effect.TheVariants.{Push, Go}
-use Rattle.decoder.specs.declared.Part.{Part}
-use Rattle.decoder.specs.declared.Part.TheVariants.{At}
 use Rattle.decoder.specs.declared.LongRead.TheVariants as long
 use Rattle.steps.specs.State.{ok, no, ◌>>=◌, need, byte, bytes, push}
 use Rattle.steps.specs.Opcodes.{int_label, signed_length, proto, binstring, global}
 use Rattle.steps.specs.Run.{going}
 use Rattle.store.specs.declared.Counts.{Counts}
 use Rattle.store.specs.Rooms.{Rooms, state_of, at_to}
-use Rattle.store.specs.Effects.{Sound, Decides, refusing}
+use Rattle.store.specs.Effects.{Sound, Decides}
 use Rattle.decoder.specs.Reads.{cut_to, bytes-short, bytes_got, line-none, line_got}
 use Rattle.decoder.specs.ReadsPickle.{ReadsPart, prefixed, ReadsLong, long_got, long_large, Makes, refused_going, says_go, pushed_step, short, enough, ended, lined, first_byte, line_part, LineAt, no_newline, makes_as, makes_bytes, makes_escaped, makes_unicode, makes_global}
 
 -- ---- PROTO, with v as the highest protocol
 
 module _ (c : Counts) (p : List ℕ) (v : ℕ) where
-  pub proto_ends : length p - c.at < 1 → Decides c (λ r. r.pickle ≡ p) (λ s. going (proto v s)) (refusing c EndOfInput)
+  pub proto_ends : length p - c.at < 1 → Decides c (λ r. r.pickle ≡ p) (λ s. going (proto v s)) (Err EndOfInput)
   unfolding Decides proto byte ◌>>=◌
   proto_ends h r s q = refused_going r c s EndOfInput (proto v (state_of r c)) (rw (short c p 1 h r s q))
 
@@ -61,11 +61,11 @@ module _ (c : Counts) (p : List ℕ) (v : ℕ) where
     unfolding byte ◌>>=◌
     read r s q = rw (enough c p 1 h r s q, first_byte p c.at)
 
-    pub proto_new : v < get_or p c.at 0 → Decides c (λ r. r.pickle ≡ p) (λ s. going (proto v s)) (refusing c (UnsupportedProtocol (get_or p c.at 0)))
+    pub proto_new : v < get_or p c.at 0 → Decides c (λ r. r.pickle ≡ p) (λ s. going (proto v s)) (Err (UnsupportedProtocol (get_or p c.at 0)))
     unfolding Decides proto ◌>>=◌ need
     proto_new k r s q = refused_going r c s (UnsupportedProtocol (get_or p c.at 0)) (proto v (state_of r c)) (rw (read r s q, lt-leb (get_or p c.at 0) v k))
 
-    pub proto_known : (c₁ : Counts) → get_or p c.at 0 ≤ v → c₁ ≡ cut_to c (c.at + 1) c.stack c.marks → Decides c (λ r. r.pickle ≡ p) (λ s. going (proto v s)) (Go c₁)
+    pub proto_known : (c₁ : Counts) → get_or p c.at 0 ≤ v → c₁ ≡ cut_to c (c.at + 1) c.stack c.marks → Decides c (λ r. r.pickle ≡ p) (λ s. going (proto v s)) (Ok (Go c₁))
     unfolding Decides proto ◌>>=◌ need
     proto_known c₁ k e r s q = rw e (says_go r c s (c.at + 1) (proto v (state_of r c)) (rw (read r s q, le-leb (get_or p c.at 0) v k)) (omega arith) (rw q (omega arith)))
 
@@ -135,7 +135,7 @@ cut_part : (p : List ℕ) (a m : ℕ) → take (a + m - a) (drop a p) ≡ take m
 cut_part p a m = let e : a + m - a ≡ m = omega arith in rw e
 
 -- x is the integer of the part behind a length of n bytes
-module _ (p : List ℕ) (n at : ℕ) (t : Part) (h : ReadsPart at p (prefixed n) t) (a m : ℕ) (e : t ≡ At a m) (x : Integer) (d : integer_read x ≡ long_of (take (a + m - a) (drop a p))) where
+module _ (p : List ℕ) (n at : ℕ) (t : Result (ℕ × ℕ) Refusal) (h : ReadsPart at p (prefixed n) t) (a m : ℕ) (e : t ≡ Ok (a, m)) (x : Integer) (d : integer_read x ≡ long_of (take (a + m - a) (drop a p))) where
   part_says : long_of (take m (drop a p)) ≡ integer_read x
   part_says = sym (d ∙ ap long_of (cut_part p a m))
 
@@ -225,7 +225,7 @@ length_is (pos n) h k = refl
 length_is (negsuc n) h k = let y = ltb-false (2 ^ 64 - suc n) (2 ^ 63) (bits_sign (negsuc n) h) in absurd (omega arith)
 
 module _ (c : Counts) (p : List ℕ) where
-  pub binstring_ends : length p - c.at < 4 → Decides c (λ r. r.pickle ≡ p) (λ s. going (binstring s)) (refusing c EndOfInput)
+  pub binstring_ends : length p - c.at < 4 → Decides c (λ r. r.pickle ≡ p) (λ s. going (binstring s)) (Err EndOfInput)
   unfolding Decides binstring ◌>>=◌
   binstring_ends h r s q = refused_going r c s EndOfInput (binstring (state_of r c)) (rw (short c p 4 h r s q))
 
@@ -233,7 +233,7 @@ module _ (c : Counts) (p : List ℕ) where
     word : in_i64 (denotes (take 4 (drop c.at p))) ≡ true
     word = short_in (take 4 (drop c.at p)) (bytes_take 4 (drop c.at p) (bytes_drop c.at p B)) (simp length-take (omega arith))
 
-    pub binstring-below : 0x7FFF_FFFF_FFFF_FFFF < v → Decides c (λ r. r.pickle ≡ p) (λ s. going (binstring s)) (refusing c (Invalid Length))
+    pub binstring-below : 0x7FFF_FFFF_FFFF_FFFF < v → Decides c (λ r. r.pickle ≡ p) (λ s. going (binstring s)) (Err (Invalid Length))
     unfolding Decides binstring ◌>>=◌
     binstring-below k r s q =
         refused_going r c s (Invalid Length) (binstring (state_of r c)) (rw (enough c p 4 h r s q, length-below (denotes (take 4 (drop c.at p))) word (rw e at k)))
@@ -243,12 +243,12 @@ module _ (c : Counts) (p : List ℕ) where
       unfolding binstring ◌>>=◌
       behind r s q = rw (enough c p 4 h r s q, length_is (denotes (take 4 (drop c.at p))) word (rw e at k), ← e)
 
-      pub binstring-short : length p - c.at - 4 < v → Decides c (λ r. r.pickle ≡ p) (λ s. going (binstring s)) (refusing c EndOfInput)
+      pub binstring-short : length p - c.at - 4 < v → Decides c (λ r. r.pickle ≡ p) (λ s. going (binstring s)) (Err EndOfInput)
       unfolding Decides ◌>>=◌
       binstring-short m r s q = refused_going r c s EndOfInput (binstring (state_of r c)) (behind r s q ∙ rw (bytes-short r (at_to c (c.at + 4)) v (rw q (omega arith)) (rw q (omega arith))))
 
       pub binstring-push : (w : ℕ) (c₁ : Counts) → v ≤ length p - c.at - 4 → w ≡ v * 2 ^ 32 + (c.at + 4) → c.at + 4 < 2 ^ 32 → c₁ ≡ cut_to c (c.at + 4 + v) c.stack c.marks
-          → Decides c (λ r. r.pickle ≡ p) (λ s. going (binstring s)) (Push c₁ 4 w)
+          → Decides c (λ r. r.pickle ≡ p) (λ s. going (binstring s)) (Ok (Push c₁ 4 w))
       unfolding ◌>>=◌
       binstring-push w c₁ m f g =
           pushed_step c p binstring (c.at + 4 + v) 4 w (BytesL (take v (drop (c.at + 4) p))) c₁
@@ -260,12 +260,12 @@ module _ (c : Counts) (p : List ℕ) where
 -- ---- GLOBAL
 
 module _ (c : Counts) (p : List ℕ) where
-  pub global_ends : {x : LineEnd} → line_end x ≡ newline_of p c.at → x ≡ ends.End → Decides c (λ r. r.pickle ≡ p) (λ s. going (global s)) (refusing c EndOfInput)
+  pub global_ends : {x : LineEnd} → line_end x ≡ newline_of p c.at → x ≡ ends.End → Decides c (λ r. r.pickle ≡ p) (λ s. going (global s)) (Err EndOfInput)
   unfolding Decides global ◌>>=◌
   global_ends e d r s q = refused_going r c s EndOfInput (global (state_of r c)) (rw (ended c p (no_newline p c.at e d) r s q))
 
   module _ {i : ℕ} (e : LineAt p c.at i) where
-    pub global_cut : {x : LineEnd} → line_end x ≡ newline_of p (i + 1) → x ≡ ends.End → Decides c (λ r. r.pickle ≡ p) (λ s. going (global s)) (refusing c EndOfInput)
+    pub global_cut : {x : LineEnd} → line_end x ≡ newline_of p (i + 1) → x ≡ ends.End → Decides c (λ r. r.pickle ≡ p) (λ s. going (global s)) (Err EndOfInput)
     unfolding Decides global ◌>>=◌
     global_cut f d r s q = refused_going r c s EndOfInput (global (state_of r c)) (rw (lined c p i e.found r s q, line-none r (at_to c (i + 1)) (rw q (no_newline p (i + 1) f d))))
 
@@ -275,7 +275,7 @@ module _ (c : Counts) (p : List ℕ) where
       both r s q = rw (lined c p i e.found r s q, line_got r (at_to c (i + 1)) j (rw q f.found), q, d, g)
 
       pub global-push : {k w : ℕ} {c₁ : Counts} → k ≡ 11 + 16 * (length l * 2 ^ 24 + c.at) → w ≡ length m * 2 ^ 32 + (i + 1) → c₁ ≡ cut_to c (j + 1) c.stack c.marks
-          → Decides c (λ r. r.pickle ≡ p) (λ s. going (global s)) (Push c₁ k w)
+          → Decides c (λ r. r.pickle ≡ p) (λ s. going (global s)) (Ok (Push c₁ k w))
       global-push {k = k} {w = w} {c₁ = c₁} x y =
           pushed_step c p global (j + 1) k w (GlobalL (repair l) (repair m)) c₁ both
           (rw (x, y) (rw (line_own p c.at i l d, line_own p (i + 1) j m g) at (makes_global p c.at (length l) (i + 1) (length m) (omega arith) (omega arith))))

@@ -1,10 +1,12 @@
 -- What REDUCE, NEWOBJ and BUILD take off the stack, over rooms and counts, and what REDUCE makes of a class by its name.
 use Prim.Native.Nat.{ℕ, suc, zero, ◌-◌, ◌<◌, ◌≤◌}
-use Rattle.std.specs.Prelude.{Bool, true, false, cond, ◌&&◌, ◌≡◌, ◌≢◌, length, get_or, leb, ltb}
+use Rattle.std.specs.Prelude.{Result, Ok, Err, Bool, true, false, cond, ◌&&◌, ◌≡◌, ◌≢◌, length, get_or, leb, ltb}
 use mathlib.Core.List.{List, [], ◌∷◌, ◌++◌, map, flatten}
 use Rattle.std.proofs.Math.Path.{refl}
 use Rattle.std.proofs.Common.{sym, ◌∙◌, ap, arith}
 use borrow.Author.Tests.{eq-eqb, ne_eqb}
+use Rattle.refusal.specs.declared.Refusal.{Refusal}
+use Rattle.store.specs.declared.NodeId.{NodeId}
 use Rattle.refusal.specs.declared.Refusal.TheVariants.{StackUnderflow, Invalid}
 use Rattle.refusal.specs.declared.Wanted.TheVariants.{Class as AClass, Arguments, Object}
 use Rattle.utf8.specs.Utf8.{well_formed, pieces, fffd, mend, repair, evaluates}
@@ -13,8 +15,6 @@ use Rattle.number.specs.Space.{same}
 use Rattle.number.specs.Trims.{same_is}
 use Rattle.value.specs.Value.{SetL, FrozenSetL}
 use Rattle.value.specs.Shape.{kind_in}
-use Rattle.decoder.specs.declared.CallRead.{CallRead}
-use Rattle.decoder.specs.declared.CallRead.TheVariants.{None, Of}
 use Rattle.steps.specs.State.{Node, ok, no, ◌>>=◌, need, pop, top, push_node}
 use Rattle.steps.specs.Opcodes.{is_tuple, is_object, class_of, builtin, set_name, frozenset_name, object, set_of, reduced, called, build_state}
 use Rattle.store.specs.declared.Counts.{Counts}
@@ -42,12 +42,12 @@ pub record CallOnTop (c : Counts) (r : Rooms) (class args : ℕ) : Type 0 where
       ≡ push_node (makes (module_of r.pickle (first r.nodes class), name_of r.pickle (second r.nodes class)) args (kids_of r c args)) (state_of r (cut_to c c.at (c.stack - 2) c.marks))
 
 -- what the code answers: no call, or the two nodes
-unfoldable pub CallSaid : Counts → Rooms → CallRead → Type 0
-CallSaid c r (None why) = (makes : MadeByCall) → called makes (state_of r c) ≡ no why
-CallSaid c r (Of class args) = CallOnTop c r class.0 args.0
+unfoldable pub CallSaid : Counts → Rooms → Result (NodeId × NodeId) Refusal → Type 0
+CallSaid c r (Err why) = (makes : MadeByCall) → called makes (state_of r c) ≡ no why
+CallSaid c r (Ok e) = CallOnTop c r e.0.0 e.1.0
 
 -- the same in all rooms with these nodes and this stack
-unfoldable pub ReadsCall : Counts → List ℕ → List ℕ → CallRead → Type 0
+unfoldable pub ReadsCall : Counts → List ℕ → List ℕ → Result (NodeId × NodeId) Refusal → Type 0
 ReadsCall c ws st k = (r : Rooms) → Sound r c → r.nodes ≡ ws → r.stack ≡ st → CallSaid c r k
 
 -- one value taken

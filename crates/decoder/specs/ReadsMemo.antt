@@ -1,11 +1,11 @@
 -- The memo number that an opcode reads: its definition, and what an answer of the code's readers says of the rooms.
-use Rattle.std.specs.Prelude.{ℕ, ◌≤◌, List, ◌≡◌, refl, length}
+use Rattle.std.specs.Prelude.{ℕ, ◌≤◌, List, Result, Ok, Err, ◌≡◌, refl, length}
 use Rattle.std.proofs.Common.{sym, arith}
+use Rattle.refusal.specs.declared.Refusal.{Refusal}
 use Rattle.number.specs.Number.{parse_u32}
+use Rattle.store.specs.declared.MemoKey.{MemoKey}
 use Rattle.decoder.specs.declared.KeyForm.{KeyForm}
 use Rattle.decoder.specs.declared.KeyForm.TheVariants.{Line, Byte, Word}
-use Rattle.decoder.specs.declared.KeyRead.{KeyRead}
-use Rattle.decoder.specs.declared.KeyRead.TheVariants.{None, At}
 use Rattle.steps.specs.State.{State, Res, ok, no, ◌>>=◌, leaf, line, get, put}
 use Rattle.steps.specs.Opcodes.{low_bytes, get_line, get_bytes, put_line, put_bytes}
 use Rattle.store.specs.declared.Counts.{Counts}
@@ -73,12 +73,12 @@ put_keyed Word s = refl
 -- ---- what the code's readers answer
 
 -- in the rooms r with the counts c: no number, or the number and the place behind it
-unfoldable pub Key : (State → Res (ℕ × State)) → Counts → Rooms → KeyRead → Type 0
-Key f c r (None why) = f (state_of r c) ≡ no why
-Key f c r (At a k) = (f (state_of r c) ≡ ok (k.0, state_of r (cut_to c a c.stack c.marks))) × (c.at ≤ a) × (a ≤ length r.pickle)
+unfoldable pub Key : (State → Res (ℕ × State)) → Counts → Rooms → Result (ℕ × MemoKey) Refusal → Type 0
+Key f c r (Err why) = f (state_of r c) ≡ no why
+Key f c r (Ok e) = (f (state_of r c) ≡ ok (e.1.0, state_of r (cut_to c e.0 c.stack c.marks))) × (c.at ≤ e.0) × (e.0 ≤ length r.pickle)
 
 -- the same in all rooms with the pickle p
-unfoldable pub ReadsKey : (State → Res (ℕ × State)) → Counts → List ℕ → KeyRead → Type 0
+unfoldable pub ReadsKey : (State → Res (ℕ × State)) → Counts → List ℕ → Result (ℕ × MemoKey) Refusal → Type 0
 ReadsKey f c p k = (r : Rooms) → Sound r c → r.pickle ≡ p → Key f c r k
 
 -- ---- rooms and counts behind what was read

@@ -1,5 +1,5 @@
 -- What the opcodes that read only the pickle come to: a line's literal, so many bytes, or a length and so many bytes.
-use Rattle.std.specs.Prelude.{ℕ, suc, zero, ◌+◌, ◌-◌, ◌*◌, ◌^◌, ◌<◌, ◌≤◌, Bool, cond, ◌||◌, ◌≡◌, length, get_or, take, drop, eqb, leb}
+use Rattle.std.specs.Prelude.{ℕ, suc, zero, ◌+◌, ◌-◌, ◌*◌, ◌^◌, ◌<◌, ◌≤◌, Bool, cond, ◌||◌, ◌≡◌, length, get_or, take, drop, eqb, leb, Result, Ok, Err}
 use Rattle.std.proofs.Math.Bool.{true, false}
 use mathlib.Core.List.{List, [], ◌∷◌}
 use Rattle.std.proofs.Math.Path.{refl, sym, ap}
@@ -21,8 +21,6 @@ use Rattle.value.specs.Shape.{kind_in}
 use Rattle.input.specs.declared.LineEnd.{LineEnd}
 use Rattle.input.specs.declared.LineEnd.TheVariants as ends
 use Rattle.store.specs.declared.Effect.{Effect}
-use Rattle.decoder.specs.declared.Part.{Part}
-use Rattle.decoder.specs.declared.Part.TheVariants.{Short, At}
 use Rattle.store.specs.declared.Effect.TheVariants.{Push, Go}
 use Rattle.decoder.specs.declared.LongRead.{LongRead}
 use Rattle.decoder.specs.declared.LongRead.TheVariants as longs
@@ -33,7 +31,7 @@ use Rattle.store.specs.declared.Counts.{Counts}
 use Rattle.store.specs.Rooms.{Rooms, state_of, at_to}
 use Rattle.steps.specs.NodeWords.{module_of, name_of, node_is, HoldsLinks, a_list, a_tuple, a_dict, within_at, node_kind, kind-made, rest-made}
 use Rattle.store.specs.RoomKeeps.{class_none}
-use Rattle.store.specs.Effects.{Firm, Sound, IsStep, Fits, SomeRooms, Decides, enacted, refusing, says_refused}
+use Rattle.store.specs.Effects.{Firm, Sound, IsStep, Fits, SomeRooms, Decides, enacted, says_refused}
 use Rattle.decoder.specs.Reads.{cut_to, firm_cut, bytes-short, bytes_got, line-none, line_got}
 
 -- ---- what the parts of the code answer
@@ -45,17 +43,17 @@ prefixed n s = do
   bytes z s₁
 
 -- a part of the pickle is what m reads
-unfoldable pub Is : Part → Rooms → Counts → Res (List ℕ × State) → Type 0
-Is Short r c m = m ≡ no EndOfInput
-Is (At from n) r c m = m ≡ ok (take n (drop from r.pickle), state_of r (at_to c (from + n)))
+unfoldable pub Is : Result (ℕ × ℕ) Refusal → Rooms → Counts → Res (List ℕ × State) → Type 0
+Is (Err why) r c m = m ≡ no why
+Is (Ok part) r c m = m ≡ ok (take part.1 (drop part.0 r.pickle), state_of r (at_to c (part.0 + part.1)))
 
 -- it stands at or behind a place, inside the pickle
-unfoldable pub Behind : ℕ → List ℕ → Part → Type 0
-Behind at p Short = Unit
-Behind at p (At from n) = (at ≤ from) × (from + n ≤ length p)
+unfoldable pub Behind : ℕ → List ℕ → Result (ℕ × ℕ) Refusal → Type 0
+Behind at p (Err why) = Unit
+Behind at p (Ok part) = (at ≤ part.0) × (part.0 + part.1 ≤ length p)
 
 -- in all rooms with the pickle p and with all counts at this place, t is what `reads` reads
-pub record ReadsPart (at : ℕ) (p : List ℕ) (reads : State → Res (List ℕ × State)) (t : Part) : Type 0 where
+pub record ReadsPart (at : ℕ) (p : List ℕ) (reads : State → Res (List ℕ × State)) (t : Result (ℕ × ℕ) Refusal) : Type 0 where
   pub behind : Behind at p t
   pub is : (c : Counts) → c.at ≡ at → (r : Rooms) → Sound r c → r.pickle ≡ p → Is t r c (reads (state_of r c))
 
@@ -118,18 +116,18 @@ no_links k t (a_tuple e) = wrong (kind_in k) 7 t refl e
 no_links k t (a_dict e) = wrong (kind_in k) 10 t refl e
 
 module _ (r : Rooms) (c : Counts) (s : Sound r c) where
-  pub refused_going : (why : Refusal) (m : Res State) → m ≡ no why → IsStep (refusing c why) r c (going m)
+  pub refused_going : (why : Refusal) (m : Res State) → m ≡ no why → IsStep (Err why) r c (going m)
   unfolding going
   refused_going why m e = says_refused why r c (going m) (rw e)
 
   pub firm_read : (a : ℕ) → c.at ≤ a → a ≤ length r.pickle → Firm r (cut_to c a c.stack c.marks)
   firm_read a h k = firm_cut r c a c.stack c.marks s.firm h k (omega arith) (omega arith)
 
-  pub says_go : (a : ℕ) (m : Res State) → m ≡ ok (state_of r (at_to c a)) → c.at ≤ a → a ≤ length r.pickle → IsStep (Go (cut_to c a c.stack c.marks)) r c (going m)
+  pub says_go : (a : ℕ) (m : Res State) → m ≡ ok (state_of r (at_to c a)) → c.at ≤ a → a ≤ length r.pickle → IsStep (Ok (Go (cut_to c a c.stack c.marks))) r c (going m)
   unfolding enacted Fits going
   says_go a m e h k = record { enacts = rw e; fits = firm_read a h k }
 
-  pub says-push : (a k b : ℕ) (l : Label) (m : Res State) → m ≡ push l (state_of r (at_to c a)) → Makes r.pickle k b l → c.at ≤ a → a ≤ length r.pickle → IsStep (Push (cut_to c a c.stack c.marks) k b) r c (going m)
+  pub says-push : (a k b : ℕ) (l : Label) (m : Res State) → m ≡ push l (state_of r (at_to c a)) → Makes r.pickle k b l → c.at ≤ a → a ≤ length r.pickle → IsStep (Ok (Push (cut_to c a c.stack c.marks) k b)) r c (going m)
   unfolding enacted Fits leafy push
   says-push a k b l m e n h i = record {
     enacts = rw (e, n.node r.nodes);
@@ -147,7 +145,7 @@ pub record LineAt (p : List ℕ) (at i : ℕ) : Type 0 where
 
 -- m bytes at a, behind a length of n bytes at `at`
 pub record TextAt (p : List ℕ) (n at a m : ℕ) : Type 0 where
-  pub reads : ReadsPart at p (prefixed n) (At a m)
+  pub reads : ReadsPart at p (prefixed n) (Ok (a, m))
   pub inside : a + m ≤ length p
   pub size : length p ≤ 65536
 
@@ -165,7 +163,7 @@ module _ (p : List ℕ) (at : ℕ) {x : LineEnd} (e : line_end x ≡ newline_of 
 
 -- ---- a step in all rooms that have the pickle
 
-pub same_step : (c : Counts) (P : Rooms → Type 0) (f g : State → Res State) (e : Effect) → ((s : State) → f s ≡ g s) → Decides c P (λ s. going (g s)) e → Decides c P (λ s. going (f s)) e
+pub same_step : (c : Counts) (P : Rooms → Type 0) (f g : State → Res State) (e : Result Effect Refusal) → ((s : State) → f s ≡ g s) → Decides c P (λ s. going (g s)) e → Decides c P (λ s. going (f s)) e
 unfolding Decides
 same_step c P f g e h d r s q = rw (h (state_of r c)) (d r s q)
 
@@ -188,13 +186,13 @@ module _ (c : Counts) (p : List ℕ) where
   lent_size l = rw l.agrees at l.sound.firm.lengths.pickle
 
   -- a step whose first part is refused
-  pub refused_step : {A : Type 0} (m : State → Res A) (f : A → Res State) (why : Refusal) → ((r : Rooms) → Sound r c → r.pickle ≡ p → m (state_of r c) ≡ no why) → Decides c (λ r. r.pickle ≡ p) (λ s. going (m s >>= f)) (refusing c why)
+  pub refused_step : {A : Type 0} (m : State → Res A) (f : A → Res State) (why : Refusal) → ((r : Rooms) → Sound r c → r.pickle ≡ p → m (state_of r c) ≡ no why) → Decides c (λ r. r.pickle ≡ p) (λ s. going (m s >>= f)) (Err why)
   unfolding Decides ◌>>=◌
   refused_step m f why h r s q = refused_going r c s why (m (state_of r c) >>= f) (rw (h r s q))
 
   -- a step that reads to a, and has a node of no children
   pub pushed_step : (m : State → Res State) (a k b : ℕ) (l : Label) (c₁ : Counts) → ((r : Rooms) → Sound r c → r.pickle ≡ p → m (state_of r c) ≡ push l (state_of r (at_to c a)))
-      → Makes p k b l → c.at ≤ a → a ≤ length p → c₁ ≡ cut_to c a c.stack c.marks → Decides c (λ r. r.pickle ≡ p) (λ s. going (m s)) (Push c₁ k b)
+      → Makes p k b l → c.at ≤ a → a ≤ length p → c₁ ≡ cut_to c a c.stack c.marks → Decides c (λ r. r.pickle ≡ p) (λ s. going (m s)) (Ok (Push c₁ k b))
   unfolding Decides
   pushed_step m a k b l c₁ h n i j d r s q = rw d (says-push r c s a k b l (m (state_of r c)) (h r s q) (rw q n) i (rw q j))
 
@@ -207,18 +205,18 @@ module _ (c : Counts) (p : List ℕ) where
   lined i e r s q = rw (line_got r c i (rw q e), q)
 
   module _ {A : Type 0} (read : List ℕ → Read A) (label : A → Label) where
-    pub line_ends : {x : LineEnd} → line_end x ≡ newline_of p c.at → x ≡ ends.End → Decides c (λ r. r.pickle ≡ p) (λ s. going (literal read label s)) (refusing c EndOfInput)
+    pub line_ends : {x : LineEnd} → line_end x ≡ newline_of p c.at → x ≡ ends.End → Decides c (λ r. r.pickle ≡ p) (λ s. going (literal read label s)) (Err EndOfInput)
     line_ends e d = refused_step line (λ q. leaf (read q.0) >>= λ v. push (label v) q.1) EndOfInput (ended (no_newline p c.at e d))
 
     -- l is the line to the newline at i
     module _ {i : ℕ} (e : LineAt p c.at i) {l : List ℕ} (d : l ≡ line_of p c.at i) where
-      pub line_bad : {why : Refusal} {j : ℕ} → turned label (read l) ≡ refused why j → Decides c (λ r. r.pickle ≡ p) (λ s. going (literal read label s)) (refusing c why)
+      pub line_bad : {why : Refusal} {j : ℕ} → turned label (read l) ≡ refused why j → Decides c (λ r. r.pickle ≡ p) (λ s. going (literal read label s)) (Err why)
       unfolding Decides ◌>>=◌
       line_bad {why = why} {j = j} f r s q =
           refused_going r c s why (literal read label (state_of r c)) (rw (lined i e.found r s q, ← d) (leaf_bad label (read l) why j (state_of r (at_to c (i + 1))) f))
 
       pub line-push : {k b : ℕ} {n : Label} {c₁ : Counts} → turned label (read l) ≡ got n → Makes p k b n → c₁ ≡ cut_to c (i + 1) c.stack c.marks
-          → Decides c (λ r. r.pickle ≡ p) (λ s. going (literal read label s)) (Push c₁ k b)
+          → Decides c (λ r. r.pickle ≡ p) (λ s. going (literal read label s)) (Ok (Push c₁ k b))
       unfolding ◌>>=◌
       line-push {k = k} {b = b} {n = n} {c₁ = c₁} f m =
           pushed_step (literal read label) (i + 1) k b n c₁ (λ r s q. rw (lined i e.found r s q, ← d) (leaf_got label (read l) n (state_of r (at_to c (i + 1))) f)) m (omega arith) (omega arith)
@@ -232,11 +230,11 @@ module _ (c : Counts) (p : List ℕ) where
   enough n h r s q = rw (bytes_got r c n s.firm.at (rw q h), q)
 
   module _ (n : ℕ) (label : List ℕ → Label) where
-    pub bytes_end : length p - c.at < n → Decides c (λ r. r.pickle ≡ p) (λ s. going (fixed n label s)) (refusing c EndOfInput)
+    pub bytes_end : length p - c.at < n → Decides c (λ r. r.pickle ≡ p) (λ s. going (fixed n label s)) (Err EndOfInput)
     bytes_end h = refused_step (bytes n) (λ q. push (label q.0) q.1) EndOfInput (short n h)
 
     pub bytes-push : (k b : ℕ) (c₁ : Counts) → c.at ≤ length p → n ≤ length p - c.at → Makes p k b (label (take n (drop c.at p))) → c₁ ≡ cut_to c (c.at + n) c.stack c.marks
-        → Decides c (λ r. r.pickle ≡ p) (λ s. going (fixed n label s)) (Push c₁ k b)
+        → Decides c (λ r. r.pickle ≡ p) (λ s. going (fixed n label s)) (Ok (Push c₁ k b))
     unfolding ◌>>=◌
     bytes-push k b c₁ i h m = pushed_step (fixed n label) (c.at + n) k b (label (take n (drop c.at p))) c₁ (λ r s q. rw (enough n h r s q)) m (omega arith) (omega arith)
 
@@ -265,21 +263,21 @@ module _ (p : List ℕ) (n : ℕ) where
 
   -- likewise at any place
   module _ (at z : ℕ) (l : at ≤ length p) (h : n ≤ length p - at) (e : z ≡ low_first (take n (drop at p))) where
-    pub prefixed-short : length p - at - n < z → ReadsPart at p (prefixed n) Short
+    pub prefixed-short : length p - at - n < z → ReadsPart at p (prefixed n) (Err EndOfInput)
     unfolding Behind Is
     prefixed-short k = record {
       behind = tt;
       is = λ c d r s q. behind-length c z (rw d h) (rw d e) r s q ∙ bytes-short r (at_to c (c.at + n)) z (rw (q, d) (omega arith)) (rw (q, d) (omega arith));
     }
 
-    pub prefixed_got : z ≤ length p - at - n → ReadsPart at p (prefixed n) (At (at + n) z)
+    pub prefixed_got : z ≤ length p - at - n → ReadsPart at p (prefixed n) (Ok (at + n, z))
     unfolding Behind Is
     prefixed_got k = record {
       behind = (omega arith, omega arith);
       is = λ c d r s q. rw (← d) (behind-length c z (rw d h) (rw d e) r s q ∙ bytes_got r (at_to c (c.at + n)) z (rw (q, d) (omega arith)) (rw (q, d) (omega arith)));
     }
 
-  pub none-prefixed : (at : ℕ) → length p - at < n → ReadsPart at p (prefixed n) Short
+  pub none-prefixed : (at : ℕ) → length p - at < n → ReadsPart at p (prefixed n) (Err EndOfInput)
   unfolding Behind Is prefixed ◌>>=◌
   none-prefixed at h = record {
     behind = tt;
@@ -287,13 +285,13 @@ module _ (p : List ℕ) (n : ℕ) where
   }
 
 -- t is the part behind a length of n bytes
-module _ (p : List ℕ) (n at : ℕ) (t : Part) (h : ReadsPart at p (prefixed n) t) where
-  module _ (e : t ≡ Short) where
-    none_found : (c : Counts) → c.at ≡ at → (r : Rooms) → Sound r c → r.pickle ≡ p → prefixed n (state_of r c) ≡ no EndOfInput
+module _ (p : List ℕ) (n at : ℕ) (t : Result (ℕ × ℕ) Refusal) (h : ReadsPart at p (prefixed n) t) where
+  module _ (why : Refusal) (e : t ≡ Err why) where
+    none_found : (c : Counts) → c.at ≡ at → (r : Rooms) → Sound r c → r.pickle ≡ p → prefixed n (state_of r c) ≡ no why
     unfolding Is
     none_found c d r s q = (rw e at h).is c d r s q
 
-  module _ (a m : ℕ) (e : t ≡ At a m) where
+  module _ (a m : ℕ) (e : t ≡ Ok (a, m)) where
     found : (c : Counts) → c.at ≡ at → (r : Rooms) → Sound r c → r.pickle ≡ p → prefixed n (state_of r c) ≡ ok (take m (drop a p), state_of r (at_to c (a + m)))
     unfolding Is
     found c d r s q = (rw e at h).is c d r s q ∙ ap (λ (l : List ℕ). ok (take m (drop a l), state_of r (at_to c (a + m)))) q
@@ -307,20 +305,20 @@ module _ (c : Counts) (p : List ℕ) (n : ℕ) where
   text_is : (label : List ℕ → Label) (s : State) → texted n label s ≡ (prefixed n s >>= λ q. push (label q.0) q.1)
   text_is label s = prefixed_is n s (λ q. push (label q.0) q.1)
 
-  module _ {t : Part} (h : ReadsPart c.at p (prefixed n) t) where
-    pub text_ends : (label : List ℕ → Label) → t ≡ Short → Decides c (λ r. r.pickle ≡ p) (λ s. going (texted n label s)) (refusing c EndOfInput)
-    text_ends label e = same_step c (λ r. r.pickle ≡ p) (texted n label) (λ s. prefixed n s >>= λ q. push (label q.0) q.1) (refusing c EndOfInput) (text_is label) (refused_step c p (prefixed n) (λ q. push (label q.0) q.1) EndOfInput (none_found p n c.at t h e c refl))
+  module _ {t : Result (ℕ × ℕ) Refusal} (h : ReadsPart c.at p (prefixed n) t) where
+    pub text_ends : (label : List ℕ → Label) (why : Refusal) → t ≡ Err why → Decides c (λ r. r.pickle ≡ p) (λ s. going (texted n label s)) (Err why)
+    text_ends label why e = same_step c (λ r. r.pickle ≡ p) (texted n label) (λ s. prefixed n s >>= λ q. push (label q.0) q.1) (Err why) (text_is label) (refused_step c p (prefixed n) (λ q. push (label q.0) q.1) why (none_found p n c.at t h why e c refl))
 
-    pub text_found : {a m : ℕ} → SomeRooms c (λ r. r.pickle ≡ p) → t ≡ At a m → TextAt p n c.at a m
+    pub text_found : {a m : ℕ} → SomeRooms c (λ r. r.pickle ≡ p) → t ≡ Ok (a, m) → TextAt p n c.at a m
     text_found {a = a} {m = m} l e = record { reads = rw e at h; inside = (part_inside p n c.at t h a m e).1; size = lent_size c p l }
 
   -- its words: the kind k, and its length and place
   pub text-push : {a m w k : ℕ} {c₁ : Counts} (label : List ℕ → Label) → ((a m : ℕ) → a < 2 ^ 32 → Makes p k (m * 2 ^ 32 + a) (label (take m (drop a p)))) → TextAt p n c.at a m → w ≡ m * 2 ^ 32 + a → c₁ ≡ cut_to c (a + m) c.stack c.marks
-      → Decides c (λ r. r.pickle ≡ p) (λ s. going (texted n label s)) (Push c₁ k w)
+      → Decides c (λ r. r.pickle ≡ p) (λ s. going (texted n label s)) (Ok (Push c₁ k w))
   unfolding ◌>>=◌
   text-push {a = a} {m = m} {w = w} {k = k} {c₁ = c₁} label makes t e =
-      let i = (part_inside p n c.at (At a m) t.reads a m refl).0 in
-      pushed_step c p (texted n label) (a + m) k w (label (take m (drop a p))) c₁ (λ r s q. text_is label (state_of r c) ∙ rw (found p n c.at (At a m) t.reads a m refl c refl r s q)) (rw e (makes a m (omega arith))) (omega arith) t.inside
+      let i = (part_inside p n c.at (Ok (a, m)) t.reads a m refl).0 in
+      pushed_step c p (texted n label) (a + m) k w (label (take m (drop a p))) c₁ (λ r s q. text_is label (state_of r c) ∙ rw (found p n c.at (Ok (a, m)) t.reads a m refl c refl r s q)) (rw e (makes a m (omega arith))) (omega arith) t.inside
 
 -- ---- the words of values and Globals
 
@@ -373,12 +371,12 @@ module _ (p : List ℕ) where
 -- ---- LONG1, LONG4
 
 -- t is the part behind a length of n bytes
-module _ (p : List ℕ) (n at : ℕ) (t : Part) (h : ReadsPart at p (prefixed n) t) where
-  pub long-short : t ≡ Short → ReadsLong n at p (longs.None EndOfInput)
+module _ (p : List ℕ) (n at : ℕ) (t : Result (ℕ × ℕ) Refusal) (h : ReadsPart at p (prefixed n) t) where
+  pub long-short : (why : Refusal) → t ≡ Err why → ReadsLong n at p (longs.None why)
   unfolding EndsBehind IsLong long_read ◌>>=◌
-  long-short e = record { behind = tt; is = λ c d r s q. rw (none_found p n at t h e c d r s q) }
+  long-short why e = record { behind = tt; is = λ c d r s q. rw (none_found p n at t h why e c d r s q) }
 
-  module _ (a m : ℕ) (e : t ≡ At a m) where
+  module _ (a m : ℕ) (e : t ≡ Ok (a, m)) where
     pub long_large : long_of (take m (drop a p)) ≡ refused IntegerTooLarge 0 → ReadsLong n at p (longs.None IntegerTooLarge)
     unfolding EndsBehind IsLong long_read leaf ◌>>=◌
     long_large k = record { behind = tt; is = λ c d r s q. rw (found p n at t h a m e c d r s q, k) }
@@ -403,11 +401,11 @@ long_is n s = prefixed_is n s (λ q. leaf (long_of q.0) >>= λ v. push (I64L v) 
     go (ok q) = sym (bind_assoc (leaf (long_of q.0)) (λ (v : ℕ). ok (v, q.1)) (λ (x : ℕ × State). push (I64L x.0) x.1))
 
 module _ (c : Counts) (x : LongRead) (n : ℕ) (p : List ℕ) (h : ReadsLong n c.at p x) where
-  pub long-none : (why : Refusal) → x ≡ longs.None why → Decides c (λ r. r.pickle ≡ p) (λ s. going (long_n n s)) (refusing c why)
+  pub long-none : (why : Refusal) → x ≡ longs.None why → Decides c (λ r. r.pickle ≡ p) (λ s. going (long_n n s)) (Err why)
   unfolding Decides IsLong ◌>>=◌
   long-none why e r s q = refused_going r c s why (long_n n (state_of r c)) (long_is n (state_of r c) ∙ rw ((rw e at h).is c refl r s q))
 
-  pub long-push : (a v : ℕ) → x ≡ longs.At a v → (c₁ : Counts) → c₁ ≡ cut_to c a c.stack c.marks → Decides c (λ r. r.pickle ≡ p) (λ s. going (long_n n s)) (Push c₁ 2 v)
+  pub long-push : (a v : ℕ) → x ≡ longs.At a v → (c₁ : Counts) → c₁ ≡ cut_to c a c.stack c.marks → Decides c (λ r. r.pickle ≡ p) (λ s. going (long_n n s)) (Ok (Push c₁ 2 v))
   unfolding EndsBehind IsLong ◌>>=◌
   long-push a v e c₁ d =
       let b = (rw e at h).behind in

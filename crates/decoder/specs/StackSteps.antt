@@ -2,7 +2,7 @@
 use Prim.Native.Nat.{ℕ, suc, zero, ◌-◌, ◌*◌, ◌%◌, ◌<◌, ◌≤◌}
 use Rattle.std.proofs.Math.Bool.{cond}
 use mathlib.Core.List.{List, [], ◌∷◌}
-use Rattle.std.specs.Prelude.{◌≡◌, refl, ◌≢◌, length, get_or, take}
+use Rattle.std.specs.Prelude.{Ok, Err, ◌≡◌, refl, ◌≢◌, length, get_or, take}
 use Rattle.std.proofs.Math.Path.{sym, ap₂}
 use Rattle.std.proofs.Common.{◌∙◌, ap, length-drop, drop_of_length-le, get_or-take}
 use Rattle.std.proofs.Math.ListN.{drop}
@@ -10,11 +10,11 @@ use Rattle.std.proofs.Math.Seq.{drop-cons, length-take-le}
 use Rattle.std.proofs.Math.Dec.{eqb}
 use borrow.Author.Tests.{eq-eqb, ne_eqb}
 use native.Mathlib.Omega.{arith}
+use Rattle.refusal.specs.declared.Refusal.{Refusal}
 use Rattle.refusal.specs.declared.Refusal.TheVariants.{Invalid, StackUnderflow}
 use Rattle.refusal.specs.declared.Wanted.{Wanted}
 use Rattle.refusal.specs.declared.Wanted.TheVariants.{DictItems, List as AList, Dict as ADict}
 use Rattle.value.specs.Shape.{kind_in}
-use Rattle.decoder.specs.declared.Taken.TheVariants.{Short, From}
 use Rattle.store.specs.declared.Effect.TheVariants.{Share, Go, Make, Extend}
 use Rattle.steps.specs.State.{State, no, ◌>>=◌, need, node_by}
 use Rattle.steps.specs.Opcodes.{pop_one, pop_to_mark, dup, tuple_n, pairs, dict, is_list, is_dict, add_items, append, appends, setitem, setitems}
@@ -24,7 +24,7 @@ use Rattle.store.specs.declared.Counts.{Counts}
 use Rattle.store.specs.Rooms.{Rooms, kids_of, state_of, stack_to}
 use Rattle.steps.specs.NodeWords.{first, second, node_is, HoldsLinks, a_list, a_tuple, a_dict, list-kind, dict-kind, node_label_lem}
 use Rattle.store.specs.RoomReads.{stack_of, stack_length, nodes-length, node_at}
-use Rattle.store.specs.Effects.{Firm, Sound, SomeRooms, Fits, IsStep, refusing, says_refused, enacted, container, grow, above}
+use Rattle.store.specs.Effects.{Firm, Sound, SomeRooms, Fits, IsStep, says_refused, enacted, container, grow, above}
 use Rattle.decoder.specs.Reads.{cut_to, firm_cut, mark-none, mark-above, mark_got, top_none, top_got, pop_none, pop_got, many-none, many_got}
 use Rattle.decoder.specs.Items.{Took, TakesMark, GrowingKind, lists, dicts, is_grown, gathered}
 
@@ -47,15 +47,15 @@ module _ (r : Rooms) (c : Counts) (s : Sound r c) where
   unfolding pop_one ◌>>=◌ going
   pop_underflow e = rw (pop_none r c s.firm e)
 
-  pub pop_goes : c.stack ≢ 0 → IsStep (Go (cut_to c c.at (c.stack - 1) c.marks)) r c (going (pop_one (state_of r c)))
+  pub pop_goes : c.stack ≢ 0 → IsStep (Ok (Go (cut_to c c.at (c.stack - 1) c.marks))) r c (going (pop_one (state_of r c)))
   unfolding pop_one ◌>>=◌ going enacted Fits
   pop_goes h = record { enacts = rw (pop_got r c s.firm (omega arith)); fits = cut_firm (c.stack - 1) c.marks (omega arith) (omega arith) }
 
-  pub pop_mark_underflow : Took Short r c → going (pop_to_mark (state_of r c)) ≡ no StackUnderflow
+  pub pop_mark_underflow : {why : Refusal} → Took (Err why) r c → going (pop_to_mark (state_of r c)) ≡ no why
   unfolding pop_to_mark ◌>>=◌ going Took
   pop_mark_underflow h = rw h
 
-  pub pop_mark-goes : (m : ℕ) → Took (From m) r c → IsStep (Go (cut_to c c.at m (c.marks - 1))) r c (going (pop_to_mark (state_of r c)))
+  pub pop_mark-goes : (m : ℕ) → Took (Ok m) r c → IsStep (Ok (Go (cut_to c c.at m (c.marks - 1)))) r c (going (pop_to_mark (state_of r c)))
   unfolding pop_to_mark ◌>>=◌ going Took enacted Fits
   pop_mark-goes m h = record { enacts = rw h.0; fits = cut_firm m (c.marks - 1) h.1 (omega arith) }
 
@@ -63,7 +63,7 @@ module _ (r : Rooms) (c : Counts) (s : Sound r c) where
   unfolding dup ◌>>=◌ going
   dup_underflow e = rw (top_none r c s.firm e)
 
-  pub dup_shares : c.stack ≢ 0 → IsStep (Share c (record { 0 = get_or r.stack (c.stack - 1) 0 })) r c (going (dup (state_of r c)))
+  pub dup_shares : c.stack ≢ 0 → IsStep (Ok (Share c (record { 0 = get_or r.stack (c.stack - 1) 0 }))) r c (going (dup (state_of r c)))
   unfolding dup ◌>>=◌ going enacted Fits
   dup_shares h = record { enacts = rw (top_got r c s.firm (omega arith)); fits = (s.firm, on_stack (c.stack - 1) (omega arith)) }
 
@@ -73,11 +73,11 @@ module _ (r : Rooms) (c : Counts) (s : Sound r c) where
   unfolding Fits
   making n m k h l t = (cut_firm n m h l, h, s.firm.stack, t)
 
-  pub gathered_underflow : (k : ℕ) → Took Short r c → going (gathered k (state_of r c)) ≡ no StackUnderflow
+  pub gathered_underflow : (k : ℕ) {why : Refusal} → Took (Err why) r c → going (gathered k (state_of r c)) ≡ no why
   unfolding gathered ◌>>=◌ going Took
   gathered_underflow k h = rw h
 
-  pub gathered_makes : (m k : ℕ) → HoldsLinks k → Took (From m) r c → IsStep (Make (cut_to c c.at m (c.marks - 1)) k) r c (going (gathered k (state_of r c)))
+  pub gathered_makes : (m k : ℕ) → HoldsLinks k → Took (Ok m) r c → IsStep (Ok (Make (cut_to c c.at m (c.marks - 1)) k)) r c (going (gathered k (state_of r c)))
   unfolding gathered ◌>>=◌ going Took enacted container
   gathered_makes m k t h = record { enacts = rw (h.0, node_label_lem r.pickle k 0 [] r.nodes t); fits = making m (c.marks - 1) k h.1 (omega arith) t }
 
@@ -85,7 +85,7 @@ module _ (r : Rooms) (c : Counts) (s : Sound r c) where
   unfolding tuple_n ◌>>=◌ going
   tuple_n_underflow n h = rw (many-none r c s.firm n h)
 
-  pub tuple_n_makes : (n : ℕ) → n ≤ c.stack → IsStep (Make (cut_to c c.at (c.stack - n) c.marks) 7) r c (going (tuple_n n (state_of r c)))
+  pub tuple_n_makes : (n : ℕ) → n ≤ c.stack → IsStep (Ok (Make (cut_to c c.at (c.stack - n) c.marks) 7)) r c (going (tuple_n n (state_of r c)))
   unfolding tuple_n ◌>>=◌ going enacted container node_is kind_in
   tuple_n_makes n h = record { enacts = rw (many_got r c s.firm n h); fits = making (c.stack - n) c.marks 7 (omega arith) (omega arith) (a_tuple refl) }
 
@@ -94,15 +94,15 @@ module _ (r : Rooms) (c : Counts) (s : Sound r c) where
   unfolding above
   above-length m = rw (length-drop, length-take-le c.stack r.stack in_room)
 
-  pub dict_underflow : Took Short r c → going (dict (state_of r c)) ≡ no StackUnderflow
+  pub dict_underflow : {why : Refusal} → Took (Err why) r c → going (dict (state_of r c)) ≡ no why
   unfolding dict ◌>>=◌ going Took
   dict_underflow h = rw h
 
-  pub dict_odd : (m : ℕ) → Took (From m) r c → (c.stack - m) % 2 ≢ 0 → going (dict (state_of r c)) ≡ no (Invalid DictItems)
+  pub dict_odd : (m : ℕ) → Took (Ok m) r c → (c.stack - m) % 2 ≢ 0 → going (dict (state_of r c)) ≡ no (Invalid DictItems)
   unfolding dict pairs ◌>>=◌ going need Took
   dict_odd m h o = rw (h.0, above-length m, ne_eqb ((c.stack - m) % 2) 0 o)
 
-  pub dict_makes : (m : ℕ) → Took (From m) r c → (c.stack - m) % 2 ≡ 0 → IsStep (Make (cut_to c c.at m (c.marks - 1)) 10) r c (going (dict (state_of r c)))
+  pub dict_makes : (m : ℕ) → Took (Ok m) r c → (c.stack - m) % 2 ≡ 0 → IsStep (Ok (Make (cut_to c c.at m (c.marks - 1)) 10)) r c (going (dict (state_of r c)))
   unfolding dict pairs ◌>>=◌ going need Took enacted container node_is kind_in
   dict_makes m h e = record { enacts = rw (h.0, above-length m, e); fits = making m (c.marks - 1) 10 h.1 (omega arith) (a_dict refl) }
 
@@ -144,7 +144,7 @@ module _ (r : Rooms) (c : Counts) (s : Sound r c) where
   grows_other k a (dicts h) e z = omega arith
 
   pub grown_extends : (keep m k : ℕ) (why : Wanted) → GrowingKind k → keep ≤ c.stack → m ≤ c.marks → keep ≢ 0 → kind_in (first r.nodes (get_or r.stack (keep - 1) 0)) ≡ k
-      → IsStep (Extend (cut_to c c.at keep m) (record { 0 = get_or r.stack (keep - 1) 0 })) r c (going (add_items (is_grown k) (Invalid why) (above keep c.stack r.stack) (state_of r (cut_to c c.at keep m))))
+      → IsStep (Ok (Extend (cut_to c c.at keep m) (record { 0 = get_or r.stack (keep - 1) 0 }))) r c (going (add_items (is_grown k) (Invalid why) (above keep c.stack r.stack) (state_of r (cut_to c c.at keep m))))
   unfolding enacted Fits
   grown_extends keep m k why g l f h e = record {
     enacts = sym (added_grows keep m k why (above keep c.stack r.stack) g l f h e);
@@ -177,11 +177,11 @@ module _ (r : Rooms) (c : Counts) (s : Sound r c) where
   unfolding append ◌>>=◌ is_grown
   append_adds h = rw (pop_got r c s.firm (omega arith), above_one h)
 
-  pub appends_underflow : Took Short r c → going (appends (state_of r c)) ≡ no StackUnderflow
+  pub appends_underflow : {why : Refusal} → Took (Err why) r c → going (appends (state_of r c)) ≡ no why
   unfolding appends ◌>>=◌ going Took
   appends_underflow h = rw h
 
-  pub appends_adds : (m : ℕ) → Took (From m) r c → going (add_items (is_grown 6) (Invalid AList) (above m c.stack r.stack) (state_of r (cut_to c c.at m (c.marks - 1)))) ≡ going (appends (state_of r c))
+  pub appends_adds : (m : ℕ) → Took (Ok m) r c → going (add_items (is_grown 6) (Invalid AList) (above m c.stack r.stack) (state_of r (cut_to c c.at m (c.marks - 1)))) ≡ going (appends (state_of r c))
   unfolding appends ◌>>=◌ is_grown Took
   appends_adds m h = rw h.0
 
@@ -207,15 +207,15 @@ module _ (r : Rooms) (c : Counts) (s : Sound r c) where
       let z : c.stack - 1 - 1 ≡ c.stack - 2 = omega arith in
       rw (pop_got r c s.firm (omega arith), pop_got r (stack_to c (c.stack - 1)) (cut_firm (c.stack - 1) c.marks (omega arith) (omega arith)) (omega arith), z, above_two h)
 
-  pub setitems_underflow : Took Short r c → going (setitems (state_of r c)) ≡ no StackUnderflow
+  pub setitems_underflow : {why : Refusal} → Took (Err why) r c → going (setitems (state_of r c)) ≡ no why
   unfolding setitems ◌>>=◌ going Took
   setitems_underflow h = rw h
 
-  pub setitems_odd : (m : ℕ) → Took (From m) r c → (c.stack - m) % 2 ≢ 0 → going (setitems (state_of r c)) ≡ no (Invalid DictItems)
+  pub setitems_odd : (m : ℕ) → Took (Ok m) r c → (c.stack - m) % 2 ≢ 0 → going (setitems (state_of r c)) ≡ no (Invalid DictItems)
   unfolding setitems pairs ◌>>=◌ going need Took
   setitems_odd m h o = rw (h.0, above-length m, ne_eqb ((c.stack - m) % 2) 0 o)
 
-  pub setitems_adds : (m : ℕ) → Took (From m) r c → (c.stack - m) % 2 ≡ 0 → going (add_items (is_grown 10) (Invalid ADict) (above m c.stack r.stack) (state_of r (cut_to c c.at m (c.marks - 1)))) ≡ going (setitems (state_of r c))
+  pub setitems_adds : (m : ℕ) → Took (Ok m) r c → (c.stack - m) % 2 ≡ 0 → going (add_items (is_grown 10) (Invalid ADict) (above m c.stack r.stack) (state_of r (cut_to c c.at m (c.marks - 1)))) ≡ going (setitems (state_of r c))
   unfolding setitems pairs ◌>>=◌ need is_grown Took
   setitems_adds m h e = rw (h.0, above-length m, e)
 
@@ -249,33 +249,33 @@ pub some-less : {c : Counts} {P Q : Rooms → Type 0} → ((r : Rooms) → P r �
 some-less f l = record { rooms = l.rooms; sound = l.sound; agrees = f l.rooms l.agrees }
 
 module _ (c : Counts) (l : List ℕ) where
-  pub took_below : (m : ℕ) → TakesMark c l (From m) → SomeRooms c (λ r. r.marks ≡ l) → (m ≤ c.stack) × (0 < c.marks)
+  pub took_below : (m : ℕ) → TakesMark c l (Ok m) → SomeRooms c (λ r. r.marks ≡ l) → (m ≤ c.stack) × (0 < c.marks)
   unfolding TakesMark Took
   took_below m t h = ((t h.rooms h.sound h.agrees).1, (t h.rooms h.sound h.agrees).2)
 
   module _ (r : Rooms) (s : Sound r c) (q : r.marks ≡ l) where
-    pub took_none : c.marks ≡ 0 → Took Short r c
+    pub took_none : c.marks ≡ 0 → Took (Err StackUnderflow) r c
     unfolding Took
     took_none e = mark-none r c s.firm e
 
-    pub took_above : c.marks ≢ 0 → c.stack < get_or l (c.marks - 1) 0 → Took Short r c
+    pub took_above : c.marks ≢ 0 → c.stack < get_or l (c.marks - 1) 0 → Took (Err StackUnderflow) r c
     unfolding Took
     took_above h k = mark-above r c s.firm (omega arith) (rw q k)
 
-    pub took_from : c.marks ≢ 0 → get_or l (c.marks - 1) 0 ≤ c.stack → Took (From (get_or l (c.marks - 1) 0)) r c
+    pub took_from : c.marks ≢ 0 → get_or l (c.marks - 1) 0 ≤ c.stack → Took (Ok (get_or l (c.marks - 1) 0)) r c
     unfolding Took
     took_from h k = rw (← q) (mark_got r c s.firm (omega arith) (rw q k), rw q k, omega arith)
 
   module _ (r : Rooms) (s : Sound r c) (q : r.stack ≡ l) where
-    pub dup_lent : c.stack ≢ 0 → IsStep (Share c (record { 0 = get_or l (c.stack - 1) 0 })) r c (going (dup (state_of r c)))
+    pub dup_lent : c.stack ≢ 0 → IsStep (Ok (Share c (record { 0 = get_or l (c.stack - 1) 0 }))) r c (going (dup (state_of r c)))
     dup_lent h = rw (← q) (dup_shares r c s h)
 
   -- the owner's words are n
   module _ (n : List ℕ) (r : Rooms) (s : Sound r c) (a : r.nodes ≡ n) (b : r.stack ≡ l) (keep m k : ℕ) (why : Wanted) (g : GrowingKind k) (low : keep ≤ c.stack) (fewer : m ≤ c.marks) (h : keep ≢ 0) where
     pub wrong_lent : kind_in (first n (get_or l (keep - 1) 0)) ≢ k
-        → IsStep (refusing c (Invalid why)) r c (going (add_items (is_grown k) (Invalid why) (above keep c.stack r.stack) (state_of r (cut_to c c.at keep m))))
+        → IsStep (Err (Invalid why)) r c (going (add_items (is_grown k) (Invalid why) (above keep c.stack r.stack) (state_of r (cut_to c c.at keep m))))
     wrong_lent d = says_refused (Invalid why) r c (going (add_items (is_grown k) (Invalid why) (above keep c.stack r.stack) (state_of r (cut_to c c.at keep m)))) (added_wrong r c s keep m k why (above keep c.stack r.stack) g low fewer h (rw (a, b) d))
 
     pub extends_lent : kind_in (first n (get_or l (keep - 1) 0)) ≡ k
-        → IsStep (Extend (cut_to c c.at keep m) (record { 0 = get_or l (keep - 1) 0 })) r c (going (add_items (is_grown k) (Invalid why) (above keep c.stack r.stack) (state_of r (cut_to c c.at keep m))))
+        → IsStep (Ok (Extend (cut_to c c.at keep m) (record { 0 = get_or l (keep - 1) 0 }))) r c (going (add_items (is_grown k) (Invalid why) (above keep c.stack r.stack) (state_of r (cut_to c c.at keep m))))
     extends_lent e = rw (← b) (grown_extends r c s keep m k why g low fewer h (rw (a, b) e))

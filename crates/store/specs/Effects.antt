@@ -122,11 +122,11 @@ Fits (Stop c) r h = Firm r c
 
 -- an opcode's answer is the step n of the machine with the rooms r and counts c
 pub record IsStep (answer : Result Effect Refusal) (r : Rooms) (c : Counts) (n : Res Next) : Type 0 where
-  pub comes : comes_to answer r c.stack ≡ n
+  pub enacts : comes_to answer r c.stack ≡ n
   pub fits : IfOk answer (λ e. Fits e r c.stack)
 
 pub says_refused : (why : Refusal) (r : Rooms) (c : Counts) (n : Res Next) → n ≡ no why → IsStep (Err why) r c n
-says_refused why r c n e = record { comes = sym e; fits = tt }
+says_refused why r c n e = record { enacts = sym e; fits = tt }
 
 -- some rooms of which P holds, with these counts
 pub record SomeRooms (c : Counts) (P : Rooms → Type 0) : Type 0 where

@@ -1,0 +1,15 @@
+-- LIST.
+use Rattle.std.proofs.Common.{refl}
+use Rattle.value.specs.Shape.{kind_in}
+use Rattle.steps.specs.Opcodes.{list}
+use Rattle.steps.specs.NodeWords.{node_is, a_list}
+use Rattle.decoder.specs.Items.{gathered}
+use Rattle.decoder.proofs.list.Goals as goal
+
+pub gather-requires : goal.gather-requires
+unfolding kind_in
+gather-requires c = (c.requires, a_list refl)
+
+pub returns : goal.returns
+unfolding list gathered node_is kind_in
+returns c = c.gather.ensures
