@@ -1,67 +1,32 @@
--- What stands at a place of a slice, said of the bytes from there on; and the stores of a code point's UTF-8. Assumes nothing.
+-- What stands at a place of a text; and the stores of a code point's UTF-8. Assumes nothing.
 use mathlib.Core.Path.{◌≡◌, refl}
 use mathlib.Core.List.{List}
-use Prim.Native.Nat.{ℕ, suc, ◌+◌, ◌/◌, ◌%◌, ◌≤◌, ◌<◌}
+use Prim.Native.Nat.{ℕ, suc, ◌+◌, ◌-◌, ◌/◌, ◌%◌, ◌≤◌, ◌<◌}
 use native.Mathlib.Numerals.{add-one}
 use native.Mathlib.Omega.{arith}
-use lib.ListN.{length, get_or, drop, set, drop_of_length-le}
+use lib.ListN.{length, get_or, take, drop, set, length-drop}
 use Rattle.utf8.specs.Utf8.{trail, encode}
 use Rattle.utf8.specs.Encode.{encode_one, encode_two, encode-three, encode-four}
-use lib.Seq.{drop-cons, sets}
+use lib.Seq.{drop-cons, sets, take_all}
 use borrow.Author.Tests.{eq-eqb, ne_eqb}
-use Rattle.text.specs.declared.TextPiece.TheVariants.{One, Bad}
-use Rattle.text.specs.Escapes.{look, letters, hex_escape, octal_escape, string_escape, string_head, scalar_piece, unicode_escape, unicode_head}
-use Rattle.text.proofs.Digits.{within_in, within_out}
+use Rattle.text.specs.Escapes.{one, string_escape, string_head, unicode_head}
+
+-- what is left of a text from a place on
+pub rest : (s : List ℕ) (k : ℕ) → take (length s - k) (drop k s) ≡ drop k s
+rest s k = take_all (length s - k) (drop k s) (omega (arith, length-drop k s))
 
 module _ (s : List ℕ) (i : ℕ) (h : i < length s) where
-  pub string_plain : (get_or s i 0 ≡ 92 → ⊥) → One (get_or s i 0) 0 ≡ string_head (drop i s)
+  pub string_plain : (get_or s i 0 ≡ 92 → ⊥) → string_head (drop i s) ≡ one (get_or s i 0) 0
   unfolding string_head
   string_plain k = simp (drop-cons s i 0 h, ne_eqb _ _ k)
 
-  pub string_slash : get_or s i 0 ≡ 92 → string_escape (drop (i + 1) s) ≡ string_head (drop i s)
+  pub string_slash : get_or s i 0 ≡ 92 → string_head (drop i s) ≡ string_escape (take (length s - (i + 1)) (drop (i + 1) s))
   unfolding string_head
-  string_slash k = simp (drop-cons s i 0 h, eq-eqb _ _ k, add-one)
+  string_slash k = simp (drop-cons s i 0 h, eq-eqb _ _ k, rest, add-one)
 
-  pub string_hex : get_or s i 0 ≡ 120 → hex_escape 2 (drop (i + 1) s) ≡ string_escape (drop i s)
-  unfolding string_escape
-  string_hex k = simp (drop-cons s i 0 h, eq-eqb _ _ k, add-one)
-
-  pub string_octal : (get_or s i 0 ≡ 120 → ⊥) → 48 ≤ get_or s i 0 → get_or s i 0 ≤ 55 → octal_escape (drop i s) ≡ string_escape (drop i s)
-  unfolding string_escape
-  string_octal k l m = simp (drop-cons s i 0 h, ne_eqb _ _ k, within_in 48 55 _ l m)
-
-  pub string_letter : (get_or s i 0 ≡ 120 → ⊥) → (48 ≤ get_or s i 0 → 55 < get_or s i 0) → One (look letters (get_or s i 0)) 1 ≡ string_escape (drop i s)
-  unfolding string_escape
-  string_letter k l = simp (drop-cons s i 0 h, ne_eqb _ _ k, within_out 48 55 _ l)
-
-  pub unicode_plain : (get_or s i 0 ≡ 92 → ⊥) → One (get_or s i 0) 0 ≡ unicode_head (drop i s)
+  pub unicode_plain : (get_or s i 0 ≡ 92 → ⊥) → unicode_head (drop i s) ≡ one (get_or s i 0) 0
   unfolding unicode_head
   unicode_plain k = simp (drop-cons s i 0 h, ne_eqb _ _ k)
-
-  pub unicode_slash : get_or s i 0 ≡ 92 → unicode_escape (drop (i + 1) s) ≡ unicode_head (drop i s)
-  unfolding unicode_head
-  unicode_slash k = simp (drop-cons s i 0 h, eq-eqb _ _ k, add-one)
-
-  pub unicode-four : get_or s i 0 ≡ 117 → scalar_piece (hex_escape 4 (drop (i + 1) s)) ≡ unicode_escape (drop i s)
-  unfolding unicode_escape
-  unicode-four k = simp (drop-cons s i 0 h, eq-eqb _ _ k, add-one)
-
-  pub unicode_eight : (get_or s i 0 ≡ 117 → ⊥) → get_or s i 0 ≡ 85 → scalar_piece (hex_escape 8 (drop (i + 1) s)) ≡ unicode_escape (drop i s)
-  unfolding unicode_escape
-  unicode_eight n k = simp (drop-cons s i 0 h, ne_eqb _ _ n, eq-eqb _ _ k, add-one)
-
-  pub unicode_lone : (get_or s i 0 ≡ 117 → ⊥) → (get_or s i 0 ≡ 85 → ⊥) → One 92 0 ≡ unicode_escape (drop i s)
-  unfolding unicode_escape
-  unicode_lone n k = simp (drop-cons s i 0 h, ne_eqb _ _ n, ne_eqb _ _ k)
-
-module _ (s : List ℕ) (i : ℕ) (h : length s ≤ i) where
-  pub string_end : Bad ≡ string_escape (drop i s)
-  unfolding string_escape
-  string_end = simp (drop_of_length-le s h)
-
-  pub unicode_end : One 92 0 ≡ unicode_escape (drop i s)
-  unfolding unicode_escape
-  unicode_end = simp (drop_of_length-le s h)
 
 -- the code point c is written at `at` of l: its room, the next place, and what the stores are
 module _ (l : List ℕ) (at c : ℕ) where

@@ -1,15 +1,17 @@
 -- STRING's line and the text between its quotes. Assumes nothing.
 use mathlib.Core.Path.{◌≡◌, refl, sym, ap, ◌∙◌}
-use mathlib.Core.Bool.{Bool, true, false, cond, ◌&&◌, ◌||◌, not}
+use mathlib.Core.Bool.{Bool, true, false, cond, not}
 use mathlib.Core.List.{List}
-use Prim.Native.Nat.{ℕ, ◌-◌, ◌≤◌}
+use Prim.Native.Nat.{ℕ}
 use native.Mathlib.Omega.{arith}
-use lib.Dec.{leb, eqb}
-use lib.ListN.{length, get_or, take, drop}
-use borrow.Author.Tests.{leb-true, eq-eqb, ne_eqb}
+use lib.Dec.{eqb}
+use lib.ListN.{length}
+use borrow.Author.Tests.{eq-eqb, ne_eqb}
 use Rattle.refusal.specs.Read.{Read, got, refused}
 use Rattle.refusal.specs.declared.Refusal.TheVariants.{InvalidLiteral}
-use Rattle.text.specs.declared.Quoted.TheVariants.{Plain, Escaped, Refused}
+use Rattle.std.specs.Prelude.{Ok, Err}
+use Rattle.text.specs.declared.Quoted.TheVariants.{Plain, Escaped}
+use Rattle.text.specs.declared.FaultAt.{FaultAt}
 use Rattle.text.specs.Escapes.{string_head}
 use Rattle.text.specs.Pieces.{texts, is_read, length_of}
 use Rattle.text.specs.Text.{has_quotes, inner, byte_itself, unescape_string, has_escape, with_mark, string_measured, quoted_says}
@@ -30,11 +32,7 @@ escape_told at s n e = go (has_escape s) refl
         rw (eq-eqb n (length s) (cc)) refl
 
 module _ (line : List ℕ) where
-  pub part_inner : take (length line - 1 - 1) (drop 1 line) ≡ inner line
-  unfolding inner
-  part_inner = let e : length line - 1 - 1 ≡ length line - 2 = omega arith in rw e
-
-  pub no_quotes : has_quotes line ≡ false → quoted_says line (Refused 0) ≡ string_measured line
+  pub no_quotes : has_quotes line ≡ false → quoted_says line (Err (record { 0 = 0 })) ≡ string_measured line
   unfolding quoted_says string_measured unescape_string with_mark length_of
   no_quotes q = rw q
 
@@ -47,40 +45,32 @@ module _ (line : List ℕ) where
       go false h = cc
 
   module _ (q : has_quotes line ≡ true) where
-    pub two_bytes : 2 ≤ length line
-    unfolding has_quotes
-    two_bytes = leb-true 2 (length line) (go (leb 2 (length line)) q)
-      where
-        go : (t : Bool) → (t && eqb (get_or line 0 0) (get_or line (length line - 1) 0) && (eqb (get_or line 0 0) 39 || eqb (get_or line 0 0) 34)) ≡ true → t ≡ true
-        go true h = refl
-        go false h = cc
-
-    pub value-inner : unescape_string line ≡ texts string_head byte_itself 0 1 (take (length line - 1 - 1) (drop 1 line))
+    pub value-inner : unescape_string line ≡ texts string_head byte_itself 0 1 (inner line)
     unfolding unescape_string
-    value-inner = rw (q, part_inner)
+    value-inner = rw q
 
-    module _ (r : Read ℕ) (e : r ≡ length_of (texts string_head byte_itself 0 1 (take (length line - 1 - 1) (drop 1 line)))) where
-      said : with_mark (has_escape (inner line)) r ≡ string_measured line
+    -- `text` is what stands between the quotes, and `r` its measure
+    module _ (text : List ℕ) (k : text ≡ inner line) (r : Read ℕ) (e : r ≡ length_of (texts string_head byte_itself 0 1 text)) where
+      said : with_mark (has_escape text) r ≡ string_measured line
       unfolding string_measured
-      said = rw (e, value-inner)
+      said = rw (e, value-inner, k)
 
-      pub is_bad : (at : ℕ) → r ≡ refused InvalidLiteral at → quoted_says line (Refused at) ≡ string_measured line
+      pub is_bad : (fault : FaultAt) → r ≡ refused InvalidLiteral fault.0 → quoted_says line (Err fault) ≡ string_measured line
       unfolding quoted_says with_mark
-      is_bad at f = rw f at said
+      is_bad fault f = rw f at said
 
-      told : (n : ℕ) → r ≡ got n → has_escape (inner line) ≡ not (eqb n (length (inner line)))
-      told n f = escape_told 1 (inner line) n (rw part_inner at (sym e ∙ f))
+      told : (n : ℕ) → r ≡ got n → has_escape text ≡ not (eqb n (length text))
+      told n f = escape_told 1 text n (sym e ∙ f)
 
-      pub is_plain : (n : ℕ) → r ≡ got n → n ≡ length (take (length line - 1 - 1) (drop 1 line)) → quoted_says line Plain ≡ string_measured line
+      pub is_plain : (n : ℕ) → r ≡ got n → n ≡ length text → quoted_says line (Ok Plain) ≡ string_measured line
       unfolding quoted_says with_mark
       is_plain n f h =
-          let k : n ≡ length (inner line) = rw part_inner at h in
-          let t : has_escape (inner line) ≡ false = told n f ∙ rw (eq-eqb _ _ k) in
+          let t : has_escape text ≡ false = told n f ∙ rw (eq-eqb _ _ h) in
           let m : with_mark false (got n) ≡ string_measured line = rw (t, f) at said in
-          rw k at m
+          rw (h, k) at m
 
-      pub is_escaped : (n : ℕ) → r ≡ got n → (n ≡ length (take (length line - 1 - 1) (drop 1 line)) → ⊥) → quoted_says line (Escaped n) ≡ string_measured line
+      pub is_escaped : (n : ℕ) → r ≡ got n → (n ≡ length text → ⊥) → quoted_says line (Ok (Escaped n)) ≡ string_measured line
       unfolding quoted_says with_mark
       is_escaped n f h =
-          let t : has_escape (inner line) ≡ true = told n f ∙ rw (ne_eqb _ _ (λ k. h (k ∙ sym (ap length part_inner)))) in
+          let t : has_escape text ≡ true = told n f ∙ rw (ne_eqb _ _ h) in
           rw (t, f) at said

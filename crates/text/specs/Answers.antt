@@ -1,12 +1,12 @@
 -- What a caller learns of a line from an answer of the code. Assumes nothing.
-use Rattle.std.specs.Prelude.{ℕ, ◌-◌, ◌≤◌, ◌&&◌, ◌||◌, List, length, get_or, leb, eqb}
+use Rattle.std.specs.Prelude.{ℕ, ◌-◌, ◌≤◌, ◌&&◌, ◌||◌, List, length, get_or, leb, eqb, Ok, Err}
 use Rattle.std.proofs.Math.Bool.{Bool, true, false, cond}
 use Rattle.std.proofs.Math.Path.{◌≡◌, refl, ap}
 use Rattle.std.proofs.Common.{sym, ◌∙◌, arith, leb-true}
 use Rattle.refusal.specs.Read.{Read, got, refused}
 use Rattle.refusal.specs.declared.Refusal.TheVariants.{InvalidLiteral}
-use Rattle.text.specs.declared.Quoted.TheVariants as quoted
-use Rattle.text.specs.declared.Decoded.TheVariants as decoded
+use Rattle.text.specs.declared.Quoted.TheVariants.{Plain, Escaped}
+use Rattle.text.specs.declared.FaultAt.{FaultAt}
 use Rattle.text.specs.Escapes.{string_head}
 use Rattle.text.specs.Pieces.{texts, is_read, bytes_of, length_of}
 use Rattle.text.specs.Text.{has_quotes, inner, byte_itself, unescape_string, has_escape, with_mark, string_measured, quoted_says, decoded_says}
@@ -30,15 +30,15 @@ module _ (r : Read (List ℕ)) where
       go (got v) e = (refl, cc)
       go (refused why at) e = let z : ◌≡◌ {A = ℕ} 0 1 = cc in absurd (omega arith)
 
-  pub decoded_len : (n : ℕ) → decoded_says (decoded.Len n) ≡ length_of r → (is_read r ≡ true) × (length (bytes_of r) ≡ n)
+  pub decoded_len : (n : ℕ) → decoded_says (Ok n) ≡ length_of r → (is_read r ≡ true) × (length (bytes_of r) ≡ n)
   unfolding decoded_says
   decoded_len n e = is_length n e
 
-  pub decoded_bad : (at : ℕ) → decoded_says (decoded.Refused at) ≡ length_of r → r ≡ refused InvalidLiteral at
+  pub decoded_bad : (fault : FaultAt) → decoded_says (Err fault) ≡ length_of r → r ≡ refused InvalidLiteral fault.0
   unfolding decoded_says length_of
-  decoded_bad at = go r
+  decoded_bad fault = go r
     where
-      go : (s : Read (List ℕ)) → refused InvalidLiteral at ≡ length_of s → s ≡ refused InvalidLiteral at
+      go : (s : Read (List ℕ)) → refused InvalidLiteral fault.0 ≡ length_of s → s ≡ refused InvalidLiteral fault.0
       go (got v) e = cc
       go (refused why k) e = cc
 
@@ -65,24 +65,24 @@ module _ (line : List ℕ) where
       go (refused why at) h = let z : ◌≡◌ {A = ℕ} 0 1 = cc in absurd (omega arith)
 
   -- the value is the part between the quotes
-  pub quoted_plain : quoted_says line quoted.Plain ≡ string_measured line → unescape_string line ≡ got (inner line)
+  pub quoted_plain : quoted_says line (Ok Plain) ≡ string_measured line → unescape_string line ≡ got (inner line)
   unfolding quoted_says
   quoted_plain e =
       let p = apart false (length (inner line)) e in
       quoted_inner (length (inner line)) p.1 ∙ no_escape 1 (inner line) p.0
 
   -- there is a value, of n bytes
-  pub quoted_escaped : (n : ℕ) → quoted_says line (quoted.Escaped n) ≡ string_measured line
+  pub quoted_escaped : (n : ℕ) → quoted_says line (Ok (Escaped n)) ≡ string_measured line
       → (is_read (unescape_string line) ≡ true) × (length (bytes_of (unescape_string line)) ≡ n)
   unfolding quoted_says
   quoted_escaped n e = is_length (unescape_string line) n (apart true n e).1
 
   -- there is none
-  pub quoted_bad : (at : ℕ) → quoted_says line (quoted.Refused at) ≡ string_measured line → unescape_string line ≡ refused InvalidLiteral at
+  pub quoted_bad : (fault : FaultAt) → quoted_says line (Err fault) ≡ string_measured line → unescape_string line ≡ refused InvalidLiteral fault.0
   unfolding quoted_says string_measured with_mark length_of
-  quoted_bad at = go (unescape_string line)
+  quoted_bad fault = go (unescape_string line)
     where
-      go : (r : Read (List ℕ)) → refused InvalidLiteral at ≡ with_mark (has_escape (inner line)) (length_of r) → r ≡ refused InvalidLiteral at
+      go : (r : Read (List ℕ)) → refused InvalidLiteral fault.0 ≡ with_mark (has_escape (inner line)) (length_of r) → r ≡ refused InvalidLiteral fault.0
       go (got v) e = cc
       go (refused why k) e = cc
 

@@ -1,8 +1,7 @@
 -- Laws of texts that callers use: how long a value can be, and that its bytes are bytes. Assumes nothing.
 use Prim.Native.Nat.{ℕ, zero, suc, ◌+◌, ◌-◌, ◌*◌, ◌/◌, ◌^◌, ◌≤◌, ◌<◌}
-use Rattle.std.specs.Prelude.{Bool, true, false, cond, ◌&&◌, ◌||◌, ◌≡◌, leb, ltb, eqb, get_or, take}
+use Rattle.std.specs.Prelude.{Bool, true, false, cond, ◌&&◌, ◌||◌, ◌≡◌, leb, ltb, eqb, get_or, take, Option, None, Some}
 use mathlib.Core.List.{List, [], ◌∷◌, ◌++◌}
-use Rattle.std.proofs.Math.Option.{Option, none, some}
 use Rattle.std.proofs.Math.Path.{refl, ap}
 use Rattle.std.proofs.Common.{sym, ◌∙◌, subst, pow-suc, mul-add, mod-lt, le_trans, lit<, lit≤, length-append, length-take, length-drop, drop_of_length-le, length-take-le, leb-true, ltb-true, lt-ltb}
 use Rattle.std.proofs.Math.Nat.{pow-le-pow_right}
@@ -13,13 +12,12 @@ use Rattle.std.proofs.Math.Seq.{drop-cons, drop-drop}
 use Rattle.refusal.specs.Read.{Read, got, refused}
 use Rattle.refusal.specs.declared.Refusal.TheVariants.{InvalidLiteral}
 use Rattle.text.specs.declared.TextPiece.{TextPiece}
-use Rattle.text.specs.declared.TextPiece.TheVariants.{One, Bad}
 use Rattle.input.specs.Bytes.{Bytes}
 use Rattle.utf8.specs.Utf8.{scalar, trail, encode, valid, evaluates}
 use Rattle.utf8.specs.Laws.{valid-append}
 use Rattle.utf8.specs.Encode.{by_lt, encode_one, encode_two, encode-three, encode-four, scalar_low, scalar-high, valid-encode}
 use Rattle.text.specs.Pieces.{bytes_before, piece_then, texts, is_read, bytes_of}
-use Rattle.text.specs.Escapes.{from_to, hex_digit, hex_from, hex_digits, hex_number, hex_piece, hex_escape, octal_digit, octals, octal_escape}
+use Rattle.text.specs.Escapes.{one, from_to, hex_digit, hex_from, hex_digits, hex_number, hex_piece, hex_escape, octal_digit, octals, octal_escape}
 use Rattle.text.specs.Escapes.{letters, look, string_escape, string_head, scalar_of, scalar_piece, unicode_escape, unicode_head}
 use Rattle.text.specs.Text.{inner, byte_itself, has_quotes, has_escape, unescape_string, unescape_unicode}
 
@@ -36,18 +34,18 @@ by_cond P true f g = f refl
 by_cond P false f g = g refl
 
 -- what holds of the value and the width of a piece that is not refused
-unfoldable pub Each : (ℕ → ℕ → Type 0) → TextPiece → Type 0
-Each Q (One v w) = Q v w
-Each Q Bad = Unit {0}
+unfoldable pub Each : (ℕ → ℕ → Type 0) → Option TextPiece → Type 0
+Each Q (Some p) = Q p.value p.more
+Each Q None = Unit {0}
 
-each : {Q R : ℕ → ℕ → Type 0} (p : TextPiece) → ((v w : ℕ) → Q v w → R v w) → Each Q p → Each R p
+each : {Q R : ℕ → ℕ → Type 0} (p : Option TextPiece) → ((v w : ℕ) → Q v w → R v w) → Each Q p → Each R p
 unfolding Each
-each (One v w) f h = f v w h
-each Bad f h = tt
+each (Some p) f h = f p.value p.more h
+each None f h = tt
 
 -- ---- reading on, piece by piece
 
-module _ (head : List ℕ → TextPiece) (form : ℕ → List ℕ) where
+module _ (head : List ℕ → Option TextPiece) (form : ℕ → List ℕ) where
   skip : (n at : ℕ) (s : List ℕ) → texts head form n at s ≡ texts head form 0 (n + at) (drop n s)
   unfolding texts
   skip zero at [] = refl
@@ -62,19 +60,19 @@ module _ (head : List ℕ → TextPiece) (form : ℕ → List ℕ) where
     unfolding texts
     texts_end h = simp (drop_of_length-le s h)
 
-    pub texts_bad : i < length s → head (drop i s) ≡ Bad → texts head form 0 at (drop i s) ≡ refused InvalidLiteral at
+    pub texts_bad : i < length s → head (drop i s) ≡ None → texts head form 0 at (drop i s) ≡ refused InvalidLiteral at
     unfolding texts piece_then
     texts_bad h e =
         let d = drop-cons s i 0 h in
-        let f : head (get_or s i 0 ∷ drop (suc i) s) ≡ Bad = rw d at e in
+        let f : head (get_or s i 0 ∷ drop (suc i) s) ≡ None = rw d at e in
         rw (d, f)
 
-    pub texts-piece : (v w : ℕ) → i < length s → head (drop i s) ≡ One v w
+    pub texts-piece : (v w : ℕ) → i < length s → head (drop i s) ≡ one v w
         → texts head form 0 at (drop i s) ≡ bytes_before (form v) (texts head form 0 (at + (w + 1)) (drop (i + (w + 1)) s))
     unfolding texts piece_then
     texts-piece v w h e =
         let d = drop-cons s i 0 h in
-        let f : head (get_or s i 0 ∷ drop (suc i) s) ≡ One v w = rw d at e in
+        let f : head (get_or s i 0 ∷ drop (suc i) s) ≡ one v w = rw d at e in
         let a : w + suc at ≡ at + (w + 1) = omega arith in
         let b : suc i + w ≡ i + (w + 1) = omega arith in
         rw (d, f) (ap (bytes_before (form v)) (skip w (suc at) (drop (suc i) s) ∙ rw (a, drop-drop w (suc i) s, b)))
@@ -93,7 +91,7 @@ before-all R z f l (got v) h k = f l v h k
 before-all R z f l (refused why at) h k = z
 
 -- `P` is what is known of the bytes that are left
-module _ (head : List ℕ → TextPiece) (form : ℕ → List ℕ) (P : List ℕ → Type 0) (tail : (b : ℕ) (s : List ℕ) → P (b ∷ s) → P s) where
+module _ (head : List ℕ → Option TextPiece) (form : ℕ → List ℕ) (P : List ℕ → Type 0) (tail : (b : ℕ) (s : List ℕ) → P (b ∷ s) → P s) where
   -- a piece of n bytes is written as k * n bytes at most: so is the whole
   texts-length : (k : ℕ) → ((s : List ℕ) → P s → Each (λ v w. (w < length s) × (length (form v) ≤ k * suc w)) (head s))
       → (n at : ℕ) (s : List ℕ) → P s → length (bytes_of (texts head form n at s)) ≤ k * (length s - n)
@@ -104,14 +102,15 @@ module _ (head : List ℕ → TextPiece) (form : ℕ → List ℕ) (P : List ℕ
       rw e (texts-length k f n (suc at) s (tail b s p))
   texts-length k f zero at (b ∷ s) p = go (head (b ∷ s)) (f (b ∷ s) p) (λ w. texts-length k f w (suc at) s (tail b s p))
     where
-      go : (q : TextPiece) → Each (λ v w. (w < suc (length s)) × (length (form v) ≤ k * suc w)) q
+      go : (q : Option TextPiece) → Each (λ v w. (w < suc (length s)) × (length (form v) ≤ k * suc w)) q
           → ((w : ℕ) → length (bytes_of (texts head form w (suc at) s)) ≤ k * (length s - w))
           → length (bytes_of (piece_then form q at (λ w. texts head form w (suc at) s))) ≤ k * (suc (length s) - 0)
-      go (One v w) h r =
+      go (Some p) h r =
+          let w = p.more in
           let e : suc w + (length s - w) ≡ suc (length s) - 0 = omega (arith, h.0) in
           let m : k * (suc (length s) - 0) ≡ k * suc w + k * (length s - w) = rw (← e) (mul-add k (suc w) (length s - w)) in
-          omega (arith, before-length (form v) (texts head form w (suc at) s), h.1, r w)
-      go Bad h r = omega arith
+          omega (arith, before-length (form p.value) (texts head form w (suc at) s), h.1, r w)
+      go None h r = omega arith
 
   -- what holds of each piece as it is written, and of lists one after the other, holds of the whole
   texts-all : (R : List ℕ → Type 0) → R [] → ((a b : List ℕ) → R a → R b → R (a ++ b))
@@ -121,15 +120,15 @@ module _ (head : List ℕ → TextPiece) (form : ℕ → List ℕ) (P : List ℕ
   texts-all R z j f (suc n) at (b ∷ s) p = texts-all R z j f n (suc at) s (tail b s p)
   texts-all R z j f zero at (b ∷ s) p = go (head (b ∷ s)) (f (b ∷ s) p) (λ w. texts-all R z j f w (suc at) s (tail b s p))
     where
-      go : (q : TextPiece) → Each (λ v w. R (form v)) q → ((w : ℕ) → R (bytes_of (texts head form w (suc at) s)))
+      go : (q : Option TextPiece) → Each (λ v w. R (form v)) q → ((w : ℕ) → R (bytes_of (texts head form w (suc at) s)))
           → R (bytes_of (piece_then form q at (λ w. texts head form w (suc at) s)))
-      go (One v w) h r = before-all R z j (form v) (texts head form w (suc at) s) h (r w)
-      go Bad h r = z
+      go (Some p) h r = before-all R z j (form p.value) (texts head form p.more (suc at) s) h (r p.more)
+      go None h r = z
 
 -- ---- the escapes
 
 -- n more digits
-hex_below : (v n : ℕ) (s : List ℕ) (r : ℕ) → v < 16 ^ n → hex_from v s ≡ some r → r < 16 ^ (n + length s)
+hex_below : (v n : ℕ) (s : List ℕ) (r : ℕ) → v < 16 ^ n → hex_from v s ≡ Some r → r < 16 ^ (n + length s)
 unfolding hex_from
 hex_below v n [] r h e =
     let a : v ≡ r = cc in
@@ -137,27 +136,27 @@ hex_below v n [] r h e =
     rw (b, ← a) h
 hex_below v n (c ∷ s) r h e = go (ltb (hex_digit c) 16) refl e (hex_below (v * 16 + hex_digit c) (suc n) s r)
   where
-    go : (t : Bool) → ltb (hex_digit c) 16 ≡ t → cond t (hex_from (v * 16 + hex_digit c) s) none ≡ some r
-        → (v * 16 + hex_digit c < 16 ^ suc n → hex_from (v * 16 + hex_digit c) s ≡ some r → r < 16 ^ (suc n + length s))
+    go : (t : Bool) → ltb (hex_digit c) 16 ≡ t → cond t (hex_from (v * 16 + hex_digit c) s) None ≡ Some r
+        → (v * 16 + hex_digit c < 16 ^ suc n → hex_from (v * 16 + hex_digit c) s ≡ Some r → r < 16 ^ (suc n + length s))
         → r < 16 ^ (n + suc (length s))
     go true d e f =
         let m : n + suc (length s) ≡ suc n + length s = omega arith in
         rw m (f (rw pow-suc (digits_lt h (ltb-true _ _ d))) e)
     go false d e f = let z : ◌≡◌ {A = ℕ} 0 1 = cc in absurd (omega arith)
 
-hex_digits-below : (s : List ℕ) (r : ℕ) → hex_digits s ≡ some r → r < 16 ^ length s
+hex_digits-below : (s : List ℕ) (r : ℕ) → hex_digits s ≡ Some r → r < 16 ^ length s
 unfolding hex_digits
 hex_digits-below [] r e = let z : ◌≡◌ {A = ℕ} 0 1 = cc in absurd (omega arith)
 hex_digits-below (c ∷ s) r e =
     let m : 0 + suc (length s) ≡ suc (length s) = omega arith in
     rw m at (hex_below 0 0 (c ∷ s) r (lit< tt) e)
 
-pub hex_number-below : (s : List ℕ) (r : ℕ) → hex_number s ≡ some r → r < 16 ^ length s
+pub hex_number-below : (s : List ℕ) (r : ℕ) → hex_number s ≡ Some r → r < 16 ^ length s
 unfolding hex_number
 hex_number-below [] r e = let z : ◌≡◌ {A = ℕ} 0 1 = cc in absurd (omega arith)
 hex_number-below (c ∷ s) r e = go (eqb c 43) e
   where
-    go : (t : Bool) → cond t (hex_digits s) (hex_digits (c ∷ s)) ≡ some r → r < 16 ^ suc (length s)
+    go : (t : Bool) → cond t (hex_digits s) (hex_digits (c ∷ s)) ≡ Some r → r < 16 ^ suc (length s)
     go true e = le_trans (hex_digits-below s r e) (pow-le-pow_right (lit< tt) (omega arith))
     go false e = hex_digits-below (c ∷ s) r e
 
@@ -166,12 +165,12 @@ hex_each : (n : ℕ) (s : List ℕ) → Each (λ v w. (w ≡ n + 1) × (n ≤ le
 unfolding Each hex_escape hex_piece
 hex_each n s = by_cond Q (leb n (length s)) (λ t. go (hex_number (take n s)) refl (leb-true n (length s) t)) (λ t. tt)
   where
-    Q : TextPiece → Type 0
+    Q : Option TextPiece → Type 0
     Q = Each (λ v w. (w ≡ n + 1) × (n ≤ length s) × (v < 16 ^ n))
 
     go : (o : Option ℕ) → hex_number (take n s) ≡ o → n ≤ length s → Q (hex_piece n o)
-    go (some v) e h = (refl, h, rw (length-take-le n s h) at (hex_number-below (take n s) v e))
-    go none e h = tt
+    go (Some v) e h = (refl, h, rw (length-take-le n s h) at (hex_number-below (take n s) v e))
+    go None e h = tt
 
 octals-length : (n : ℕ) (s : List ℕ) → length (octals n s) ≤ length s
 unfolding octals
@@ -216,7 +215,7 @@ escape_each (c ∷ s) =
     (λ _. by_cond Q (from_to 48 55 c) (λ e. (octals-some c s e, octals-length 3 (c ∷ s), λ _. mod-lt _ (lit< tt)))
     (λ _. (omega arith, omega arith, λ k. look-below letters c 256 (k 0) (search (tt, lit<)))))
   where
-    Q : TextPiece → Type 0
+    Q : Option TextPiece → Type 0
     Q = Each (λ v w. (0 < w) × (w ≤ suc (length s)) × (Bytes (c ∷ s) → v < 256))
 
 -- STRING: a piece lies inside its text, and its value is a byte
@@ -285,20 +284,20 @@ unfolding scalar_of
 scalar_of_lem v = by_cond (λ x. scalar x ≡ true) (scalar v) (λ e. e) (λ _. scalar-high 0xFFFD (lit≤ tt) (lit< tt))
 
 -- UNICODE: a piece lies inside its line, and its value is a scalar value whose UTF-8 is at most twice as long as the piece
-scalar-each : (Q R : ℕ → ℕ → Type 0) (p : TextPiece) → ((v w : ℕ) → Q v w → R (scalar_of v) w) → Each Q p → Each R (scalar_piece p)
+scalar-each : (Q R : ℕ → ℕ → Type 0) (p : Option TextPiece) → ((v w : ℕ) → Q v w → R (scalar_of v) w) → Each Q p → Each R (scalar_piece p)
 unfolding Each scalar_piece
-scalar-each Q R (One v w) f h = f v w h
-scalar-each Q R Bad f h = tt
+scalar-each Q R (Some p) f h = f p.value p.more h
+scalar-each Q R None f h = tt
 
 pub unicode-each : (s : List ℕ) → Each (λ v w. (w < length s) × (Bytes s → (scalar v ≡ true) × (length (encode v) ≤ 2 * suc w))) (unicode_head s)
 unfolding Each unicode_head unicode_escape
 unicode-each [] = tt
 unicode-each (b ∷ s) = by_cond Q (eqb b 92) (λ _. escape s refl) (λ _. (omega arith, λ k. (scalar_low b (omega (arith, k 0)), latin_length b (k 0))))
   where
-    Q : TextPiece → Type 0
+    Q : Option TextPiece → Type 0
     Q = Each (λ v w. (w < suc (length s)) × (Bytes (b ∷ s) → (scalar v ≡ true) × (length (encode v) ≤ 2 * suc w)))
 
-    lone : Q (One 92 0)
+    lone : Q (one 92 0)
     lone = (omega arith, λ k. (scalar_low 92 (lit< tt), latin_length 92 (lit< tt)))
 
     hex : (n : ℕ) (t : List ℕ) → 1 ≤ n → suc (length t) ≡ length s → Q (scalar_piece (hex_escape n t))
@@ -365,7 +364,7 @@ no_escape at [] e = refl
 no_escape at (b ∷ s) e = go (eqb b 92) e (no_escape (suc at) s)
   where
     go : (t : Bool) → (t || has_escape s) ≡ false → (has_escape s ≡ false → texts string_head byte_itself 0 (suc at) s ≡ got s)
-        → piece_then byte_itself (cond t (string_escape s) (One b 0)) at (λ w. texts string_head byte_itself w (suc at) s) ≡ got (b ∷ s)
+        → piece_then byte_itself (cond t (string_escape s) (one b 0)) at (λ w. texts string_head byte_itself w (suc at) s) ≡ got (b ∷ s)
     go true e f = let z : ◌≡◌ {A = ℕ} 0 1 = cc in absurd (omega arith)
     go false e f = rw (f e)
 
@@ -384,13 +383,13 @@ escape_shortens at (b ∷ s) e r = go (eqb b 92) e r (escape_shortens (suc at) s
     Rest : ℕ → Read (List ℕ)
     Rest w = texts string_head byte_itself w (suc at) s
 
-    slash : (p : TextPiece) → Each (λ v w. (0 < w) × (w ≤ length s) × (Bytes s → v < 256)) p → is_read (piece_then byte_itself p at Rest) ≡ true
+    slash : (p : Option TextPiece) → Each (λ v w. (0 < w) × (w ≤ length s) × (Bytes s → v < 256)) p → is_read (piece_then byte_itself p at Rest) ≡ true
         → length (bytes_of (piece_then byte_itself p at Rest)) < suc (length s)
-    slash (One v w) h r = omega (arith, h.0, before-length (v ∷ []) (Rest w), inner-length w (suc at) s)
-    slash Bad h r = let z : ◌≡◌ {A = ℕ} 0 1 = cc in absurd (omega arith)
+    slash (Some p) h r = omega (arith, h.0, before-length (p.value ∷ []) (Rest p.more), inner-length p.more (suc at) s)
+    slash None h r = let z : ◌≡◌ {A = ℕ} 0 1 = cc in absurd (omega arith)
 
-    go : (t : Bool) → (t || has_escape s) ≡ true → is_read (piece_then byte_itself (cond t (string_escape s) (One b 0)) at Rest) ≡ true
+    go : (t : Bool) → (t || has_escape s) ≡ true → is_read (piece_then byte_itself (cond t (string_escape s) (one b 0)) at Rest) ≡ true
         → (has_escape s ≡ true → is_read (Rest 0) ≡ true → length (bytes_of (Rest 0)) < length s)
-        → length (bytes_of (piece_then byte_itself (cond t (string_escape s) (One b 0)) at Rest)) < suc (length s)
+        → length (bytes_of (piece_then byte_itself (cond t (string_escape s) (one b 0)) at Rest)) < suc (length s)
     go true e r f = slash (string_escape s) (escape_each s) r
     go false e r f = omega (arith, before-length (b ∷ []) (Rest 0), f e (sym (reads_before (b ∷ []) (Rest 0)) ∙ r))

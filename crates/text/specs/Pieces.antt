@@ -1,22 +1,21 @@
 -- A text is read piece by piece: `head` says what stands at the start of the bytes that are left, and `form` how its value is written.
-use Rattle.std.specs.Prelude.{ℕ, zero, suc, ◌≤◌, Bool, true, false, List, [], ◌∷◌, ◌++◌, ◌≡◌, length, drop}
+use Rattle.std.specs.Prelude.{ℕ, zero, suc, ◌≤◌, Bool, true, false, List, [], ◌∷◌, ◌++◌, ◌≡◌, length, drop, Option, None, Some}
 use Rattle.refusal.specs.Read.{Read, got, refused}
 use Rattle.refusal.specs.declared.Refusal.TheVariants.{InvalidLiteral}
 use Rattle.text.specs.declared.TextPiece.{TextPiece}
-use Rattle.text.specs.declared.TextPiece.TheVariants.{One, Bad}
 
 -- bytes that stand before what is read after them
 unfoldable pub bytes_before : List ℕ → Read (List ℕ) → Read (List ℕ)
 bytes_before l (got v) = got (l ++ v)
 bytes_before l (refused why at) = refused why at
 
--- a piece and what `rest` reads after it; a bad piece is refused at its own place
-unfoldable pub piece_then : (ℕ → List ℕ) → TextPiece → ℕ → (ℕ → Read (List ℕ)) → Read (List ℕ)
-piece_then form (One value more) at rest = bytes_before (form value) (rest more)
-piece_then form Bad at rest = refused InvalidLiteral at
+-- a piece and what `rest` reads after it; an escape that cannot be is refused at its own place
+unfoldable pub piece_then : (ℕ → List ℕ) → Option TextPiece → ℕ → (ℕ → Read (List ℕ)) → Read (List ℕ)
+piece_then form (Some p) at rest = bytes_before (form p.value) (rest p.more)
+piece_then form None at rest = refused InvalidLiteral at
 
 -- the whole text, whose first byte stands at `at` of the line; its first n bytes belong to a piece before it
-unfoldable pub texts : (List ℕ → TextPiece) → (ℕ → List ℕ) → ℕ → ℕ → List ℕ → Read (List ℕ)
+unfoldable pub texts : (List ℕ → Option TextPiece) → (ℕ → List ℕ) → ℕ → ℕ → List ℕ → Read (List ℕ)
 texts head form n at [] = got []
 texts head form zero at (b ∷ s) = piece_then form (head (b ∷ s)) at (λ more. texts head form more (suc at) s)
 texts head form (suc n) at (b ∷ s) = texts head form n (suc at) s

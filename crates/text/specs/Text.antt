@@ -1,14 +1,10 @@
 -- RULES A7.6 and A7.7: what a line of STRING and one of UNICODE say, and what each answer of the code says of them.
-use Rattle.std.specs.Prelude.{ℕ, ◌-◌, Bool, true, false, cond, ◌&&◌, ◌||◌, List, [], ◌∷◌, leb, eqb, length, take, drop, get_or}
-use Rattle.std.proofs.Math.Option.{Option, none, some}
+use Rattle.std.specs.Prelude.{ℕ, ◌-◌, Bool, true, false, cond, ◌&&◌, ◌||◌, List, [], ◌∷◌, leb, eqb, length, take, drop, get_or, Result, Ok, Err}
 use Rattle.refusal.specs.Read.{Read, got, refused}
 use Rattle.refusal.specs.declared.Refusal.TheVariants.{InvalidLiteral}
-use Rattle.text.specs.declared.Hex.{Hex}
-use Rattle.text.specs.declared.Hex.TheVariants as hex
 use Rattle.text.specs.declared.Quoted.{Quoted}
-use Rattle.text.specs.declared.Quoted.TheVariants as quoted
-use Rattle.text.specs.declared.Decoded.{Decoded}
-use Rattle.text.specs.declared.Decoded.TheVariants as decoded
+use Rattle.text.specs.declared.Quoted.TheVariants.{Plain, Escaped}
+use Rattle.text.specs.declared.FaultAt.{FaultAt}
 use Rattle.utf8.specs.Utf8.{encode}
 use Rattle.text.specs.Pieces.{texts, length_of}
 use Rattle.text.specs.Escapes.{string_head, unicode_head}
@@ -50,21 +46,16 @@ with_mark e (refused why at) = refused why at
 unfoldable pub string_measured : List ℕ → Read (Bool × ℕ)
 string_measured line = with_mark (has_escape (inner line)) (length_of (unescape_string line))
 
--- the answers of the code, as values and refusals of RULES A7: of hex characters,
-unfoldable pub hex_says : Hex → Option ℕ
-hex_says (hex.Number v) = some v
-hex_says hex.Bad = none
-
--- of a line of STRING (number 8 is InvalidLiteral),
-unfoldable pub quoted_says : List ℕ → Quoted → Read (Bool × ℕ)
-quoted_says line quoted.Plain = got (false, length (inner line))
-quoted_says line (quoted.Escaped n) = got (true, n)
-quoted_says line (quoted.Refused at) = refused InvalidLiteral at
+-- the answers of the code, as values and refusals of RULES A7: of a line of STRING (number 8 is InvalidLiteral),
+unfoldable pub quoted_says : List ℕ → Result Quoted FaultAt → Read (Bool × ℕ)
+quoted_says line (Ok Plain) = got (false, length (inner line))
+quoted_says line (Ok (Escaped n)) = got (true, n)
+quoted_says line (Err fault) = refused InvalidLiteral fault.0
 
 -- and of a text that is measured
-unfoldable pub decoded_says : Decoded → Read ℕ
-decoded_says (decoded.Len n) = got n
-decoded_says (decoded.Refused at) = refused InvalidLiteral at
+unfoldable pub decoded_says : Result ℕ FaultAt → Read ℕ
+decoded_says (Ok n) = got n
+decoded_says (Err fault) = refused InvalidLiteral fault.0
 
 -- whichever of two lists holds a value
 unfoldable pub pick : Bool → List ℕ → List ℕ → List ℕ

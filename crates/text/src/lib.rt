@@ -2,149 +2,113 @@
 // call that changes nothing, and written by another into a lent slice. A line comes without its newline and CR.
 #![tactic(auto)]
 
-ghost use Rattle.std.specs.Prelude.{◌≡◌, ◌+◌, ◌-◌, ◌<◌, ◌≤◌, length, take, drop};
+ghost use Rattle.std.specs.Prelude.{true, false, ◌≡◌, ◌+◌, ◌-◌, ◌<◌, ◌≤◌, length, take, drop, MatchOption, Some, SomeIff};
 ghost use Rattle.std.proofs.lemmas.List.Edits.{sets};
 ghost use Rattle.utf8.specs.Utf8.{encode};
 ghost use Rattle.text.specs.Pieces.{texts, length_of, RoomForText, WroteText};
 ghost use Rattle.text.specs.Escapes.{hex_digit, hex_number, hex_digits, hex_escape, octal_digit, octal_escape};
 ghost use Rattle.text.specs.Escapes.{letters, look, string_escape, string_head, scalar_of, scalar_piece, unicode_escape, unicode_head};
-ghost use Rattle.text.specs.Text.{has_quotes, byte_itself, unescape_string, unescape_unicode, string_measured, hex_says, quoted_says, decoded_says, pick};
+ghost use Rattle.text.specs.Text.{has_quotes, inner, byte_itself, unescape_string, unescape_unicode, string_measured, quoted_says, decoded_says, pick};
 
-// What stands at a place of a text: one value, with how many bytes after the first belong to it, or an escape that is refused.
+// What stands at the start of a text: one value, with how many bytes after the first belong to it.
 #[derive(Drop)]
-pub enum TextPiece {
-    One { value: u32, more: usize },
-    Bad,
+pub struct TextPiece {
+    pub value: u32,
+    pub more: usize,
 }
 
-// Hex characters as a number.
-#[derive(Drop)]
-pub enum Hex {
-    Number(u32),
-    Bad,
-}
+// Where a line that is refused has its fault.
+#[derive(Clone, Copy)]
+pub struct FaultAt(pub usize);
 
-// A line of STRING: the value is the part between the quotes, has so many bytes once unescaped, or the fault's place.
+// A line of STRING: the value is the part between the quotes, or has so many bytes once unescaped.
 #[derive(Drop)]
 pub enum Quoted {
     Plain,
     Escaped(usize),
-    Refused(usize),
 }
 
-// How many bytes a text has once it is decoded, or the fault's place.
-#[derive(Drop)]
-pub enum Decoded {
-    Len(usize),
-    Refused(usize),
-}
-
-// A hex digit's value, in either letter case; 16 for any other byte.
-fn hex_digit(c: u8) -> u32
-    ensures { result ≡ hex_digit c }
+// A hex digit's value, in either letter case.
+#[tactic(auto, unfolding(crate::specs::Escapes::hex_digit, crate::specs::Escapes::from_to))]
+fn hex_digit(c: u8) -> Option<u32>
+    ensures { SomeIff result (hex_digit c < 16) (hex_digit c) }
 {
-    match c {
-        b'0'..=b'9' => (c - 48) as u32,
-        b'A'..=b'F' => (c - 55) as u32,
-        b'a'..=b'f' => (c - 87) as u32,
-        _ => 16,
-    }
+    char::from(c).to_digit(16)
 }
 
 // `from_str_radix` at 16: hex digits, with a `+` before them or not. Eight of them fit.
-fn hex_number(digits: &[u8]) -> Hex
+#[tactic(auto, unfolding(crate::specs::Escapes::hex_number))]
+fn hex_number(digits: &[u8]) -> Option<u32>
     requires { length digits.now ≤ 8 }
-    ensures { hex_says result ≡ hex_number digits.now }
+    ensures { result ≡ hex_number digits.now }
 {
-    if digits.len() == 0 {
-        return Hex::Bad;
+    match digits {
+        [b'+', rest @ ..] => hex_digits(rest),
+        _ => hex_digits(digits),
     }
-    if digits[0] == b'+' {
-        return hex_digits(&digits[1..]);
-    }
-    hex_digits(digits)
 }
 
-fn hex_digits(digits: &[u8]) -> Hex
+#[tactic(auto, unfolding(crate::specs::Escapes::hex_digits, crate::specs::Escapes::hex_from))]
+fn hex_digits(digits: &[u8]) -> Option<u32>
     requires { length digits.now ≤ 8 }
-    ensures { hex_says result ≡ hex_digits digits.now }
+    ensures { result ≡ hex_digits digits.now }
 {
-    if digits.len() == 0 {
-        return Hex::Bad;
+    if digits.is_empty() {
+        return None;
     }
-    let mut value: u32 = 0;
-    let mut i = 0;
-    while i < digits.len() {
-        let d = hex_digit(digits[i]);
-        if 16 <= d {
-            return Hex::Bad;
-        }
-        value = value * 16 + d;
-        i += 1;
+    let mut value = 0;
+    for &c in digits {
+        value = value * 16 + hex_digit(c)?;
     }
-    Hex::Number(value)
+    Some(value)
 }
 
-// Exactly `n` hex characters from `at` on, which is past the escape's letter.
-fn hex_escape(text: &[u8], at: usize, n: usize) -> TextPiece
-    requires { (at ≤ length text.now) × (n ≤ 8) }
-    ensures { result ≡ hex_escape n (drop at text.now) }
+// Exactly `n` hex characters, which stand past the escape's letter.
+#[tactic(auto, unfolding(crate::specs::Escapes::hex_escape, crate::specs::Escapes::hex_piece))]
+fn hex_escape(text: &[u8], n: usize) -> Option<TextPiece>
+    requires { n ≤ 8 }
+    ensures { result ≡ hex_escape n text.now }
 {
-    if text.len() - at < n {
-        return TextPiece::Bad;
-    }
-    let end = at + n;
-    match hex_number(&text[at..end]) {
-        Hex::Number(value) => TextPiece::One { value, more: n + 1 },
-        Hex::Bad => TextPiece::Bad,
-    }
+    let value = hex_number(text.get(..n)?)?;
+    Some(TextPiece { value, more: n + 1 })
 }
 
-// The octal digit at `at`; 8 where there is none.
-fn octal_digit(text: &[u8], at: usize) -> u32
-    ensures { result ≡ octal_digit (drop at text.now) }
+// The octal digit at the start.
+#[tactic(auto, unfolding(crate::specs::Escapes::octal_digit, crate::specs::Escapes::from_to))]
+fn octal_digit(text: &[u8]) -> Option<u32>
+    ensures { SomeIff result (octal_digit text.now < 8) (octal_digit text.now) }
 {
-    if text.len() <= at {
-        return 8;
-    }
-    let c = text[at];
-    match c {
-        b'0'..=b'7' => (c - 48) as u32,
-        _ => 8,
-    }
+    char::from(*text.first()?).to_digit(8)
 }
 
 // One to three octal digits modulo 256.
-fn octal_escape(text: &[u8], at: usize) -> TextPiece
-    requires { at ≤ length text.now }
-    ensures { result ≡ octal_escape (drop at text.now) }
+fn octal_escape(text: &[u8]) -> TextPiece
+    ensures { Some result ≡ octal_escape text.now }
 {
-    let mut value: u32 = 0;
-    let mut left: usize = 3;
-    let mut i = at;
-    while 0 < left {
-        let d = octal_digit(text, i);
-        if 8 <= d {
+    let mut value = 0;
+    let mut more = 0;
+    while more < 3 {
+        let Some(d) = octal_digit(&text[more..]) else {
             break;
-        }
+        };
         value = value * 8 + d;
-        left -= 1;
-        i += 1;
+        more += 1;
     }
-    TextPiece::One {
+    TextPiece {
         value: value % 256,
-        more: i - at,
+        more,
     }
 }
 
 // The byte that an escape's letter stands for; any other byte stands for itself.
+#[tactic(auto, unfolding(crate::specs::Escapes::look))]
 fn letter(c: u8) -> u8
     ensures { result ≡ look letters c }
 {
     match c {
-        b'n' => 10,
-        b't' => 9,
-        b'r' => 13,
+        b'n' => b'\n',
+        b't' => b'\t',
+        b'r' => b'\r',
         b'a' => 7,
         b'b' => 8,
         b'f' => 12,
@@ -153,166 +117,103 @@ fn letter(c: u8) -> u8
     }
 }
 
-// STRING: what the backslash before `at` starts.
-fn string_escape(text: &[u8], at: usize) -> TextPiece
-    requires { at ≤ length text.now }
-    ensures { result ≡ string_escape (drop at text.now) }
+// STRING: what a backslash starts, before `text`.
+#[tactic(auto, unfolding(crate::specs::Escapes::string_escape, crate::specs::Escapes::from_to))]
+fn string_escape(text: &[u8]) -> Option<TextPiece>
+    ensures { result ≡ string_escape text.now }
 {
-    if text.len() <= at {
-        return TextPiece::Bad; // the escape breaks off
-    }
-    let c = text[at];
-    match c {
-        b'x' => hex_escape(text, at + 1, 2),
-        b'0'..=b'7' => octal_escape(text, at),
-        _ => TextPiece::One {
-            value: letter(c) as u32,
+    match text {
+        [] => None, // the escape breaks off
+        [b'x', rest @ ..] => hex_escape(rest, 2),
+        [b'0'..=b'7', ..] => Some(octal_escape(text)),
+        [c, ..] => Some(TextPiece {
+            value: letter(*c) as u32,
             more: 1,
-        },
-    }
-}
-
-// STRING: what stands at `at` between the quotes.
-fn string_piece(text: &[u8], at: usize) -> TextPiece
-    requires { at < length text.now }
-    ensures { result ≡ string_head (drop at text.now) }
-{
-    let b = text[at];
-    if b == b'\\' {
-        string_escape(text, at + 1)
-    } else {
-        TextPiece::One {
-            value: b as u32,
-            more: 0,
-        }
+        }),
     }
 }
 
 // A surrogate or a number above 10FFFF is U+FFFD.
+#[tactic(auto, unfolding(crate::specs::Escapes::scalar_of, utf8::specs::Utf8::scalar))]
 fn scalar(v: u32) -> u32
     ensures { result ≡ scalar_of v }
 {
-    if v < 0xD800 {
-        return v;
-    }
-    if v < 0xE000 {
-        return 0xFFFD;
-    }
-    if 0x10FFFF < v {
-        return 0xFFFD;
-    }
-    v
-}
-
-// UNICODE: `n` hex characters from `at` on, as a code point that UTF-8 can write.
-fn unicode_hex(text: &[u8], at: usize, n: usize) -> TextPiece
-    requires { (at ≤ length text.now) × (n ≤ 8) }
-    ensures { result ≡ scalar_piece (hex_escape n (drop at text.now)) }
-{
-    match hex_escape(text, at, n) {
-        TextPiece::One { value, more } => TextPiece::One {
-            value: scalar(value),
-            more,
-        },
-        TextPiece::Bad => TextPiece::Bad,
+    match v {
+        0..=0xD7FF | 0xE000..=0x10FFFF => v,
+        _ => 0xFFFD,
     }
 }
 
-// UNICODE: what the backslash before `at` starts.
-fn unicode_escape(text: &[u8], at: usize) -> TextPiece
-    requires { at ≤ length text.now }
-    ensures { result ≡ unicode_escape (drop at text.now) }
+// UNICODE: `n` hex characters, as a code point that UTF-8 can write.
+#[tactic(auto, unfolding(crate::specs::Escapes::scalar_piece))]
+fn unicode_hex(text: &[u8], n: usize) -> Option<TextPiece>
+    requires { n ≤ 8 }
+    ensures { result ≡ scalar_piece (hex_escape n text.now) }
 {
-    if text.len() <= at {
-        return TextPiece::One { value: 92, more: 0 };
-    }
-    let c = text[at];
-    match c {
-        b'u' => unicode_hex(text, at + 1, 4),
-        b'U' => unicode_hex(text, at + 1, 8),
-        _ => TextPiece::One { value: 92, more: 0 },
+    let TextPiece { value, more } = hex_escape(text, n)?;
+    Some(TextPiece {
+        value: scalar(value),
+        more,
+    })
+}
+
+// UNICODE: what a backslash starts, before `text`.
+#[tactic(auto, unfolding(crate::specs::Escapes::unicode_escape))]
+fn unicode_escape(text: &[u8]) -> Option<TextPiece>
+    ensures { result ≡ unicode_escape text.now }
+{
+    match text {
+        [b'u', rest @ ..] => unicode_hex(rest, 4),
+        [b'U', rest @ ..] => unicode_hex(rest, 8),
+        _ => Some(TextPiece { value: 92, more: 0 }),
     }
 }
 
-// UNICODE: what stands at `at` of the line.
-fn unicode_piece(text: &[u8], at: usize) -> TextPiece
-    requires { at < length text.now }
-    ensures { result ≡ unicode_head (drop at text.now) }
+// What stands between the quotes of a STRING line, if its first and its last byte are the same quote.
+#[tactic(auto, unfolding(crate::specs::Text::has_quotes, crate::specs::Text::inner))]
+fn between_quotes(line: &[u8]) -> Option<&[u8]>
+    ensures { MatchOption result (has_quotes line.now ≡ false) (λ text. (has_quotes line.now ≡ true) × (text.now ≡ inner line.now)) }
 {
-    let b = text[at];
-    if b == b'\\' {
-        unicode_escape(text, at + 1)
-    } else {
-        TextPiece::One {
-            value: b as u32,
-            more: 0,
-        }
+    match line {
+        [b'\'', text @ .., b'\''] | [b'"', text @ .., b'"'] => Some(text),
+        _ => None,
     }
-}
-
-// The first and the last byte of a STRING line are the same quote.
-fn has_quotes(line: &[u8]) -> bool
-    ensures { result ≡ has_quotes line.now }
-{
-    if line.len() < 2 {
-        return false;
-    }
-    let last = line.len() - 1;
-    let q = line[0];
-    let e = line[last];
-    if q != e {
-        return false;
-    }
-    if q == b'\'' {
-        return true;
-    }
-    q == b'"'
 }
 
 // How many bytes the text between the quotes has once unescaped. A place counts the quote before it.
 // Most bytes are plain, and are passed without a call; so in each loop below.
-fn inner_len(text: &[u8]) -> Decoded
+fn inner_len(text: &[u8]) -> Result<usize, FaultAt>
     ensures { decoded_says result ≡ length_of (texts string_head byte_itself 0 1 text.now) }
 {
     let mut n = 0;
     let mut i = 0;
     while i < text.len() {
-        if text[i] != b'\\' {
-            n += 1;
-            i += 1;
-        } else {
-            match string_piece(text, i) {
-                TextPiece::One { value: _, more } => {
-                    n += 1;
-                    i += more + 1;
-                }
-                TextPiece::Bad => return Decoded::Refused(i + 1),
-            }
+        let b = text[i];
+        i += 1;
+        if b == b'\\' {
+            let Some(piece) = string_escape(&text[i..]) else {
+                return Err(FaultAt(i)); // at the backslash, one on for the quote
+            };
+            i += piece.more;
         }
+        n += 1;
     }
-    Decoded::Len(n)
+    Ok(n)
 }
 
 // STRING, decided: an escape is shorter unescaped, so a value as long as its text has none.
-pub fn string_len(line: &[u8]) -> Quoted
+pub fn string_len(line: &[u8]) -> Result<Quoted, FaultAt>
     ensures { quoted_says line.now result ≡ string_measured line.now }
 {
-    if has_quotes(line) {
-        let last = line.len() - 1;
-        let text = &line[1..last];
-        match inner_len(text) {
-            Decoded::Len(n) => {
-                if n == text.len() {
-                    Quoted::Plain
-                } else {
-                    Quoted::Escaped(n)
-                }
-            }
-            Decoded::Refused(at) => Quoted::Refused(at),
-        }
+    let Some(text) = between_quotes(line) else {
+        return Err(FaultAt(0));
+    };
+    let len = inner_len(text)?;
+    Ok(if len == text.len() {
+        Quoted::Plain
     } else {
-        Quoted::Refused(0)
-    }
+        Quoted::Escaped(len)
+    })
 }
 
 // The text between the quotes, unescaped, at the start of `out`; how many bytes that are.
@@ -324,20 +225,15 @@ fn write_inner(text: &[u8], out: &mut [u8]) -> usize
     let mut i = 0;
     while i < text.len() {
         let b = text[i];
+        i += 1;
         if b != b'\\' {
             out[n] = b;
-            n += 1;
-            i += 1;
         } else {
-            match string_piece(text, i) {
-                TextPiece::One { value, more } => {
-                    out[n] = value as u8;
-                    n += 1;
-                    i += more + 1;
-                }
-                TextPiece::Bad => return n,
-            }
+            let TextPiece { value, more } = string_escape(&text[i..]).unwrap();
+            out[n] = value as u8;
+            i += more;
         }
+        n += 1;
     }
     n
 }
@@ -347,28 +243,39 @@ pub fn unescape_string(line: &[u8], out: &mut [u8]) -> usize
     requires { RoomForText (unescape_string line.now) out.old }
     ensures { WroteText (unescape_string line.now) out.old out.new result }
 {
-    let last = line.len() - 1;
-    write_inner(&line[1..last], out)
+    write_inner(between_quotes(line).unwrap(), out)
+}
+
+// UNICODE: what stands at the start, there being something.
+#[tactic(auto, unfolding(crate::specs::Escapes::unicode_head))]
+fn unicode_piece(text: &[u8]) -> Option<TextPiece>
+    ensures { result ≡ unicode_head text.now }
+{
+    match text {
+        [] => None,
+        [b'\\', rest @ ..] => unicode_escape(rest),
+        [b, ..] => Some(TextPiece {
+            value: *b as u32,
+            more: 0,
+        }),
+    }
 }
 
 // How many bytes the UTF-8 of a code point has.
+#[tactic(auto, unfolding(utf8::specs::Utf8::encode))]
 fn encoded_len(code: u32) -> usize
     ensures { result ≡ length (encode code) }
 {
-    if code < 0x80 {
-        return 1;
+    match code {
+        0..=0x7F => 1,
+        0x80..=0x7FF => 2,
+        0x800..=0xFFFF => 3,
+        _ => 4,
     }
-    if code < 0x800 {
-        return 2;
-    }
-    if code < 0x10000 {
-        return 3;
-    }
-    4
 }
 
 // UNICODE, decided.
-pub fn unicode_len(line: &[u8]) -> Decoded
+pub fn unicode_len(line: &[u8]) -> Result<usize, FaultAt>
     ensures { decoded_says result ≡ length_of (unescape_unicode line.now) }
 {
     let mut n = 0;
@@ -379,16 +286,14 @@ pub fn unicode_len(line: &[u8]) -> Decoded
             n += 1;
             i += 1;
         } else {
-            match unicode_piece(line, i) {
-                TextPiece::One { value, more } => {
-                    n += encoded_len(value);
-                    i += more + 1;
-                }
-                TextPiece::Bad => return Decoded::Refused(i),
-            }
+            let Some(TextPiece { value, more }) = unicode_piece(&line[i..]) else {
+                return Err(FaultAt(i));
+            };
+            n += encoded_len(value);
+            i += more + 1;
         }
     }
-    Decoded::Len(n)
+    Ok(n)
 }
 
 // The UTF-8 of a code point, at `at` of `out`; the place after it.
@@ -432,13 +337,9 @@ pub fn unescape_unicode(line: &[u8], out: &mut [u8]) -> usize
             n += 1;
             i += 1;
         } else {
-            match unicode_piece(line, i) {
-                TextPiece::One { value, more } => {
-                    n = put(out, n, value);
-                    i += more + 1;
-                }
-                TextPiece::Bad => return n,
-            }
+            let TextPiece { value, more } = unicode_piece(&line[i..]).unwrap();
+            n = put(out, n, value);
+            i += more + 1;
         }
     }
     n
