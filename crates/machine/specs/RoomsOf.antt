@@ -1,5 +1,5 @@
 -- The rooms that are lent, as one; and the opcode that is read of them.
-use Rattle.std.specs.Prelude.{ℕ, suc, zero, ◌+◌, ◌-◌, ◌≤◌, ◌<◌, true, false, List, [], ◌∷◌, ◌≢◌, drop}
+use Rattle.std.specs.Prelude.{ℕ, suc, zero, ◌+◌, ◌-◌, ◌≤◌, ◌<◌, true, false, Some, None, List, [], ◌∷◌, ◌≢◌, drop}
 use Rattle.std.proofs.Math.Option.{Option, none, some}
 use Rattle.std.proofs.Math.Path.{◌≡◌, refl, sym, ap}
 use Rattle.std.proofs.Common.{◌∙◌, get_or-take}
@@ -12,7 +12,7 @@ use Rattle.op.specs.Table.{code_of, number_in, is_named, place, opcode_of}
 use Rattle.op.specs.Named.{named}
 use Rattle.op.specs.Edition.{against, highest}
 use Rattle.op.specs.declared.Edition.{Edition}
-use Rattle.op.specs.declared.Objection.TheVariants.{Nothing, Outside, Unknown}
+use Rattle.op.specs.declared.Objection.TheVariants.{Outside, Unknown}
 use Rattle.op.specs.declared.Opcode.{Opcode}
 use Rattle.op.specs.declared.Opcode.TheVariants.{MARK, STOP, POP, POP_MARK, DUP, FLOAT, INT, BININT, BININT1, LONG, BININT2, NONE, REDUCE, STRING, BINSTRING, SHORT_BINSTRING, UNICODE, BINUNICODE, APPEND, BUILD, GLOBAL, DICT, EMPTY_DICT, APPENDS, GET, BINGET, LONG_BINGET, LIST, EMPTY_LIST, PUT, BINPUT, LONG_BINPUT, SETITEM, TUPLE, EMPTY_TUPLE, SETITEMS, BINFLOAT, PROTO, NEWOBJ, TUPLE1, TUPLE2, TUPLE3, NEWTRUE, NEWFALSE, LONG1, LONG4}
 use Rattle.store.specs.declared.Counts.{Counts}
@@ -97,16 +97,16 @@ module _ (p n d s m k h : List ℕ) (c : Counts) where
           rw (bytes_got r c 1 t (omega arith)) (ap (λ (b : ℕ). admit (against ed b) b (decide (highest ed) (opcode_of b) b (state_of r c₁))) (get_or-take 1 (drop c.at r.pickle) 0 0 (omega arith) ∙ get_or-drop c.at r.pickle 0 0 ∙ rw (q, a.pickle)))
 
       -- outside the edition, or unknown to it
-      pub outside_it : Outside ≡ against ed code → Decides c SameRooms (step ed) (refusing c (OutsideProfile code))
+      pub outside_it : Some Outside ≡ against ed code → Decides c SameRooms (step ed) (refusing c (OutsideProfile code))
       unfolding Decides admit enacted Fits
       outside_it b r z a = record { enacts = sym (read r z a ∙ rw (← b)); fits = tt }
 
-      pub unknown_to_it : Unknown ≡ against ed code → Decides c SameRooms (step ed) (refusing c (UnsupportedOpcode code))
+      pub unknown_to_it : Some Unknown ≡ against ed code → Decides c SameRooms (step ed) (refusing c (UnsupportedOpcode code))
       unfolding Decides admit enacted Fits
       unknown_to_it b r z a = record { enacts = sym (read r z a ∙ rw (← b)); fits = tt }
 
       -- nothing against it
-      module _ (free : Nothing ≡ against ed code) where
+      module _ (free : None ≡ against ed code) where
         -- the opcode o
         pub arm : (o : Opcode) (Q : Rooms → Type 0) (e : Effect) → code ≡ code_of o → ((r : Rooms) → SameRooms r → Q r) → Decides c₁ Q (does (highest ed) o) e → Decides c SameRooms (step ed) e
         unfolding Decides decide admit
@@ -169,7 +169,7 @@ module _ (v : ℕ) (c : Counts) where
 
 -- ---- TUPLE1 to TUPLE3, and what no arm takes
 
-module _ (p n d s m k h : List ℕ) (c : Counts) (ed : Edition) (l : c.at < length p) (free : Nothing ≡ against ed (get_or p c.at 0)) where
+module _ (p n d s m k h : List ℕ) (c : Counts) (ed : Edition) (l : c.at < length p) (free : None ≡ against ed (get_or p c.at 0)) where
   pub tuples : (e : Effect) → 133 ≤ get_or p c.at 0 → get_or p c.at 0 < 136 → Decides (c₁ p n d s m k h c) (λ r. Unit {0}) (λ t. going (tuple_n (get_or p c.at 0 - 0x84) t)) e → Decides c (Agrees p n d s m k h) (step ed) e
   unfolding does code_of number_in is_named place
   tuples e a b t = go (get_or p c.at 0) refl

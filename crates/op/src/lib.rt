@@ -150,6 +150,7 @@ pub enum Opcode {
 }
 
 // The number of a name: that of its row in the table, so that no constant above can stray from it.
+#[tactic(auto, unfolding(crate::specs::Table::code_of, crate::specs::Table::number_in, crate::specs::Table::is_named, crate::specs::Table::place))]
 pub fn number(name: Opcode) -> u8
     ensures { result ≡ code_of name }
 {
@@ -210,32 +211,28 @@ pub enum Edition {
     Plain,
 }
 
-// What an edition has against an opcode's byte.
+// What an edition may have against an opcode's byte.
 #[derive(Clone, Copy)]
 pub enum Objection {
-    Nothing,
     Outside,
     Unknown,
 }
 
-pub fn against(edition: Edition, code: u8) -> Objection
+#[tactic(auto, unfolding(crate::specs::Edition::against, crate::specs::Edition::outside, crate::specs::Edition::unknown, crate::specs::Edition::is_one_of, crate::specs::Table::code_of, crate::specs::Table::number_in, crate::specs::Table::is_named, crate::specs::Table::place))]
+pub fn against(edition: Edition, code: u8) -> Option<Objection>
     ensures { result ≡ against edition code }
 {
     match edition {
-        Edition::Full => Objection::Nothing,
+        Edition::Full => None,
         Edition::Plain => match code {
-            GLOBAL => Objection::Outside,
-            REDUCE => Objection::Outside,
-            NEWOBJ => Objection::Outside,
-            BUILD => Objection::Outside,
-            PUT => Objection::Outside,
-            GET => Objection::Outside,
-            _ => Objection::Nothing,
+            GLOBAL | REDUCE | NEWOBJ | BUILD | PUT | GET => Some(Objection::Outside),
+            _ => None,
         },
     }
 }
 
 // The highest protocol that PROTO accepts.
+#[tactic(auto, unfolding(crate::specs::Edition::highest))]
 pub fn highest(edition: Edition) -> u8
     ensures { result ≡ highest edition }
 {

@@ -1,14 +1,14 @@
 -- A step of the profile is the full reader's, unless its byte is one of the six opcodes outside the profile: then it is 26 with that byte.
 -- So a run of the profile is the full reader's, or ends at the first of the six that the full reader comes to.
 use Prim.Native.Nat.{ℕ, suc, zero, ◌<◌}
-use Rattle.std.specs.Prelude.{Bool, true, false, List, ◌∷◌, ◌≡◌, get_or, take, drop, T}
+use Rattle.std.specs.Prelude.{Bool, true, false, Some, None, List, ◌∷◌, ◌≡◌, get_or, take, drop, T}
 use Rattle.std.proofs.Math.Path.{refl, sym}
 use Rattle.std.proofs.Common.{◌∙◌, arith}
 use Rattle.std.proofs.Math.ListN.{length}
 use Rattle.refusal.specs.declared.Refusal.TheVariants.{OutsideProfile}
 use Rattle.op.specs.Edition.{outside, unknown, highest, is_one_of, against}
 use Rattle.op.specs.declared.Edition.TheVariants.{Full, Plain}
-use Rattle.op.specs.declared.Objection.TheVariants.{Nothing, Outside}
+use Rattle.op.specs.declared.Objection.TheVariants.{Outside}
 use Rattle.steps.specs.State.{State, Res, ok, no, ◌>>=◌, byte}
 use Rattle.steps.specs.Run.{Next, goes, stops, admit, step, start, run}
 use Rattle.steps.specs.Out.{Out}
@@ -26,15 +26,15 @@ Barred b = T (is_one_of (outside Plain) b)
 
 -- ---- one step
 
-full_free : (b : ℕ) → against Full b ≡ Nothing
+full_free : (b : ℕ) → against Full b ≡ None
 unfolding against outside unknown is_one_of
 full_free b = refl
 
-plain_free : (b : ℕ) → is_one_of (outside Plain) b ≡ false → against Plain b ≡ Nothing
+plain_free : (b : ℕ) → is_one_of (outside Plain) b ≡ false → against Plain b ≡ None
 unfolding against unknown is_one_of
 plain_free b e = rw e
 
-plain_barred : (b : ℕ) → is_one_of (outside Plain) b ≡ true → against Plain b ≡ Outside
+plain_barred : (b : ℕ) → is_one_of (outside Plain) b ≡ true → against Plain b ≡ Some Outside
 unfolding against
 plain_barred b e = rw e
 

@@ -1,17 +1,16 @@
 -- The labels of the machine's nodes: what those that opcodes make have, every node's has, in any edition. So String and names are valid
 -- UTF-8, whatever the pickle's bytes: BINUNICODE and GLOBAL repair, UNICODE encodes, and an Object has its class from a Global.
 use Prim.Native.Nat.{ℕ, suc, zero, ◌-◌}
-use Rattle.std.specs.Prelude.{Bool, false, cond, ◌&&◌, ◌≡◌, length, get_or, take, drop, set, T, leb, eqb}
+use Rattle.std.specs.Prelude.{Bool, false, cond, ◌&&◌, Some, None, ◌≡◌, length, get_or, take, drop, set, T, leb, eqb}
 use Rattle.std.proofs.Math.Bool.{true}
 use mathlib.Core.List.{List, [], ◌∷◌, ◌++◌}
 use Rattle.std.proofs.Math.Option.{Option, none, some}
 use Rattle.std.proofs.Math.Path.{refl}
 use Rattle.refusal.specs.declared.Refusal.{Refusal}
 use Rattle.op.specs.Table.{code_of, opcode_of}
-use Rattle.op.specs.Edition.{against, highest}
+use Rattle.op.specs.Edition.{Against, against, highest}
 use Rattle.op.specs.declared.Edition.{Edition}
-use Rattle.op.specs.declared.Objection.{Objection}
-use Rattle.op.specs.declared.Objection.TheVariants.{Nothing, Outside, Unknown}
+use Rattle.op.specs.declared.Objection.TheVariants.{Outside, Unknown}
 use Rattle.op.specs.declared.Opcode.{Opcode}
 use Rattle.op.specs.declared.Opcode.TheVariants.{MARK, STOP, POP, POP_MARK, DUP, FLOAT, INT, BININT, BININT1, LONG, BININT2, NONE, REDUCE, STRING, BINSTRING, SHORT_BINSTRING, UNICODE, BINUNICODE, APPEND, BUILD, GLOBAL, DICT, EMPTY_DICT, APPENDS, GET, BINGET, LONG_BINGET, LIST, EMPTY_LIST, PUT, BINPUT, LONG_BINPUT, SETITEM, TUPLE, EMPTY_TUPLE, SETITEMS, BINFLOAT, PROTO, NEWOBJ, TUPLE1, TUPLE2, TUPLE3, NEWTRUE, NEWFALSE, LONG1, LONG4}
 use Rattle.utf8.specs.Utf8.{valid, repair}
@@ -299,9 +298,9 @@ module _ (P : Label → Type 0) (m : PlainLabels P) where
 
   -- the opcodes that name and call classes, where the edition accepts them
   pub record Classes (ed : Edition) : Type 0 where
-    pub globals : against ed (code_of GLOBAL) ≡ Nothing → (s : State) → Labelled P s.nodes → Out (λ (t : State). Labelled P t.nodes) (global s)
-    pub reduces : against ed (code_of REDUCE) ≡ Nothing → (s : State) → Labelled P s.nodes → Out (λ (t : State). Labelled P t.nodes) (reduce s)
-    pub newobjs : against ed (code_of NEWOBJ) ≡ Nothing → (s : State) → Labelled P s.nodes → Out (λ (t : State). Labelled P t.nodes) (newobj s)
+    pub globals : against ed (code_of GLOBAL) ≡ None → (s : State) → Labelled P s.nodes → Out (λ (t : State). Labelled P t.nodes) (global s)
+    pub reduces : against ed (code_of REDUCE) ≡ None → (s : State) → Labelled P s.nodes → Out (λ (t : State). Labelled P t.nodes) (reduce s)
+    pub newobjs : against ed (code_of NEWOBJ) ≡ None → (s : State) → Labelled P s.nodes → Out (λ (t : State). Labelled P t.nodes) (newobj s)
 
   -- the opcode's byte leaves bytes
   bytes-bytes : (n : ℕ) (s : State) → Bytes s.input → L s → Out (λ (p : List ℕ × State). Bytes p.1.input × L p.1) (bytes n s)
@@ -313,7 +312,7 @@ module _ (P : Label → Type 0) (m : PlainLabels P) where
   byte-bytes s b h = bind _ _ _ _ (bytes-bytes 1 s b h) λ p u. out _ _ u
 
   module _ (ed : Edition) (c : Classes ed) where
-    does_l : (o : Opcode) → against ed (code_of o) ≡ Nothing → (s : State) → Bytes s.input → L s → Out (λ (n : Next). L (state_after n)) (does (highest ed) o s)
+    does_l : (o : Opcode) → against ed (code_of o) ≡ None → (s : State) → Bytes s.input → L s → Out (λ (n : Next). L (state_after n)) (does (highest ed) o s)
     unfolding does state_after L
     does_l MARK free s b h = going_l _ (mark_l s h)
     does_l STOP free s b h = out _ _ h
@@ -366,11 +365,11 @@ module _ (P : Label → Type 0) (m : PlainLabels P) where
     unfolding step Out decide admit
     step_l s b h = bind _ _ _ _ (byte-bytes s b h) λ p u. go p.0 p.1 (opcode_of p.0) refl (against ed p.0) refl u
       where
-        go : (i : ℕ) (t : State) (o : Option Opcode) → opcode_of i ≡ o → (x : Objection) → against ed i ≡ x → Bytes t.input × L t → Out (λ (n : Next). L (state_after n)) (admit x i (decide (highest ed) o i t))
-        go i t none e Nothing f u = tt
-        go i t (some o) e Nothing f u = does_l o (rw (decided_own i o e) f) t u.0 u.1
-        go i t o e Outside f u = tt
-        go i t o e Unknown f u = tt
+        go : (i : ℕ) (t : State) (o : Option Opcode) → opcode_of i ≡ o → (x : Against) → against ed i ≡ x → Bytes t.input × L t → Out (λ (n : Next). L (state_after n)) (admit x i (decide (highest ed) o i t))
+        go i t none e None f u = tt
+        go i t (some o) e None f u = does_l o (rw (decided_own i o e) f) t u.0 u.1
+        go i t o e (Some Outside) f u = tt
+        go i t o e (Some Unknown) f u = tt
 
     runs_l : (k : ℕ) (s : State) → Bytes s.input → L s → Out L (runs ed k s)
     unfolding runs Out state_after

@@ -1,5 +1,5 @@
 -- No opcode, no step, no run and no measure of a tree refuses with 1, 2 or 11.
-use Rattle.std.specs.Prelude.{ℕ, suc, zero, Bool, true, false, cond, List, [], ◌∷◌, ◌≡◌, refl, eqb, ℤ, pos, negsuc}
+use Rattle.std.specs.Prelude.{ℕ, suc, zero, Bool, true, false, cond, Some, None, List, [], ◌∷◌, ◌≡◌, refl, eqb, ℤ, pos, negsuc}
 use Rattle.std.proofs.Math.Option.{Option, none, some}
 use Rattle.refusal.specs.Read.{Read, got, refused}
 use Rattle.refusal.specs.declared.Refusal.{Refusal}
@@ -8,10 +8,9 @@ use Rattle.refusal.specs.declared.Wanted.TheVariants.{DictItems, List as AList, 
 use Rattle.op.specs.Table.{opcode_of}
 use Rattle.op.specs.declared.Opcode.{Opcode}
 use Rattle.op.specs.declared.Opcode.TheVariants.{MARK, STOP, POP, POP_MARK, DUP, FLOAT, INT, BININT, BININT1, LONG, BININT2, NONE, REDUCE, STRING, BINSTRING, SHORT_BINSTRING, UNICODE, BINUNICODE, APPEND, BUILD, GLOBAL, DICT, EMPTY_DICT, APPENDS, GET, BINGET, LONG_BINGET, LIST, EMPTY_LIST, PUT, BINPUT, LONG_BINPUT, SETITEM, TUPLE, EMPTY_TUPLE, SETITEMS, BINFLOAT, PROTO, NEWOBJ, TUPLE1, TUPLE2, TUPLE3, NEWTRUE, NEWFALSE, LONG1, LONG4}
-use Rattle.op.specs.Edition.{against, highest}
+use Rattle.op.specs.Edition.{Against, against, highest}
 use Rattle.op.specs.declared.Edition.{Edition}
-use Rattle.op.specs.declared.Objection.{Objection}
-use Rattle.op.specs.declared.Objection.TheVariants.{Nothing, Outside, Unknown}
+use Rattle.op.specs.declared.Objection.TheVariants.{Outside, Unknown}
 use Rattle.input.specs.Long.{denotes}
 use Rattle.value.specs.Value.{Label, NoneL, BoolL, I64L, F64L, BytesL, StringL, ListL, TupleL, SetL, FrozenSetL, DictL, GlobalL, ObjectL, Forest}
 use Rattle.steps.specs.State.{Node, State, Res, ok, no, ◌>>=◌, need, leaf, bytes, byte, line, pop, top, pop_mark, pop_many, push_id, push_node, push, link, node_by, memo_find, get, put}
@@ -353,11 +352,11 @@ unfolding decide InnerOnly
 decide-inner v none b s = tt
 decide-inner v (some o) b s = does-inner v o s
 
-admit-inner : (x : Objection) (b : ℕ) (r : Res Next) → InnerOnly r → InnerOnly (admit x b r)
+admit-inner : (x : Against) (b : ℕ) (r : Res Next) → InnerOnly r → InnerOnly (admit x b r)
 unfolding admit InnerOnly
-admit-inner Nothing b r h = h
-admit-inner Outside b r h = tt
-admit-inner Unknown b r h = tt
+admit-inner None b r h = h
+admit-inner (Some Outside) b r h = tt
+admit-inner (Some Unknown) b r h = tt
 
 pub step-inner : (ed : Edition) (s : State) → InnerOnly (step ed s)
 unfolding step

@@ -4,17 +4,16 @@
 -- Where the Rust differs: STOP's value is still on the stack when the run ends (the reading takes it). PUT, BINPUT and LONG_BINPUT
 -- ask for a value, which their rows do not name (`put_empty`). Marks are no values: they stand beside the stack, and only MARK,
 -- POP_MARK and the opcodes that take all above a mark change them. The length of LONG4 is unsigned.
-use Rattle.std.specs.Prelude.{ℕ, ◌<◌, Bool, true, false, cond, ◌&&◌, List, [], ◌∷◌, ◌≡◌, refl, length, get_or, take, drop, eqb, T}
+use Rattle.std.specs.Prelude.{ℕ, ◌<◌, Bool, true, false, cond, ◌&&◌, Some, None, List, [], ◌∷◌, ◌≡◌, refl, length, get_or, take, drop, eqb, T}
 use Rattle.std.proofs.Math.Option.{Option, none, some}
 use Rattle.std.proofs.Common.{sym, ap, ◌∙◌, drop-cons, get_or-take, eqb→eq, arith, eqb-true}
 use Rattle.refusal.specs.declared.Refusal.TheVariants.{StackUnderflow}
 use Rattle.op.specs.Table.{Name, known, refused as unknown, Form, uint1, long1, long4, uint4, Stack, Row, opcode_table, place, is_named, number_in, code_of, row_in, row_of, known_name, opcode_of}
-use Rattle.op.specs.Edition.{against, highest}
+use Rattle.op.specs.Edition.{Against, against, highest}
 use Rattle.op.specs.declared.Opcode.{Opcode}
 use Rattle.op.specs.declared.Opcode.TheVariants.{MARK, STOP, POP, POP_MARK, DUP, FLOAT, INT, BININT, BININT1, LONG, BININT2, NONE, REDUCE, STRING, BINSTRING, SHORT_BINSTRING, UNICODE, BINUNICODE, APPEND, BUILD, GLOBAL, DICT, EMPTY_DICT, APPENDS, GET, BINGET, LONG_BINGET, LIST, EMPTY_LIST, PUT, BINPUT, LONG_BINPUT, SETITEM, TUPLE, EMPTY_TUPLE, SETITEMS, BINFLOAT, PROTO, NEWOBJ, TUPLE1, TUPLE2, TUPLE3, NEWTRUE, NEWFALSE, LONG1, LONG4}
 use Rattle.op.specs.declared.Edition.{Edition}
-use Rattle.op.specs.declared.Objection.{Objection}
-use Rattle.op.specs.declared.Objection.TheVariants.{Nothing, Outside, Unknown}
+use Rattle.op.specs.declared.Objection.TheVariants.{Outside, Unknown}
 use Rattle.value.specs.Value.{NoneL, BoolL, ListL, TupleL, DictL}
 use Rattle.steps.specs.State.{State, Res, ok, no, ◌>>=◌, need, with_input, put, top}
 use Rattle.steps.specs.Run.{Next, goes, stops, going, does, decide, admit, step}
@@ -140,11 +139,11 @@ byte-leads s p h =
     drop-cons s.input 0 0 l ∙ ap (λ (x : ℕ). x ∷ drop 1 s.input) (sym (h.0 ∙ get_or-take 1 s.input 0 0 z))
 
 -- what an edition has against a byte is a refusal
-pub admit_out : (P : Next → Type 0) (x : Objection) (b : ℕ) (r : Res Next) → Out P r → Out P (admit x b r)
+pub admit_out : (P : Next → Type 0) (x : Against) (b : ℕ) (r : Res Next) → Out P r → Out P (admit x b r)
 unfolding admit Out
-admit_out P Nothing b r h = h
-admit_out P Outside b r h = tt
-admit_out P Unknown b r h = tt
+admit_out P None b r h = h
+admit_out P (Some Outside) b r h = tt
+admit_out P (Some Unknown) b r h = tt
 
 -- a step reads a byte, and does what the byte's row says
 pub record StepsByRow (s : State) (n : Next) : Type 0 where

@@ -1,12 +1,11 @@
 -- The decision over the opcode byte, one step, and the run to STOP, in any edition of the reader.
-use Rattle.std.specs.Prelude.{ℕ, suc, zero, true, false, List, [], length}
+use Rattle.std.specs.Prelude.{ℕ, suc, zero, true, false, Some, None, List, [], length}
 use Rattle.std.proofs.Math.Option.{Option, none, some}
 use Rattle.refusal.specs.declared.Refusal.TheVariants.{EndOfInput, UnsupportedOpcode, OutsideProfile}
 use Rattle.op.specs.Table.{opcode_of}
-use Rattle.op.specs.Edition.{against, highest}
+use Rattle.op.specs.Edition.{Against, against, highest}
 use Rattle.op.specs.declared.Edition.{Edition}
-use Rattle.op.specs.declared.Objection.{Objection}
-use Rattle.op.specs.declared.Objection.TheVariants.{Nothing, Outside, Unknown}
+use Rattle.op.specs.declared.Objection.TheVariants.{Outside, Unknown}
 use Rattle.op.specs.declared.Opcode.{Opcode}
 use Rattle.op.specs.declared.Opcode.TheVariants.{MARK, STOP, POP, POP_MARK, DUP, FLOAT, INT, BININT, BININT1, LONG, BININT2, NONE, REDUCE, STRING, BINSTRING, SHORT_BINSTRING, UNICODE, BINUNICODE, APPEND, BUILD, GLOBAL, DICT, EMPTY_DICT, APPENDS, GET, BINGET, LONG_BINGET, LIST, EMPTY_LIST, PUT, BINPUT, LONG_BINPUT, SETITEM, TUPLE, EMPTY_TUPLE, SETITEMS, BINFLOAT, PROTO, NEWOBJ, TUPLE1, TUPLE2, TUPLE3, NEWTRUE, NEWFALSE, LONG1, LONG4}
 use Rattle.value.specs.Value.{NoneL, BoolL, ListL, TupleL, DictL}
@@ -77,10 +76,10 @@ decide v none b s = no (UnsupportedOpcode b)
 decide v (some o) b s = does v o s
 
 -- what an edition has against the byte stands before that: 26, or 4
-unfoldable pub admit : Objection → ℕ → Res Next → Res Next
-admit Nothing b r = r
-admit Outside b r = no (OutsideProfile b)
-admit Unknown b r = no (UnsupportedOpcode b)
+unfoldable pub admit : Against → ℕ → Res Next → Res Next
+admit None b r = r
+admit (Some Outside) b r = no (OutsideProfile b)
+admit (Some Unknown) b r = no (UnsupportedOpcode b)
 
 -- one step: the opcode's byte, and what it does
 unfoldable pub step : Edition → State → Res Next
