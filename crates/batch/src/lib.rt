@@ -2,17 +2,19 @@
 // it used of them.
 #![tactic(auto)]
 
-ghost use Rattle.std.specs.Prelude.{◌+◌, ◌*◌, ◌≤◌, [], ◌∷◌, ◌≡◌, length};
+ghost use Rattle.std.specs.Prelude.{◌+◌, ◌*◌, ◌≤◌, ◌≡◌, length};
 ghost use Rattle.std.proofs.lemmas.List.Edits.{sets};
 ghost use Rattle.lengths.specs.Sum.{sum};
 ghost use Rattle.rooms.specs.Stated.{Ready};
+ghost use Rattle.rooms.specs.Lent.{slices_of, SameSlices};
 ghost use Rattle.batch.specs.Batch.{four, BatchCall};
 ghost use Rattle.batch.specs.Sheets.{ReadAll};
 
-use de::{clear_builder, clear_machine, is_short, read};
+use de::read;
 use lengths::{BAD_LENGTHS, add_up};
 use op::Edition;
 use refusal::{Answer, Refusal, refused};
+use rooms::lending::Lent;
 
 // A sheet's four numbers, at their place.
 fn put(answers: &mut [u64], at: usize, a: Answer)
@@ -26,64 +28,19 @@ fn put(answers: &mut [u64], at: usize, a: Answer)
 }
 
 // Every sheet, one after the other, in zero rooms.
-fn read_all(
-    sheets: &[u8],
-    lengths: &[u64],
-    answers: &mut [u64],
-    nodes: &mut [u64],
-    owners: &mut [u16],
-    children: &mut [u16],
-    stack: &mut [u16],
-    marks: &mut [u16],
-    keys: &mut [u32],
-    held: &mut [u16],
-    unescaped: &mut [u8],
-    starts: &mut [u16],
-    sorted: &mut [u16],
-    measures: &mut [u64],
-    table: &mut [u64],
-    text: &mut [u8],
-)
+fn read_all(sheets: &[u8], lengths: &[u64], answers: &mut [u64], lent: &mut Lent<'_>)
     requires lengths_add_up { length sheets.now ≡ sum lengths.now }
     requires lengths_in_bounds { 4 * length lengths.now ≤ length answers.old }
-    requires ready { Ready
-        (nodes.old ∷ owners.old ∷ children.old ∷ stack.old ∷ marks.old ∷ keys.old ∷ held.old
-        ∷ unescaped.old ∷ starts.old ∷ sorted.old ∷ measures.old ∷ table.old ∷ text.old ∷ []) }
-    ensures { ReadAll sheets.now lengths.now answers.old answers.new
-        (nodes.old ∷ owners.old ∷ children.old ∷ stack.old
-        ∷ marks.old ∷ keys.old ∷ held.old
-        ∷ unescaped.old ∷ starts.old ∷ sorted.old ∷ measures.old
-        ∷ table.old ∷ text.old ∷ [])
-        (nodes.new ∷ owners.new ∷ children.new ∷ stack.new
-        ∷ marks.new ∷ keys.new ∷ held.new
-        ∷ unescaped.new ∷ starts.new ∷ sorted.new ∷ measures.new
-        ∷ table.new ∷ text.new ∷ []) }
+    requires ready { Ready (slices_of lent.old) }
+    ensures all { ReadAll sheets.now lengths.now answers.old answers.new (slices_of lent.old) (slices_of lent.new) }
+    ensures same_slices { SameSlices lent.old lent.new }
 {
     let mut at = 0;
-    let mut i = 0;
-    while i < lengths.len() {
-        let end = at + lengths[i] as usize;
-        let a = read(
-            Edition::Full,
-            true,
-            &sheets[at..end],
-            nodes,
-            owners,
-            children,
-            stack,
-            marks,
-            keys,
-            held,
-            unescaped,
-            starts,
-            sorted,
-            measures,
-            table,
-            text,
-        );
+    for (i, length) in lengths.iter().enumerate() {
+        let end = at + *length as usize;
+        let a = read(Edition::Full, true, &sheets[at..end], lent);
         put(answers, 4 * i, a);
         at = end;
-        i += 1;
     }
 }
 
@@ -92,47 +49,12 @@ pub fn from_bytes_batch(
     sheets: &[u8],
     lengths: &[u64],
     answers: &mut [u64],
-    nodes: &mut [u64],
-    owners: &mut [u16],
-    children: &mut [u16],
-    stack: &mut [u16],
-    marks: &mut [u16],
-    keys: &mut [u32],
-    held: &mut [u16],
-    unescaped: &mut [u8],
-    starts: &mut [u16],
-    sorted: &mut [u16],
-    measures: &mut [u64],
-    table: &mut [u64],
-    text: &mut [u8],
+    lent: &mut Lent<'_>,
 ) -> Answer
-    ensures { BatchCall sheets.now lengths.now answers.old
-        (nodes.old ∷ owners.old ∷ children.old ∷ stack.old
-        ∷ marks.old ∷ keys.old ∷ held.old
-        ∷ unescaped.old ∷ starts.old ∷ sorted.old ∷ measures.old
-        ∷ table.old ∷ text.old ∷ [])
-        answers.new
-        (nodes.new ∷ owners.new ∷ children.new ∷ stack.new
-        ∷ marks.new ∷ keys.new ∷ held.new
-        ∷ unescaped.new ∷ starts.new ∷ sorted.new ∷ measures.new
-        ∷ table.new ∷ text.new ∷ []) result }
+    ensures call { BatchCall sheets.now lengths.now answers.old (slices_of lent.old) answers.new (slices_of lent.new) result }
+    ensures same_slices { SameSlices lent.old lent.new }
 {
-    let short = is_short(
-        nodes.len(),
-        owners.len(),
-        children.len(),
-        stack.len(),
-        marks.len(),
-        keys.len(),
-        held.len(),
-        unescaped.len(),
-        starts.len(),
-        sorted.len(),
-        measures.len(),
-        table.len(),
-        text.len(),
-    );
-    if short | (lengths.len() > answers.len() / 4) {
+    if lent.is_short() | (lengths.len() > answers.len() / 4) {
         return refused(Refusal::ShortRoom);
     }
     if !add_up(lengths, sheets.len()) {
@@ -143,12 +65,8 @@ pub fn from_bytes_batch(
             count: 0,
         };
     }
-    clear_machine(nodes, owners, children, stack, marks, keys, held);
-    clear_builder(unescaped, starts, sorted, measures);
-    read_all(
-        sheets, lengths, answers, nodes, owners, children, stack, marks, keys, held, unescaped,
-        starts, sorted, measures, table, text,
-    );
+    lent.clear();
+    read_all(sheets, lengths, answers, lent);
     Answer {
         number: 0,
         detail: 0,

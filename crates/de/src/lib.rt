@@ -6,8 +6,9 @@
 
 mod build;
 
-ghost use Rattle.std.specs.Prelude.{true, [], ◌∷◌, map, ◌≡◌, length};
-ghost use Rattle.rooms.specs.Stated.{Slices, machine_lengths, builder_lengths, stated, Long, Ready, short, blank};
+ghost use Rattle.std.specs.Prelude.{true, [], ◌∷◌, ◌≡◌};
+ghost use Rattle.rooms.specs.Stated.{Ready};
+ghost use Rattle.rooms.specs.Lent.{slices_of, SameSlices};
 ghost use Rattle.machine.specs.Ran.{counts_of};
 ghost use Rattle.de.specs.Given.{due};
 ghost use Rattle.de.specs.Inner.{InnerReads};
@@ -17,9 +18,8 @@ use crate::build::answer;
 use machine::{Outcome, run};
 use op::Edition;
 use refusal::{Answer, Refusal, refused};
-use rooms::{
-    clear_ints, clear_shorts, clear_words, zero_bytes, zero_ints, zero_shorts, zero_words,
-};
+use rooms::lending::Lent;
+use rooms::{clear_ints, clear_shorts, clear_words};
 use store::Counts;
 
 fn counts(outcome: Outcome) -> Counts
@@ -31,8 +31,8 @@ fn counts(outcome: Outcome) -> Counts
     }
 }
 
-// The inner reading: every slice as it came, but what table and text begin with.
-pub fn read(
+// The inner reading, slice by slice: it looks at some while others are lent to be written.
+fn read_in(
     edition: Edition,
     whole: bool,
     pickle: &[u8],
@@ -82,139 +82,42 @@ pub fn read(
     a
 }
 
-// Whether one of the slices is shorter than stated, by the lengths of all.
-pub fn is_short(
-    nodes: usize,
-    owners: usize,
-    children: usize,
-    stack: usize,
-    marks: usize,
-    keys: usize,
-    held: usize,
-    unescaped: usize,
-    starts: usize,
-    sorted: usize,
-    measures: usize,
-    table: usize,
-    text: usize,
-) -> bool
-    ensures { (slices : Slices) → map length slices
-        ≡ nodes ∷ owners ∷ children ∷ stack ∷ marks ∷ keys ∷ held
-        ∷ unescaped ∷ starts ∷ sorted ∷ measures ∷ table ∷ text ∷ []
-        → result ≡ short stated slices }
+// The inner reading: every slice as it came, but what table and text begin with.
+pub fn read(edition: Edition, whole: bool, pickle: &[u8], lent: &mut Lent<'_>) -> Answer
+    requires { Ready (slices_of lent.old) }
+    ensures reads { InnerReads (due edition whole pickle.now) (slices_of lent.old) (slices_of lent.new) result }
+    ensures same_slices { SameSlices lent.old lent.new }
 {
-    (nodes < 8192)
-        | (owners < 8192)
-        | (children < 8192)
-        | (stack < 2048)
-        | (marks < 256)
-        | (keys < 2048)
-        | (held < 1024)
-        | (unescaped < 65536)
-        | (starts < 4098)
-        | (sorted < 16384)
-        | (measures < 4096)
-        | (table < 8192)
-        | (text < 65536)
-}
-
-// The machine's rooms zero up to their stated lengths.
-pub fn clear_machine(
-    nodes: &mut [u64],
-    owners: &mut [u16],
-    children: &mut [u16],
-    stack: &mut [u16],
-    marks: &mut [u16],
-    keys: &mut [u32],
-    held: &mut [u16],
-)
-    requires { Long machine_lengths
-        (nodes.old ∷ owners.old ∷ children.old ∷ stack.old ∷ marks.old ∷ keys.old ∷ held.old ∷ []) }
-    ensures { nodes.new ∷ owners.new ∷ children.new ∷ stack.new
-        ∷ marks.new ∷ keys.new ∷ held.new ∷ []
-        ≡ blank machine_lengths
-        (nodes.old ∷ owners.old ∷ children.old ∷ stack.old
-        ∷ marks.old ∷ keys.old ∷ held.old ∷ []) }
-{
-    zero_words(nodes, 8192);
-    zero_shorts(owners, 8192);
-    zero_shorts(children, 8192);
-    zero_shorts(stack, 2048);
-    zero_shorts(marks, 256);
-    zero_ints(keys, 2048);
-    zero_shorts(held, 1024);
-}
-
-// The builder's rooms zero up to their stated lengths.
-pub fn clear_builder(
-    unescaped: &mut [u8],
-    starts: &mut [u16],
-    sorted: &mut [u16],
-    measures: &mut [u64],
-)
-    requires { Long builder_lengths (unescaped.old ∷ starts.old ∷ sorted.old ∷ measures.old ∷ []) }
-    ensures { unescaped.new ∷ starts.new ∷ sorted.new ∷ measures.new ∷ []
-        ≡ blank builder_lengths
-        (unescaped.old ∷ starts.old ∷ sorted.old ∷ measures.old ∷ []) }
-{
-    zero_bytes(unescaped, 65536);
-    zero_shorts(starts, 4098);
-    zero_shorts(sorted, 16384);
-    zero_words(measures, 4096);
+    read_in(
+        edition,
+        whole,
+        pickle,
+        lent.nodes,
+        lent.owners,
+        lent.children,
+        lent.stack,
+        lent.marks,
+        lent.keys,
+        lent.held,
+        lent.unescaped,
+        lent.starts,
+        lent.sorted,
+        lent.measures,
+        lent.table,
+        lent.text,
+    )
 }
 
 // Either reading in an edition, of any slices: 1, then the rooms made zero, then the inner reading.
-pub fn reading(
-    edition: Edition,
-    whole: bool,
-    pickle: &[u8],
-    nodes: &mut [u64],
-    owners: &mut [u16],
-    children: &mut [u16],
-    stack: &mut [u16],
-    marks: &mut [u16],
-    keys: &mut [u32],
-    held: &mut [u16],
-    unescaped: &mut [u8],
-    starts: &mut [u16],
-    sorted: &mut [u16],
-    measures: &mut [u64],
-    table: &mut [u64],
-    text: &mut [u8],
-) -> Answer
-    ensures { ReadCall (due edition whole pickle.now)
-        (nodes.old ∷ owners.old ∷ children.old ∷ stack.old
-        ∷ marks.old ∷ keys.old ∷ held.old
-        ∷ unescaped.old ∷ starts.old ∷ sorted.old ∷ measures.old
-        ∷ table.old ∷ text.old ∷ [])
-        (nodes.new ∷ owners.new ∷ children.new ∷ stack.new
-        ∷ marks.new ∷ keys.new ∷ held.new
-        ∷ unescaped.new ∷ starts.new ∷ sorted.new ∷ measures.new
-        ∷ table.new ∷ text.new ∷ []) result }
+pub fn reading(edition: Edition, whole: bool, pickle: &[u8], lent: &mut Lent<'_>) -> Answer
+    ensures call { ReadCall (due edition whole pickle.now) (slices_of lent.old) (slices_of lent.new) result }
+    ensures same_slices { SameSlices lent.old lent.new }
 {
-    if is_short(
-        nodes.len(),
-        owners.len(),
-        children.len(),
-        stack.len(),
-        marks.len(),
-        keys.len(),
-        held.len(),
-        unescaped.len(),
-        starts.len(),
-        sorted.len(),
-        measures.len(),
-        table.len(),
-        text.len(),
-    ) {
+    if lent.is_short() {
         return refused(Refusal::ShortRoom);
     }
-    clear_machine(nodes, owners, children, stack, marks, keys, held);
-    clear_builder(unescaped, starts, sorted, measures);
-    read(
-        edition, whole, pickle, nodes, owners, children, stack, marks, keys, held, unescaped,
-        starts, sorted, measures, table, text,
-    )
+    lent.clear();
+    read(edition, whole, pickle, lent)
 }
 
 // Whole data in rooms of its own, some 252 KB of the stack: for programs.
@@ -238,22 +141,20 @@ pub fn read_in_own_rooms(
     let mut starts = [0u16; 4098];
     let mut sorted = [0u16; 16384];
     let mut measures = [0u64; 4096];
-    reading(
-        edition,
-        true,
-        pickle,
-        &mut nodes,
-        &mut owners,
-        &mut children,
-        &mut stack,
-        &mut marks,
-        &mut keys,
-        &mut held,
-        &mut unescaped,
-        &mut starts,
-        &mut sorted,
-        &mut measures,
+    let mut lent = Lent {
+        nodes: &mut nodes,
+        owners: &mut owners,
+        children: &mut children,
+        stack: &mut stack,
+        marks: &mut marks,
+        keys: &mut keys,
+        held: &mut held,
+        unescaped: &mut unescaped,
+        starts: &mut starts,
+        sorted: &mut sorted,
+        measures: &mut measures,
         table,
         text,
-    )
+    };
+    reading(edition, true, pickle, &mut lent)
 }

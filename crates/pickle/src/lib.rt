@@ -1,7 +1,7 @@
 // The public calls (mod.rs's `pub use`), as crate pickle_c exports them to other languages: numbers and slices go in, a slice as a pointer and
 // a length, and a struct comes back. Every input is accepted, and every call ends. Each calls the function that does the work; so do the
 // programs here.
-#![tactic(auto)]
+#![tactic(auto, unfolding(de::specs::Given::due))]
 
 ghost use Rattle.std.specs.Prelude.{[], ◌∷◌, ◌≡◌};
 ghost use Rattle.op.specs.declared.Edition.TheVariants.{Plain};
@@ -16,6 +16,7 @@ ghost use Rattle.list.specs.Call.{ListCall};
 
 use op::Edition;
 use refusal::Answer;
+use rooms::lending::Lent;
 use scorer::Scored;
 use table::Compared;
 
@@ -47,10 +48,7 @@ pub extern "C" fn qelemvir_from_bytes_prefix(
         ∷ unescaped.new ∷ starts.new ∷ sorted.new ∷ measures.new
         ∷ table.new ∷ text.new ∷ []) result }
 {
-    de::reading(
-        Edition::Full,
-        false,
-        pickle,
+    let mut lent = Lent {
         nodes,
         owners,
         children,
@@ -64,7 +62,8 @@ pub extern "C" fn qelemvir_from_bytes_prefix(
         measures,
         table,
         text,
-    )
+    };
+    de::reading(Edition::Full, false, pickle, &mut lent)
 }
 
 // The value that is the whole data: as the prefix reading, but 11 where that one succeeds and leaves bytes.
@@ -95,10 +94,7 @@ pub extern "C" fn qelemvir_from_bytes(
         ∷ unescaped.new ∷ starts.new ∷ sorted.new ∷ measures.new
         ∷ table.new ∷ text.new ∷ []) result }
 {
-    de::reading(
-        Edition::Full,
-        true,
-        pickle,
+    let mut lent = Lent {
         nodes,
         owners,
         children,
@@ -112,7 +108,8 @@ pub extern "C" fn qelemvir_from_bytes(
         measures,
         table,
         text,
-    )
+    };
+    de::reading(Edition::Full, true, pickle, &mut lent)
 }
 
 // The same two readings of plain data only: an opcode outside the profile is 26.
@@ -143,10 +140,7 @@ pub extern "C" fn qelemvir_plain_from_bytes_prefix(
         ∷ unescaped.new ∷ starts.new ∷ sorted.new ∷ measures.new
         ∷ table.new ∷ text.new ∷ []) result }
 {
-    de::reading(
-        Edition::Plain,
-        false,
-        pickle,
+    let mut lent = Lent {
         nodes,
         owners,
         children,
@@ -160,7 +154,8 @@ pub extern "C" fn qelemvir_plain_from_bytes_prefix(
         measures,
         table,
         text,
-    )
+    };
+    de::reading(Edition::Plain, false, pickle, &mut lent)
 }
 
 #[unsafe(no_mangle)]
@@ -190,10 +185,7 @@ pub extern "C" fn qelemvir_plain_from_bytes(
         ∷ unescaped.new ∷ starts.new ∷ sorted.new ∷ measures.new
         ∷ table.new ∷ text.new ∷ []) result }
 {
-    de::reading(
-        Edition::Plain,
-        true,
-        pickle,
+    let mut lent = Lent {
         nodes,
         owners,
         children,
@@ -207,7 +199,8 @@ pub extern "C" fn qelemvir_plain_from_bytes(
         measures,
         table,
         text,
-    )
+    };
+    de::reading(Edition::Plain, true, pickle, &mut lent)
 }
 
 // A night's sheets, end to end in one buffer, each read as whole data: four places of `answers` for each (number, detail, length, count), and
@@ -242,10 +235,22 @@ pub extern "C" fn qelemvir_from_bytes_batch(
         ∷ unescaped.new ∷ starts.new ∷ sorted.new ∷ measures.new
         ∷ table.new ∷ text.new ∷ []) result }
 {
-    batch::from_bytes_batch(
-        sheets, lengths, answers, nodes, owners, children, stack, marks, keys, held, unescaped,
-        starts, sorted, measures, table, text,
-    )
+    let mut lent = Lent {
+        nodes,
+        owners,
+        children,
+        stack,
+        marks,
+        keys,
+        held,
+        unescaped,
+        starts,
+        sorted,
+        measures,
+        table,
+        text,
+    };
+    batch::from_bytes_batch(sheets, lengths, answers, &mut lent)
 }
 
 // The order of two values: -1, 0 or 1, or BadTable with sign 0.

@@ -97,6 +97,12 @@ long [] l e = tt
 long (n ∷ ns) [] e = true_false e
 long (n ∷ ns) (s ∷ l) e = let x = neither (ltb (length s) n) (short ns l) e in (ltb-false (length s) n x.0, long ns l x.1)
 
+-- and those in front
+pub long_front : (ns ms : List ℕ) (l : Slices) → Long (ns ++ ms) l → Long ns l
+long_front [] ms l h = tt
+long_front (n ∷ ns) ms [] h = h
+long_front (n ∷ ns) ms (s ∷ l) h = (h.0, long_front ns ms l h.1)
+
 -- one length after the other, as code tests them
 unfoldable pub short_from : Bool → List ℕ → List ℕ → Bool
 short_from b [] l = b

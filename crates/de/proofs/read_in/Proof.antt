@@ -1,4 +1,4 @@
--- `de::read` meets its contract: 2, or the run, its answer, and what was used cleared. Assumes nothing.
+-- `de::read_in` meets its contract: 2, or the run, its answer, and what was used cleared. Assumes nothing.
 use Prim.Native.Nat.{◌*◌}
 use mathlib.Core.List.{[], ◌∷◌}
 use mathlib.Core.Path.{◌≡◌, ◌∙◌, ap}
@@ -7,8 +7,8 @@ use Rattle.rooms.specs.Stated.{Slices}
 use Rattle.store.specs.declared.Counts.{Counts}
 use Rattle.machine.specs.Ran.{counts_of}
 use Rattle.de.specs.Inner.{Runs, reads-long, back_fits, back_again, begins, runs, machine_zero, working, reads_all}
-use Rattle.de.proofs.read.Statement.{statement}
-use Rattle.de.proofs.read.Tie as tie
+use Rattle.de.proofs.read_in.Statement.{statement}
+use Rattle.de.proofs.read_in.Tie as tie
 
 -- what it was lent
 abbrev lent : tie.Start → Slices
@@ -101,8 +101,8 @@ returns-2 c =
     (back_again r.held_back _ (ap (λ (x : Counts). x.memo) (counted k)) _ c.clear_shorts-3.ensures)
     e.1.1.1 e.1.1.2 e.1.1.3 e.1.1.4 e.0.table_is e.0.text_is
 
-pub read_spec : {M : Type 1} → statement M
-read_spec =
+pub read_in_spec : {M : Type 1} → statement M
+read_in_spec =
     tie.close
     (tie.spec
     (λ c κs. tt) returns run-requires (λ c κs. tt)
