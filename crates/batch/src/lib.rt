@@ -11,7 +11,7 @@ ghost use Rattle.batch.specs.Batch.{four, BatchCall};
 ghost use Rattle.batch.specs.Sheets.{ReadAll};
 
 use de::read;
-use lengths::{BAD_LENGTHS, add_up};
+use lengths::add_up;
 use op::Edition;
 use refusal::{Answer, Refusal, refused};
 use rooms::lending::Lent;
@@ -58,12 +58,7 @@ pub fn from_bytes_batch(
         return refused(Refusal::ShortRoom);
     }
     if !add_up(lengths, sheets.len()) {
-        return Answer {
-            number: BAD_LENGTHS,
-            detail: 0,
-            length: 0,
-            count: 0,
-        };
+        return refused(Refusal::BadLengths);
     }
     lent.clear();
     read_all(sheets, lengths, answers, lent);
