@@ -1,5 +1,6 @@
 -- The laws of the scans, over plain lists and numbers. Assumes nothing.
 use Prim.Native.Nat.{ℕ, zero, suc, ◌+◌, ◌-◌, ◌*◌, ◌^◌, ◌≤◌, ◌<◌, min}
+use Rattle.std.specs.Prelude.{Some, None}
 use mathlib.Core.Path.{◌≡◌, refl, sym, ap, ◌∙◌, subst}
 use mathlib.Core.Logic.{◌⊎◌, inl, inr}
 use mathlib.Core.Bool.{Bool, true, false, cond, ◌&&◌}
@@ -12,16 +13,21 @@ use borrow.Author.Tests.{lt-ltb, eq-eqb, ne_eqb}
 use lib.Dec.{T, leb, ltb, eqb, leb→le}
 use lib.Ieee.Fits.{and_l, and_r}
 use lib.Pow.{pow-add}
-use lib.ListN.{length, get_or, take, drop, length-append, length-drop, drop_of_length-le}
+use lib.ListN.{length, get_or, take, drop, length-append, length-drop}
 use lib.Seq.{drop-cons, take_all, drop-drop, get_or-drop}
 use Rattle.number.specs.Number.{decimal}
 use Rattle.float.specs.Digits.{digit, lead, past, lead-length, drop-lead}
 use Rattle.number.specs.Space.{same}
+use Rattle.number.specs.Trims.{same_is}
+use Rattle.std.specs.Prelude.{IsTrue, ◌↔◌}
+use Rattle.std.specs.Char.{to_ascii_lowercase}
+use Rattle.std.proofs.lemmas.Bool.{false≢true}
+use Rattle.std.proofs.lemmas.Bool.Decides.{nat_tests}
 use Rattle.float.specs.Form.{minus, behind_sign, fraction, beyond, mantissa_digits, small, inf, infinity, nan, is_word, unformed, signed_power, power, exponent}
 use Rattle.float.specs.Nearest.{ten_pos}
 use Rattle.float.specs.Scan.{cap, read_on, run_of, Scanned, capped}
 use Rattle.float.specs.declared.DigitRun.{DigitRun}
-use Rattle.float.specs.declared.Power.TheVariants.{Up, Down, Unformed}
+use Rattle.float.specs.declared.Power.TheVariants.{Up, Down}
 
 -- ---- lists
 
@@ -32,6 +38,14 @@ empty_is (b ∷ s) h = absurd (omega arith)
 -- what a part up to the end is
 pub part_is : (s : List ℕ) (k : ℕ) → take (length s - k) (drop k s) ≡ drop k s
 part_is s k = take_all (length s - k) (drop k s) (le_of_eq (length-drop k s))
+
+-- what is left from a place on, by its first byte
+module _ (s : List ℕ) (k : ℕ) where
+  pub left_first : get_or (take (length s - k) (drop k s)) 0 0 ≡ get_or s k 0
+  left_first = rw (part_is s k, get_or-drop k s 0 0, add-zero)
+
+  pub left_rest : take (length (take (length s - k) (drop k s)) - 1) (drop 1 (take (length s - k) (drop k s))) ≡ drop (k + 1) s
+  left_rest = rw (part_is s k, part_is (drop k s) 1) (drop-drop 1 k s)
 
 -- ---- the sign
 
@@ -161,33 +175,26 @@ lead-none (b ∷ s) (suc at) h = lead-none s at (λ l. h (omega arith))
 
 -- ---- a word
 
-pub same_more : (s w : List ℕ) (at : ℕ) → at < length s → length s ≡ length w → small (get_or s at 0) ≡ get_or w at 0
-    → same (map small (drop (at + 1) s)) (drop (at + 1) w) ≡ same (map small (drop at s)) (drop at w)
+same_itself : (s : List ℕ) → same s s ≡ true
 unfolding same
-same_more s w at h l e =
-    let g : at < length w = omega arith in
-    rw (add-one at, drop-cons s at 0 h, drop-cons w at 0 g, eq-eqb (small (get_or s at 0)) (get_or w at 0) e)
+same_itself [] = refl
+same_itself (b ∷ s) = rw (eq-eqb b b refl) (same_itself s)
 
-pub same_differs : (s w : List ℕ) (at : ℕ) → at < length s → length s ≡ length w → (small (get_or s at 0) ≡ get_or w at 0 → ⊥)
-    → false ≡ same (map small (drop at s)) (drop at w)
-unfolding same
-same_differs s w at h l e =
-    let g : at < length w = omega arith in
-    rw (drop-cons s at 0 h, drop-cons w at 0 g, ne_eqb (small (get_or s at 0)) (get_or w at 0) e)
+lower_is : (b : ℕ) → to_ascii_lowercase b ≡ small b
+unfolding small
+lower_is b = grind (arith, nat_tests)
 
-pub same_end : (s w : List ℕ) (at : ℕ) → length s ≤ at → length s ≡ length w → true ≡ same (map small (drop at s)) (drop at w)
-unfolding same
-same_end s w at h l = rw (drop_of_length-le s h, drop_of_length-le w (rw l at h))
+small-all : (s : List ℕ) → map to_ascii_lowercase s ≡ map small s
+small-all [] = refl
+small-all (b ∷ s) = let e = lower_is b in let t = small-all s in cc
 
-pub same_length : (s w : List ℕ) → (length s ≡ length w → ⊥) → false ≡ same (map small s) w
-unfolding same
-same_length [] [] h = absurd (h refl)
-same_length [] (c ∷ w) h = refl
-same_length (b ∷ s) [] h = refl
-same_length (b ∷ s) (c ∷ w) h = go (eqb (small b) c) (same_length s w (λ e. h (ap suc e)))
+-- what a comparison without letter case says
+pub word_told : (s t : List ℕ) (r : Bool) → IsTrue r ↔ (map to_ascii_lowercase s ≡ t) → same (map small s) t ≡ r
+word_told s t true h = rw (sym (small-all s) ∙ h.0 refl) (same_itself t)
+word_told s t false h = go (same (map small s) t) refl
   where
-    go : (x : Bool) → false ≡ same (map small s) w → false ≡ (x && same (map small s) w)
-    go true e = e
+    go : (x : Bool) → same (map small s) t ≡ x → x ≡ false
+    go true e = absurd (false≢true (h.1 (small-all s ∙ same_is (map small s) t e)))
     go false e = refl
 
 module _ (s : List ℕ) where
@@ -199,9 +206,9 @@ module _ (s : List ℕ) where
   unfolding is_word
   word-infinity e f = rw (e, f)
 
-  pub word_nan : same (map small s) inf ≡ false → same (map small s) infinity ≡ false → same (map small s) nan ≡ is_word s
+  pub word_nan : {r : Bool} → same (map small s) inf ≡ false → same (map small s) infinity ≡ false → same (map small s) nan ≡ r → r ≡ is_word s
   unfolding is_word
-  word_nan e f = rw (e, f)
+  word_nan e f g = rw (e, f, g)
 
 -- ---- digits and a point
 
@@ -255,17 +262,17 @@ scanned_plain s at v ea ev h =
 -- ---- the exponent
 
 module _ (m : Bool) (s : List ℕ) where
-  pub power-none : length (lead s) ≡ 0 → Unformed ≡ capped (power m s)
+  pub power-none : length (lead s) ≡ 0 → None ≡ capped (power m s)
   unfolding power capped
   power-none h = rw h
 
-  pub power_more : length (lead s) < length s → Unformed ≡ capped (power m s)
+  pub power_more : length (lead s) < length s → None ≡ capped (power m s)
   unfolding power capped
   power_more h =
       let l = lead-length s in
       rw (ne_eqb (length (past s)) 0 (λ e. omega arith)) (go (ltb 0 (length (lead s))))
     where
-      go : (x : Bool) → Unformed ≡ capped (cond (x && false) (signed_power m (decimal (lead s))) unformed)
+      go : (x : Bool) → None ≡ capped (cond (x && false) (signed_power m (decimal (lead s))) unformed)
       go true = refl
       go false = refl
 
@@ -276,17 +283,17 @@ module _ (m : Bool) (s : List ℕ) where
       rw (lt-ltb 0 (length (lead s)) (omega arith), eq-eqb (length (past s)) 0 (omega arith))
 
 pub power-read : (m : Bool) (s : List ℕ) (r : DigitRun) → r ≡ run_of 0 s → (r.count ≡ 0 → ⊥) → length s ≤ r.count
-    → cond m (Down r.value) (Up r.value) ≡ capped (power m s)
+    → cond m (Some (Down r.value)) (Some (Up r.value)) ≡ capped (power m s)
 unfolding capped signed_power
 power-read m s r e n h =
     let c = run_count 0 s r e in
     rw (power-whole m s (λ z. n (c ∙ z)) (omega arith)) (go m)
   where
-    go : (x : Bool) → cond x (Down r.value) (Up r.value) ≡ capped (signed_power x (decimal (lead s)))
-    go true = ap Down (run_value 0 s r e ∙ read_none s)
-    go false = ap Up (run_value 0 s r e ∙ read_none s)
+    go : (x : Bool) → cond x (Some (Down r.value)) (Some (Up r.value)) ≡ capped (signed_power x (decimal (lead s)))
+    go true = ap (λ (n : ℕ). Some (Down n)) (run_value 0 s r e ∙ read_none s)
+    go false = ap (λ (n : ℕ). Some (Up n)) (run_value 0 s r e ∙ read_none s)
 
-pub exponent_empty : (s : List ℕ) → length s ≤ 0 → Up 0 ≡ capped (exponent s)
+pub exponent_empty : (s : List ℕ) → length s ≤ 0 → Some (Up 0) ≡ capped (exponent s)
 unfolding exponent capped
 exponent_empty s h = rw (empty_is s h)
 
@@ -303,10 +310,10 @@ module _ (s : List ℕ) (h : 0 < length s) where
       go (b ∷ t) l (inl e) = rw e
       go (b ∷ t) l (inr e) = rw e
 
-  pub exponent-none : ((get_or s 0 0 ≡ 0x45) ⊎ (get_or s 0 0 ≡ 0x65) → ⊥) → Unformed ≡ capped (exponent s)
+  pub exponent-none : ((get_or s 0 0 ≡ 0x45) ⊎ (get_or s 0 0 ≡ 0x65) → ⊥) → None ≡ capped (exponent s)
   unfolding exponent capped
   exponent-none k = go s h k
     where
-      go : (t : List ℕ) → 0 < length t → ((get_or t 0 0 ≡ 0x45) ⊎ (get_or t 0 0 ≡ 0x65) → ⊥) → Unformed ≡ capped (exponent t)
+      go : (t : List ℕ) → 0 < length t → ((get_or t 0 0 ≡ 0x45) ⊎ (get_or t 0 0 ≡ 0x65) → ⊥) → None ≡ capped (exponent t)
       go [] l n = absurd (omega arith)
       go (b ∷ t) l n = rw (ne_eqb b 0x65 (λ e. n (inr e)), ne_eqb b 0x45 (λ e. n (inl e)))

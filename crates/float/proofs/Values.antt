@@ -1,5 +1,6 @@
 -- The laws of a number's value: its cases, and that the caps of the scans do not show in it. Assumes nothing.
 use Prim.Native.Nat.{ℕ, suc, ◌+◌, ◌-◌, ◌^◌, ◌≤◌, ◌<◌, min}
+use Rattle.std.specs.Prelude.{Option, Some, None}
 use mathlib.Core.Path.{◌≡◌, refl, sym, ap, ◌∙◌}
 use mathlib.Core.Logic.{◌⊎◌, inl, inr}
 use mathlib.Core.Bool.{Bool, true, false, cond, ◌&&◌}
@@ -19,7 +20,7 @@ use Rattle.float.specs.Scan.{cap, capped, Scanned}
 use Rattle.float.specs.Literal.{signed, inside_bounds, bits_of, nearest_within, valued, signed_value, float_literal, bits_below}
 use Rattle.float.specs.declared.Mantissa.{Mantissa}
 use Rattle.float.specs.declared.Power.{Power}
-use Rattle.float.specs.declared.Power.TheVariants.{Up, Down, Unformed}
+use Rattle.float.specs.declared.Power.TheVariants.{Up, Down}
 use Rattle.float.proofs.Scans.{part_is}
 
 -- past a bound of RULES A7.5
@@ -109,7 +110,7 @@ far n k e h = go (dec_le k cap)
 -- ---- the exponent that was read, as the code has it
 
 module _ (m : Bool) (w shift : ℕ) where
-  pub scaled_up : (x : Exponent) (n : ℕ) → Up n ≡ capped x → shift + 22 < cap
+  pub scaled_up : (x : Exponent) (n : ℕ) → Some (Up n) ≡ capped x → shift + 22 < cap
       → signed_value m (number (min w cap) n shift) ≡ signed_value m (scaled w shift x)
   unfolding capped scaled
   scaled_up (raised k) n e h =
@@ -118,7 +119,7 @@ module _ (m : Bool) (w shift : ℕ) where
   scaled_up (lowered k) n e h = let z : ◌≡◌ {A = ℕ} 0 1 = cc in absurd (omega arith)
   scaled_up unformed n e h = let z : ◌≡◌ {A = ℕ} 0 1 = cc in absurd (omega arith)
 
-  pub scaled_far : (x : Exponent) (n : ℕ) → Down n ≡ capped x → 22 < n → signed_value m (number (min w cap) 0 n) ≡ signed_value m (scaled w shift x)
+  pub scaled_far : (x : Exponent) (n : ℕ) → Some (Down n) ≡ capped x → 22 < n → signed_value m (number (min w cap) 0 n) ≡ signed_value m (scaled w shift x)
   unfolding capped scaled
   scaled_far (raised k) n e h = let z : ◌≡◌ {A = ℕ} 0 1 = cc in absurd (omega arith)
   scaled_far (lowered k) n e h =
@@ -127,7 +128,7 @@ module _ (m : Bool) (w shift : ℕ) where
       cap_w m w 0 n ∙ both_out m w 0 n 0 (k + shift) (inr (inl (omega arith))) (inr (inl (omega arith)))
   scaled_far unformed n e h = let z : ◌≡◌ {A = ℕ} 0 1 = cc in absurd (omega arith)
 
-  pub scaled_near : (x : Exponent) (n : ℕ) → Down n ≡ capped x → n ≤ 22
+  pub scaled_near : (x : Exponent) (n : ℕ) → Some (Down n) ≡ capped x → n ≤ 22
       → signed_value m (number (min w cap) 0 (n + shift)) ≡ signed_value m (scaled w shift x)
   unfolding capped scaled
   scaled_near (raised k) n e h = let z : ◌≡◌ {A = ℕ} 0 1 = cc in absurd (omega arith)
@@ -136,7 +137,7 @@ module _ (m : Bool) (w shift : ℕ) where
       rw (near n k z h) (cap_w m w 0 (k + shift))
   scaled_near unformed n e h = let z : ◌≡◌ {A = ℕ} 0 1 = cc in absurd (omega arith)
 
-  pub scaled_unformed : (x : Exponent) → Unformed ≡ capped x → refused InvalidLiteral 0 ≡ signed_value m (scaled w shift x)
+  pub scaled_unformed : (x : Exponent) → None ≡ capped x → refused InvalidLiteral 0 ≡ signed_value m (scaled w shift x)
   unfolding capped scaled signed_value
   scaled_unformed (raised k) e = let z : ◌≡◌ {A = ℕ} 0 1 = cc in absurd (omega arith)
   scaled_unformed (lowered k) e = let z : ◌≡◌ {A = ℕ} 0 1 = cc in absurd (omega arith)
@@ -168,23 +169,23 @@ shift_short s =
     let l = lead-length s in
     omega arith
 
-module _ (m : Bool) (s : List ℕ) (r : Mantissa) (p : Power) (k : Scanned s r) (n : r.count ≡ 0 → ⊥) (e : p ≡ capped (exponent (take (length s - r.end) (drop r.end s)))) where
+module _ (m : Bool) (s : List ℕ) (r : Mantissa) (p : Option Power) (k : Scanned s r) (n : r.count ≡ 0 → ⊥) (e : p ≡ capped (exponent (take (length s - r.end) (drop r.end s)))) where
   exponent_is : p ≡ capped (exponent (beyond (past s)))
   exponent_is = e ∙ ap (λ (t : List ℕ). capped (exponent t)) (part_is s r.end ∙ k.rest)
 
   written_is : number_written s ≡ scaled (decimal (mantissa_digits s)) r.shift (exponent (beyond (past s)))
   written_is = written-some s (λ z. n (k.all ∙ z)) ∙ rw k.after
 
-  pub number_up : (u : ℕ) → p ≡ Up u → r.shift + 22 < cap → signed_value m (number r.w u r.shift) ≡ signed_value m (number_written s)
+  pub number_up : (u : ℕ) → p ≡ Some (Up u) → r.shift + 22 < cap → signed_value m (number r.w u r.shift) ≡ signed_value m (number_written s)
   number_up u q h = rw (written_is, k.whole) (scaled_up m (decimal (mantissa_digits s)) r.shift (exponent (beyond (past s))) u (sym q ∙ exponent_is) h)
 
-  pub number_far : (d : ℕ) → p ≡ Down d → 22 < d → signed_value m (number r.w 0 d) ≡ signed_value m (number_written s)
+  pub number_far : (d : ℕ) → p ≡ Some (Down d) → 22 < d → signed_value m (number r.w 0 d) ≡ signed_value m (number_written s)
   number_far d q h = rw (written_is, k.whole) (scaled_far m (decimal (mantissa_digits s)) r.shift (exponent (beyond (past s))) d (sym q ∙ exponent_is) h)
 
-  pub number_near : (d : ℕ) → p ≡ Down d → d ≤ 22 → signed_value m (number r.w 0 (d + r.shift)) ≡ signed_value m (number_written s)
+  pub number_near : (d : ℕ) → p ≡ Some (Down d) → d ≤ 22 → signed_value m (number r.w 0 (d + r.shift)) ≡ signed_value m (number_written s)
   number_near d q h = rw (written_is, k.whole) (scaled_near m (decimal (mantissa_digits s)) r.shift (exponent (beyond (past s))) d (sym q ∙ exponent_is) h)
 
-  pub number_unformed : p ≡ Unformed → refused InvalidLiteral 0 ≡ signed_value m (number_written s)
+  pub number_unformed : p ≡ None → refused InvalidLiteral 0 ≡ signed_value m (number_written s)
   number_unformed q = rw written_is (scaled_unformed m (decimal (mantissa_digits s)) r.shift (exponent (beyond (past s))) (sym q ∙ exponent_is))
 
 pub shift_room : (s : List ℕ) (r : Mantissa) → Scanned s r → r.shift ≤ length s

@@ -12,14 +12,6 @@ use Rattle.utf8.specs.Utf8.{valid}
 use Rattle.number.specs.Space.{trimmed}
 use Rattle.float.specs.Form.{minus, behind_sign, Number, number, formless, number_written, is_word}
 use Rattle.float.specs.Nearest.{Nearest, middle_up, middle_down, round_nearest, round_below}
-use Rattle.float.specs.declared.F64Literal.{F64Literal}
-use Rattle.float.specs.declared.F64Literal.TheVariants.{Bits, Invalid, Outside}
-
--- what an answer says: the bits, or a refusal of RULES A4
-unfoldable pub f64_read : F64Literal → Read ℕ
-f64_read (Bits bits) = got bits
-f64_read Invalid = refused InvalidLiteral 0
-f64_read Outside = refused FloatOutside 0
 
 -- IEEE 754: the bits of the double nearest to a / c, ties to even (`literal_nearest` says it over whole numbers)
 unfoldable pub double : ℕ → ℕ → ℕ

@@ -1,13 +1,13 @@
 -- What the scans of the code answer. Their numbers stop at `cap`, which is above 2 ^ 53 and above every slice's length by more than
 -- 22, so that no test of RULES A7.5 tells a capped number from the number itself.
-use Rattle.std.specs.Prelude.{ℕ, ◌+◌, ◌*◌, ◌^◌, ◌≤◌, min, List, ◌≡◌, length, drop}
+use Rattle.std.specs.Prelude.{ℕ, ◌+◌, ◌*◌, ◌^◌, ◌≤◌, min, List, Option, Some, None, ◌≡◌, length, drop}
 use Rattle.number.specs.Number.{decimal}
 use Rattle.float.specs.Digits.{lead, past}
 use Rattle.float.specs.Form.{fraction, beyond, mantissa_digits, Exponent, raised, lowered, unformed}
 use Rattle.float.specs.declared.DigitRun.{DigitRun}
 use Rattle.float.specs.declared.Mantissa.{Mantissa}
 use Rattle.float.specs.declared.Power.{Power}
-use Rattle.float.specs.declared.Power.TheVariants.{Up, Down, Unformed}
+use Rattle.float.specs.declared.Power.TheVariants.{Up, Down}
 
 -- a digit put after 10 ^ 18 or more is at it or past it
 abbrev pub cap : ℕ
@@ -30,7 +30,7 @@ pub record Scanned (s : List ℕ) (r : Mantissa) : Type 0 where
   pub rest : drop r.end s ≡ beyond (past s)
 
 -- an exponent as the code has it
-unfoldable pub capped : Exponent → Power
-capped (raised n) = Up (min n cap)
-capped (lowered n) = Down (min n cap)
-capped unformed = Unformed
+unfoldable pub capped : Exponent → Option Power
+capped (raised n) = Some (Up (min n cap))
+capped (lowered n) = Some (Down (min n cap))
+capped unformed = None
