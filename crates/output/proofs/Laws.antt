@@ -1,7 +1,10 @@
 -- One law for each turn and each end of the code's loops, on plain values. Assumes nothing.
-use Prim.Native.Nat.{ℕ, suc, zero, ◌+◌, ◌-◌, ◌^◌, ◌/◌, ◌%◌, ◌≤◌, ◌<◌}
+use Prim.Native.Nat.{ℕ, suc, zero, ◌+◌, ◌-◌, ◌*◌, ◌^◌, ◌/◌, ◌%◌, ◌≤◌, ◌<◌}
 use mathlib.Core.List.{List, [], ◌∷◌, ◌++◌, append_assoc}
-use mathlib.Core.Path.{◌≡◌, refl, sym, ◌∙◌}
+use mathlib.Core.Path.{◌≡◌, refl, sym, ◌∙◌, ap}
+use Rattle.std.specs.Prelude.{Option, Some, None, IfSome, IfNone}
+use Rattle.std.specs.Option.{unwrap_or}
+use Rattle.std.proofs.Math.Nat.{pow-suc, one-le-pow}
 use native.Mathlib.Omega.{arith}
 use lib.ListN.{length, set, take, drop}
 use lib.Seq.{sets, sets-eq, drop-drop}
@@ -30,25 +33,24 @@ last-first o at base (suc k) rest h =
 pub figures_turn : (o o' : List ℕ) (at base left rest d : ℕ) → 0 < left → d ≡ figure (rest % base) → o' ≡ set o (at + (left - 1)) d → sets o' at (figures base (left - 1) (rest / base)) ≡ sets o at (figures base left rest)
 figures_turn o o' at base left rest d h e w = rw (w, e) (last-first o at base left rest h)
 
--- ---- digits: the digits counted with those of what is left
+-- ---- digits: a number's greatest power of ten says how many
 
-pub record Counted (n rest count : ℕ) : Type 0 where
-  pub few : count ≤ 20
-  pub below : rest < 10 ^ (21 - count)
-  pub same : length (no_zeros (figures 10 (21 - count) rest)) + count ≡ length (decimal_text n) + 1
+length_by : (k j n : ℕ) → (0 < k → 10 ^ k ≤ n) → n < 10 * 10 ^ k → n < 10 ^ j → 0 < j → length (no_zeros (figures 10 j n)) ≡ k + 1
+length_by zero j n low high fits some = length_one n j some (omega arith)
+length_by (suc k) j n low high fits some =
+    let p = pow-suc 10 k in
+    let l : 10 * 10 ^ k ≤ n = omega (arith, low (omega arith)) in
+    let q : 1 ≤ 10 ^ k = one-le-pow k 10 (omega arith) in
+    let h : 10 ≤ n = omega arith in
+    length_more n j h fits ∙ ap (λ (x : ℕ). x + 1) (length_by k (j - 1) (n / 10) (λ z. omega arith) (omega arith) (below_more n j h fits) (omega (arith, places n j h fits))) ∙ omega arith
 
-pub counted_none : (n : ℕ) → n < 2 ^ 64 → Counted n n 1
+pub decimal-length : (k n : ℕ) → (0 < k → 10 ^ k ≤ n) → n < 10 * 10 ^ k → n < 2 ^ 64 → k + 1 ≡ length (decimal_text n)
 unfolding decimal_text
-counted_none n h = record { few = omega arith; below = omega arith; same = refl }
+decimal-length k n low high fits = sym (length_by k 20 n low high (omega arith) (omega arith))
 
-pub counted_more : (n rest count : ℕ) → 10 ≤ rest → Counted n rest count → Counted n (rest / 10) (count + 1)
-counted_more n rest count h c =
-    let p = places rest (21 - count) h c.below in
-    let e : 21 - count - 1 ≡ 21 - (count + 1) = omega arith in
-    record { few = omega arith; below = rw e at (below_more rest (21 - count) h c.below); same = omega (arith, rw e at (length_more rest (21 - count) h c.below), c.same) }
-
-pub counted-all : (n rest count : ℕ) → rest < 10 → Counted n rest count → count ≡ length (decimal_text n)
-counted-all n rest count h c = omega (arith, length_one rest (21 - count) (omega (arith, c.few)) h, c.same)
+pub counted : (o : Option ℕ) (n : ℕ) → IfNone o (n ≡ 0) → IfSome o (λ k. 10 ^ k ≤ n) → IfSome o (λ k. n < 10 * 10 ^ k) → n < 2 ^ 64 → unwrap_or o 0 + 1 ≡ length (decimal_text n)
+counted None n z l h f = decimal-length 0 n (λ q. absurd (omega arith)) (omega arith) f
+counted (Some k) n z l h f = decimal-length k n (λ q. l) h f
 
 pub figures-done : (o₀ o : List ℕ) (at base left rest count n : ℕ) → left ≤ 0 → sets o at (figures base left rest) ≡ sets o₀ at (figures base count n) → Put o₀ at (figures base count n) o (at + count)
 unfolding figures
@@ -61,6 +63,6 @@ pub signed_low : (b : ℕ) → b < 2 ^ 63 → signed_text b ≡ decimal_text b
 unfolding signed_text
 signed_low b h = rw (lt-ltb b (2 ^ 63) h)
 
-pub signed_high : (b : ℕ) → 2 ^ 63 ≤ b → b < 2 ^ 64 → signed_text b ≡ (0x2D ∷ []) ++ decimal_text (2 ^ 64 - 1 - b + 1)
+pub signed_high : (b n : ℕ) → 2 ^ 63 ≤ b → b < 2 ^ 64 → n < 2 ^ 64 → (n + b) % 2 ^ 64 ≡ 0 → signed_text b ≡ (0x2D ∷ []) ++ decimal_text n
 unfolding signed_text
-signed_high b h l = let e : 2 ^ 64 - b ≡ 2 ^ 64 - 1 - b + 1 = omega arith in rw (le-ltb b (2 ^ 63) h, e)
+signed_high b n h l f e = let m : 2 ^ 64 - b ≡ n = omega arith in rw (le-ltb b (2 ^ 63) h, m)

@@ -30,14 +30,16 @@ pub fn put_run(run: &[u8], output: &mut [u8], at: usize) -> usize
     end
 }
 
+#[tactic(auto, unfolding(crate::specs::Decimal::figure))]
 fn digit(value: u64) -> u8
     requires { value < 16 }
     ensures { result ≡ figure value }
 {
     if value < 10 {
-        return 0x30 + value as u8;
+        b'0' + value as u8
+    } else {
+        b'a' - 10 + value as u8
     }
-    0x57 + value as u8
 }
 
 // The last `count` digits of a number, the last one first.
@@ -48,10 +50,8 @@ pub fn put_figures(n: u64, base: u64, count: usize, output: &mut [u8], at: usize
     ensures { Put output.old at (figures base count n) output.new result }
 {
     let mut rest = n;
-    let mut places = count;
-    while places > 0 {
-        places -= 1;
-        output[at + places] = digit(rest % base);
+    for place in (0..count).rev() {
+        output[at + place] = digit(rest % base);
         rest /= base;
     }
     at + count
@@ -61,13 +61,7 @@ pub fn put_figures(n: u64, base: u64, count: usize, output: &mut [u8], at: usize
 pub fn digits(n: u64) -> usize
     ensures { result ≡ length (decimal_text n) }
 {
-    let mut rest = n;
-    let mut count = 1;
-    while rest >= 10 {
-        rest /= 10;
-        count += 1;
-    }
-    count
+    n.checked_ilog10().unwrap_or(0) as usize + 1
 }
 
 pub fn put_decimal(n: u64, output: &mut [u8], at: usize) -> usize
@@ -81,19 +75,20 @@ pub fn put_decimal(n: u64, output: &mut [u8], at: usize) -> usize
 pub fn signed_len(bits: u64) -> usize
     ensures { result ≡ length (signed_text bits) }
 {
-    if bits < 0x8000_0000_0000_0000 {
-        return digits(bits);
+    if bits < 1 << 63 {
+        digits(bits)
+    } else {
+        1 + digits(bits.wrapping_neg())
     }
-    1 + digits(0xFFFF_FFFF_FFFF_FFFF - bits + 1)
 }
 
 pub fn put_signed(bits: u64, output: &mut [u8], at: usize) -> usize
     requires { Room output.old at (signed_text bits) }
     ensures { Put output.old at (signed_text bits) output.new result }
 {
-    if bits < 0x8000_0000_0000_0000 {
+    if bits < 1 << 63 {
         return put_decimal(bits, output, at);
     }
     let next = put_byte(b'-', output, at);
-    put_decimal(0xFFFF_FFFF_FFFF_FFFF - bits + 1, output, next)
+    put_decimal(bits.wrapping_neg(), output, next)
 }
