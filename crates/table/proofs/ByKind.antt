@@ -1,14 +1,10 @@
--- A definition that asks of a kind whether it is below one number after the other, and code that asks the same: the code has its answer at the
--- first, or goes on to the next. Assumes nothing.
-use Prim.Native.Nat.{ℕ, ◌<◌, ◌≤◌}
-use mathlib.Core.Bool.{cond}
-use mathlib.Core.Path.{◌≡◌, refl}
-use lib.Dec.{ltb}
-use borrow.Author.Tests.{lt-ltb, le-ltb}
+-- The kind and the state that word 0 says, as `head_of` answers them.
+use Rattle.std.proofs.Common.{◌≡◌, ℕ, ap}
+use Rattle.value.specs.declared.Head.{Head}
+use Rattle.value.specs.Shape.{kind_in, state_in, head_of}
 
-module _ {A : Type 0} {p k x : ℕ} (e : x ≡ k) where
-  pub kind-under : {u : A} (v : A) → x < p → u ≡ cond (ltb k p) u v
-  kind-under v h = rw (← e, lt-ltb x p h) refl
+pub kind_of : {h : Head} (a : ℕ) → h ≡ head_of a → h.kind ≡ kind_in a
+kind_of a e = ap (λ (h : Head). h.kind) e
 
-  pub kind-past : (u : A) {v r : A} → p ≤ x → r ≡ v → r ≡ cond (ltb k p) u v
-  kind-past u h i = rw (← e, le-ltb x p h) i
+pub state_of : {h : Head} (a : ℕ) → h ≡ head_of a → h.state ≡ state_in a
+state_of a e = ap (λ (h : Head). h.state) e

@@ -16,10 +16,8 @@ use Rattle.table.specs.Record.{EachBelow, each_below, right0, right1, right2, ri
 use Rattle.table.specs.Sound.{find-placed, contents-placed, placed_stands}
 use Rattle.table.specs.Names.{valid_in, proper_parts, names_right, names_back}
 use Rattle.table.specs.Items.{Held, picked, arranged_by, ordered_back}
-use Rattle.table.specs.declared.Checked.{Checked}
-use Rattle.table.specs.declared.Checked.TheVariants.{Bad, Good}
-use Rattle.table.specs.declared.Headed.{Headed}
-use Rattle.table.specs.declared.Headed.TheVariants.{Wrong, Right}
+use Rattle.std.specs.declared.option.Option.{Option}
+use Rattle.std.specs.declared.option.Option.TheVariants.{None, Some}
 
 -- n records and a text that have been lent, within the numbers of RULES A2.4
 pub record Lent (w : List ℕ) (n : ℕ) (t : List ℕ) : Type 0 where
@@ -28,9 +26,9 @@ pub record Lent (w : List ℕ) (n : ℕ) (t : List ℕ) : Type 0 where
   pub short : length t ≤ 65536
 
 -- the code keeps the places of what is found, and not the value
-unfoldable pub checked_of : Found → Checked
-checked_of bad = Bad
-checked_of (good f j e) = Good j e
+unfoldable pub checked_of : Found → Option (ℕ × ℕ)
+checked_of bad = None
+checked_of (good f j e) = Some (j, e)
 
 -- words 2 and 3 of record i are right for z records
 unfoldable pub sizes_right : List ℕ → ℕ → ℕ → Bool
@@ -49,12 +47,12 @@ pub record Header (w : List ℕ) (n : ℕ) (t : List ℕ) (i p s m : ℕ) : Type
   pub names : valid_in (label_at w t i) ≡ true
 
 -- a wrong head is found at no depth
-unfoldable pub HeadSays : List ℕ → ℕ → List ℕ → ℕ → ℕ → Headed → Type 0
-HeadSays w n t i p Wrong = (k : ℕ) → find w n t k i p ≡ bad
-HeadSays w n t i p (Right s m) = Header w n t i p s m
+unfoldable pub HeadSays : List ℕ → ℕ → List ℕ → ℕ → ℕ → Option (ℕ × ℕ) → Type 0
+HeadSays w n t i p None = (k : ℕ) → find w n t k i p ≡ bad
+HeadSays w n t i p (Some (s, m)) = Header w n t i p s m
 
 -- what is found at a record with nothing in it, whatever the table's count and at any depth
-abbrev pub LeafSays : List ℕ → List ℕ → ℕ → ℕ → Checked → Type 0
+abbrev pub LeafSays : List ℕ → List ℕ → ℕ → ℕ → Option (ℕ × ℕ) → Type 0
 LeafSays w t i p r = (n k : ℕ) → Lent w n t → i < n → k ≢ 0 → r ≡ checked_of (find w n t k i p)
 
 -- record i is right for the m values behind it as far as record j: its sizes are, and their order
@@ -68,17 +66,17 @@ pub record Good-of (s : Found) (j e : ℕ) : Type 0 where
   pub forest : Forest
   pub is : s ≡ good forest j e
 
-pub was_good : (s : Found) {j e : ℕ} → checked_of s ≡ Good j e → Good-of s j e
+pub was_good : (s : Found) {j e : ℕ} → checked_of s ≡ Some (j, e) → Good-of s j e
 unfolding checked_of
 was_good bad h = let z : ◌≡◌ {A = ℕ} 0 1 = cc in absurd (omega arith)
-was_good (good f j₁ e₁) {j} {e} h = record { forest = f; is = let a : j₁ ≡ j = cc in let b : e₁ ≡ e = cc in rw (a, b) }
+was_good (good f j₁ e₁) {j} {e} h = record { forest = f; is = let q : ◌≡◌ {A = ℕ × ℕ} (j₁, e₁) (j, e) = cc in rw (ap (λ x. x.0) q, ap (λ x. x.1) q) }
 
-pub was_bad : (s : Found) → checked_of s ≡ Bad → s ≡ bad
+pub was_bad : (s : Found) → checked_of s ≡ None → s ≡ bad
 unfolding checked_of
 was_bad bad h = refl
 was_bad (good f j e) h = let z : ◌≡◌ {A = ℕ} 0 1 = cc in absurd (omega arith)
 
-pub is_bad : (s : Found) → s ≡ bad → Bad ≡ checked_of s
+pub is_bad : (s : Found) → s ≡ bad → None ≡ checked_of s
 unfolding checked_of
 is_bad s e = rw e
 
@@ -101,19 +99,19 @@ answer_join f bad = refl
 answer_join f (good r j e) = refl
 
 module _ (g : ℕ → ℕ → Found) (m i p : ℕ) where
-  pub row_done : m ≡ 0 → Good i p ≡ checked_of (find_many g m i p)
+  pub row_done : m ≡ 0 → Some (i, p) ≡ checked_of (find_many g m i p)
   unfolding find_many checked_of
   row_done h = rw h
 
-  pub row_bad : 0 < m → checked_of (g i p) ≡ Bad → Bad ≡ checked_of (find_many g m i p)
+  pub row_bad : 0 < m → checked_of (g i p) ≡ None → None ≡ checked_of (find_many g m i p)
   unfolding find_many checked_of
   row_bad h e = go m h
     where
-      go : (x : ℕ) → 0 < x → Bad ≡ checked_of (find_many g x i p)
+      go : (x : ℕ) → 0 < x → None ≡ checked_of (find_many g x i p)
       go zero l = absurd (omega arith)
       go (suc x) l = rw (was_bad (g i p) e, find_many)
 
-  pub row_next : {j e : ℕ} → 0 < m → checked_of (g i p) ≡ Good j e → checked_of (find_many g (m - 1) j e) ≡ checked_of (find_many g m i p)
+  pub row_next : {j e : ℕ} → 0 < m → checked_of (g i p) ≡ Some (j, e) → checked_of (find_many g (m - 1) j e) ≡ checked_of (find_many g m i p)
   unfolding find_many
   row_next {j} {e} h q = go m h
     where
@@ -259,18 +257,18 @@ module _ (w : List ℕ) (n : ℕ) (t : List ℕ) (i p s m : ℕ) (h : Header w n
         go zero x = absurd (x refl)
         go (suc q) x = let e : suc q - 1 ≡ q = omega arith in let f = h.few in rw (lt-ltb i n (omega arith), ← h.arity, ← h.long, e)
 
-    inner_bad : checked_of (find_many (find w n t (k - 1)) m (i + 1) (p + s)) ≡ Bad → find w n t k i p ≡ bad
+    inner_bad : checked_of (find_many (find w n t (k - 1)) m (i + 1) (p + s)) ≡ None → find w n t k i p ≡ bad
     unfolding close inner
     inner_bad e = opened ∙ rw (was_bad inner e)
 
     -- where the contents are found, their sizes and their order decide
-    ended : (c : Forest) (j e : ℕ) → find_many (find w n t (k - 1)) m (i + 1) (p + s) ≡ good c j e → checked_of (find w n t k i p) ≡ cond (sizes_right w i (suc (size c)) && arranged_by (kind_in (word_at w i 0)) c) (Good j e) Bad
+    ended : (c : Forest) (j e : ℕ) → find_many (find w n t (k - 1)) m (i + 1) (p + s) ≡ good c j e → checked_of (find w n t k i p) ≡ cond {A = Option (ℕ × ℕ)} (sizes_right w i (suc (size c)) && arranged_by (kind_in (word_at w i 0)) c) (Some (j, e)) None
     unfolding close inner checked_of
     ended c j e found =
         let q : find w n t k i p ≡ cond (sizes_right w i (suc (size c)) && arranged_by (kind_in (word_at w i 0)) c) (good (node (label_at w t i) c nil) j e) bad = opened ∙ rw (found, head_same (suc (size c)), head_proper c) in
         ap checked_of q ∙ go (sizes_right w i (suc (size c)) && arranged_by (kind_in (word_at w i 0)) c)
       where
-        go : (q : Bool) → checked_of (cond q (good (node (label_at w t i) c nil) j e) bad) ≡ cond q (Good j e) Bad
+        go : (q : Bool) → checked_of (cond q (good (node (label_at w t i) c nil) j e) bad) ≡ cond {A = Option (ℕ × ℕ)} q (Some (j, e)) None
         go true = refl
         go false = refl
 
@@ -283,21 +281,21 @@ nothing_arranged =
 
 -- a right head with nothing in it: its sizes decide
 module _ (w : List ℕ) (n : ℕ) (t : List ℕ) (i p s : ℕ) (h : Header w n t i p s 0) (none : holding (kind_in (word_at w i 0)) ≡ false) (k : ℕ) (some : k ≢ 0) where
-  pub leaf-ended : (r : Bool) → r ≡ sizes_right w i 1 → cond r (Good (i + 1) (p + s)) Bad ≡ checked_of (find w n t k i p)
+  pub leaf-ended : (r : Bool) → r ≡ sizes_right w i 1 → cond {A = Option (ℕ × ℕ)} r (Some (i + 1, p + s)) None ≡ checked_of (find w n t k i p)
   unfolding find_many size
   leaf-ended r e = sym (ended w n t i p s 0 h k some nil (i + 1) (p + s) refl ∙ rw (nothing_arranged (kind_in (word_at w i 0)) h.known none, ← e) (go r))
     where
-      go : (b : Bool) → cond (b && true) (Good (i + 1) (p + s)) Bad ≡ cond b (Good (i + 1) (p + s)) Bad
+      go : (b : Bool) → cond {A = Option (ℕ × ℕ)} (b && true) (Some (i + 1, p + s)) None ≡ cond {A = Option (ℕ × ℕ)} b (Some (i + 1, p + s)) None
       go true = refl
       go false = refl
 
 -- ---- a head and contents that the code was told of
 
-pub told_wrong : {r : Headed} (w : List ℕ) (n : ℕ) (t : List ℕ) (i p : ℕ) → HeadSays w n t i p r → r ≡ Wrong → (k : ℕ) → find w n t k i p ≡ bad
+pub told_wrong : {r : Option (ℕ × ℕ)} (w : List ℕ) (n : ℕ) (t : List ℕ) (i p : ℕ) → HeadSays w n t i p r → r ≡ None → (k : ℕ) → find w n t k i p ≡ bad
 unfolding HeadSays
 told_wrong w n t i p h e = rw e at h
 
-pub told_right : {r : Headed} (w : List ℕ) (n : ℕ) (t : List ℕ) (i p : ℕ) {s m : ℕ} → HeadSays w n t i p r → r ≡ Right s m → Header w n t i p s m
+pub told_right : {r : Option (ℕ × ℕ)} (w : List ℕ) (n : ℕ) (t : List ℕ) (i p : ℕ) {s m : ℕ} → HeadSays w n t i p r → r ≡ Some (s, m) → Header w n t i p s m
 unfolding HeadSays
 told_right w n t i p h e = rw e at h
 
@@ -311,7 +309,7 @@ pub record ContentsFound (w : List ℕ) (n : ℕ) (t : List ℕ) (i p s m k j e 
   pub whole : j - i ≡ suc (size contents)
   pub after : i ≤ j
 
-pub contents_found : (w : List ℕ) (n : ℕ) (t : List ℕ) (i p s m k j e : ℕ) → Lent w n t → Header w n t i p s m → checked_of (find_many (find w n t (k - 1)) m (i + 1) (p + s)) ≡ Good j e → ContentsFound w n t i p s m k j e
+pub contents_found : (w : List ℕ) (n : ℕ) (t : List ℕ) (i p s m k j e : ℕ) → Lent w n t → Header w n t i p s m → checked_of (find_many (find w n t (k - 1)) m (i + 1) (p + s)) ≡ Some (j, e) → ContentsFound w n t i p s m k j e
 contents_found w n t i p s m k j e lent h q =
     let a = was_good (find_many (find w n t (k - 1)) m (i + 1) (p + s)) q in
     let b = contents-placed w n t lent.room (k - 1) m (i + 1) (p + s) h.inside a.is in
@@ -328,27 +326,27 @@ contents_found w n t i p s m k j e lent h q =
     }
 
 -- one law for each of the answers about a record with values in it
-module _ (w : List ℕ) (n : ℕ) (t : List ℕ) (i p k : ℕ) (lent : Lent w n t) (some : k ≢ 0) {r : Headed} (says : HeadSays w n t i p r) where
-  pub answer_wrong : r ≡ Wrong → Bad ≡ checked_of (find w n t k i p)
+module _ (w : List ℕ) (n : ℕ) (t : List ℕ) (i p k : ℕ) (lent : Lent w n t) (some : k ≢ 0) {r : Option (ℕ × ℕ)} (says : HeadSays w n t i p r) where
+  pub answer_wrong : r ≡ None → None ≡ checked_of (find w n t k i p)
   answer_wrong e = is_bad _ (told_wrong w n t i p says e k)
 
-  module _ {s m : ℕ} (e : r ≡ Right s m) where
+  module _ {s m : ℕ} (e : r ≡ Some (s, m)) where
     pub right : Header w n t i p s m
     right = told_right w n t i p says e
 
-    pub answer_bad : checked_of (find_many (find w n t (k - 1)) m (i + 1) (p + s)) ≡ Bad → Bad ≡ checked_of (find w n t k i p)
+    pub answer_bad : checked_of (find_many (find w n t (k - 1)) m (i + 1) (p + s)) ≡ None → None ≡ checked_of (find w n t k i p)
     answer_bad q = is_bad _ (inner_bad w n t i p s m right k some q)
 
-    module _ {j u : ℕ} (q : checked_of (find_many (find w n t (k - 1)) m (i + 1) (p + s)) ≡ Good j u) where
+    module _ {j u : ℕ} (q : checked_of (find_many (find w n t (k - 1)) m (i + 1) (p + s)) ≡ Some (j, u)) where
       pub held : ContentsFound w n t i p s m k j u
       held = contents_found w n t i p s m k j u lent right q
 
-      pub answer_closed : (b : Bool) → Closes w t i j m b → cond b (Good j u) Bad ≡ checked_of (find w n t k i p)
+      pub answer_closed : (b : Bool) → Closes w t i j m b → cond {A = Option (ℕ × ℕ)} b (Some (j, u)) None ≡ checked_of (find w n t k i p)
       answer_closed b h =
           sym (ended w n t i p s m right k some held.contents j u held.found ∙ rw (← held.whole, ← h held.contents held.stands held.counted))
 
 -- where a value is found its end is inside
-pub find-within : (w : List ℕ) (n : ℕ) (t : List ℕ) (k i p : ℕ) {j e : ℕ} → Lent w n t → i ≤ n → p ≤ length t → checked_of (find w n t k i p) ≡ Good j e → (j ≤ n) × (e ≤ length t)
+pub find-within : (w : List ℕ) (n : ℕ) (t : List ℕ) (k i p : ℕ) {j e : ℕ} → Lent w n t → i ≤ n → p ≤ length t → checked_of (find w n t k i p) ≡ Some (j, e) → (j ≤ n) × (e ≤ length t)
 find-within w n t k i p lent l b q =
     let a = was_good (find w n t k i p) q in
     let c = find-placed w n t lent.room k i p a.forest _ _ b a.is in

@@ -16,8 +16,8 @@ use Rattle.table.specs.Find.{find_many, find}
 use Rattle.table.specs.Check.{Lent, checked_of}
 use Rattle.table.specs.Verdict.{formed_found, found_formed}
 use Rattle.table.specs.declared.Compared.{Compared}
-use Rattle.table.specs.declared.Checked.{Checked}
-use Rattle.table.specs.declared.Checked.TheVariants.{Bad, Good}
+use Rattle.std.specs.declared.option.Option.{Option}
+use Rattle.std.specs.declared.option.Option.TheVariants.{None, Some}
 
 -- -1, 0 or 1
 abbrev pub sign_of : Ordering → ℤ
@@ -44,14 +44,17 @@ pub record Compares (w : List ℕ) (n : ℕ) (t : List ℕ) (v : List ℕ) (m : 
 pub decided : (w : List ℕ) (n : ℕ) (t : List ℕ) → WellFormed w n t ⊎ (WellFormed w n t → ⊥)
 decided w n t = go (ltb 2048 n) (ltb (length w) (4 * n)) (ltb 65536 (length t)) refl refl refl
   where
-    last : Lent w n t → (s : Checked) → checked_of (find_many (find w n t 64) 1 0 0) ≡ s → WellFormed w n t ⊎ (WellFormed w n t → ⊥)
-    last lent Bad e = inr (λ a. let x = formed_found w n t a in let z : ◌≡◌ {A = ℕ} 0 1 = cc in omega arith)
-    last lent (Good j d) e = ends (eqb j n) (eqb d (length t)) refl refl
+    last : Lent w n t → (s : Option (ℕ × ℕ)) → checked_of (find_many (find w n t 64) 1 0 0) ≡ s → WellFormed w n t ⊎ (WellFormed w n t → ⊥)
+    last lent None e = inr (λ a. let x = formed_found w n t a in let z : ◌≡◌ {A = ℕ} 0 1 = cc in omega arith)
+    last lent (Some (j, d)) e = ends (eqb j n) (eqb d (length t)) refl refl
       where
+        same : WellFormed w n t → ◌≡◌ {A = ℕ × ℕ} (j, d) (n, length t)
+        same a = cc (e, formed_found w n t a)
+
         ends : (p q : Bool) → eqb j n ≡ p → eqb d (length t) ≡ q → WellFormed w n t ⊎ (WellFormed w n t → ⊥)
         ends true true x y = inl (found_formed w n t lent (e ∙ rw (eqb-true j n x, eqb-true d (length t) y)))
-        ends true false x y = inr (λ a. let f = formed_found w n t a in eqb-false d (length t) y (cc))
-        ends false q x y = inr (λ a. let f = formed_found w n t a in eqb-false j n x (cc))
+        ends true false x y = inr (λ a. eqb-false d (length t) y (ap (λ x. x.1) (same a)))
+        ends false q x y = inr (λ a. eqb-false j n x (ap (λ x. x.0) (same a)))
 
     go : (p q r : Bool) → ltb 2048 n ≡ p → ltb (length w) (4 * n) ≡ q → ltb 65536 (length t) ≡ r → WellFormed w n t ⊎ (WellFormed w n t → ⊥)
     go true q r x y z = inr (λ a. let f = a.few in let g = ltb-true 2048 n x in omega arith)
@@ -82,12 +85,6 @@ formed_begins w n t a = record { value = a.value; stands = formed_stands w n t a
 -- ---- the code's answers
 
 module _ (w : List ℕ) (n : ℕ) (t : List ℕ) (v : List ℕ) (m : ℕ) (u : List ℕ) (r : Compared) where
-  pub compares_first : (WellFormed w n t → ⊥) → r ≡ bad_table First → Compares w n t v m u r
-  compares_first h e = record { first = λ q. e; second = λ a q. absurd (h a); both = λ a b. absurd (h a) }
-
-  pub compares_second : WellFormed w n t → (WellFormed v m u → ⊥) → r ≡ bad_table Second → Compares w n t v m u r
-  compares_second a h e = record { first = λ q. absurd (q a); second = λ x q. e; both = λ x b. absurd (h b) }
-
   pub compares_both : (o : Ordering) → WellFormed w n t → WellFormed v m u → r ≡ ordered o → ((x y : Value) → Stands w t 0 (one x) → Stands v u 0 (one y) → o ≡ order x y) → Compares w n t v m u r
   compares_both o a b e h =
       record {

@@ -7,11 +7,5 @@ pub record YesIff (r : Bool) (P : Type 0) : Type 0 where
   pub yes : r ≡ true → P
   pub always : P → r ≡ true
 
-pub decides_no : {P : Type 0} → (P → ⊥) → YesIff false P
-decides_no h = record { yes = λ e. absurd (false_true e); always = λ p. absurd (h p) }
-  where
-    false_true : ◌≡◌ {A = Bool} false true → ⊥
-    false_true e = let z : ◌≡◌ {A = ℕ} 0 1 = cc in omega arith
-
 pub refuted : {r : Bool} {P : Type 0} → YesIff r P → r ≡ false → P → ⊥
 refuted d e p = let x = d.always p in let z : ◌≡◌ {A = ℕ} 0 1 = cc in omega arith

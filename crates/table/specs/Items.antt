@@ -10,6 +10,10 @@ use Rattle.value.specs.Value.{Label, Forest, Value, one, count, size, nil, node}
 use Rattle.value.specs.Shape.{kind_in, fresh_in, label_of}
 use Rattle.value.specs.Stands.{word_at, label_at, Stands, stands_one}
 use Rattle.value.specs.Order.{order}
+use Rattle.value.specs.Told.{told}
+use Rattle.std.specs.declared.cmp.Ordering.{Ordering as Answer}
+use Rattle.std.specs.declared.cmp.Ordering.TheVariants.{Less, Equal, Greater}
+use Rattle.std.specs.Ordering.{is_lt}
 use Rattle.value.specs.WellFormed.{less, ascending, keys, first_is_tuple, is_tuple}
 use Rattle.table.specs.Record.{EachBelow, each_below, label_by}
 use Rattle.table.specs.Sound.{size_at, Sized}
@@ -209,10 +213,6 @@ module _ (w t : List ℕ) (i m e : ℕ) (low : 1 ≤ e) (high : e ≤ 2) where
 -- ---- what a label asks of its contents, by its kind k
 
 module _ (a k : ℕ) (f : Forest) (e : k ≡ kind_in a) where
-  pub arranged_none : k < 8 → true ≡ arranged_by (kind_in a) f
-  unfolding arranged_by
-  arranged_none h = rw (← e, lt-ltb k 8 h)
-
   pub arranged_items : 8 ≤ k → k < 10 → ascending (picked 1 f) ≡ arranged_by (kind_in a) f
   unfolding arranged_by
   arranged_items g h = rw (← e, le-ltb k 8 g, lt-ltb k 10 h)
@@ -220,10 +220,6 @@ module _ (a k : ℕ) (f : Forest) (e : k ≡ kind_in a) where
   pub arranged_keys : 10 ≤ k → k < 11 → ascending (picked 2 f) ≡ arranged_by (kind_in a) f
   unfolding arranged_by
   arranged_keys g h = rw (← e, le-ltb k 8 (omega arith), le-ltb k 10 g, lt-ltb k 11 h)
-
-  pub arranged_name : 11 ≤ k → k < 12 → true ≡ arranged_by (kind_in a) f
-  unfolding arranged_by
-  arranged_name g h = rw (← e, le-ltb k 8 (omega arith), le-ltb k 10 (omega arith), le-ltb k 11 g, lt-ltb k 12 h)
 
   pub arranged_object : 12 ≤ k → first_is_tuple f ≡ arranged_by (kind_in a) f
   unfolding arranged_by
@@ -237,3 +233,10 @@ held_first w t i m h l = go h.values h.stands h.counted
     go : (f : Forest) → Stands w t i f → count f ≡ m → 4 * i + 4 ≤ length w
     go nil s c = absurd (omega arith)
     go (node x c r) s q = s.0.reads.inside
+
+-- strictly before, as the code asks it
+pub told_less : (o : Answer) → less (told o) ≡ is_lt o
+unfolding told
+told_less Less = refl
+told_less Equal = refl
+told_less Greater = refl

@@ -1,7 +1,7 @@
 -- What a label asks of its text, apart from what it asks of its contents.
-use Rattle.std.specs.Prelude.{ℕ, ◌+◌, ◌-◌, ◌^◌, ◌/◌, ◌%◌, ◌≤◌, ◌<◌, Bool, true, false, cond, ◌&&◌, List, ◌≡◌, refl, take, drop, ltb}
+use Rattle.std.specs.Prelude.{ℕ, ◌^◌, ◌/◌, ◌%◌, ◌≤◌, ◌<◌, Bool, true, false, cond, ◌&&◌, List, ◌≡◌, refl, take, drop, ltb}
 use Rattle.std.proofs.Math.Bool.{and_comm}
-use Rattle.std.proofs.Common.{sym, ◌∙◌, ap, drop-drop, arith}
+use Rattle.std.proofs.Common.{arith}
 use borrow.Author.Tests.{lt-ltb, le-ltb}
 use Rattle.utf8.specs.Utf8.{valid}
 use Rattle.value.specs.Value.{Label, Forest, NoneL, BoolL, I64L, F64L, BytesL, StringL, ListL, TupleL, SetL, FrozenSetL, DictL, GlobalL, ObjectL}
@@ -71,37 +71,12 @@ names_back a b c p t known =
     each_below 13 (λ k. b ≡ right1 k b p → valid_in (label_by (fresh_in a) b c (drop b t) k) ≡ (let x = drop p t in names_right k c x))
     ((λ e. refl), ((λ e. refl), ((λ e. refl), ((λ e. refl), ((λ e. refl), ((λ e. rw e), ((λ e. refl), ((λ e. refl), ((λ e. refl), ((λ e. refl), ((λ e. refl), ((λ e. rw e), ((λ e. rw e), tt))))))))))))) (kind_in a) known
 
--- a part of the text, from p to p + q
-abbrev pub part_of : ℕ → ℕ → List ℕ → List ℕ
-part_of p q t = take (p + q - p) (drop p t)
-
-pub part_at : (p q : ℕ) (t : List ℕ) → part_of p q t ≡ take q (drop p t)
-part_at p q t = let e : p + q - p ≡ q = omega arith in ap (λ (n : ℕ). take n (drop p t)) e
-
 -- the text, by the kind k
 module _ (a c k : ℕ) (t : List ℕ) (e : k ≡ kind_in a) where
-  pub names_plain : k < 5 → true ≡ names_right (kind_in a) c t
-  unfolding names_right
-  names_plain h = rw (← e, lt-ltb k 5 h)
-
   pub names-string : 5 ≤ k → k < 6 → names_right (kind_in a) c t ≡ valid (take c t)
   unfolding names_right
   names-string g h = rw (← e, le-ltb k 5 g, lt-ltb k 6 h)
 
-  pub names-items : 6 ≤ k → k < 11 → true ≡ names_right (kind_in a) c t
-  unfolding names_right
-  names-items g h = rw (← e, le-ltb k 5 (omega arith), le-ltb k 6 g, lt-ltb k 11 h)
-
   pub names-both : 11 ≤ k → names_right (kind_in a) c t ≡ (valid (take (c / 2 ^ 32) t) && valid (take (c % 2 ^ 32) (drop (c / 2 ^ 32) t)))
   unfolding names_right
   names-both g = rw (← e, le-ltb k 5 (omega arith), le-ltb k 6 (omega arith), le-ltb k 11 g)
-
-module _ (a c k p : ℕ) (t : List ℕ) (e : k ≡ kind_in a) (late : 11 ≤ k) where
-  name_part_lem : part_of (p + c / 2 ^ 32) (c % 2 ^ 32) t ≡ take (c % 2 ^ 32) (drop (c / 2 ^ 32) (drop p t))
-  name_part_lem = part_at (p + c / 2 ^ 32) (c % 2 ^ 32) t ∙ ap (take (c % 2 ^ 32)) (sym (drop-drop (c / 2 ^ 32) p t))
-
-  pub names_module : valid (part_of p (c / 2 ^ 32) t) ≡ false → false ≡ names_right (kind_in a) c (drop p t)
-  names_module h = sym (names-both a c k (drop p t) e late ∙ rw (sym (ap valid (part_at p (c / 2 ^ 32) t)) ∙ h))
-
-  pub names-name : valid (part_of p (c / 2 ^ 32) t) ≡ true → valid (part_of (p + c / 2 ^ 32) (c % 2 ^ 32) t) ≡ names_right (kind_in a) c (drop p t)
-  names-name h = ap valid name_part_lem ∙ sym (names-both a c k (drop p t) e late ∙ rw (sym (ap valid (part_at p (c / 2 ^ 32) t)) ∙ h))

@@ -1,8 +1,9 @@
 -- A table is well formed exactly where one value is found in it that fills its records and its text.
-use Rattle.std.specs.Prelude.{ℕ, ◌+◌, ◌*◌, ◌/◌, ◌<◌, false, ◌≡◌, ◌≢◌, take, eqb}
+use Rattle.std.specs.Prelude.{nat_eq, ◌&&◌, ℕ, ◌+◌, ◌*◌, ◌≡◌, take}
 use mathlib.Core.List.{List, [], ◌++◌, append-nil}
 use Rattle.std.proofs.Math.Path.{sym, ap}
-use Rattle.std.proofs.Common.{◌∙◌, take-append-drop, eq-eqb, eqb-true}
+use Rattle.std.proofs.Common.{◌∙◌, take-append-drop, eq-eqb}
+use Rattle.std.proofs.lemmas.Bool.Decides.{nat_tests}
 use Rattle.std.proofs.Math.ListN.{length, drop}
 use Rattle.std.proofs.Math.Seq.{take_at, drop-length}
 use native.Mathlib.Omega.{arith}
@@ -12,12 +13,14 @@ use Rattle.table.specs.Find.{good, find_many, find}
 use Rattle.table.specs.Complete.{row_complete}
 use Rattle.table.specs.Sound.{ValuesPlaced, contents-placed}
 use Rattle.table.specs.Check.{Lent, checked_of, was_good}
-use Rattle.table.specs.Decides.{YesIff, decides_no}
-use Rattle.table.specs.declared.Checked.TheVariants.{Bad, Good}
+use Rattle.table.specs.Decides.{YesIff}
+use Rattle.std.specs.declared.option.Option.{Option}
+use Rattle.std.specs.declared.option.Option.TheVariants.{None, Some}
+use Rattle.std.specs.Option.{option_eq}
 
 module _ (w : List ℕ) (n : ℕ) (t : List ℕ) where
   -- a well-formed table is found to be one
-  pub formed_found : WellFormed w n t → checked_of (find_many (find w n t 64) 1 0 0) ≡ Good n (length t)
+  pub formed_found : WellFormed w n t → checked_of (find_many (find w n t 64) 1 0 0) ≡ Some (n, length t)
   unfolding count checked_of
   formed_found a =
       let f = one a.value in
@@ -50,32 +53,16 @@ module _ (w : List ℕ) (n : ℕ) (t : List ℕ) where
           short = lent.short;
         }
 
-    pub found_formed : checked_of (find_many (find w n t 64) 1 0 0) ≡ Good n (length t) → WellFormed w n t
+    pub found_formed : checked_of (find_many (find w n t 64) 1 0 0) ≡ Some (n, length t) → WellFormed w n t
     found_formed h =
         let a = was_good (find_many (find w n t 64) 1 0 0) h in
         single a.forest (contents-placed w n t lent.room 64 1 0 0 (omega arith) a.is)
 
-  -- ---- the code's answers
-
-  pub too_many : 2048 < n → YesIff false (WellFormed w n t)
-  too_many h = decides_no (λ a. let x = a.few in omega arith)
-
-  pub past_words : length w / 4 < n → YesIff false (WellFormed w n t)
-  past_words h = decides_no (λ a. let x = a.lent in omega arith)
-
-  pub too_long : 65536 < length t → YesIff false (WellFormed w n t)
-  too_long h = decides_no (λ a. let x = a.short in omega arith)
-
-  pub none_found : checked_of (find_many (find w n t 64) 1 0 0) ≡ Bad → YesIff false (WellFormed w n t)
-  none_found e = decides_no (λ a. let x = formed_found a in let z : ◌≡◌ {A = ℕ} 0 1 = cc in omega arith)
-
-  module _ (lent : Lent w n t) (j e : ℕ) (found : checked_of (find_many (find w n t 64) 1 0 0) ≡ Good j e) where
-    pub not_filled : j ≢ n → YesIff false (WellFormed w n t)
-    not_filled h = decides_no (λ a. let x = formed_found a in h (cc))
-
-    pub filled : j ≡ n → YesIff (eqb e (length t)) (WellFormed w n t)
-    filled q =
-        record {
-          yes = λ h. found_formed lent (found ∙ rw (q, eqb-true e (length t) h));
-          always = λ a. let x = formed_found a in eq-eqb e (length t) (cc);
-        }
+-- whether what is found ends there
+pub ends_at : (r : Option (ℕ × ℕ)) (n u : ℕ) → YesIff (option_eq (λ (x y : ℕ × ℕ). nat_eq x.0 y.0 && nat_eq x.1 y.1) r (Some (n, u))) (r ≡ Some (n, u))
+ends_at None n u = record { yes = λ h. cc; always = λ h. cc }
+ends_at (Some (j, e)) n u =
+    record {
+      yes = λ h. let p : j ≡ n = grind (arith, nat_tests) in let q : e ≡ u = grind (arith, nat_tests) in rw (p, q);
+      always = λ h. let q : ◌≡◌ {A = ℕ × ℕ} (j, e) (n, u) = cc in rw (eq-eqb j n (ap (λ x. x.0) q), eq-eqb e u (ap (λ x. x.1) q));
+    }

@@ -5,9 +5,9 @@
 ghost use Rattle.std.specs.Prelude.{false, ◌≢◌, ◌≡◌, ◌+◌, ◌*◌, ◌<◌, ◌≤◌, min, length, drop};
 ghost use Rattle.value.specs.Value.{Forest, Value, one, count as count_of};
 ghost use Rattle.value.specs.Order.{order};
-ghost use Rattle.value.specs.Shape.{kind_in, state_in, holding, arity_of};
+ghost use Rattle.value.specs.Shape.{kind_in, holding, arity_of};
 ghost use Rattle.value.specs.Stands.{word_at, Reads, Begins, Stands};
-ghost use Rattle.value.specs.WellFormed.{WellFormed, less, ascending};
+ghost use Rattle.value.specs.WellFormed.{WellFormed, ascending};
 ghost use Rattle.table.specs.Find.{find, find_many};
 ghost use Rattle.table.specs.Record.{right0, right1, right2, right3, span_of, size_of};
 ghost use Rattle.table.specs.Sound.{size_at};
@@ -20,40 +20,13 @@ ghost use Rattle.value.specs.Told.{told};
 ghost use Rattle.table.specs.Compare.{bad_table, ordered as ordered_by, Compares};
 
 use refusal::{Refusal, Which, detail, number};
+use std::cmp::Ordering;
 use utf8::valid;
 use value::{
-    Head, KIND_BOOL, KIND_BYTES, KIND_DICT, KIND_GLOBAL, KIND_I64, KIND_LIST, KIND_OBJECT,
-    KIND_SET, KIND_STRING, KIND_TUPLE, Order, compare_at, compare_bytes, compare_ints, head_of,
-    holds, least, part, word_of,
+    Head, KIND_BOOL, KIND_BYTES, KIND_DICT, KIND_F64, KIND_FROZEN_SET, KIND_GLOBAL, KIND_I64,
+    KIND_LIST, KIND_NONE, KIND_OBJECT, KIND_SET, KIND_STRING, KIND_TUPLE, compare_at,
+    compare_bytes, compare_ints, head_of, holds, part, word_of,
 };
-
-// A record's head: wrong, or the length of its text and how many values are directly in it.
-#[derive(Drop)]
-enum Headed {
-    Wrong,
-    Right(usize, usize),
-}
-
-// What stands at a record: no value in the table's form, or one, with the record behind it and the place behind its text.
-#[derive(Drop)]
-enum Checked {
-    Bad,
-    Good(usize, usize),
-}
-
-fn kind(a: u64) -> u64
-    ensures { result ≡ kind_in a }
-{
-    let head = head_of(a);
-    head.kind
-}
-
-fn state(a: u64) -> bool
-    ensures { result ≡ state_in a }
-{
-    let head = head_of(a);
-    head.state
-}
 
 // What each word of a record has to be, by its kind, the place of its text and its size.
 
@@ -61,102 +34,67 @@ fn word0(a: u64) -> u64
     ensures { result ≡ right0 a }
 {
     let head = head_of(a);
-    let k = head.kind;
-    if k < KIND_OBJECT {
-        return word_of(Head {
-            kind: k,
+    match head.kind {
+        KIND_NONE..=KIND_GLOBAL => word_of(Head {
+            kind: head.kind,
             new: false,
             state: false,
-        });
+        }),
+        KIND_OBJECT => word_of(head),
+        _ => 0,
     }
-    if k < value::KINDS {
-        return word_of(head);
-    }
-    0
 }
 
 fn word1(a: u64, b: u64, at: u64) -> u64
     ensures { result ≡ right1 (kind_in a) b at }
 {
-    let k = kind(a);
-    if k < KIND_BYTES {
-        if k < KIND_BOOL {
-            return 0;
-        }
-        if k < KIND_I64 {
-            if b == 1 {
-                return 1;
-            }
-            return 0;
-        }
-        return b;
+    match head_of(a).kind {
+        KIND_NONE => 0,
+        KIND_BOOL => u64::from(b == 1),
+        KIND_I64 | KIND_F64 | KIND_LIST..=KIND_DICT => b,
+        _ => at,
     }
-    if k < KIND_LIST {
-        return at;
-    }
-    if k < KIND_GLOBAL {
-        return b;
-    }
-    at
 }
 
 fn word2(a: u64, c: u64, size: u64) -> u64
     ensures { result ≡ right2 (kind_in a) c size }
 {
-    let k = kind(a);
-    if k < KIND_BYTES {
-        return 0;
+    match head_of(a).kind {
+        KIND_NONE..=KIND_F64 => 0,
+        KIND_LIST..=KIND_DICT => size,
+        _ => c,
     }
-    if k < KIND_LIST {
-        return c;
-    }
-    if k < KIND_GLOBAL {
-        return size;
-    }
-    c
 }
 
 fn word3(a: u64, size: u64) -> u64
     ensures { result ≡ right3 (kind_in a) size }
 {
-    if kind(a) < KIND_OBJECT {
-        return 0;
+    match head_of(a).kind {
+        KIND_NONE..=KIND_GLOBAL => 0,
+        _ => size,
     }
-    size
 }
 
 // The length of a record's text.
 fn span(a: u64, c: u64) -> u64
     ensures { result ≡ span_of (kind_in a) c }
 {
-    let k = kind(a);
-    if k < KIND_BYTES {
-        return 0;
+    match head_of(a).kind {
+        KIND_BYTES | KIND_STRING => c,
+        KIND_NONE..=KIND_F64 | KIND_LIST..=KIND_DICT => 0,
+        _ => c / 0x1_0000_0000 + c % 0x1_0000_0000,
     }
-    if k < KIND_LIST {
-        return c;
-    }
-    if k < KIND_GLOBAL {
-        return 0;
-    }
-    c / 4294967296 + c % 4294967296
 }
 
 // How many records a record says that it has with itself.
 fn size(a: u64, c: u64, d: u64) -> u64
     ensures { result ≡ size_of (kind_in a) c d }
 {
-    let k = kind(a);
-    if k < KIND_LIST {
-        return 1;
+    match head_of(a).kind {
+        KIND_NONE..=KIND_STRING | KIND_GLOBAL => 1,
+        KIND_LIST..=KIND_DICT => c,
+        _ => d,
     }
-    if k < KIND_GLOBAL {
-        return c;
-    }
-    if k < KIND_OBJECT {
-        return 1;
-    }
-    d
 }
 
 // How many values are directly in a record, as far as 4,096: no table has as many.
@@ -164,29 +102,13 @@ fn arity(a: u64, b: u64) -> u64
     requires { kind_in a < 13 }
     ensures { result ≡ min 4096 (arity_of a b) }
 {
-    let k = kind(a);
-    if k < KIND_LIST {
-        return 0;
+    let head = head_of(a);
+    match head.kind {
+        KIND_LIST..=KIND_FROZEN_SET => b.min(4096),
+        KIND_DICT => 2 * b.min(2048),
+        KIND_OBJECT => 1 + u64::from(head.state),
+        _ => 0,
     }
-    if k < KIND_DICT {
-        if b > 4096 {
-            return 4096;
-        }
-        return b;
-    }
-    if k < KIND_GLOBAL {
-        if b > 2048 {
-            return 4096;
-        }
-        return b + b;
-    }
-    if k < KIND_OBJECT {
-        return 0;
-    }
-    if state(a) {
-        return 2;
-    }
-    1
 }
 
 // A String's text, and a name's module and name, are valid UTF-8.
@@ -194,27 +116,20 @@ fn named(a: u64, c: u64, text: &[u8], at: usize) -> bool
     requires { at + span_of (kind_in a) c ≤ length text.now }
     ensures { result ≡ names_right (kind_in a) c (drop at text.now) }
 {
-    let k = kind(a);
-    if k < KIND_STRING {
-        return true;
+    match head_of(a).kind {
+        KIND_STRING => valid(part(text, at, c as usize)),
+        KIND_NONE..=KIND_BYTES | KIND_LIST..=KIND_DICT => true,
+        _ => {
+            let m = (c / 0x1_0000_0000) as usize;
+            let n = (c % 0x1_0000_0000) as usize;
+            valid(part(text, at, m)) && valid(part(text, at + m, n))
+        }
     }
-    if k < KIND_LIST {
-        let end = at + c as usize;
-        return valid(&text[at..end]);
-    }
-    if k < KIND_GLOBAL {
-        return true;
-    }
-    let mid = at + (c / 4294967296) as usize;
-    let end = mid + (c % 4294967296) as usize;
-    if !valid(&text[at..mid]) {
-        return false;
-    }
-    valid(&text[mid..end])
 }
 
-// The head of record i, whose text has to be at `at`: all but its size and what its contents have to be.
-fn head(words: &[u64], count: usize, text: &[u8], i: usize, at: usize) -> Headed
+// The head of record i, whose text has to be at `at`, is all but its size and what its contents have to be: where it is right,
+// the length of the text and how many values are directly in the record.
+fn head(words: &[u64], count: usize, text: &[u8], i: usize, at: usize) -> Option<(usize, usize)>
     requires lent { Lent words.now count text.now }
     requires i_lt_count { i < count }
     requires at_in_bounds { at ≤ length text.now }
@@ -223,24 +138,18 @@ fn head(words: &[u64], count: usize, text: &[u8], i: usize, at: usize) -> Headed
     let a = words[4 * i];
     let b = words[4 * i + 1];
     let c = words[4 * i + 2];
-    if a != word0(a) {
-        return Headed::Wrong;
-    }
-    if b != word1(a, b, at as u64) {
-        return Headed::Wrong;
+    if a != word0(a) || b != word1(a, b, at as u64) {
+        return None;
     }
     let long = span(a, c);
     if long > (text.len() - at) as u64 {
-        return Headed::Wrong;
+        return None;
     }
     let inside = arity(a, b);
-    if inside > (count - i - 1) as u64 {
-        return Headed::Wrong;
+    if inside > (count - i - 1) as u64 || !named(a, c, text, at) {
+        return None;
     }
-    if !named(a, c, text, at) {
-        return Headed::Wrong;
-    }
-    Headed::Right(long as usize, inside as usize)
+    Some((long as usize, inside as usize))
 }
 
 // Words 2 and 3 of record i are right for so many records.
@@ -250,11 +159,7 @@ fn sized(words: &[u64], i: usize, size: u64) -> bool
 {
     let a = words[4 * i];
     let c = words[4 * i + 2];
-    let d = words[4 * i + 3];
-    if c != word2(a, c, size) {
-        return false;
-    }
-    d == word3(a, size)
+    c == word2(a, c, size) && words[4 * i + 3] == word3(a, size)
 }
 
 // The record behind the value at record i.
@@ -273,24 +178,14 @@ fn next(words: &[u64], i: usize, entry: usize) -> usize
 {
     let behind = after(words, i);
     if entry == 1 {
-        return behind;
-    }
-    after(words, behind)
-}
-
-// Strictly before: equal items or keys are not in order.
-fn precedes(order: Order) -> bool
-    ensures { result ≡ less (told order) }
-{
-    match order {
-        Order::Less => true,
-        Order::Equal => false,
-        Order::Greater => false,
+        behind
+    } else {
+        after(words, behind)
     }
 }
 
 // The order of the values at records p and q. Most items and keys are Ints or Bytes: two of those need no walk.
-fn compare_items(words: &[u64], text: &[u8], p: usize, q: usize) -> Order
+fn compare_items(words: &[u64], text: &[u8], p: usize, q: usize) -> Ordering
     requires p_reads { Reads words.now text.now p }
     requires q_reads { Reads words.now text.now q }
     requires p_begins { Begins words.now text.now p }
@@ -300,14 +195,13 @@ fn compare_items(words: &[u64], text: &[u8], p: usize, q: usize) -> Order
         → Stands words.now text.now q (one u)
         → told result ≡ order v u }
 {
-    let k = kind(words[4 * p]);
-    if k == kind(words[4 * q]) {
-        let x = words[4 * p + 1];
-        let y = words[4 * q + 1];
-        if k == KIND_I64 {
+    let kind = head_of(words[4 * p]).kind;
+    if kind == head_of(words[4 * q]).kind {
+        let (x, y) = (words[4 * p + 1], words[4 * q + 1]);
+        if kind == KIND_I64 {
             return compare_ints(x, y);
         }
-        if k == KIND_BYTES {
+        if kind == KIND_BYTES {
             let m = words[4 * p + 2] as usize;
             let n = words[4 * q + 2] as usize;
             return compare_bytes(part(text, x as usize, m), part(text, y as usize, n));
@@ -327,7 +221,7 @@ fn ascends(words: &[u64], text: &[u8], i: usize, m: usize, entry: usize) -> bool
     let mut left = m;
     while left > entry {
         let q = next(words, p, entry);
-        if !precedes(compare_items(words, text, p, q)) {
+        if !compare_items(words, text, p, q).is_lt() {
             return false;
         }
         p = q;
@@ -343,20 +237,12 @@ fn arranged(words: &[u64], text: &[u8], a: u64, i: usize, m: usize) -> bool
     requires kind_bound { kind_in a < 13 }
     ensures { (f : Forest) → Stands words.now text.now i f → count_of f ≡ m → result ≡ arranged_by (kind_in a) f }
 {
-    let k = kind(a);
-    if k < KIND_SET {
-        return true;
+    match head_of(a).kind {
+        KIND_SET | KIND_FROZEN_SET => ascends(words, text, i, m, 1),
+        KIND_DICT => ascends(words, text, i, m, 2),
+        KIND_OBJECT => head_of(words[4 * i]).kind == KIND_TUPLE,
+        _ => true,
     }
-    if k < KIND_DICT {
-        return ascends(words, text, i, m, 1);
-    }
-    if k < KIND_GLOBAL {
-        return ascends(words, text, i, m, 2);
-    }
-    if k < KIND_OBJECT {
-        return true;
-    }
-    kind(words[4 * i]) == KIND_TUPLE
 }
 
 // The record at i is right for the m values that stand behind it as far as record j.
@@ -368,14 +254,12 @@ fn closes(words: &[u64], text: &[u8], i: usize, j: usize, m: usize) -> bool
     requires kind_bound { kind_in (word_at words.now i 0) < 13 }
     ensures { Closes words.now text.now i j m result }
 {
-    if !sized(words, i, (j - i) as u64) {
-        return false;
-    }
-    arranged(words, text, words[4 * i], i + 1, m)
+    sized(words, i, (j - i) as u64) && arranged(words, text, words[4 * i], i + 1, m)
 }
 
-// A record with nothing in it, as it has to be in any table.
-fn leaf(words: &[u64], text: &[u8], i: usize, at: usize) -> Checked
+// A record with nothing in it, as it has to be in any table. What is answered of a value that stands somewhere is the record
+// behind it and the place behind its text.
+fn leaf(words: &[u64], text: &[u8], i: usize, at: usize) -> Option<(usize, usize)>
     requires i_in_bounds { 4 * i + 4 ≤ length words.now }
     requires at_in_bounds { at ≤ length text.now }
     requires text_len_bound { length text.now ≤ 65536 }
@@ -385,40 +269,35 @@ fn leaf(words: &[u64], text: &[u8], i: usize, at: usize) -> Checked
     let a = words[4 * i];
     let b = words[4 * i + 1];
     let c = words[4 * i + 2];
-    if a != word0(a) {
-        return Checked::Bad;
-    }
-    if b != word1(a, b, at as u64) {
-        return Checked::Bad;
+    if a != word0(a) || b != word1(a, b, at as u64) {
+        return None;
     }
     let long = span(a, c);
-    if long > (text.len() - at) as u64 {
-        return Checked::Bad;
+    if long > (text.len() - at) as u64 || !named(a, c, text, at) || !sized(words, i, 1) {
+        return None;
     }
-    if !named(a, c, text, at) {
-        return Checked::Bad;
-    }
-    if !sized(words, i, 1) {
-        return Checked::Bad;
-    }
-    Checked::Good(i + 1, at + long as usize)
+    Some((i + 1, at + long as usize))
 }
 
 // The value at record i, with its text at `at`, at most so many levels deep.
 #[cycle(check)]
-fn check(words: &[u64], count: usize, text: &[u8], i: usize, at: usize, levels: u64) -> Checked
+fn check(
+    words: &[u64],
+    count: usize,
+    text: &[u8],
+    i: usize,
+    at: usize,
+    levels: u64,
+) -> Option<(usize, usize)>
     requires lent { Lent words.now count text.now }
     requires i_le_count { i ≤ count }
     requires at_in_bounds { at ≤ length text.now }
     ensures { result ≡ checked_of (find words.now count text.now levels i at) }
 {
-    if levels == 0 {
-        return Checked::Bad;
+    if levels == 0 || i == count {
+        return None;
     }
-    if i == count {
-        return Checked::Bad;
-    }
-    if holds(kind(words[4 * i])) {
+    if holds(head_of(words[4 * i]).kind) {
         return container(words, count, text, i, at, levels);
     }
     leaf(words, text, i, at)
@@ -426,32 +305,26 @@ fn check(words: &[u64], count: usize, text: &[u8], i: usize, at: usize, levels: 
 
 // A record of a kind that holds values, and those in it.
 #[cycle(check)]
-fn container(words: &[u64], count: usize, text: &[u8], i: usize, at: usize, levels: u64) -> Checked
+fn container(
+    words: &[u64],
+    count: usize,
+    text: &[u8],
+    i: usize,
+    at: usize,
+    levels: u64,
+) -> Option<(usize, usize)>
     requires lent { Lent words.now count text.now }
     requires i_lt_count { i < count }
     requires at_in_bounds { at ≤ length text.now }
     requires levels_nonzero { levels ≢ 0 }
     ensures { result ≡ checked_of (find words.now count text.now levels i at) }
 {
-    match head(words, count, text, i, at) {
-        Headed::Wrong => Checked::Bad,
-        Headed::Right(long, m) => match contents(
-            words,
-            count,
-            text,
-            i + 1,
-            at + long,
-            m,
-            levels - 1,
-        ) {
-            Checked::Bad => Checked::Bad,
-            Checked::Good(j, end) => {
-                if !closes(words, text, i, j, m) {
-                    return Checked::Bad;
-                }
-                Checked::Good(j, end)
-            }
-        },
+    let (long, m) = head(words, count, text, i, at)?;
+    let (j, end) = contents(words, count, text, i + 1, at + long, m, levels - 1)?;
+    if closes(words, text, i, j, m) {
+        Some((j, end))
+    } else {
+        None
     }
 }
 
@@ -465,55 +338,34 @@ fn contents(
     at: usize,
     m: usize,
     levels: u64,
-) -> Checked
+) -> Option<(usize, usize)>
     requires lent { Lent words.now count text.now }
     requires i_le_count { i ≤ count }
     requires at_in_bounds { at ≤ length text.now }
     ensures { result ≡ checked_of (find_many (find words.now count text.now levels) m i at) }
 {
-    let mut j = i;
-    let mut end = at;
-    let mut left = m;
-    while left > 0 {
-        match check(words, count, text, j, end, levels) {
-            Checked::Bad => return Checked::Bad,
-            Checked::Good(behind, stop) => {
-                j = behind;
-                end = stop;
-            }
-        }
-        left -= 1;
+    let (mut j, mut end) = (i, at);
+    for _ in 0..m {
+        (j, end) = check(words, count, text, j, end, levels)?;
     }
-    Checked::Good(j, end)
+    Some((j, end))
 }
 
 // Whether a record has text.
 fn has_text(a: u64) -> bool
     ensures { result ≡ has_text (kind_in a) }
 {
-    let k = kind(a);
-    if k < KIND_BYTES {
-        return false;
-    }
-    if k < KIND_LIST {
-        return true;
-    }
-    if k < KIND_GLOBAL {
-        return false;
-    }
-    k < value::KINDS
+    matches!(
+        head_of(a).kind,
+        KIND_BYTES | KIND_STRING | KIND_GLOBAL | KIND_OBJECT
+    )
 }
 
 // Where the text of a record ends; of a wrong record, no more than a usize holds.
 fn text_end(a: u64, b: u64, c: u64) -> usize
     ensures { result ≡ end_of a b c }
 {
-    let long = span(a, c);
-    let most: u64 = 18446744073709551615;
-    if b > most - long {
-        return most as usize;
-    }
-    (b + long) as usize
+    b.saturating_add(span(a, c)) as usize
 }
 
 // The length of a table's text, which a reading does not return: where the last text of its records ends, or 0. A count past the
@@ -521,11 +373,10 @@ fn text_end(a: u64, b: u64, c: u64) -> usize
 pub fn text_len(words: &[u64], count: usize) -> usize
     ensures { result ≡ text_length words.now count }
 {
-    let mut left = least(count, words.len() / 4);
-    while left > 0 {
-        left -= 1;
-        if has_text(words[4 * left]) {
-            return text_end(words[4 * left], words[4 * left + 1], words[4 * left + 2]);
+    let records = count.min(words.len() / 4);
+    for i in (0..records).rev() {
+        if has_text(words[4 * i]) {
+            return text_end(words[4 * i], words[4 * i + 1], words[4 * i + 2]);
         }
     }
     0
@@ -535,29 +386,15 @@ pub fn text_len(words: &[u64], count: usize) -> usize
 pub fn well_formed(words: &[u64], count: usize, text: &[u8]) -> bool
     ensures { YesIff result (WellFormed words.now count text.now) }
 {
-    if count > 2048 {
+    if count > 2048 || count > words.len() / 4 || text.len() > 65536 {
         return false;
     }
-    if count > words.len() / 4 {
-        return false;
-    }
-    if text.len() > 65536 {
-        return false;
-    }
-    match contents(words, count, text, 0, 0, 1, 64) {
-        Checked::Bad => false,
-        Checked::Good(j, end) => {
-            if j != count {
-                return false;
-            }
-            end == text.len()
-        }
-    }
+    contents(words, count, text, 0, 0, 1, 64) == Some((count, text.len()))
 }
 
 // What compare answers: number 0 and -1, 0 or 1; or why it refuses, and sign 0.
 #[repr(C)]
-#[derive(Drop)]
+#[derive(Clone, Copy)]
 pub struct Compared {
     pub number: u64,
     pub detail: u64,
@@ -574,25 +411,19 @@ fn bad_table(which: Which) -> Compared
     }
 }
 
-fn ordered(order: Order) -> Compared
+#[tactic(auto, unfolding(value::specs::Told::told))]
+fn ordered(order: Ordering) -> Compared
     ensures { result ≡ ordered_by (told order) }
 {
-    match order {
-        Order::Less => Compared {
-            number: 0,
-            detail: 0,
-            sign: -1,
-        },
-        Order::Equal => Compared {
-            number: 0,
-            detail: 0,
-            sign: 0,
-        },
-        Order::Greater => Compared {
-            number: 0,
-            detail: 0,
-            sign: 1,
-        },
+    let sign = match order {
+        Ordering::Less => -1,
+        Ordering::Equal => 0,
+        Ordering::Greater => 1,
+    };
+    Compared {
+        number: 0,
+        detail: 0,
+        sign,
     }
 }
 

@@ -1,0 +1,22 @@
+-- Each arm by the kind.
+use Rattle.std.proofs.Common.{arith}
+use Rattle.std.proofs.lemmas.Bool.Decides.{nat_tests}
+use Rattle.table.specs.Record.{span_of}
+use Rattle.table.proofs.ByKind.{kind_of}
+use Rattle.table.proofs.span.Goals as goal
+
+pub returns-in-4 : goal.returns-in-4
+unfolding span_of
+returns-in-4 c = rw (← kind_of c.args.a c.head_of.ensures) (grind (arith, nat_tests))
+
+pub returns-in_default : goal.returns-in_default
+unfolding span_of
+returns-in_default c = rw (← kind_of c.args.a c.head_of.ensures) (grind (arith, nat_tests))
+
+pub returns-in-0-to-3 : goal.returns-in-0-to-3
+unfolding span_of
+returns-in-0-to-3 c = rw (← kind_of c.args.a c.head_of.ensures) (grind (arith, nat_tests))
+
+pub returns-in-0-to-3-2 : goal.returns-in-0-to-3-2
+unfolding span_of
+returns-in-0-to-3-2 c = rw (← kind_of c.args.a c.head_of.ensures) (grind (arith, nat_tests))

@@ -1,0 +1,30 @@
+-- Each arm by the kind.
+use Rattle.std.proofs.Common.{arith}
+use Rattle.std.proofs.lemmas.Bool.Decides.{nat_tests}
+use Rattle.table.specs.Record.{right1}
+use Rattle.table.proofs.ByKind.{kind_of}
+use Rattle.table.proofs.word1.Goals as goal
+
+pub returns-in-0 : goal.returns-in-0
+unfolding right1
+returns-in-0 c = rw (← kind_of c.args.a c.head_of.ensures) (grind (arith, nat_tests))
+
+pub returns-in-1 : goal.returns-in-1
+unfolding right1
+returns-in-1 c = rw (← kind_of c.args.a c.head_of.ensures) (grind (arith, nat_tests))
+
+pub returns-in-2 : goal.returns-in-2
+unfolding right1
+returns-in-2 c = rw (← kind_of c.args.a c.head_of.ensures) (grind (arith, nat_tests))
+
+pub returns-in-2-2 : goal.returns-in-2-2
+unfolding right1
+returns-in-2-2 c = rw (← kind_of c.args.a c.head_of.ensures) (grind (arith, nat_tests))
+
+pub returns-in_default : goal.returns-in_default
+unfolding right1
+returns-in_default c = rw (← kind_of c.args.a c.head_of.ensures) (grind (arith, nat_tests))
+
+pub returns-in_default-2 : goal.returns-in_default-2
+unfolding right1
+returns-in_default-2 c = rw (← kind_of c.args.a c.head_of.ensures) (grind (arith, nat_tests))
