@@ -7,7 +7,7 @@ use native.Mathlib.Omega.{arith}
 use Rattle.std.specs.Prelude.{Result, Ok, Err}
 use Rattle.refusal.specs.Read.{got, refused}
 use Rattle.refusal.specs.declared.Refusal.{Refusal}
-use Rattle.refusal.specs.declared.Refusal.TheVariants.{EndOfInput, StackUnderflow, InvalidLiteral, MissingMemo}
+use Rattle.refusal.specs.declared.Refusal.TheVariants.{EndOfInput, StackUnderflow, MissingMemo}
 use Rattle.input.specs.Bytes.{low_first}
 use Rattle.input.specs.Line.{newline_of, line_of, newline_first}
 use Rattle.number.specs.Number.{parse_u32}
@@ -47,9 +47,9 @@ module _ (r : Rooms) (c : Counts) (p : List ℕ) (s : Sound r c) (q : r.pickle �
   unfolding Key key_line ◌>>=◌
   key_none e = rw (line-none r c (rw q e))
 
-  pub key_invalid : (i : ℕ) → newline_of p c.at ≡ got i → parse_u32 (line_of p c.at i) ≡ refused InvalidLiteral 0 → Key key_line c r (Err InvalidLiteral)
+  pub key_invalid : (i : ℕ) (why : Refusal) → newline_of p c.at ≡ got i → parse_u32 (line_of p c.at i) ≡ refused why 0 → Key key_line c r (Err why)
   unfolding Key key_line ◌>>=◌ leaf
-  key_invalid i e f = rw (line_got r c i (rw q e), q, f)
+  key_invalid i why e f = rw (line_got r c i (rw q e), q, f)
 
   pub key_line_lem : (i : ℕ) (k : MemoKey) → newline_of p c.at ≡ got i → parse_u32 (line_of p c.at i) ≡ got k.0 → Key key_line c r (Ok (i + 1, k))
   unfolding Key key_line ◌>>=◌ leaf

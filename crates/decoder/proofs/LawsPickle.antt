@@ -9,32 +9,25 @@ use lib.Seq.{drop-drop, take-take}
 use native.Mathlib.Omega.{arith}
 use borrow.Author.Tests.{le-leb, lt-leb, ltb-true, ltb-false}
 use Rattle.std.specs.Prelude.{Result, Ok, Err}
-use Rattle.refusal.specs.Read.{Read, got, refused}
+use Rattle.refusal.specs.Read.{Read, got, refused, answered}
 use Rattle.refusal.specs.declared.Refusal.{Refusal}
-use Rattle.refusal.specs.declared.Refusal.TheVariants.{EndOfInput, UnsupportedProtocol, Invalid, InvalidLiteral, IntegerTooLarge, FloatOutside}
+use Rattle.refusal.specs.declared.Refusal.TheVariants.{EndOfInput, UnsupportedProtocol, Invalid, InvalidLiteral, FloatOutside}
 use Rattle.refusal.specs.declared.Wanted.TheVariants.{Length}
 use Rattle.utf8.specs.Utf8.{repair}
 use Rattle.input.specs.Bytes.{Bytes, bytes_take, bytes_drop}
-use Rattle.input.specs.Long.{denotes, in_i64, bits64, integer_read, long_of, bits_sign, short_in}
-use Rattle.input.specs.declared.Integer.{Integer}
-use Rattle.input.specs.declared.Integer.TheVariants as integers
-use Rattle.number.specs.Number.{Int, truth, whole, turned, invalid, int_literal, long_literal}
-use Rattle.number.specs.Literal.{IntBits, truth_bits, whole_bits, int_bits, int_read, i64_read}
+use Rattle.input.specs.Long.{denotes, in_i64, bits64, long_of, bits_sign, short_in}
+use Rattle.number.specs.Number.{Int, truth, whole, turned, int_literal, long_literal}
+use Rattle.number.specs.Literal.{IntBits, truth_bits, whole_bits, int_bits, int_read}
 use Rattle.number.specs.declared.IntLiteral.{IntLiteral}
 use Rattle.number.specs.declared.IntLiteral.TheVariants as ints
-use Rattle.number.specs.declared.I64Literal.{I64Literal}
-use Rattle.number.specs.declared.I64Literal.TheVariants as longs
 use Rattle.float.specs.Literal.{f64_read, parse_f64}
 use Rattle.float.specs.declared.F64Literal.{F64Literal}
 use Rattle.float.specs.declared.F64Literal.TheVariants as floats
-use Rattle.input.specs.Line.{line_end, newline_of, line_of, line-length}
-use Rattle.input.specs.declared.LineEnd.{LineEnd}
-use Rattle.input.specs.declared.LineEnd.TheVariants as ends
+use Rattle.input.specs.Line.{line_of, line-length}
 use Rattle.text.specs.Pieces.{bytes_of, length_of}
 use Rattle.text.specs.Text.{inner, unescape_string, unescape_unicode, string_measured, quoted_says, decoded_says}
 use Rattle.text.specs.Answers.{got_bytes, decoded_len, decoded_bad, quoted_plain, quoted_escaped, quoted_bad}
-use Rattle.text.specs.declared.Decoded.{Decoded}
-use Rattle.text.specs.declared.Decoded.TheVariants as decoded
+use Rattle.text.specs.declared.FaultAt.{FaultAt}
 use Rattle.text.specs.declared.Quoted.{Quoted}
 use Rattle.text.specs.declared.Quoted.TheVariants as quoted
 use Rattle.value.specs.Value.{Label, BoolL, I64L, F64L, BytesL, StringL, GlobalL}
@@ -47,7 +40,7 @@ use Rattle.store.specs.declared.Counts.{Counts}
 use Rattle.store.specs.Rooms.{Rooms, state_of, at_to}
 use Rattle.store.specs.Effects.{Sound, Decides}
 use Rattle.decoder.specs.Reads.{cut_to, bytes-short, bytes_got, line-none, line_got}
-use Rattle.decoder.specs.ReadsPickle.{ReadsPart, prefixed, ReadsLong, long_got, long_large, Makes, refused_going, says_go, pushed_step, short, enough, ended, lined, first_byte, line_part, LineAt, no_newline, makes_as, makes_bytes, makes_escaped, makes_unicode, makes_global}
+use Rattle.decoder.specs.ReadsPickle.{ReadsPart, prefixed, ReadsLong, NoLine, long_got, long_large, Makes, refused_going, says_go, pushed_step, short, enough, ended, lined, first_byte, line_part, LineAt, makes_as, makes_bytes, makes_escaped, makes_unicode, makes_global}
 
 -- ---- PROTO, with v as the highest protocol
 
@@ -82,38 +75,38 @@ int_bits_lem (got (truth b)) = refl
 int_bits_lem (got (whole z)) = refl
 int_bits_lem (refused why j) = refl
 
-module _ (l : List ℕ) (x : IntLiteral) (e : int_read x ≡ turned int_bits (int_literal l)) where
+module _ (l : List ℕ) (x : Result IntLiteral Refusal) (e : int_read x ≡ turned int_bits (int_literal l)) where
   int_says : turned int_label (int_literal l) ≡ turned bits_label (int_read x)
   int_says = int_bits_lem (int_literal l) ∙ ap (turned bits_label) (sym e)
 
-  pub int_bool : (b : Bool) → x ≡ ints.Bool b → turned int_label (int_literal l) ≡ got (BoolL b)
+  pub int_bool : (b : Bool) → x ≡ Ok (ints.Bool b) → turned int_label (int_literal l) ≡ got (BoolL b)
   unfolding turned int_read bits_label
-  int_bool b d = int_says ∙ ap (λ (y : IntLiteral). turned bits_label (int_read y)) d
+  int_bool b d = int_says ∙ ap (λ (y : Result IntLiteral Refusal). turned bits_label (int_read y)) d
 
-  pub int_whole : (v : ℕ) → x ≡ ints.I64 v → turned int_label (int_literal l) ≡ got (I64L v)
+  pub int_whole : (v : ℕ) → x ≡ Ok (ints.I64 v) → turned int_label (int_literal l) ≡ got (I64L v)
   unfolding turned int_read bits_label
-  int_whole v d = int_says ∙ ap (λ (y : IntLiteral). turned bits_label (int_read y)) d
+  int_whole v d = int_says ∙ ap (λ (y : Result IntLiteral Refusal). turned bits_label (int_read y)) d
 
-  pub int_bad : x ≡ ints.Invalid → turned int_label (int_literal l) ≡ refused InvalidLiteral 0
-  unfolding turned int_read bits_label invalid
-  int_bad d = int_says ∙ ap (λ (y : IntLiteral). turned bits_label (int_read y)) d
+  pub int_bad : (why : Refusal) → x ≡ Err why → turned int_label (int_literal l) ≡ refused why 0
+  unfolding turned int_read bits_label
+  int_bad why d = int_says ∙ ap (λ (y : Result IntLiteral Refusal). turned bits_label (int_read y)) d
 
 turned-turned : {A B D : Type 0} (f : A → B) (g : B → D) (x : Read A) → turned (λ a. g (f a)) x ≡ turned g (turned f x)
 unfolding turned
 turned-turned f g (got a) = refl
 turned-turned f g (refused why j) = refl
 
-module _ (l : List ℕ) (x : I64Literal) (e : i64_read x ≡ turned bits64 (long_literal l)) where
-  long-says : turned (λ z. I64L (bits64 z)) (long_literal l) ≡ turned I64L (i64_read x)
+module _ (l : List ℕ) (x : Result ℕ Refusal) (e : answered x ≡ turned bits64 (long_literal l)) where
+  long-says : turned (λ z. I64L (bits64 z)) (long_literal l) ≡ turned I64L (answered x)
   long-says = turned-turned bits64 I64L (long_literal l) ∙ ap (turned I64L) (sym e)
 
-  pub long-whole : (v : ℕ) → x ≡ longs.Value v → turned (λ z. I64L (bits64 z)) (long_literal l) ≡ got (I64L v)
-  unfolding turned i64_read
-  long-whole v d = long-says ∙ ap (λ (y : I64Literal). turned I64L (i64_read y)) d
+  pub long-whole : (v : ℕ) → x ≡ Ok v → turned (λ z. I64L (bits64 z)) (long_literal l) ≡ got (I64L v)
+  unfolding turned
+  long-whole v d = long-says ∙ ap (λ (y : Result ℕ Refusal). turned I64L (answered y)) d
 
-  pub long_bad : x ≡ longs.Invalid → turned (λ z. I64L (bits64 z)) (long_literal l) ≡ refused InvalidLiteral 0
-  unfolding turned i64_read invalid
-  long_bad d = long-says ∙ ap (λ (y : I64Literal). turned I64L (i64_read y)) d
+  pub long_bad : (why : Refusal) → x ≡ Err why → turned (λ z. I64L (bits64 z)) (long_literal l) ≡ refused why 0
+  unfolding turned
+  long_bad why d = long-says ∙ ap (λ (y : Result ℕ Refusal). turned I64L (answered y)) d
 
 module _ (l : List ℕ) (x : F64Literal) (e : f64_read x ≡ parse_f64 l) where
   pub float-bits : (v : ℕ) → x ≡ floats.Bits v → turned F64L (parse_f64 l) ≡ got (F64L v)
@@ -135,17 +128,15 @@ cut_part : (p : List ℕ) (a m : ℕ) → take (a + m - a) (drop a p) ≡ take m
 cut_part p a m = let e : a + m - a ≡ m = omega arith in rw e
 
 -- x is the integer of the part behind a length of n bytes
-module _ (p : List ℕ) (n at : ℕ) (t : Result (ℕ × ℕ) Refusal) (h : ReadsPart at p (prefixed n) t) (a m : ℕ) (e : t ≡ Ok (a, m)) (x : Integer) (d : integer_read x ≡ long_of (take (a + m - a) (drop a p))) where
-  part_says : long_of (take m (drop a p)) ≡ integer_read x
+module _ (p : List ℕ) (n at : ℕ) (t : Result (ℕ × ℕ) Refusal) (h : ReadsPart at p (prefixed n) t) (a m : ℕ) (e : t ≡ Ok (a, m)) (x : Result ℕ Refusal) (d : answered x ≡ long_of (take (a + m - a) (drop a p))) where
+  part_says : long_of (take m (drop a p)) ≡ answered x
   part_says = sym (d ∙ ap long_of (cut_part p a m))
 
-  pub long-value : (v : ℕ) → x ≡ integers.Value v → ReadsLong n at p (long.At (a + m) v)
-  unfolding integer_read
-  long-value v k = long_got p n at t h a m e v (part_says ∙ ap integer_read k)
+  pub long-value : (v : ℕ) → x ≡ Ok v → ReadsLong n at p (long.At (a + m) v)
+  long-value v k = long_got p n at t h a m e v (part_says ∙ ap answered k)
 
-  pub long-outside : x ≡ integers.TooLarge → ReadsLong n at p (long.None IntegerTooLarge)
-  unfolding integer_read
-  long-outside k = long_large p n at t h a m e (part_says ∙ ap integer_read k)
+  pub long-outside : (why : Refusal) → x ≡ Err why → ReadsLong n at p (long.None why)
+  long-outside why k = long_large p n at t h a m e why (part_says ∙ ap answered k)
 
 -- ---- a line's own part
 
@@ -158,14 +149,14 @@ line-size {p = p} {at = at} {i = i} e d = rw d (let h = line-length p at i in om
 
 -- ---- UNICODE
 
-module _ (l : List ℕ) (x : Decoded) (e : decoded_says x ≡ length_of (unescape_unicode l)) where
-  pub unicode-some : (n : ℕ) → x ≡ decoded.Len n → turned StringL (unescape_unicode l) ≡ got (StringL (bytes_of (unescape_unicode l)))
+module _ (l : List ℕ) (x : Result ℕ FaultAt) (e : decoded_says x ≡ length_of (unescape_unicode l)) where
+  pub unicode-some : (n : ℕ) → x ≡ Ok n → turned StringL (unescape_unicode l) ≡ got (StringL (bytes_of (unescape_unicode l)))
   unfolding turned
   unicode-some n d = ap (turned StringL) (got_bytes (unescape_unicode l) (decoded_len (unescape_unicode l) n (rw d at e)).0)
 
-  pub unicode_bad : (j : ℕ) → x ≡ decoded.Refused j → turned StringL (unescape_unicode l) ≡ refused InvalidLiteral j
+  pub unicode_bad : (f : FaultAt) → x ≡ Err f → turned StringL (unescape_unicode l) ≡ refused InvalidLiteral f.0
   unfolding turned
-  unicode_bad j d = ap (turned StringL) (decoded_bad (unescape_unicode l) j (rw d at e))
+  unicode_bad f d = ap (turned StringL) (decoded_bad (unescape_unicode l) f (rw d at e))
 
 -- a node that keeps its line
 module _ {p : List ℕ} {at i w : ℕ} {l : List ℕ} (n : LineAt p at i) (d : l ≡ line_of p at i) (e : w ≡ length l * 2 ^ 32 + at) where
@@ -188,17 +179,17 @@ inner_own : (l d : List ℕ) (n : ℕ) → l ≡ take (suc n) d → length l ≡
 unfolding inner
 inner_own l d n e k = rw k (ap (λ (t : List ℕ). take (suc n - 2) (drop 1 t)) e ∙ ap (take (suc n - 2)) (drop_one n d) ∙ take-take (suc n - 2) n (drop 1 d) (omega arith))
 
-module _ (l : List ℕ) (x : Quoted) (e : quoted_says l x ≡ string_measured l) where
-  pub string_plain : x ≡ quoted.Plain → unescape_string l ≡ got (inner l)
+module _ (l : List ℕ) (x : Result Quoted FaultAt) (e : quoted_says l x ≡ string_measured l) where
+  pub string_plain : x ≡ Ok quoted.Plain → unescape_string l ≡ got (inner l)
   string_plain d = quoted_plain l (rw d at e)
 
-  pub string_escaped : (n : ℕ) → x ≡ quoted.Escaped n → turned BytesL (unescape_string l) ≡ got (BytesL (bytes_of (unescape_string l)))
+  pub string_escaped : (n : ℕ) → x ≡ Ok (quoted.Escaped n) → turned BytesL (unescape_string l) ≡ got (BytesL (bytes_of (unescape_string l)))
   unfolding turned
   string_escaped n d = ap (turned BytesL) (got_bytes (unescape_string l) (quoted_escaped l n (rw d at e)).0)
 
-  pub string_bad : (j : ℕ) → x ≡ quoted.Refused j → turned BytesL (unescape_string l) ≡ refused InvalidLiteral j
+  pub string_bad : (f : FaultAt) → x ≡ Err f → turned BytesL (unescape_string l) ≡ refused InvalidLiteral f.0
   unfolding turned
-  string_bad j d = ap (turned BytesL) (quoted_bad l j (rw d at e))
+  string_bad f d = ap (turned BytesL) (quoted_bad l f (rw d at e))
 
 pub plain_label : (l : List ℕ) → unescape_string l ≡ got (inner l) → turned BytesL (unescape_string l) ≡ got (BytesL (inner l))
 unfolding turned
@@ -260,14 +251,14 @@ module _ (c : Counts) (p : List ℕ) where
 -- ---- GLOBAL
 
 module _ (c : Counts) (p : List ℕ) where
-  pub global_ends : {x : LineEnd} → line_end x ≡ newline_of p c.at → x ≡ ends.End → Decides c (λ r. r.pickle ≡ p) (λ s. going (global s)) (Err EndOfInput)
+  pub global_ends : {why : Refusal} → NoLine p c.at why → Decides c (λ r. r.pickle ≡ p) (λ s. going (global s)) (Err why)
   unfolding Decides global ◌>>=◌
-  global_ends e d r s q = refused_going r c s EndOfInput (global (state_of r c)) (rw (ended c p (no_newline p c.at e d) r s q))
+  global_ends e r s q = rw e.is (refused_going r c s EndOfInput (global (state_of r c)) (rw (ended c p e.none r s q)))
 
   module _ {i : ℕ} (e : LineAt p c.at i) where
-    pub global_cut : {x : LineEnd} → line_end x ≡ newline_of p (i + 1) → x ≡ ends.End → Decides c (λ r. r.pickle ≡ p) (λ s. going (global s)) (Err EndOfInput)
+    pub global_cut : {why : Refusal} → NoLine p (i + 1) why → Decides c (λ r. r.pickle ≡ p) (λ s. going (global s)) (Err why)
     unfolding Decides global ◌>>=◌
-    global_cut f d r s q = refused_going r c s EndOfInput (global (state_of r c)) (rw (lined c p i e.found r s q, line-none r (at_to c (i + 1)) (rw q (no_newline p (i + 1) f d))))
+    global_cut f r s q = rw f.is (refused_going r c s EndOfInput (global (state_of r c)) (rw (lined c p i e.found r s q, line-none r (at_to c (i + 1)) (rw q f.none))))
 
     module _ {j : ℕ} (f : LineAt p (i + 1) j) {l m : List ℕ} (d : l ≡ line_of p c.at i) (g : m ≡ line_of p (i + 1) j) where
       both : (r : Rooms) → Sound r c → r.pickle ≡ p → global (state_of r c) ≡ push (GlobalL (repair l) (repair m)) (state_of r (at_to c (j + 1)))

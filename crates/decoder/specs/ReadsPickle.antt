@@ -8,8 +8,8 @@ use native.Mathlib.Omega.{arith}
 use mir.Val.{bool_byte}
 use Rattle.refusal.specs.Read.{Read, got, refused}
 use Rattle.refusal.specs.declared.Refusal.{Refusal}
-use Rattle.refusal.specs.declared.Refusal.TheVariants.{EndOfInput, IntegerTooLarge}
-use Rattle.input.specs.Line.{line_end, newline_of, line_of, less_cr, newline_first}
+use Rattle.refusal.specs.declared.Refusal.TheVariants.{EndOfInput}
+use Rattle.input.specs.Line.{first_from, newline_of, line_of, less_cr, newline_first}
 use Rattle.input.specs.Bytes.{low_first, last_byte}
 use Rattle.input.specs.Long.{long_of}
 use Rattle.number.specs.Number.{turned}
@@ -18,8 +18,6 @@ use Rattle.text.specs.Pieces.{bytes_of}
 use Rattle.text.specs.Text.{unescape_string, unescape_unicode}
 use Rattle.value.specs.Value.{Label, BoolL, I64L, F64L, BytesL, StringL, GlobalL}
 use Rattle.value.specs.Shape.{kind_in}
-use Rattle.input.specs.declared.LineEnd.{LineEnd}
-use Rattle.input.specs.declared.LineEnd.TheVariants as ends
 use Rattle.store.specs.declared.Effect.{Effect}
 use Rattle.store.specs.declared.Effect.TheVariants.{Push, Go}
 use Rattle.decoder.specs.declared.LongRead.{LongRead}
@@ -149,17 +147,40 @@ pub record TextAt (p : List ℕ) (n at a m : ℕ) : Type 0 where
   pub inside : a + m ≤ length p
   pub size : length p ≤ 65536
 
-module _ (p : List ℕ) (at : ℕ) {x : LineEnd} (e : line_end x ≡ newline_of p at) where
-  pub no_newline : x ≡ ends.End → newline_of p at ≡ refused EndOfInput 0
-  unfolding line_end
-  no_newline d = sym e ∙ ap line_end d
+-- the line at `at` is l, and b is the place behind its newline
+pub record LineTo (p : List ℕ) (at : ℕ) (l : List ℕ) (b : ℕ) : Type 0 where
+  pub end : ℕ
+  pub found : newline_of p at ≡ got end
+  pub line : l ≡ line_of p at end
+  pub behind : b ≡ end + 1
 
-  pub line_found : {i : ℕ} {c : Counts} → SomeRooms c (λ r. r.pickle ≡ p) → x ≡ ends.At i → LineAt p at i
-  unfolding line_end
-  line_found {i = i} l d =
-      let g = sym e ∙ ap line_end d in
-      let f = newline_first p at i g in
-      record { found = g; low = f.low; inside = f.inside; size = rw l.agrees at l.sound.firm.lengths.pickle }
+-- there is none, and so the input ended
+pub record NoLine (p : List ℕ) (at : ℕ) (why : Refusal) : Type 0 where
+  pub none : newline_of p at ≡ refused EndOfInput 0
+  pub is : why ≡ EndOfInput
+
+first_refused : (l : List ℕ) (k : ℕ) {why : Refusal} → first_from l k ≡ refused why 0 → why ≡ EndOfInput
+unfolding first_from
+first_refused [] k e = cc
+first_refused (b ∷ t) k {why} e = go (eqb b 10) e (first_refused t (suc k))
+  where
+    go : (x : Bool) → cond x (got k) (first_from t (suc k)) ≡ refused why 0 → (first_from t (suc k) ≡ refused why 0 → why ≡ EndOfInput) → why ≡ EndOfInput
+    go true e f = let z : ◌≡◌ {A = ℕ} 0 1 = cc in absurd (omega arith)
+    go false e f = f e
+
+pub no_line : (p : List ℕ) (at : ℕ) {why : Refusal} → newline_of p at ≡ refused why 0 → NoLine p at why
+unfolding newline_of
+no_line p at e = let w = first_refused (drop at p) at e in record { none = rw w at e; is = w }
+
+-- where it ends in the lent pickle
+pub line_found : {p : List ℕ} {at b : ℕ} {l : List ℕ} {c : Counts} → (t : LineTo p at l b) → SomeRooms c (λ r. r.pickle ≡ p) → LineAt p at t.end
+line_found {p = p} {at = at} t s =
+    let f = newline_first p at t.end t.found in
+    record { found = t.found; low = f.low; inside = f.inside; size = rw s.agrees at s.sound.firm.lengths.pickle }
+
+-- the counts behind it
+pub counts_behind : {p : List ℕ} {at b : ℕ} {l : List ℕ} (c : Counts) → (t : LineTo p at l b) → cut_to c b c.stack c.marks ≡ cut_to c (t.end + 1) c.stack c.marks
+counts_behind c t = ap (λ (a : ℕ). cut_to c a c.stack c.marks) t.behind
 
 -- ---- a step in all rooms that have the pickle
 
@@ -205,8 +226,8 @@ module _ (c : Counts) (p : List ℕ) where
   lined i e r s q = rw (line_got r c i (rw q e), q)
 
   module _ {A : Type 0} (read : List ℕ → Read A) (label : A → Label) where
-    pub line_ends : {x : LineEnd} → line_end x ≡ newline_of p c.at → x ≡ ends.End → Decides c (λ r. r.pickle ≡ p) (λ s. going (literal read label s)) (Err EndOfInput)
-    line_ends e d = refused_step line (λ q. leaf (read q.0) >>= λ v. push (label v) q.1) EndOfInput (ended (no_newline p c.at e d))
+    pub line_ends : {why : Refusal} → NoLine p c.at why → Decides c (λ r. r.pickle ≡ p) (λ s. going (literal read label s)) (Err why)
+    line_ends e = rw e.is (refused_step line (λ q. leaf (read q.0) >>= λ v. push (label v) q.1) EndOfInput (ended e.none))
 
     -- l is the line to the newline at i
     module _ {i : ℕ} (e : LineAt p c.at i) {l : List ℕ} (d : l ≡ line_of p c.at i) where
@@ -377,9 +398,9 @@ module _ (p : List ℕ) (n at : ℕ) (t : Result (ℕ × ℕ) Refusal) (h : Read
   long-short why e = record { behind = tt; is = λ c d r s q. rw (none_found p n at t h why e c d r s q) }
 
   module _ (a m : ℕ) (e : t ≡ Ok (a, m)) where
-    pub long_large : long_of (take m (drop a p)) ≡ refused IntegerTooLarge 0 → ReadsLong n at p (longs.None IntegerTooLarge)
+    pub long_large : (why : Refusal) → long_of (take m (drop a p)) ≡ refused why 0 → ReadsLong n at p (longs.None why)
     unfolding EndsBehind IsLong long_read leaf ◌>>=◌
-    long_large k = record { behind = tt; is = λ c d r s q. rw (found p n at t h a m e c d r s q, k) }
+    long_large why k = record { behind = tt; is = λ c d r s q. rw (found p n at t h a m e c d r s q, k) }
 
     pub long_got : (v : ℕ) → long_of (take m (drop a p)) ≡ got v → ReadsLong n at p (longs.At (a + m) v)
     unfolding EndsBehind IsLong long_read leaf ◌>>=◌

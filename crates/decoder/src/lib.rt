@@ -2,23 +2,23 @@
 // effect that its step has. specs/ has what each answers; steps has the state and the opcodes' definitions, store what the rooms and an effect mean.
 #![tactic(auto)]
 
-ghost use Rattle.std.specs.Prelude.{true, List, ◌≡◌, ℕ, ◌+◌, ◌-◌, ◌*◌, ◌^◌, ◌/◌, ◌<◌, ◌≤◌, length, get_or, Ok};
+ghost use Rattle.std.specs.Prelude.{true, List, ◌≡◌, ℕ, ◌+◌, ◌-◌, ◌*◌, ◌^◌, ◌/◌, ◌<◌, ◌≤◌, length, get_or, MatchResult, Ok};
 ghost use Rattle.steps.specs.State.{get, put};
 ghost use Rattle.steps.specs.Opcodes.{proto, pop_one, pop_to_mark, dup, int, binint, long, long_n, float, binfloat, string, binstring, short_binstring, unicode, binunicode, global, list, tuple, tuple_n, dict, append, appends, setitem, setitems, low_bytes, reduce, newobj, build_state};
 ghost use Rattle.steps.specs.Run.{going};
 ghost use Rattle.store.specs.Effects.{SomeRooms, Decides};
-ghost use Rattle.decoder.specs.ReadsPickle.{ReadsPart, prefixed, unsigned, ReadsLong};
+ghost use Rattle.decoder.specs.ReadsPickle.{LineTo, NoLine, ReadsPart, prefixed, unsigned, ReadsLong};
 ghost use Rattle.decoder.specs.Items.{TakesMark, GrowingKind, Adds, gathered};
 ghost use Rattle.steps.specs.NodeWords.{first, second, module_of, name_of, HoldsLinks};
 ghost use Rattle.decoder.specs.ReadsMemo.{key_line, key_by, get_by, put_by, ReadsKey};
 ghost use Rattle.decoder.specs.ReadsCalls.{CallOnTop, ReadsCall, made_kind};
 
 use float::{F64Literal, parse_f64};
-use input::{Integer, LineEnd, f64_at, i32_at, line, low_at, newline};
-use number::{I64Literal, IntLiteral, U32Literal, parse_u32};
+use input::{f64_at, i32_at, line, low_at, newline};
+use number::{IntLiteral, parse_u32};
 use refusal::{Refusal, Wanted};
 use store::{Counts, Effect, MemoKey, NodeId, kind, slot};
-use text::{Decoded, Quoted, string_len, unicode_len};
+use text::{Quoted, string_len, unicode_len};
 
 // ---- values that stand in the pickle
 
@@ -45,6 +45,14 @@ fn prefixed(pickle: &[u8], at: usize, width: usize) -> Result<(usize, usize), Re
     Ok((at + width, len))
 }
 
+// The line at a place, less its newline and CR, and the place behind it.
+fn line_at(pickle: &[u8], at: usize) -> Result<(&[u8], usize), Refusal>
+    ensures { MatchResult result (λ x. LineTo pickle.now at x.0.now x.1) (λ why. NoLine pickle.now at why) }
+{
+    let end = newline(pickle, at)?;
+    Ok((line(pickle, at, end), end + 1))
+}
+
 // PROTO: a protocol up to the highest that is accepted.
 pub fn proto(pickle: &[u8], c: Counts, highest: u8) -> Result<Effect, Refusal>
     requires { SomeRooms c (λ r. r.pickle ≡ pickle.now) }
@@ -65,18 +73,12 @@ pub fn int(pickle: &[u8], c: Counts) -> Result<Effect, Refusal>
     requires { SomeRooms c (λ r. r.pickle ≡ pickle.now) }
     ensures { Decides c (λ r. r.pickle ≡ pickle.now) (λ s. going (int s)) result }
 {
-    match newline(pickle, c.at) {
-        LineEnd::End => Err(Refusal::EndOfInput),
-        LineEnd::At(end) => match number::int(line(pickle, c.at, end)) {
-            IntLiteral::Bool(b) => Ok(Effect::Push(
-                Counts { at: end + 1, ..c },
-                value::KIND_BOOL,
-                b as u64,
-            )),
-            IntLiteral::I64(v) => Ok(Effect::Push(Counts { at: end + 1, ..c }, value::KIND_I64, v)),
-            IntLiteral::Invalid => Err(Refusal::InvalidLiteral),
-        },
-    }
+    let (line, at) = line_at(pickle, c.at)?;
+    let behind = Counts { at, ..c };
+    Ok(match number::int(line)? {
+        IntLiteral::Bool(b) => Effect::Push(behind, value::KIND_BOOL, b as u64),
+        IntLiteral::I64(v) => Effect::Push(behind, value::KIND_I64, v),
+    })
 }
 
 // BININT: four bytes with a sign.
@@ -111,17 +113,9 @@ pub fn long(pickle: &[u8], c: Counts) -> Result<Effect, Refusal>
     requires { SomeRooms c (λ r. r.pickle ≡ pickle.now) }
     ensures { Decides c (λ r. r.pickle ≡ pickle.now) (λ s. going (long s)) result }
 {
-    match newline(pickle, c.at) {
-        LineEnd::End => Err(Refusal::EndOfInput),
-        LineEnd::At(end) => match number::long_text(line(pickle, c.at, end)) {
-            I64Literal::Value(v) => Ok(Effect::Push(
-                Counts { at: end + 1, ..c },
-                value::KIND_I64,
-                v,
-            )),
-            I64Literal::Invalid => Err(Refusal::InvalidLiteral),
-        },
-    }
+    let (line, at) = line_at(pickle, c.at)?;
+    let v = number::long_text(line)?;
+    Ok(Effect::Push(Counts { at, ..c }, value::KIND_I64, v))
 }
 
 // The integer of a LONG1 or LONG4, with the place behind it, or why there is none.
@@ -142,8 +136,8 @@ pub fn long_at(pickle: &[u8], at: usize, width: usize) -> LongRead
         Ok((from, len)) => {
             let end = from + len;
             match input::long(&pickle[from..end]) {
-                Integer::Value(v) => LongRead::At(end, v),
-                Integer::TooLarge => LongRead::None(Refusal::IntegerTooLarge),
+                Ok(v) => LongRead::At(end, v),
+                Err(why) => LongRead::None(why),
             }
         }
     }
@@ -165,17 +159,11 @@ pub fn float(pickle: &[u8], c: Counts) -> Result<Effect, Refusal>
     requires { SomeRooms c (λ r. r.pickle ≡ pickle.now) }
     ensures { Decides c (λ r. r.pickle ≡ pickle.now) (λ s. going (float s)) result }
 {
-    match newline(pickle, c.at) {
-        LineEnd::End => Err(Refusal::EndOfInput),
-        LineEnd::At(end) => match parse_f64(line(pickle, c.at, end)) {
-            F64Literal::Bits(v) => Ok(Effect::Push(
-                Counts { at: end + 1, ..c },
-                value::KIND_F64,
-                v,
-            )),
-            F64Literal::Invalid => Err(Refusal::InvalidLiteral),
-            F64Literal::Outside => Err(Refusal::FloatOutside),
-        },
+    let (line, at) = line_at(pickle, c.at)?;
+    match parse_f64(line) {
+        F64Literal::Bits(v) => Ok(Effect::Push(Counts { at, ..c }, value::KIND_F64, v)),
+        F64Literal::Invalid => Err(Refusal::InvalidLiteral),
+        F64Literal::Outside => Err(Refusal::FloatOutside),
     }
 }
 
@@ -196,26 +184,20 @@ pub fn string(pickle: &[u8], c: Counts) -> Result<Effect, Refusal>
     requires { SomeRooms c (λ r. r.pickle ≡ pickle.now) }
     ensures { Decides c (λ r. r.pickle ≡ pickle.now) (λ s. going (string s)) result }
 {
-    match newline(pickle, c.at) {
-        LineEnd::End => Err(Refusal::EndOfInput),
-        LineEnd::At(end) => {
-            let l = line(pickle, c.at, end);
-            let len = l.len();
-            match string_len(l) {
-                Quoted::Plain => Ok(Effect::Push(
-                    Counts { at: end + 1, ..c },
-                    value::KIND_BYTES,
-                    text_word(c.at + 1, len - 2),
-                )),
-                Quoted::Escaped(_) => Ok(Effect::Push(
-                    Counts { at: end + 1, ..c },
-                    store::KIND_ESCAPED,
-                    text_word(c.at, len),
-                )),
-                Quoted::Refused(_) => Err(Refusal::InvalidLiteral),
-            }
-        }
-    }
+    let (line, at) = line_at(pickle, c.at)?;
+    let behind = Counts { at, ..c };
+    Ok(match string_len(line)? {
+        Quoted::Plain => Effect::Push(
+            behind,
+            value::KIND_BYTES,
+            text_word(c.at + 1, line.len() - 2),
+        ),
+        Quoted::Escaped(_) => Effect::Push(
+            behind,
+            store::KIND_ESCAPED,
+            text_word(c.at, line.len()),
+        ),
+    })
 }
 
 // BINSTRING: the sign of the length before its bytes.
@@ -254,21 +236,13 @@ pub fn unicode(pickle: &[u8], c: Counts) -> Result<Effect, Refusal>
     requires { SomeRooms c (λ r. r.pickle ≡ pickle.now) }
     ensures { Decides c (λ r. r.pickle ≡ pickle.now) (λ s. going (unicode s)) result }
 {
-    match newline(pickle, c.at) {
-        LineEnd::End => Err(Refusal::EndOfInput),
-        LineEnd::At(end) => {
-            let l = line(pickle, c.at, end);
-            let len = l.len();
-            match unicode_len(l) {
-                Decoded::Len(_) => Ok(Effect::Push(
-                    Counts { at: end + 1, ..c },
-                    store::KIND_UNICODE,
-                    text_word(c.at, len),
-                )),
-                Decoded::Refused(_) => Err(Refusal::InvalidLiteral),
-            }
-        }
-    }
+    let (line, at) = line_at(pickle, c.at)?;
+    unicode_len(line)?;
+    Ok(Effect::Push(
+        Counts { at, ..c },
+        store::KIND_UNICODE,
+        text_word(c.at, line.len()),
+    ))
 }
 
 // BINUNICODE: a length of four bytes, and the text, which is repaired when it is built.
@@ -286,26 +260,14 @@ pub fn global(pickle: &[u8], c: Counts) -> Result<Effect, Refusal>
     requires { SomeRooms c (λ r. r.pickle ≡ pickle.now) }
     ensures { Decides c (λ r. r.pickle ≡ pickle.now) (λ s. going (global s)) result }
 {
-    match newline(pickle, c.at) {
-        LineEnd::End => Err(Refusal::EndOfInput),
-        LineEnd::At(end) => {
-            let from = end + 1;
-            match newline(pickle, from) {
-                LineEnd::End => Err(Refusal::EndOfInput),
-                LineEnd::At(to) => {
-                    let module = line(pickle, c.at, end).len();
-                    let name = line(pickle, from, to).len();
-                    Ok(Effect::Push(
-                        Counts { at: to + 1, ..c },
-                        value::KIND_GLOBAL
-                            + store::KIND_RADIX
-                                * (module as u64 * store::MODULE_LEN_AT + c.at as u64),
-                        text_word(from, name),
-                    ))
-                }
-            }
-        }
-    }
+    let (module, from) = line_at(pickle, c.at)?;
+    let (name, at) = line_at(pickle, from)?;
+    let module_word = module.len() as u64 * store::MODULE_LEN_AT + c.at as u64;
+    Ok(Effect::Push(
+        Counts { at, ..c },
+        value::KIND_GLOBAL + store::KIND_RADIX * module_word,
+        text_word(from, name.len()),
+    ))
 }
 
 // ---- marks and the stack
@@ -547,13 +509,8 @@ pub enum KeyForm {
 fn key_line(pickle: &[u8], c: Counts) -> Result<(usize, MemoKey), Refusal>
     ensures { ReadsKey key_line c pickle.now result }
 {
-    match newline(pickle, c.at) {
-        LineEnd::End => Err(Refusal::EndOfInput),
-        LineEnd::At(end) => match parse_u32(line(pickle, c.at, end)) {
-            U32Literal::Value(k) => Ok((end + 1, MemoKey(k))),
-            U32Literal::Invalid => Err(Refusal::InvalidLiteral),
-        },
-    }
+    let (line, at) = line_at(pickle, c.at)?;
+    Ok((at, MemoKey(parse_u32(line)?)))
 }
 
 // The others': `width` bytes.

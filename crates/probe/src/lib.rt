@@ -2,13 +2,12 @@
 // that a program or another language can hold each leaf against the Rust.
 #![tactic(auto)]
 
-ghost use Rattle.std.specs.Prelude.{◌+◌, ◌≤◌, length};
+ghost use Rattle.std.specs.Prelude.{◌+◌, ◌≤◌, length, IfOk};
 
 use float::F64Literal;
-use input::{Integer, LineEnd};
-use number::{I64Literal, IntLiteral, U32Literal};
+use number::IntLiteral;
 use refusal::{Refusal, Wanted};
-use text::{Decoded, Quoted};
+use text::{FaultAt, Quoted};
 
 #[repr(C)]
 #[derive(Drop)]
@@ -27,15 +26,37 @@ pub struct Literal {
     pub place: u64,
 }
 
-fn refused(why: Refusal, place: usize) -> Literal {
+// Why a literal is refused, and where in its line.
+#[derive(Clone, Copy)]
+struct Fault {
+    why: Refusal,
+    place: usize,
+}
+
+impl From<Refusal> for Fault {
+    fn from(why: Refusal) -> Fault {
+        Fault { why, place: 0 }
+    }
+}
+
+impl From<FaultAt> for Fault {
+    fn from(fault: FaultAt) -> Fault {
+        Fault {
+            why: Refusal::from(fault),
+            place: fault.0,
+        }
+    }
+}
+
+fn refused(fault: Fault) -> Literal {
     Literal {
-        number: refusal::number(why),
-        detail: refusal::detail(why),
+        number: refusal::number(fault.why),
+        detail: refusal::detail(fault.why),
         length: 0,
         kind: 0,
         word: 0,
         text: 0,
-        place: place as u64,
+        place: fault.place as u64,
     }
 }
 
@@ -51,266 +72,154 @@ fn read(kind: u64, word: u64, text: usize, next: usize) -> Literal {
     }
 }
 
-// The newline at or after `from`, or the pickle's length where there is none.
-fn line_end(pickle: &[u8], from: usize) -> usize {
-    match input::newline(pickle, from) {
-        LineEnd::At(at) => at,
-        LineEnd::End => pickle.len(),
-    }
+// The line at `from`, and the place behind it.
+fn line_at(pickle: &[u8], from: usize) -> Result<(&[u8], usize), Refusal> {
+    let end = input::newline(pickle, from)?;
+    Ok((input::line(pickle, from, end), end + 1))
 }
 
-fn int(line: &[u8], next: usize) -> Literal {
-    match number::int(line) {
+fn int(line: &[u8], next: usize) -> Result<Literal, Fault> {
+    Ok(match number::int(line)? {
         IntLiteral::Bool(b) => read(value::KIND_BOOL, b as u64, 0, next),
         IntLiteral::I64(bits) => read(value::KIND_I64, bits, 0, next),
-        IntLiteral::Invalid => refused(Refusal::InvalidLiteral, 0),
-    }
+    })
 }
 
-fn long_text(line: &[u8], next: usize) -> Literal {
-    match number::long_text(line) {
-        I64Literal::Value(bits) => read(value::KIND_I64, bits, 0, next),
-        I64Literal::Invalid => refused(Refusal::InvalidLiteral, 0),
-    }
-}
-
-fn float_text(line: &[u8], next: usize) -> Literal {
+fn float_text(line: &[u8]) -> Result<u64, Refusal> {
     match float::parse_f64(line) {
-        F64Literal::Bits(bits) => read(value::KIND_F64, bits, 0, next),
-        F64Literal::Invalid => refused(Refusal::InvalidLiteral, 0),
-        F64Literal::Outside => refused(Refusal::FloatOutside, 0),
-    }
-}
-
-// PUT on an empty stack, GET on an empty memo: what is left to refuse once the number is read.
-fn memo(line: &[u8], put: bool) -> Literal {
-    match number::parse_u32(line) {
-        U32Literal::Value(n) => {
-            if put {
-                return refused(Refusal::StackUnderflow, 0);
-            }
-            refused(Refusal::MissingMemo(n), 0)
-        }
-        U32Literal::Invalid => refused(Refusal::InvalidLiteral, 0),
-    }
-}
-
-fn long(bytes: &[u8], next: usize) -> Literal {
-    match input::long(bytes) {
-        Integer::Value(bits) => read(value::KIND_I64, bits, 0, next),
-        Integer::TooLarge => refused(Refusal::IntegerTooLarge, 0),
+        F64Literal::Bits(bits) => Ok(bits),
+        F64Literal::Invalid => Err(Refusal::InvalidLiteral),
+        F64Literal::Outside => Err(Refusal::FloatOutside),
     }
 }
 
 // As many bytes of `from` as fit, at the start of the room.
 fn copy(from: &[u8], room: &mut [u8]) -> usize {
-    let mut i = 0;
-    while i < from.len() {
-        if room.len() <= i {
-            return i;
-        }
-        room[i] = from[i];
-        i += 1;
-    }
-    i
+    let n = from.len().min(room.len());
+    room[..n].copy_from_slice(&from[..n]);
+    n
 }
 
-fn string(line: &[u8], next: usize, room: &mut [u8]) -> Literal {
-    match text::string_len(line) {
-        Quoted::Plain => {
-            if line.len() < 2 {
-                return refused(Refusal::InvalidLiteral, 0);
-            }
-            let last = line.len() - 1;
-            let n = copy(&line[1..last], room);
-            read(value::KIND_BYTES, 0, n, next)
-        }
+fn string(line: &[u8], next: usize, room: &mut [u8]) -> Result<Literal, Fault> {
+    let n = match text::string_len(line)? {
+        Quoted::Plain => copy(&line[1..line.len() - 1], room),
         Quoted::Escaped(len) => {
             if room.len() < len {
-                return refused(Refusal::TextFull, 0);
+                return Err(Fault::from(Refusal::TextFull));
             }
-            let n = text::unescape_string(line, room);
-            read(value::KIND_BYTES, 0, n, next)
+            text::unescape_string(line, room)
         }
-        Quoted::Refused(at) => refused(Refusal::InvalidLiteral, at),
-    }
+    };
+    Ok(read(value::KIND_BYTES, 0, n, next))
 }
 
-fn unicode(line: &[u8], next: usize, room: &mut [u8]) -> Literal {
-    match text::unicode_len(line) {
-        Decoded::Len(len) => {
-            if room.len() < len {
-                return refused(Refusal::TextFull, 0);
-            }
-            let n = text::unescape_unicode(line, room);
-            read(value::KIND_STRING, 0, n, next)
-        }
-        Decoded::Refused(at) => refused(Refusal::InvalidLiteral, at),
+fn unicode(line: &[u8], next: usize, room: &mut [u8]) -> Result<Literal, Fault> {
+    if room.len() < text::unicode_len(line)? {
+        return Err(Fault::from(Refusal::TextFull));
     }
+    let n = text::unescape_unicode(line, room);
+    Ok(read(value::KIND_STRING, 0, n, next))
 }
 
-fn repaired(bytes: &[u8], next: usize, room: &mut [u8]) -> Literal {
+// Bytes repaired, at the start of the room; how many they are.
+fn repaired(bytes: &[u8], room: &mut [u8]) -> Result<usize, Refusal>
+    ensures { IfOk result (λ n. n ≤ length room.new) }
+{
     if 65536 < bytes.len() {
-        return refused(Refusal::TooLong, 0);
+        return Err(Refusal::TooLong);
     }
     if room.len() < utf8::repaired_len(bytes) {
-        return refused(Refusal::TextFull, 0);
+        return Err(Refusal::TextFull);
     }
-    let n = utf8::from_utf8_lossy(bytes, room);
-    read(value::KIND_STRING, 0, n, next)
+    Ok(utf8::from_utf8_lossy(bytes, room))
 }
 
-// A literal that is a line, from the byte after its opcode.
-fn of_line(pickle: &[u8], code: u8, room: &mut [u8]) -> Literal {
-    let end = line_end(pickle, 1);
-    if end < 1 {
-        return refused(Refusal::EndOfInput, 0);
-    }
-    if pickle.len() <= end {
-        return refused(Refusal::EndOfInput, 0);
-    }
-    let line = input::line(pickle, 1, end);
+// A literal that is a line, from the byte after its opcode. PUT stands on an empty stack, and GET on an empty memo.
+fn of_line(pickle: &[u8], code: u8, room: &mut [u8]) -> Result<Literal, Fault> {
+    let (line, next) = line_at(pickle, 1)?;
     match code {
-        op::INT => int(line, end + 1),
-        op::LONG => long_text(line, end + 1),
-        op::FLOAT => float_text(line, end + 1),
-        op::STRING => string(line, end + 1, room),
-        op::UNICODE => unicode(line, end + 1, room),
-        op::PUT => memo(line, true),
-        _ => memo(line, false),
-    }
-}
-
-fn of_bytes(code: u8, bytes: &[u8], next: usize, room: &mut [u8]) -> Literal {
-    match code {
-        op::LONG1 | op::LONG4 => long(bytes, next),
-        op::BINUNICODE => repaired(bytes, next, room),
-        _ => {
-            let n = copy(bytes, room);
-            read(value::KIND_BYTES, 0, n, next)
+        op::INT => int(line, next),
+        op::LONG => Ok(read(value::KIND_I64, number::long_text(line)?, 0, next)),
+        op::FLOAT => Ok(read(value::KIND_F64, float_text(line)?, 0, next)),
+        op::STRING => string(line, next, room),
+        op::UNICODE => unicode(line, next, room),
+        op::PUT => {
+            number::parse_u32(line)?;
+            Err(Fault::from(Refusal::StackUnderflow))
         }
+        _ => Err(Fault::from(Refusal::MissingMemo(number::parse_u32(line)?))),
     }
+}
+
+fn of_bytes(code: u8, bytes: &[u8], next: usize, room: &mut [u8]) -> Result<Literal, Fault> {
+    Ok(match code {
+        op::LONG1 | op::LONG4 => read(value::KIND_I64, input::long(bytes)?, 0, next),
+        op::BINUNICODE => read(value::KIND_STRING, 0, repaired(bytes, room)?, next),
+        _ => read(value::KIND_BYTES, 0, copy(bytes, room), next),
+    })
 }
 
 // A literal that is a length of `width` bytes and so many bytes.
-fn of_length(pickle: &[u8], code: u8, width: usize, len: usize, room: &mut [u8]) -> Literal
+fn of_length(
+    pickle: &[u8],
+    code: u8,
+    width: usize,
+    len: usize,
+    room: &mut [u8],
+) -> Result<Literal, Fault>
     requires { (width ≤ 4) × (width + 1 ≤ length pickle.now) }
 {
     let from = width + 1;
-    if pickle.len() - from < len {
-        return refused(Refusal::EndOfInput, 0);
-    }
-    let end = from + len;
-    of_bytes(code, &pickle[from..end], end, room)
+    let bytes = pickle[from..].get(..len).ok_or(Refusal::EndOfInput)?;
+    of_bytes(code, bytes, from + len, room)
 }
 
 // Lengths of one byte.
-fn of_short(pickle: &[u8], code: u8, room: &mut [u8]) -> Literal {
-    if pickle.len() < 2 {
-        return refused(Refusal::EndOfInput, 0);
-    }
-    let len = wide(pickle[1]) as usize;
-    of_length(pickle, code, 1, len, room)
+fn of_short(pickle: &[u8], code: u8, room: &mut [u8]) -> Result<Literal, Fault> {
+    let len = *pickle.get(1).ok_or(Refusal::EndOfInput)?;
+    of_length(pickle, code, 1, len as usize, room)
 }
 
 // Lengths of four bytes; BINSTRING's may not be negative.
-fn of_wide(pickle: &[u8], code: u8, room: &mut [u8]) -> Literal {
+fn of_wide(pickle: &[u8], code: u8, room: &mut [u8]) -> Result<Literal, Fault> {
     if pickle.len() < 5 {
-        return refused(Refusal::EndOfInput, 0);
+        return Err(Fault::from(Refusal::EndOfInput));
     }
     let len = input::u32_at(pickle, 1) as usize;
-    if code == op::BINSTRING {
-        if 0x7FFF_FFFF < len {
-            return refused(Refusal::Invalid(Wanted::Length), 0);
-        }
+    if code == op::BINSTRING && 0x7FFF_FFFF < len {
+        return Err(Fault::from(Refusal::Invalid(Wanted::Length)));
     }
     of_length(pickle, code, 4, len, room)
 }
 
-fn wide(byte: u8) -> u64 {
-    byte as u64
-}
-
-fn of_number(pickle: &[u8], code: u8) -> Literal {
+// A number of so many bytes as its opcode says.
+fn of_number(pickle: &[u8], code: u8) -> Result<Literal, Fault> {
     let left = pickle.len();
     match code {
-        op::BININT1 => {
-            if left < 2 {
-                return refused(Refusal::EndOfInput, 0);
-            }
-            read(value::KIND_I64, wide(pickle[1]), 0, 2)
-        }
-        op::BININT2 => {
-            if left < 3 {
-                return refused(Refusal::EndOfInput, 0);
-            }
-            read(value::KIND_I64, input::u16_at(pickle, 1) as u64, 0, 3)
-        }
-        op::BININT => {
-            if left < 5 {
-                return refused(Refusal::EndOfInput, 0);
-            }
-            read(value::KIND_I64, input::i32_at(pickle, 1), 0, 5)
-        }
-        _ => {
-            if left < 9 {
-                return refused(Refusal::EndOfInput, 0);
-            }
-            read(value::KIND_F64, input::f64_at(pickle, 1), 0, 9)
-        }
+        op::BININT1 if 2 <= left => Ok(read(value::KIND_I64, pickle[1] as u64, 0, 2)),
+        op::BININT2 if 3 <= left => Ok(read(
+            value::KIND_I64,
+            input::u16_at(pickle, 1) as u64,
+            0,
+            3,
+        )),
+        op::BININT if 5 <= left => Ok(read(value::KIND_I64, input::i32_at(pickle, 1), 0, 5)),
+        op::BINFLOAT if 9 <= left => Ok(read(value::KIND_F64, input::f64_at(pickle, 1), 0, 9)),
+        _ => Err(Fault::from(Refusal::EndOfInput)),
     }
-}
-
-// A module of m bytes and a name of n.
-fn named(m: usize, n: usize, next: usize) -> Literal {
-    if 262144 < n {
-        return refused(Refusal::TextFull, 0);
-    }
-    if 262144 < m {
-        return refused(Refusal::TextFull, 0);
-    }
-    read(value::KIND_GLOBAL, m as u64, m + n, next)
 }
 
 // GLOBAL: two lines, each repaired; the room holds the module and then the name.
-fn global(pickle: &[u8], room: &mut [u8]) -> Literal {
-    let end = line_end(pickle, 1);
-    if end < 1 {
-        return refused(Refusal::EndOfInput, 0);
-    }
-    if pickle.len() <= end {
-        return refused(Refusal::EndOfInput, 0);
-    }
-    let next = end + 1;
-    let last = line_end(pickle, next);
-    if last < next {
-        return refused(Refusal::EndOfInput, 0);
-    }
-    if pickle.len() <= last {
-        return refused(Refusal::EndOfInput, 0);
-    }
-    let stop = last + 1;
-    let module = repaired(input::line(pickle, 1, end), next, room);
-    let m = module.text as usize;
-    if module.number != 0 {
-        return module;
-    }
-    if room.len() < m {
-        return refused(Refusal::TextFull, 0);
-    }
-    let name = repaired(input::line(pickle, next, last), stop, &mut room[m..]);
-    let n = name.text as usize;
-    if name.number != 0 {
-        return name;
-    }
-    named(m, n, stop)
+fn global(pickle: &[u8], room: &mut [u8]) -> Result<Literal, Fault> {
+    let (module, from) = line_at(pickle, 1)?;
+    let (name, next) = line_at(pickle, from)?;
+    let m = repaired(module, room)?;
+    let n = repaired(name, &mut room[m..])?;
+    Ok(read(value::KIND_GLOBAL, m as u64, m + n, next))
 }
 
-fn first(pickle: &[u8], room: &mut [u8]) -> Literal {
-    if pickle.len() < 1 {
-        return refused(Refusal::EndOfInput, 0);
-    }
-    let code = pickle[0];
+fn first(pickle: &[u8], room: &mut [u8]) -> Result<Literal, Fault> {
+    let code = *pickle.first().ok_or(Refusal::EndOfInput)?;
     match code {
         op::INT | op::LONG | op::FLOAT | op::STRING | op::UNICODE | op::PUT | op::GET => of_line(
             pickle, code, room,
@@ -319,23 +228,27 @@ fn first(pickle: &[u8], room: &mut [u8]) -> Literal {
         op::LONG4 | op::BINSTRING | op::BINUNICODE => of_wide(pickle, code, room),
         op::BININT | op::BININT1 | op::BININT2 | op::BINFLOAT => of_number(pickle, code),
         op::GLOBAL => global(pickle, room),
-        _ => refused(Refusal::UnsupportedOpcode(code), 0),
+        _ => Err(Fault::from(Refusal::UnsupportedOpcode(code))),
     }
 }
 
 // The literal at the start of a pickle, and STOP.
+fn whole(pickle: &[u8], room: &mut [u8]) -> Result<Literal, Fault> {
+    let found = first(pickle, room)?;
+    match pickle.get(found.length as usize) {
+        Some(&op::STOP) => Ok(Literal {
+            length: found.length + 1,
+            ..found
+        }),
+        Some(&code) => Err(Fault::from(Refusal::UnsupportedOpcode(code))),
+        None => Err(Fault::from(Refusal::EndOfInput)),
+    }
+}
+
 #[unsafe(no_mangle)]
 pub extern "C" fn probe_literal(pickle: &[u8], room: &mut [u8]) -> Literal {
-    let found = first(pickle, room);
-    let next = found.length as usize;
-    if found.number != 0 {
-        return found;
+    match whole(pickle, room) {
+        Ok(found) => found,
+        Err(fault) => refused(fault),
     }
-    if pickle.len() <= next {
-        return refused(Refusal::EndOfInput, 0);
-    }
-    if pickle[next] != op::STOP {
-        return refused(Refusal::UnsupportedOpcode(pickle[next]), 0);
-    }
-    read(found.kind, found.word, found.text as usize, next + 1)
 }

@@ -4,11 +4,14 @@
 
 ghost use Rattle.std.specs.Prelude.{true, false, ◌≡◌, ◌+◌, ◌-◌, ◌<◌, ◌≤◌, length, take, drop, MatchOption, Some, SomeIff};
 ghost use Rattle.std.proofs.lemmas.List.Edits.{sets};
+ghost use Rattle.refusal.specs.declared.Refusal.TheVariants.{InvalidLiteral};
 ghost use Rattle.utf8.specs.Utf8.{encode};
 ghost use Rattle.text.specs.Pieces.{texts, length_of, RoomForText, WroteText};
 ghost use Rattle.text.specs.Escapes.{hex_digit, hex_number, hex_digits, hex_escape, octal_digit, octal_escape};
 ghost use Rattle.text.specs.Escapes.{letters, look, string_escape, string_head, scalar_of, scalar_piece, unicode_escape, unicode_head};
 ghost use Rattle.text.specs.Text.{has_quotes, inner, byte_itself, unescape_string, unescape_unicode, string_measured, quoted_says, decoded_says, pick};
+
+use refusal::Refusal;
 
 // What stands at the start of a text: one value, with how many bytes after the first belong to it.
 #[derive(Drop)]
@@ -17,9 +20,17 @@ pub struct TextPiece {
     pub more: usize,
 }
 
-// Where a line that is refused has its fault.
+// Where a line that is refused, as an invalid literal, has its fault.
 #[derive(Clone, Copy)]
 pub struct FaultAt(pub usize);
+
+impl From<FaultAt> for Refusal {
+    ghost from_gives = { λ _ why. why ≡ InvalidLiteral };
+
+    fn from(_fault: FaultAt) -> Refusal {
+        Refusal::InvalidLiteral
+    }
+}
 
 // A line of STRING: the value is the part between the quotes, or has so many bytes once unescaped.
 #[derive(Drop)]

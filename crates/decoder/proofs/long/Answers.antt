@@ -1,27 +1,21 @@
 -- LONG.
-use Rattle.std.proofs.Common.{refl, arith}
-use Rattle.decoder.specs.ReadsPickle.{line_found, line_ends, line_bad, line-push, makes_i64}
-use Rattle.steps.specs.Opcodes.{long}
+use Rattle.std.proofs.lemmas.Result.{err_from_is_err_and}
+use Rattle.decoder.specs.ReadsPickle.{line_found, counts_behind, line_ends, line_bad, line-push, makes_i64}
 use Rattle.input.specs.Long.{bits64}
 use Rattle.number.specs.Number.{long_literal}
 use Rattle.value.specs.Value.{I64L}
+use Rattle.steps.specs.Opcodes.{long}
 use Rattle.decoder.proofs.LawsPickle.{long-whole, long_bad}
 use Rattle.decoder.proofs.long.Goals as goal
 
-pub line-requires : goal.line-requires
-line-requires c = let e = line_found _ _ c.newline.ensures c.requires c.in-At.is in (e.low, e.inside)
-
-pub overflow_add-result : goal.overflow_add-result
-overflow_add-result c = let e = line_found _ _ c.newline.ensures c.requires c.in-At.is in omega arith
-
-pub returns-in-End : goal.returns-in-End
+pub returns-in_err-line : goal.returns-in_err-line
 unfolding long
-returns-in-End c = line_ends _ _ long_literal (λ z. I64L (bits64 z)) c.newline.ensures c.in-End.is
+returns-in_err-line c = let p = err_from_is_err_and c.from_residual.result c.from_residual.ensures.1 in rw (p.1, p.2) (line_ends _ _ long_literal (λ z. I64L (bits64 z)) c.in_err-line.ensures)
 
-pub returns-in-Value : goal.returns-in-Value
+pub returns-in_err-v : goal.returns-in_err-v
 unfolding long
-returns-in-Value c = let e = line_found _ _ c.newline.ensures c.requires c.in-At.is in line-push _ _ long_literal (λ z. I64L (bits64 z)) e c.line.ensures (long-whole _ _ c.long_text.ensures _ c.in-Value.is) (makes_i64 _ _) refl
+returns-in_err-v c = let t = c.in_ok-line.ensures in let e = line_found t c.requires in let p = err_from_is_err_and c.from_residual-in_err-v.result c.from_residual-in_err-v.ensures.1 in rw (p.1, p.2) (line_bad _ _ long_literal (λ z. I64L (bits64 z)) e t.line (long_bad _ _ c.long_text.ensures _ c.in_err-v.was))
 
-pub returns-in-Invalid : goal.returns-in-Invalid
+pub returns : goal.returns
 unfolding long
-returns-in-Invalid c = let e = line_found _ _ c.newline.ensures c.requires c.in-At.is in line_bad _ _ long_literal (λ z. I64L (bits64 z)) e c.line.ensures (long_bad _ _ c.long_text.ensures c.in-Invalid.is)
+returns c = let t = c.in_ok-line.ensures in let e = line_found t c.requires in line-push _ _ long_literal (λ z. I64L (bits64 z)) e t.line (long-whole _ _ c.long_text.ensures _ c.in_ok-v.was) (makes_i64 _ _) (counts_behind c.args.c t)

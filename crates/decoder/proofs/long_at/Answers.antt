@@ -13,8 +13,8 @@ slice_bounds-long-end c = let x = part_inside _ _ _ _ c.prefixed.ensures _ _ c.i
 pub returns-in-Err : goal.returns-in-Err
 returns-in-Err c = long-short _ _ _ _ c.prefixed.ensures _ c.in-Err.is
 
-pub returns-in-Value : goal.returns-in-Value
-returns-in-Value c = long-value _ _ _ _ c.prefixed.ensures _ _ c.in-Ok.is _ c.long.ensures _ c.in-Value.is
+pub returns-in-Ok-long : goal.returns-in-Ok-long
+returns-in-Ok-long c = long-value _ _ _ _ c.prefixed.ensures _ _ c.in-Ok.is _ c.long.ensures _ c.in-Ok-long.is
 
-pub returns-in-TooLarge : goal.returns-in-TooLarge
-returns-in-TooLarge c = long-outside _ _ _ _ c.prefixed.ensures _ _ c.in-Ok.is _ c.long.ensures c.in-TooLarge.is
+pub returns-in-Err-long : goal.returns-in-Err-long
+returns-in-Err-long c = long-outside _ _ _ _ c.prefixed.ensures _ _ c.in-Ok.is _ c.long.ensures _ c.in-Err-long.is
