@@ -11,7 +11,7 @@ use borrow.Author.Tests.{le-leb, lt-leb, ltb-true, ltb-false}
 use Rattle.std.specs.Prelude.{Result, Ok, Err}
 use Rattle.refusal.specs.Read.{Read, got, refused, answered}
 use Rattle.refusal.specs.declared.Refusal.{Refusal}
-use Rattle.refusal.specs.declared.Refusal.TheVariants.{EndOfInput, UnsupportedProtocol, Invalid, InvalidLiteral, FloatOutside}
+use Rattle.refusal.specs.declared.Refusal.TheVariants.{EndOfInput, UnsupportedProtocol, Invalid, InvalidLiteral}
 use Rattle.refusal.specs.declared.Wanted.TheVariants.{Length}
 use Rattle.utf8.specs.Utf8.{repair}
 use Rattle.input.specs.Bytes.{Bytes, bytes_take, bytes_drop}
@@ -20,9 +20,7 @@ use Rattle.number.specs.Number.{Int, truth, whole, turned, int_literal, long_lit
 use Rattle.number.specs.Literal.{IntBits, truth_bits, whole_bits, int_bits, int_read}
 use Rattle.number.specs.declared.IntLiteral.{IntLiteral}
 use Rattle.number.specs.declared.IntLiteral.TheVariants as ints
-use Rattle.float.specs.Literal.{f64_read, parse_f64}
-use Rattle.float.specs.declared.F64Literal.{F64Literal}
-use Rattle.float.specs.declared.F64Literal.TheVariants as floats
+use Rattle.float.specs.Literal.{parse_f64}
 use Rattle.input.specs.Line.{line_of, line-length}
 use Rattle.text.specs.Pieces.{bytes_of, length_of}
 use Rattle.text.specs.Text.{inner, unescape_string, unescape_unicode, string_measured, quoted_says, decoded_says}
@@ -108,18 +106,14 @@ module _ (l : List ℕ) (x : Result ℕ Refusal) (e : answered x ≡ turned bits
   unfolding turned
   long_bad why d = long-says ∙ ap (λ (y : Result ℕ Refusal). turned I64L (answered y)) d
 
-module _ (l : List ℕ) (x : F64Literal) (e : f64_read x ≡ parse_f64 l) where
-  pub float-bits : (v : ℕ) → x ≡ floats.Bits v → turned F64L (parse_f64 l) ≡ got (F64L v)
-  unfolding turned f64_read
-  float-bits v d = ap (turned F64L) (sym e ∙ ap f64_read d)
+module _ (l : List ℕ) (x : Result ℕ Refusal) (e : answered x ≡ parse_f64 l) where
+  pub float-bits : (v : ℕ) → x ≡ Ok v → turned F64L (parse_f64 l) ≡ got (F64L v)
+  unfolding turned
+  float-bits v d = ap (turned F64L) (sym e ∙ ap answered d)
 
-  pub float_bad : x ≡ floats.Invalid → turned F64L (parse_f64 l) ≡ refused InvalidLiteral 0
-  unfolding turned f64_read
-  float_bad d = ap (turned F64L) (sym e ∙ ap f64_read d)
-
-  pub float-outside : x ≡ floats.Outside → turned F64L (parse_f64 l) ≡ refused FloatOutside 0
-  unfolding turned f64_read
-  float-outside d = ap (turned F64L) (sym e ∙ ap f64_read d)
+  pub float_bad : (why : Refusal) → x ≡ Err why → turned F64L (parse_f64 l) ≡ refused why 0
+  unfolding turned
+  float_bad why d = ap (turned F64L) (sym e ∙ ap answered d)
 
 -- ---- LONG1, LONG4
 

@@ -13,7 +13,7 @@ ghost use Rattle.steps.specs.NodeWords.{first, second, module_of, name_of, Holds
 ghost use Rattle.decoder.specs.ReadsMemo.{key_line, key_by, get_by, put_by, ReadsKey};
 ghost use Rattle.decoder.specs.ReadsCalls.{CallOnTop, ReadsCall, made_kind};
 
-use float::{F64Literal, parse_f64};
+use float::parse_f64;
 use input::{f64_at, i32_at, line, low_at, newline};
 use number::{IntLiteral, parse_u32};
 use refusal::{Refusal, Wanted};
@@ -160,11 +160,8 @@ pub fn float(pickle: &[u8], c: Counts) -> Result<Effect, Refusal>
     ensures { Decides c (λ r. r.pickle ≡ pickle.now) (λ s. going (float s)) result }
 {
     let (line, at) = line_at(pickle, c.at)?;
-    match parse_f64(line) {
-        F64Literal::Bits(v) => Ok(Effect::Push(Counts { at, ..c }, value::KIND_F64, v)),
-        F64Literal::Invalid => Err(Refusal::InvalidLiteral),
-        F64Literal::Outside => Err(Refusal::FloatOutside),
-    }
+    let v = parse_f64(line)?;
+    Ok(Effect::Push(Counts { at, ..c }, value::KIND_F64, v))
 }
 
 // BINFLOAT: eight bytes, high byte first.

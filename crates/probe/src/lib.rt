@@ -4,7 +4,6 @@
 
 ghost use Rattle.std.specs.Prelude.{◌+◌, ◌≤◌, length, IfOk};
 
-use float::F64Literal;
 use number::IntLiteral;
 use refusal::{Refusal, Wanted};
 use text::{FaultAt, Quoted};
@@ -85,14 +84,6 @@ fn int(line: &[u8], next: usize) -> Result<Literal, Fault> {
     })
 }
 
-fn float_text(line: &[u8]) -> Result<u64, Refusal> {
-    match float::parse_f64(line) {
-        F64Literal::Bits(bits) => Ok(bits),
-        F64Literal::Invalid => Err(Refusal::InvalidLiteral),
-        F64Literal::Outside => Err(Refusal::FloatOutside),
-    }
-}
-
 // As many bytes of `from` as fit, at the start of the room.
 fn copy(from: &[u8], room: &mut [u8]) -> usize {
     let n = from.len().min(room.len());
@@ -140,7 +131,7 @@ fn of_line(pickle: &[u8], code: u8, room: &mut [u8]) -> Result<Literal, Fault> {
     match code {
         op::INT => int(line, next),
         op::LONG => Ok(read(value::KIND_I64, number::long_text(line)?, 0, next)),
-        op::FLOAT => Ok(read(value::KIND_F64, float_text(line)?, 0, next)),
+        op::FLOAT => Ok(read(value::KIND_F64, float::parse_f64(line)?, 0, next)),
         op::STRING => string(line, next, room),
         op::UNICODE => unicode(line, next, room),
         op::PUT => {
