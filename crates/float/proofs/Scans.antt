@@ -160,12 +160,6 @@ module _ (v : ℕ) (s : List ℕ) (r : DigitRun) (e : r ≡ run_of v s) where
   unfolding run_of
   run_value = ap (λ (x : DigitRun). x.value) e
 
-  pub run_room : r.count ≤ length s
-  run_room =
-      let c = run_count in
-      let l = lead-length s in
-      omega arith
-
 pub lead-none : (s : List ℕ) (at : ℕ) → (at < length s → digit (get_or s at 0) ≡ false) → lead (drop at s) ≡ []
 unfolding lead
 lead-none [] zero h = refl

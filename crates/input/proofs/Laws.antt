@@ -110,17 +110,6 @@ module _ (w : ℕ) (p : List ℕ) (at : ℕ) where
         small = grows i v _ a.small s;
       }
 
-  pub below_all : (i v : ℕ) → w ≤ i → Below w p at i v → (v ≡ high_first (take w (drop at p))) × (v < 256 ^ w)
-  below_all i v h a =
-      let l = a.left in
-      let e : i ≡ w = omega arith in
-      (rw e at a.is, rw e at a.small)
-
-pub fill_none : (l : List ℕ) → length l ≡ 0 → 0 ≡ fill_of l
-unfolding fill_of last_byte
-fill_none [] h = refl
-fill_none (b ∷ t) h = absurd (omega arith)
-
 -- a width's bytes as a part
 module _ (w : ℕ) (p : List ℕ) (at : ℕ) where
   pub part_is : take (at + w - at) (drop at p) ≡ take w (drop at p)

@@ -131,14 +131,8 @@ no_byte : (read : List ℕ → List ℕ) (s : List ℕ) → read [] ≡ [] → (
 no_byte read s e j h = let z : j ≡ 0 = omega arith in rw (z, e) no_space
 
 module _ (s : List ℕ) where
-  abbrev pub Ahead : ℕ → Bool → Type 0
-  Ahead = Tested (λ p. p) s (length s) (λ j. get_or s j 0)
-
   pub ahead : NoSpaceSoFar (λ p. p) s (length s) (λ j. get_or s j 0) 0
   ahead = record { long = refl; is = λ j h. refl; none = no_byte (λ p. p) s refl }
-
-  abbrev pub Behind : ℕ → Bool → Type 0
-  Behind = Tested reverse (reverse s) (length s) (λ j. get_or s (length s - suc j) 0)
 
   pub behind : NoSpaceSoFar reverse (reverse s) (length s) (λ j. get_or s (length s - suc j) 0) 0
   behind = record {

@@ -13,11 +13,12 @@ use lib.Seq.{sets, drop-drop}
 use Rattle.utf8.specs.Encode.{by_lt}
 use Rattle.output.specs.Put.{Put, Room, StillToPut, left_more, left_room, left_none, room_first, sets_last}
 use Rattle.op.specs.Table.{code_of, number_in, is_named, place}
-use Rattle.refusal.specs.Read.{Read, got, refused}
-use Rattle.input.specs.declared.LineEnd.{LineEnd}
-use Rattle.input.specs.declared.LineEnd.TheVariants.{At, End}
+use Rattle.std.specs.Prelude.{Result, Ok, Err}
+use Rattle.std.specs.Result.{is_err}
+use Rattle.refusal.specs.Read.{Read, got, refused, answered}
+use Rattle.refusal.specs.declared.Refusal.{Refusal}
 use Rattle.input.specs.Bytes.{last_byte}
-use Rattle.input.specs.Line.{line_end, first_from, newline_of}
+use Rattle.input.specs.Line.{first_from, newline_of}
 use Rattle.value.specs.Value.{bit}
 use Rattle.value.specs.declared.Head.{Head}
 use Rattle.value.specs.Shape.{kind_in, head_of, module_part, name_part}
@@ -176,18 +177,26 @@ newline_found (b ∷ s) k = go (eqb b 10) (newline_found s (suc k))
     go true e = refl
     go false e = e
 
-module _ (s : List ℕ) (r : LineEnd) (e : line_end r ≡ newline_of s 0) where
-  newline_told : has_newline s ≡ found (line_end r)
+module _ (s : List ℕ) (r : Result ℕ Refusal) (e : answered r ≡ newline_of s 0) where
+  newline_told : has_newline s ≡ found (answered r)
   unfolding newline_of
   newline_told = newline_found s 0 ∙ ap found (sym e)
 
-  pub name_broken : {i : ℕ} → r ≡ At i → false ≡ writable s
-  unfolding writable line_end
-  name_broken q = let h : has_newline s ≡ true = newline_told ∙ rw q in sym (rw h)
+  pub name_broken : is_err r ≡ false → false ≡ writable s
+  unfolding writable
+  name_broken q = sym (rw (newline_told ∙ go r q))
+    where
+      go : (x : Result ℕ Refusal) → is_err x ≡ false → found (answered x) ≡ true
+      go (Ok i) h = refl
+      go (Err why) h = cc
 
-  pub name-whole : {c : Bool} → r ≡ End → c ≡ ends_cr s → not c ≡ writable s
-  unfolding writable line_end
-  name-whole q h = let n : has_newline s ≡ false = newline_told ∙ rw q in rw (n, h)
+  pub name-whole : {c : Bool} → is_err r ≡ true → c ≡ ends_cr s → not c ≡ writable s
+  unfolding writable
+  name-whole q h = rw (newline_told ∙ go r q, h)
+    where
+      go : (x : Result ℕ Refusal) → is_err x ≡ true → found (answered x) ≡ false
+      go (Ok i) h = cc
+      go (Err why) h = refl
 
 pub empty_no_cr : (s : List ℕ) → length s ≡ 0 → false ≡ ends_cr s
 unfolding ends_cr last_byte

@@ -15,7 +15,6 @@ ghost use Rattle.ser.specs.Length.{batches_take, appends_take, around, opening_t
 ghost use Rattle.ser.specs.Writable.{ends_cr, writable, writable_label, writable_from, RecordsReadable};
 ghost use Rattle.ser.specs.Call.{WriteCall};
 
-use input::LineEnd;
 use output::Place;
 use refusal::{Answer, Refusal, Which};
 use value::{
@@ -647,10 +646,7 @@ fn ends_with_cr(name: &[u8]) -> bool
 fn name_is_writable(name: &[u8]) -> bool
     ensures { result ≡ writable name.now }
 {
-    match input::newline(name, 0) {
-        LineEnd::At(_) => false,
-        LineEnd::End => !ends_with_cr(name),
-    }
+    input::newline(name, 0).is_err() && !ends_with_cr(name)
 }
 
 // The same of a module and a name, which stand as for `encode_names`.
