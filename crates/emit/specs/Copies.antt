@@ -1,4 +1,4 @@
--- The loops that copy: bytes, and records with their text places moved. Each invariant: what is still to be stored, stored, gives all.
+-- The loop that copies records, their text places moved. Its invariant: what is still to be stored, stored, gives all.
 use Prim.Native.Nat.{ℕ, suc, ◌+◌, ◌-◌, ◌*◌, ◌^◌, ◌<◌, ◌≤◌}
 use Rattle.std.specs.Prelude.{true, cond, ◌≡◌, refl, take, drop, set}
 use mathlib.Core.List.{List, [], ◌∷◌}
@@ -11,51 +11,6 @@ use Rattle.std.proofs.Math.Numerals.{add-one}
 use native.Mathlib.Omega.{arith}
 use Rattle.resolve.specs.Moved.{has_text_place, moves}
 use Rattle.emit.specs.Stores.{sets_before, early}
-
--- ---- a text
-
--- i bytes of s are at their place in o
-pub record Putting (s o₀ : List ℕ) (at i : ℕ) (o : List ℕ) : Type 0 where
-  pub below : i ≤ length s
-  pub long : length o ≡ length o₀
-  pub rest : sets o (at + i) (drop i s) ≡ sets o₀ at s
-
-module _ (s o₀ : List ℕ) (at : ℕ) where
-  pub putting_none : Putting s o₀ at 0 o₀
-  putting_none = record { below = omega arith; long = refl; rest = rw add-zero }
-
-  pub putting_next : (i : ℕ) (o : List ℕ) → Putting s o₀ at i o → i < length s → Putting s o₀ at (i + 1) (set o (at + i) (get_or s i 0))
-  putting_next i o h l =
-      let e : at + (i + 1) ≡ suc (at + i) = omega arith in
-      let m = h.rest in
-      record { below = omega arith; long = length-set o (at + i) (get_or s i 0) ∙ h.long; rest = rw (e, add-one i) (rw (drop-cons s i 0 l) at m) }
-
-  pub putting_all : (i : ℕ) (o : List ℕ) → Putting s o₀ at i o → length s ≤ i → o ≡ sets o₀ at s
-  putting_all i o h l = let e : i ≡ length s = omega (arith, h.below) in let m = h.rest in rw (e, drop-length s) at m
-
--- ---- a part of a text once more, behind it: that part is put, and stands as it did
-
-pub record Repeating (o₀ : List ℕ) (from n at k : ℕ) (o : List ℕ) : Type 0 where
-  pub putting : Putting (take n (drop from o₀)) o₀ at k o
-  pub same : take at o ≡ take at o₀
-
-module _ (o₀ : List ℕ) (from n at : ℕ) (apart : from + n ≤ at) (room : at + n ≤ length o₀) where
-  long_part : length (take n (drop from o₀)) ≡ n
-  long_part = length-take-le n (drop from o₀) (simp length-drop (omega arith))
-
-  pub repeating_none : Repeating o₀ from n at 0 o₀
-  repeating_none = record { putting = putting_none _ o₀ at; same = refl }
-
-  pub repeating_next : (k : ℕ) (o : List ℕ) → Repeating o₀ from n at k o → k < n → Repeating o₀ from n at (k + 1) (set o (at + k) (get_or o (from + k) 0))
-  repeating_next k o h l =
-      let x : get_or o (from + k) 0 ≡ get_or (take n (drop from o₀)) k 0 = early o₀ o at (from + k) h.same (omega arith) ∙ sym (get_or-take n (drop from o₀) k 0 l ∙ get_or-drop from o₀ k 0) in
-      record {
-        putting = rw x (putting_next _ o₀ at k o h.putting (omega (arith, long_part)));
-        same = sets_before o (at + k) (get_or o (from + k) 0 ∷ []) at (omega arith) ∙ h.same;
-      }
-
-  pub repeating_all : (k : ℕ) (o : List ℕ) → Repeating o₀ from n at k o → n ≤ k → o ≡ sets o₀ at (take n (drop from o₀))
-  repeating_all k o h l = putting_all _ o₀ at k o h.putting (omega (arith, long_part))
 
 -- ---- records once more, behind them, with texts from q on that were from p on
 

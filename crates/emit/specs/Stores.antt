@@ -1,8 +1,10 @@
 -- A run of stores into a room: what stands there, before it and behind it.
 use Rattle.std.specs.Prelude.{ℕ, suc, ◌+◌, ◌-◌, ◌<◌, ◌≤◌, List, [], ◌∷◌, ◌++◌, ◌≡◌, refl, length, get_or, take, drop, set}
-use Rattle.std.proofs.Common.{append_assoc, sym, ◌∙◌, ap, drop-set-lt, get_or-take, drop_at, length-take-le, take-take, drop-drop, arith}
+use Rattle.std.proofs.Common.{append_assoc, sym, ◌∙◌, ap, drop-set-lt, get_or-take, drop_at, length-take-le, length-drop, take-take, drop-drop, arith}
 use Rattle.std.proofs.lemmas.List.Edits.{sets, sets-eq}
 use Rattle.std.proofs.lemmas.List.{take-set-le}
+use Rattle.std.specs.List.{copy_within}
+use borrow.Rule.Slice.PartMut.{put_mid}
 use Rattle.std.proofs.Math.Seq.{take-append_seam}
 use Rattle.resolve.specs.Written.{HasAt}
 
@@ -18,6 +20,17 @@ pub sets_there : (l : List ℕ) (i : ℕ) (vs : List ℕ) → i + length vs ≤ 
 sets_there l i vs h =
     let n : length (take i l) ≡ i = length-take-le i l (omega arith) in
     rw (sets-eq vs l i h, append_assoc, drop_at (take i l) (vs ++ drop (i + length vs) l) i n) (take-append_seam vs (drop (i + length vs) l))
+
+-- ---- what a slice's own stores leave: s into its part from i on, and its part from i to j once more from `to` on
+
+pub put_mid_sets : (l s new : List ℕ) (i k : ℕ) → new ≡ s → k ≡ length s → i + length s ≤ length l → put_mid i k l new ≡ sets l i s
+put_mid_sets l s new i k e n h = rw (e, n, drop-drop (length s) i l, sets-eq s l i h, append_assoc)
+
+pub copy_within_sets : (l : List ℕ) (i j n to : ℕ) → j ≡ i + n → j ≤ length l → to + n ≤ length l → copy_within l i j to ≡ sets l to (take n (drop i l))
+copy_within_sets l i j n to e h r =
+    let a : j - i ≡ n = omega arith in
+    let b : length (take n (drop i l)) ≡ n = length-take-le n (drop i l) (simp length-drop (omega arith)) in
+    rw (a, sets-eq (take n (drop i l)) l to (omega arith), b)
 
 -- ---- rooms that agree up to e, or from e on
 

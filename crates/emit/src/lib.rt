@@ -30,55 +30,28 @@ use value::Head;
 const WRITTEN: u64 = 0x8000_0000_0000_0000;
 
 // The words of one record of the table.
-#[derive(Drop)]
-struct Record(u64, u64, u64, u64);
+type Record = [u64; 4];
 
 fn put_record(table: &mut [u64], i: usize, words: Record)
     requires { 4 * i + 4 ≤ length table.old }
-    ensures { table.new ≡ sets table.old (4 * i) (words.0 ∷ words.1 ∷ words.2 ∷ words.3 ∷ []) }
+    ensures { table.new ≡ sets table.old (4 * i) words }
 {
-    table[4 * i] = words.0;
-    table[4 * i + 1] = words.1;
-    table[4 * i + 2] = words.2;
-    table[4 * i + 3] = words.3;
+    table[4 * i..4 * i + 4].copy_from_slice(&words);
 }
 
 fn put_bytes(bytes: &[u8], text: &mut [u8], at: usize)
     requires { at + length bytes.now ≤ length text.old }
     ensures { text.new ≡ sets text.old at bytes.now }
 {
-    let mut i = 0;
-    while i < bytes.len() {
-        text[at + i] = bytes[i];
-        i += 1;
-    }
-}
-
-// The `n` bytes that stand from `from` on, once more from `at` on.
-fn copy_bytes(text: &mut [u8], from: usize, n: usize, at: usize)
-    requires { (from + n ≤ at) × (at + n ≤ length text.old) }
-    ensures { text.new ≡ sets text.old at (take n (drop from text.old)) }
-{
-    let mut k = 0;
-    while k < n {
-        text[at + k] = text[from + k];
-        k += 1;
-    }
+    text[at..at + bytes.len()].copy_from_slice(bytes);
 }
 
 // Has a record with this first word a text place?
 fn is_placed(first: u64) -> bool
     ensures { result ≡ has_text_place first }
 {
-    let head = value::head_of(first);
-    let kind = head.kind;
-    if kind == value::KIND_BYTES {
-        return true;
-    }
-    if kind == value::KIND_STRING {
-        return true;
-    }
-    value::KIND_DICT < kind
+    let kind = value::head_of(first).kind;
+    kind == value::KIND_BYTES || kind == value::KIND_STRING || value::KIND_DICT < kind
 }
 
 // The second word of a record whose text began at `from` and begins at `to`, if it has any text.
@@ -87,9 +60,10 @@ fn moved_word(first: u64, second: u64, from: usize, to: usize) -> u64
     ensures { result ≡ cond (has_text_place first) (second - from + to) second }
 {
     if is_placed(first) {
-        return second - from as u64 + to as u64;
+        second - from as u64 + to as u64
+    } else {
+        second
     }
-    second
 }
 
 // The `size` records that stand from `from` on, once more from `at` on, their texts from `target` on.
@@ -105,16 +79,13 @@ fn copy_records(
     ensures { table.new ≡ sets table.old (4 * at)
         (moves origin target (take (4 * size) (drop (4 * from) table.old))) }
 {
-    let mut k = 0;
-    while k < size {
+    for k in 0..size {
         let i = 4 * (from + k);
         let first = table[i];
         let place = table[i + 1];
         let second = moved_word(first, place, origin, target);
-        let third = table[i + 2];
-        let fourth = table[i + 3];
-        put_record(table, at + k, Record(first, second, third, fourth));
-        k += 1;
+        let words = [first, second, table[i + 2], table[i + 3]];
+        put_record(table, at + k, words);
     }
 }
 
@@ -133,7 +104,7 @@ fn plain_word(kind: u64) -> u64
 // The record of a node with these words: its text's lengths and place, the values directly in it, its records in all.
 fn record_of(first: u64, second: u64, lengths: u64, at: u64, values: u64, size: u64) -> Record
     requires { kind_of first ≡ 12 → values ≤ 2 }
-    ensures { result.0 ∷ result.1 ∷ result.2 ∷ result.3 ∷ [] ≡ record_from (kind_of first) (fresh_in first) second lengths at values size }
+    ensures { result ≡ record_from (kind_of first) (fresh_in first) second lengths at values size }
 {
     let kind = resolve::lists::value_kind(first);
     if kind == value::KIND_OBJECT {
@@ -143,28 +114,28 @@ fn record_of(first: u64, second: u64, lengths: u64, at: u64, values: u64, size: 
             new: head.new,
             state: values == 2,
         });
-        return Record(word, at, lengths, size);
+        return [word, at, lengths, size];
     }
     let word = plain_word(kind);
     if kind == value::KIND_NONE {
-        return Record(word, 0, 0, 0);
+        return [word, 0, 0, 0];
     }
     if kind == value::KIND_BOOL {
-        return Record(word, (second == 1) as u64, 0, 0);
+        return [word, (second == 1) as u64, 0, 0];
     }
     if kind < value::KIND_BYTES {
-        return Record(word, second, 0, 0);
+        return [word, second, 0, 0];
     }
     if kind < value::KIND_LIST {
-        return Record(word, at, lengths, 0);
+        return [word, at, lengths, 0];
     }
     if kind < value::KIND_DICT {
-        return Record(word, values, size, 0);
+        return [word, values, size, 0];
     }
     if kind == value::KIND_DICT {
-        return Record(word, values / 2, size, 0);
+        return [word, values / 2, size, 0];
     }
-    Record(word, at, lengths, 0)
+    [word, at, lengths, 0]
 }
 
 // The module and the name of a Global or of an Object's class; their lengths in one word, the name's below the module's.
@@ -263,13 +234,8 @@ fn write_text<'a>(
     let bytes = resolve::texts::lead_part(node, pickle, decoded, nodes, measures);
     put_bytes(bytes, text, at as usize);
     let len = bytes.len() as u64;
-    let words = Record(
-        plain_word(resolve::lists::value_kind(nodes[2 * i])),
-        at,
-        len,
-        0,
-    );
-    put_record(table, (to % 0x1000) as usize, words);
+    let word = plain_word(resolve::lists::value_kind(nodes[2 * i]));
+    put_record(table, (to % 0x1000) as usize, [word, at, len, 0]);
     to + 1 + 0x1000 * len
 }
 
@@ -290,7 +256,7 @@ fn write_again(measure: u64, to: u64, table: &mut [u64], text: &mut [u8]) -> u64
         origin,
         target,
     );
-    copy_bytes(text, origin, long as usize, target);
+    text.copy_within(origin..origin + long as usize, target);
     to + size + 0x1000 * long
 }
 
@@ -344,11 +310,7 @@ fn write_flat<'a>(
     }
     let at = to / 0x1000;
     let lengths = put_names(node, pickle, decoded, nodes, measures, text, at as usize);
-    put_record(
-        table,
-        (to % 0x1000) as usize,
-        Record(plain_word(kind), at, lengths, 0),
-    );
+    put_record(table, (to % 0x1000) as usize, [plain_word(kind), at, lengths, 0]);
     behind(to, lengths)
 }
 
@@ -415,13 +377,10 @@ fn write<'a>(
         result }
 {
     let range = resolve::lists::range_of(node, nodes, starts, measures);
-    let from = range.at;
-    let end = range.end;
     let at = (to / 0x1000) as usize;
     let lengths = put_class(node, pickle, decoded, nodes, measures, text, at);
     let mut next = behind(to, lengths);
-    let mut j = from;
-    while j < end {
+    for j in range.at..range.end {
         let child = resolve::lists::item(range.log, j, sorted, log);
         if is_below(child, value::KIND_BYTES, nodes) {
             next = write_atom(child, next, nodes, table); // most are: no call that lends the texts
@@ -445,11 +404,9 @@ fn write<'a>(
         } else {
             next = write_flat(child, next, pickle, decoded, nodes, measures, table, text);
         }
-        j += 1;
     }
-    let measure = finish(node, to, next, lengths, end - from, nodes, table);
-    let i = node.0;
-    measures[i] = measure;
+    let values = range.end - range.at;
+    measures[node.0] = finish(node, to, next, lengths, values, nodes, table);
     next
 }
 
@@ -477,9 +434,10 @@ pub fn write_root<'a>(
         table.new text.new result }
 {
     if is_open(root, nodes, measures) {
-        return write(
+        write(
             root, 64, 0, starts, sorted, log, pickle, decoded, nodes, measures, table, text,
-        );
+        )
+    } else {
+        write_flat(root, 0, pickle, decoded, nodes, measures, table, text)
     }
-    write_flat(root, 0, pickle, decoded, nodes, measures, table, text)
 }
