@@ -1,12 +1,12 @@
 -- The loop that copies records, their text places moved. Its invariant: what is still to be stored, stored, gives all.
 use Prim.Native.Nat.{ℕ, suc, ◌+◌, ◌-◌, ◌*◌, ◌^◌, ◌<◌, ◌≤◌}
-use Rattle.std.specs.Prelude.{true, cond, ◌≡◌, refl, take, drop, set}
+use Rattle.std.specs.Prelude.{true, cond, ◌≡◌, refl, take, drop}
 use mathlib.Core.List.{List, [], ◌∷◌}
-use Rattle.std.proofs.Common.{sym, ◌∙◌, length-set, length-drop, drop-cons, length-take-le, get_or-take, get_or-drop, add-zero}
+use Rattle.std.proofs.Common.{◌∙◌, drop-cons, add-zero}
 use Rattle.std.proofs.Math.Path.{ap}
 use Rattle.std.proofs.Math.ListN.{length, get_or}
 use Rattle.std.proofs.lemmas.List.Edits.{sets}
-use Rattle.std.proofs.Math.Seq.{length-sets, drop-length}
+use Rattle.std.proofs.Math.Seq.{length-sets}
 use Rattle.std.proofs.Math.Numerals.{add-one}
 use native.Mathlib.Omega.{arith}
 use Rattle.resolve.specs.Moved.{has_text_place, moves}

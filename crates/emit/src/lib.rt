@@ -310,7 +310,11 @@ fn write_flat<'a>(
     }
     let at = to / 0x1000;
     let lengths = put_names(node, pickle, decoded, nodes, measures, text, at as usize);
-    put_record(table, (to % 0x1000) as usize, [plain_word(kind), at, lengths, 0]);
+    put_record(
+        table,
+        (to % 0x1000) as usize,
+        [plain_word(kind), at, lengths, 0],
+    );
     behind(to, lengths)
 }
 

@@ -1,5 +1,5 @@
 -- A container's children are written one by one, each by what it is.
-use Rattle.std.proofs.Common.{◌≡◌, true, false, Bool, ℕ, ◌+◌, ◌-◌, ◌<◌, ◌≤◌, List, length, cond, get_or, refl, sym, ◌∙◌, arith, length-set}
+use Rattle.std.proofs.Common.{◌≡◌, true, false, Bool, ℕ, ◌+◌, ◌-◌, ◌<◌, List, length, cond, get_or, refl, sym, ◌∙◌, arith}
 use Rattle.resolve.specs.NodeList.{Ranges}
 use Rattle.resolve.specs.Shown.{node_label}
 use Rattle.resolve.specs.declared.lists.Range.{Range}

@@ -1,5 +1,5 @@
 -- Whatever the node is: none, a container that is written, or a leaf by its kind.
-use Rattle.std.proofs.Common.{ℕ, ◌≡◌, ◌≢◌, true, false, ◌*◌, ◌<◌, ◌≤◌, List, Bool, length, refl, sym, ◌∙◌, arith}
+use Rattle.std.proofs.Common.{ℕ, ◌≡◌, ◌≢◌, true, false, ◌*◌, ◌<◌, List, Bool, length, refl, sym, ◌∙◌, arith}
 use Rattle.steps.specs.NodeWords.{first}
 use Rattle.resolve.specs.Kinds.{kind_of, container_kind}
 use Rattle.resolve.specs.Shown.{node_label}
