@@ -13,6 +13,7 @@ ghost use Rattle.lengths.specs.Sum.{sum};
 use lengths::{BAD_LENGTHS, add_up};
 use op::Edition;
 use refusal::Answer;
+use rooms::lending::Lent;
 
 // The sheets' answers, four places each.
 fn check(sheets: &[u8], lengths: &[u64], answers: &mut [u64]) -> Answer {
@@ -29,52 +30,39 @@ fn check(sheets: &[u8], lengths: &[u64], answers: &mut [u64]) -> Answer {
     let mut measures = [0u64; 4096];
     let mut table = [0u64; 8192];
     let mut text = [0u8; 65536];
-    batch::from_bytes_batch(
-        sheets,
-        lengths,
-        answers,
-        &mut nodes,
-        &mut owners,
-        &mut children,
-        &mut stack,
-        &mut marks,
-        &mut keys,
-        &mut held,
-        &mut unescaped,
-        &mut starts,
-        &mut sorted,
-        &mut measures,
-        &mut table,
-        &mut text,
-    )
+    let mut lent = Lent {
+        nodes: &mut nodes,
+        owners: &mut owners,
+        children: &mut children,
+        stack: &mut stack,
+        marks: &mut marks,
+        keys: &mut keys,
+        held: &mut held,
+        unescaped: &mut unescaped,
+        starts: &mut starts,
+        sorted: &mut sorted,
+        measures: &mut measures,
+        table: &mut table,
+        text: &mut text,
+    };
+    batch::from_bytes_batch(sheets, lengths, answers, &mut lent)
 }
 
-// A number of the input, or its end.
-#[derive(Drop)]
-enum NumberOrEnd {
-    Number(u64),
-    End,
-}
-
-fn read_number() -> NumberOrEnd {
+// The next number of the input, if it has one.
+fn read_number() -> Option<u64> {
     let mut four = [0u8; 4];
     if io::read_full(0, &mut four) < 4 {
-        return NumberOrEnd::End;
+        return None;
     }
-    NumberOrEnd::Number(input::u32_at(&four, 0) as u64)
+    Some(u32::from_le_bytes(four) as u64)
 }
 
-// The sheets' lengths; false where the input ends before.
-fn read_lengths(lengths: &mut [u64]) -> bool {
-    let mut i = 0;
-    while i < lengths.len() {
-        let NumberOrEnd::Number(n) = read_number() else {
-            return false;
-        };
-        lengths[i] = n;
-        i += 1;
+// The sheets' lengths, if the input has as many numbers.
+fn read_lengths(lengths: &mut [u64]) -> Option<()> {
+    for length in lengths.iter_mut() {
+        *length = read_number()?;
     }
-    true
+    Some(())
 }
 
 // A sheet's line.
@@ -91,13 +79,12 @@ fn show(answer: Answer) {
 
 // The lines of sheets whose answers have four places each.
 fn show_all(answers: &[u64]) {
-    for i in 0..answers.len() / 4 {
-        let at = 4 * i;
+    for four in answers.chunks_exact(4) {
         show(Answer {
-            number: answers[at],
-            detail: answers[at + 1],
-            length: answers[at + 2],
-            count: answers[at + 3],
+            number: four[0],
+            detail: four[1],
+            length: four[2],
+            count: four[3],
         });
     }
 }
@@ -113,13 +100,11 @@ fn read_plain(sheet: &[u8]) -> Answer {
 fn show_plain(sheets: &[u8], lengths: &[u64])
     requires { length sheets.now ≡ sum lengths.now }
 {
-    let mut at = 0;
-    let mut i = 0;
-    while i < lengths.len() {
-        let end = at + lengths[i] as usize;
-        show(read_plain(&sheets[at..end]));
-        at = end;
-        i += 1;
+    let mut rest = sheets;
+    for length in lengths {
+        let (sheet, behind) = rest.split_at(*length as usize);
+        show(read_plain(sheet));
+        rest = behind;
     }
 }
 
@@ -135,10 +120,10 @@ fn check_plain(sheets: &[u8], lengths: &[u64]) {
 // The night of as many sheets as lengths are lent, with four places for the answers to each.
 fn check_night(edition: Edition, lengths: &mut [u64], answers: &mut [u64]) {
     let mut sheets = [0u8; 524288];
-    if !read_lengths(lengths) {
+    let Some(()) = read_lengths(lengths) else {
         console::show_refusal(BAD_LENGTHS, 0);
         return;
-    }
+    };
     let n = io::read_full(0, &mut sheets);
     if let Edition::Plain = edition {
         check_plain(&sheets[0..n], lengths);
@@ -155,7 +140,7 @@ fn check_night(edition: Edition, lengths: &mut [u64], answers: &mut [u64]) {
 fn main(rt: HostRuntime) {
     let mut lengths = [0u64; 1024];
     let mut answers = [0u64; 4096];
-    let NumberOrEnd::Number(count) = read_number() else {
+    let Some(count) = read_number() else {
         console::show_refusal(BAD_LENGTHS, 0);
         return;
     };

@@ -17,10 +17,7 @@ pub fn edition(rt: &impl Env) -> Edition {
 
 // The first n bytes, or all where there are fewer.
 pub fn first(bytes: &[u8], n: usize) -> &[u8] {
-    if n <= bytes.len() {
-        return &bytes[0..n];
-    }
-    bytes
+    &bytes[..n.min(bytes.len())]
 }
 
 pub fn tab() {

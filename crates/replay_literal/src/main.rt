@@ -7,13 +7,11 @@ fn tab() {
 }
 
 fn show_text(text: &[u8]) {
-    if text.len() == 0 {
+    if text.is_empty() {
         io::write_all(1, b"-");
     }
-    let mut i = 0;
-    while i < text.len() {
-        io::print_hex(1, text[i] as u64, 2);
-        i += 1;
+    for byte in text {
+        io::print_hex(1, *byte as u64, 2);
     }
 }
 

@@ -36,7 +36,7 @@ fn show(code: u8) {
 fn main() {
     let mut input = [0u8; 256];
     let n = io::read_full(0, &mut input);
-    for i in 0..n {
-        show(input[i]);
+    for code in input.iter().take(n) {
+        show(*code);
     }
 }

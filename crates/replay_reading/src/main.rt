@@ -6,95 +6,44 @@
 
 use op::Edition;
 use refusal::Answer;
+use rooms::lending::Lent;
 
-// A room must be zero; an output must have the mark, which is not zero.
-fn blame(room: bool) {
-    if room {
+// Whether a part of what was lent has nothing but this value.
+fn has_only<T: PartialEq + Copy>(part: &[T], value: T) -> bool {
+    part.iter().all(|x| *x == value)
+}
+
+// A room must be zero.
+fn show_dirty<T: PartialEq + Copy>(room: &[T], zero: T) {
+    if !has_only(room, zero) {
         io::write_all(1, b"\tdirty");
-    } else {
+    }
+}
+
+// An output must have the mark behind what was filled.
+fn show_spilled<T: PartialEq + Copy>(output: &[T], filled: usize, mark: T) {
+    if !has_only(&output[filled.min(output.len())..], mark) {
         io::write_all(1, b"\tspilled");
-    }
-}
-
-// Puts the blame in the line where an element from `from` on has not the value; one function for each width.
-fn hold8(room: &[u8], from: usize, value: u8) {
-    let mut i = from;
-    while i < room.len() {
-        if room[i] != value {
-            blame(value == 0);
-            return;
-        }
-        i += 1;
-    }
-}
-
-fn hold16(room: &[u16], from: usize, value: u16) {
-    let mut i = from;
-    while i < room.len() {
-        if room[i] != value {
-            blame(value == 0);
-            return;
-        }
-        i += 1;
-    }
-}
-
-fn hold32(room: &[u32], from: usize, value: u32) {
-    let mut i = from;
-    while i < room.len() {
-        if room[i] != value {
-            blame(value == 0);
-            return;
-        }
-        i += 1;
-    }
-}
-
-fn hold64(room: &[u64], from: usize, value: u64) {
-    let mut i = from;
-    while i < room.len() {
-        if room[i] != value {
-            blame(value == 0);
-            return;
-        }
-        i += 1;
     }
 }
 
 // The first n words.
 fn show_words(words: &[u64], n: usize) {
-    let mut i = 0;
-    while i < words.len() {
-        if n <= i {
-            return;
-        }
-        io::print_hex(1, words[i], 16);
-        i += 1;
+    for word in words.iter().take(n) {
+        io::print_hex(1, *word, 16);
     }
-}
-
-fn wide(byte: u8) -> u64 {
-    byte as u64
 }
 
 // The first n bytes.
 fn show_bytes(bytes: &[u8], n: usize) {
-    let mut i = 0;
-    while i < bytes.len() {
-        if n <= i {
-            return;
-        }
-        io::print_hex(1, wide(bytes[i]), 2);
-        i += 1;
+    for byte in bytes.iter().take(n) {
+        io::print_hex(1, *byte as u64, 2);
     }
 }
 
 // The words of so many records, of which a table has 2,048 at most.
 fn words_in(count: u64) -> usize {
-    if count <= 2048 {
-        return 4 * count as usize;
-    }
-    8192
+    4 * count.min(2048) as usize
 }
 
 // The answer, and what it says is filled; then what is blamed on the outputs.
@@ -114,8 +63,8 @@ fn show(answer: Answer, table: &[u64], text: &[u8], mark: u8, mark64: u64) {
         console::tab();
         show_bytes(text, bytes);
     }
-    hold64(table, words, mark64);
-    hold8(text, bytes, mark);
+    show_spilled(table, words, mark64);
+    show_spilled(text, bytes, mark);
 }
 
 // A case, in a line, with the mark in every byte of what is lent.
@@ -136,36 +85,34 @@ fn replay(whole: bool, pickle: &[u8], mark: u8) {
     let mut measures = [mark64; 4096];
     let mut table = [mark64; 8192];
     let mut text = [mark; 65536];
-    let answer = de::reading(
-        Edition::Full,
-        whole,
-        pickle,
-        &mut nodes,
-        &mut owners,
-        &mut children,
-        &mut stack,
-        &mut marks,
-        &mut keys,
-        &mut held,
-        &mut unescaped,
-        &mut starts,
-        &mut sorted,
-        &mut measures,
-        &mut table,
-        &mut text,
-    );
+    let mut lent = Lent {
+        nodes: &mut nodes,
+        owners: &mut owners,
+        children: &mut children,
+        stack: &mut stack,
+        marks: &mut marks,
+        keys: &mut keys,
+        held: &mut held,
+        unescaped: &mut unescaped,
+        starts: &mut starts,
+        sorted: &mut sorted,
+        measures: &mut measures,
+        table: &mut table,
+        text: &mut text,
+    };
+    let answer = de::reading(Edition::Full, whole, pickle, &mut lent);
     show(answer, &table, &text, mark, mark64);
-    hold64(&nodes, 0, 0);
-    hold16(&owners, 0, 0);
-    hold16(&children, 0, 0);
-    hold16(&stack, 0, 0);
-    hold16(&marks, 0, 0);
-    hold32(&keys, 0, 0);
-    hold16(&held, 0, 0);
-    hold8(&unescaped, 0, 0);
-    hold16(&starts, 0, 0);
-    hold16(&sorted, 0, 0);
-    hold64(&measures, 0, 0);
+    show_dirty(&nodes, 0);
+    show_dirty(&owners, 0);
+    show_dirty(&children, 0);
+    show_dirty(&stack, 0);
+    show_dirty(&marks, 0);
+    show_dirty(&keys, 0);
+    show_dirty(&held, 0);
+    show_dirty(&unescaped, 0);
+    show_dirty(&starts, 0);
+    show_dirty(&sorted, 0);
+    show_dirty(&measures, 0);
     io::write_all(1, b"\n");
 }
 

@@ -8,16 +8,12 @@ ghost use Rattle.std.specs.Prelude.{◌≤◌, ◌<◌, length};
 ghost use Rattle.replay_table.specs.Small.{Small};
 
 use refusal::Answer;
+use std::cmp::Ordering;
 
 // The words that stand in bytes, high byte first.
 fn fill(words: &mut [u64], bytes: &[u8]) {
-    let mut i = 0;
-    while i < words.len() {
-        if bytes.len() / 8 <= i {
-            return;
-        }
-        words[i] = input::f64_at(bytes, 8 * i);
-        i += 1;
+    for (word, eight) in words.iter_mut().zip(bytes.chunks_exact(8)) {
+        *word = input::f64_at(eight, 0);
     }
 }
 
@@ -30,38 +26,20 @@ fn show_compare(number: u64, detail: u64, sign: i64) {
     tab();
     io::print_decimal(1, detail);
     tab();
-    if sign < 0 {
-        io::write_all(1, b"-1");
-    } else if sign == 0 {
-        io::write_all(1, b"0");
-    } else {
-        io::write_all(1, b"1");
-    }
+    match sign.cmp(&0) {
+        Ordering::Less => io::write_all(1, b"-1"),
+        Ordering::Equal => io::write_all(1, b"0"),
+        Ordering::Greater => io::write_all(1, b"1"),
+    };
     io::write_all(1, b"\n");
 }
 
 // A mark in every byte, to see which ones a call changes.
-fn stain(output: &mut [u8]) {
-    let mut i = 0;
-    while i < output.len() {
-        output[i] = 0x55;
-        i += 1;
-    }
-}
+const MARK: u8 = 0x55;
 
-// How many bytes from `from` on have lost the mark.
-fn changed(output: &[u8], from: usize) -> usize
-    ensures { result ≤ length output.now }
-{
-    let mut n: usize = 0;
-    let mut i = from;
-    while i < output.len() {
-        if output[i] != 0x55 {
-            n += 1;
-        }
-        i += 1;
-    }
-    n
+// How many bytes have lost the mark.
+fn changed(output: &[u8]) -> usize {
+    output.iter().filter(|byte| **byte != MARK).count()
 }
 
 // List, or write.
@@ -73,7 +51,7 @@ fn put(call: usize, words: &[u64], count: usize, text: &[u8], output: &mut [u8])
 }
 
 fn show_list(call: usize, words: &[u64], count: usize, text: &[u8], output: &mut [u8]) {
-    stain(output);
+    output.fill(MARK);
     let r = put(call, words, count, text, output);
     io::print_decimal(1, r.number);
     tab();
@@ -84,10 +62,10 @@ fn show_list(call: usize, words: &[u64], count: usize, text: &[u8], output: &mut
     io::print_decimal(1, r.count);
     tab();
     let n = r.length as usize;
-    io::print_decimal(1, changed(output, n) as u64);
+    io::print_decimal(1, changed(&output[n.min(output.len())..]) as u64);
     io::write_all(1, b"\n");
     if n <= output.len() {
-        io::write_all(1, &output[0..n]);
+        io::write_all(1, &output[..n]);
     }
 }
 
