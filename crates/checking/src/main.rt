@@ -10,9 +10,9 @@
 ghost use Rattle.std.specs.Prelude.{◌≡◌, length};
 ghost use Rattle.lengths.specs.Sum.{sum};
 
-use lengths::{BAD_LENGTHS, add_up};
+use lengths::add_up;
 use op::Edition;
-use refusal::Answer;
+use refusal::{Answer, Refusal};
 use rooms::lending::Lent;
 
 // The sheets' answers, four places each.
@@ -111,7 +111,7 @@ fn show_plain(sheets: &[u8], lengths: &[u64])
 // The night of plain data: no line before the lengths are right.
 fn check_plain(sheets: &[u8], lengths: &[u64]) {
     if !add_up(lengths, sheets.len()) {
-        console::show_refusal(BAD_LENGTHS, 0);
+        console::refuse(Refusal::BadLengths);
         return;
     }
     show_plain(sheets, lengths);
@@ -121,7 +121,7 @@ fn check_plain(sheets: &[u8], lengths: &[u64]) {
 fn check_night(edition: Edition, lengths: &mut [u64], answers: &mut [u64]) {
     let mut sheets = [0u8; 524288];
     let Some(()) = read_lengths(lengths) else {
-        console::show_refusal(BAD_LENGTHS, 0);
+        console::refuse(Refusal::BadLengths);
         return;
     };
     let n = io::read_full(0, &mut sheets);
@@ -141,11 +141,11 @@ fn main(rt: HostRuntime) {
     let mut lengths = [0u64; 1024];
     let mut answers = [0u64; 4096];
     let Some(count) = read_number() else {
-        console::show_refusal(BAD_LENGTHS, 0);
+        console::refuse(Refusal::BadLengths);
         return;
     };
     if count > 1024 {
-        console::show_refusal(1, 0);
+        console::refuse(Refusal::ShortRoom);
         return;
     }
     let n = count as usize;

@@ -3,6 +3,7 @@
 #![tactic(auto)]
 
 use op::Edition;
+use refusal::Refusal;
 use std::env::FillError;
 use std::rt::Env;
 
@@ -30,4 +31,9 @@ pub fn show_refusal(number: u64, detail: u64) {
     tab();
     io::print_decimal(1, detail);
     io::write_all(1, b"\n");
+}
+
+// The line of a refusal that the program itself meets.
+pub fn refuse(why: Refusal) {
+    show_refusal(refusal::number(why), refusal::detail(why));
 }

@@ -4,29 +4,66 @@
 // after one of these that succeeds its output follows.
 #![tactic(auto)]
 
-ghost use Rattle.std.specs.Prelude.{◌≤◌, ◌<◌, length};
-ghost use Rattle.replay_table.specs.Small.{Small};
+ghost use Rattle.std.specs.Prelude.{◌≡◌, ◌+◌, ◌*◌, ◌≤◌};
 
 use refusal::Answer;
 use std::cmp::Ordering;
+use table::Compared;
 
-// The words that stand in bytes, high byte first.
-fn fill(words: &mut [u64], bytes: &[u8]) {
-    for (word, eight) in words.iter_mut().zip(bytes.chunks_exact(8)) {
-        *word = input::f64_at(eight, 0);
+// The calls on tables, each by its number in a request.
+#[derive(Clone, Copy)]
+enum Call {
+    Compare,
+    List,
+    Write,
+    Score,
+}
+
+impl From<u32> for Call {
+    fn from(number: u32) -> Call {
+        match number {
+            1 => Call::Compare,
+            3 => Call::Write,
+            4 => Call::Score,
+            _ => Call::List,
+        }
     }
+}
+
+// How many words a table has, how many records, and how long its text is.
+#[derive(Clone, Copy)]
+struct Sizes {
+    words: u32,
+    count: u32,
+    text: u32,
+}
+
+impl Sizes {
+    // How many bytes of a request have the table.
+    fn bytes(self) -> usize
+        ensures { result ≡ 8 * self.words + self.text }
+    {
+        8 * self.words as usize + self.text as usize
+    }
+}
+
+#[derive(Clone, Copy)]
+struct Table<'a> {
+    words: &'a [u64],
+    count: usize,
+    text: &'a [u8],
 }
 
 fn tab() {
     io::write_all(1, b"\t");
 }
 
-fn show_compare(number: u64, detail: u64, sign: i64) {
-    io::print_decimal(1, number);
+fn show_compare(compared: Compared) {
+    io::print_decimal(1, compared.number);
     tab();
-    io::print_decimal(1, detail);
+    io::print_decimal(1, compared.detail);
     tab();
-    match sign.cmp(&0) {
+    match compared.sign.cmp(&0) {
         Ordering::Less => io::write_all(1, b"-1"),
         Ordering::Equal => io::write_all(1, b"0"),
         Ordering::Greater => io::write_all(1, b"1"),
@@ -42,26 +79,17 @@ fn changed(output: &[u8]) -> usize {
     output.iter().filter(|byte| **byte != MARK).count()
 }
 
-// List, or write.
-fn put(call: usize, words: &[u64], count: usize, text: &[u8], output: &mut [u8]) -> Answer {
-    if call == 3 {
-        return ser::to_bytes(words, count, text, output);
-    }
-    list::list_table(words, count, text, output)
-}
-
-fn show_list(call: usize, words: &[u64], count: usize, text: &[u8], output: &mut [u8]) {
-    output.fill(MARK);
-    let r = put(call, words, count, text, output);
-    io::print_decimal(1, r.number);
+// The answer of a call that has filled an output with the mark in it, and what it filled.
+fn show_filled(answer: Answer, output: &[u8]) {
+    io::print_decimal(1, answer.number);
     tab();
-    io::print_decimal(1, r.detail);
+    io::print_decimal(1, answer.detail);
     tab();
-    io::print_decimal(1, r.length);
+    io::print_decimal(1, answer.length);
     tab();
-    io::print_decimal(1, r.count);
+    io::print_decimal(1, answer.count);
     tab();
-    let n = r.length as usize;
+    let n = answer.length as usize;
     io::print_decimal(1, changed(&output[n.min(output.len())..]) as u64);
     io::write_all(1, b"\n");
     if n <= output.len() {
@@ -69,173 +97,137 @@ fn show_list(call: usize, words: &[u64], count: usize, text: &[u8], output: &mut
     }
 }
 
-fn show_score(words: &[u64], count: usize, text: &[u8]) {
-    let r = scorer::score(words, count, text);
-    io::print_decimal(1, r.number);
+fn show_list(table: Table<'_>, output: &mut [u8]) {
+    output.fill(MARK);
+    let answer = list::list_table(table.words, table.count, table.text, output);
+    show_filled(answer, output);
+}
+
+fn show_write(table: Table<'_>, output: &mut [u8]) {
+    output.fill(MARK);
+    let answer = ser::to_bytes(table.words, table.count, table.text, output);
+    show_filled(answer, output);
+}
+
+fn show_score(table: Table<'_>) {
+    let scored = scorer::score(table.words, table.count, table.text);
+    io::print_decimal(1, scored.number);
     tab();
-    io::print_decimal(1, r.detail);
+    io::print_decimal(1, scored.detail);
     tab();
-    io::print_decimal(1, r.score);
+    io::print_decimal(1, scored.score);
     tab();
-    io::print_decimal(1, r.items);
+    io::print_decimal(1, scored.items);
     io::write_all(1, b"\n");
 }
 
 // What a request says: which call, and the sizes.
-#[derive(Drop)]
+#[derive(Clone, Copy)]
 struct Request {
-    call: usize,
-    words: usize,
-    count: usize,
-    text: usize,
-    words2: usize,
-    count2: usize,
-    text2: usize,
+    call: Call,
+    first: Sizes,
+    second: Sizes,
     output: usize,
 }
 
-fn number(head: &[u8; 32], at: usize) -> usize
-    requires { at ≤ 28 }
-    ensures { result < 4294967296 }
+fn sizes_at(head: &[u8; 32], at: usize) -> Sizes
+    requires { at ≤ 20 }
 {
-    input::u32_at(head, at) as usize
+    Sizes {
+        words: input::u32_at(head, at),
+        count: input::u32_at(head, at + 4),
+        text: input::u32_at(head, at + 8),
+    }
 }
 
-fn asked(head: &[u8; 32]) -> Request
-    ensures { Small result.words result.text result.words2 result.text2 }
-{
+fn asked(head: &[u8; 32]) -> Request {
     Request {
-        call: number(head, 0),
-        words: number(head, 4),
-        count: number(head, 8),
-        text: number(head, 12),
-        words2: number(head, 16),
-        count2: number(head, 20),
-        text2: number(head, 24),
-        output: number(head, 28),
+        call: Call::from(input::u32_at(head, 0)),
+        first: sizes_at(head, 4),
+        second: sizes_at(head, 16),
+        output: input::u32_at(head, 28) as usize,
     }
 }
 
-fn list_one(r: Request, bytes: &[u8], first: &mut [u64], output: &mut [u8]) {
-    let words = r.words;
-    let text = r.text;
-    let out = r.output;
-    if bytes.len() / 8 < words {
-        return;
+// The words that stand in bytes, high byte first.
+fn fill(words: &mut [u64], bytes: &[u8]) {
+    for (word, eight) in words.iter_mut().zip(bytes.chunks_exact(8)) {
+        *word = input::f64_at(eight, 0);
     }
-    let from = 8 * words;
-    if bytes.len() - from < text {
-        return;
-    }
-    let end = from + text;
-    if first.len() < words {
-        return;
-    }
-    if output.len() < out {
-        return;
-    }
-    fill(first, bytes);
-    if r.call == 4 {
-        show_score(&first[0..words], r.count, &bytes[from..end]);
-        return;
-    }
-    show_list(
-        r.call,
-        &first[0..words],
-        r.count,
-        &bytes[from..end],
-        &mut output[0..out],
-    );
 }
 
-// The second table stands in `rest`.
-fn compare_rest(
-    words: &[u64],
-    count: usize,
-    text: &[u8],
-    rest: &[u8],
-    r: Request,
-    second: &mut [u64],
-) {
-    let words2 = r.words2;
-    let text2 = r.text2;
-    if rest.len() / 8 < words2 {
-        return;
-    }
-    let from = 8 * words2;
-    if rest.len() - from < text2 {
-        return;
-    }
-    let end = from + text2;
-    if second.len() < words2 {
-        return;
-    }
-    fill(second, rest);
-    let c = table::compare(
-        words,
-        count,
+// The table that stands at the front of bytes, if it has room for its words.
+fn table_of<'a>(sizes: Sizes, bytes: &'a [u8], room: &'a mut [u64]) -> Option<Table<'a>> {
+    let (words, rest) = bytes.split_at_checked(8 * sizes.words as usize)?;
+    let (text, _) = rest.split_at_checked(sizes.text as usize)?;
+    let filled = room.get_mut(..sizes.words as usize)?;
+    fill(filled, words);
+    Some(Table {
+        words: filled,
+        count: sizes.count as usize,
         text,
-        &second[0..words2],
-        r.count2,
-        &rest[from..end],
-    );
-    show_compare(c.number, c.detail, c.sign);
+    })
 }
 
-fn compare_one(r: Request, bytes: &[u8], first: &mut [u64], second: &mut [u64]) {
-    let words = r.words;
-    let text = r.text;
-    if bytes.len() / 8 < words {
-        return;
-    }
-    let from = 8 * words;
-    if bytes.len() - from < text {
-        return;
-    }
-    let end = from + text;
-    if first.len() < words {
-        return;
-    }
-    fill(first, bytes);
-    compare_rest(
-        &first[0..words],
-        r.count,
-        &bytes[from..end],
-        &bytes[end..],
-        r,
-        second,
-    );
+fn compare(first: Table<'_>, second: Table<'_>) {
+    show_compare(table::compare(
+        first.words,
+        first.count,
+        first.text,
+        second.words,
+        second.count,
+        second.text,
+    ));
 }
 
-// One request; false at the end of the input, or where it is too large.
-fn one(bytes: &mut [u8], first: &mut [u64], second: &mut [u64], output: &mut [u8]) -> bool {
+// The calls on one table; a score asks for the output's room too.
+fn show_output(call: Call, table: Table<'_>, output: &mut [u8]) {
+    match call {
+        Call::Score => show_score(table),
+        Call::Write => show_write(table, output),
+        _ => show_list(table, output),
+    }
+}
+
+// What is asked of the tables in bytes; nothing where a room is too small.
+fn answer(
+    r: Request,
+    bytes: &[u8],
+    first: &mut [u64],
+    second: &mut [u64],
+    output: &mut [u8],
+) -> Option<()> {
+    let table = table_of(r.first, bytes, first)?;
+    if let Call::Compare = r.call {
+        let (_, behind) = bytes.split_at_checked(r.first.bytes())?;
+        compare(table, table_of(r.second, behind, second)?);
+    } else {
+        show_output(r.call, table, output.get_mut(..r.output)?);
+    }
+    Some(())
+}
+
+// One request; none at the end of the input, or where it is too large.
+fn one(bytes: &mut [u8], first: &mut [u64], second: &mut [u64], output: &mut [u8]) -> Option<()> {
     let mut head = [0u8; 32];
     if io::read_full(0, &mut head) < 32 {
-        return false;
+        return None;
     }
     let r = asked(&head);
-    let size = 8 * r.words + r.text + 8 * r.words2 + r.text2;
-    if bytes.len() < size {
-        return false;
+    let given = bytes.get_mut(..r.first.bytes() + r.second.bytes())?;
+    if io::read_full(0, given) < given.len() {
+        return None;
     }
-    if io::read_full(0, &mut bytes[0..size]) < size {
-        return false;
-    }
-    if r.call == 1 {
-        compare_one(r, bytes, first, second);
-    } else {
-        list_one(r, bytes, first, output);
-    }
-    true
+    answer(r, given, first, second, output);
+    Some(())
 }
 
 // A million requests at most.
-fn all(bytes: &mut [u8], first: &mut [u64], second: &mut [u64], output: &mut [u8]) {
-    for _ in 0..1_000_000usize {
-        if !one(bytes, first, second, output) {
-            return;
-        }
+fn all(bytes: &mut [u8], first: &mut [u64], second: &mut [u64], output: &mut [u8]) -> Option<()> {
+    for _ in 0..1_000_000 {
+        one(bytes, first, second, output)?;
     }
+    Some(())
 }
 
 fn main() {

@@ -1,2 +1,0 @@
--- What a request's numbers are.
-pub mod Small
