@@ -1,17 +1,17 @@
 -- An effect had in rooms that it fits: what `apply` promises, and what each effect's function asks for.
-use Rattle.std.specs.Prelude.{ℕ, ◌<◌, ◌≤◌, List, refl, length}
+use Rattle.std.specs.Prelude.{Result, Ok, ℕ, ◌<◌, ◌≤◌, List, refl, length}
 use Rattle.std.proofs.Common.{arith}
 use Rattle.refusal.specs.declared.Refusal.{Refusal}
 use Rattle.store.specs.declared.Counts.{Counts}
 use Rattle.store.specs.declared.NodeId.{NodeId}
 use Rattle.store.specs.declared.MemoKey.{MemoKey}
 use Rattle.store.specs.declared.Effect.{Effect}
-use Rattle.store.specs.declared.Effect.TheVariants.{Push, Share, Mark, Go, Make, Extend, Remember, Build, Stop, Refused}
+use Rattle.store.specs.declared.Effect.TheVariants.{Push, Share, Mark, Go, Make, Extend, Remember, Build, Stop}
 use Rattle.store.specs.Rooms.{LentAs, Rooms}
 use Rattle.store.specs.Effects.{Fits, enacted}
-use Rattle.machine.specs.declared.effects.Step.{Step}
-use Rattle.machine.specs.declared.effects.Step.TheVariants as step
-use Rattle.machine.specs.Done.{meant, Stays, Done, done_refused}
+use Rattle.machine.specs.declared.Step.{Step}
+use Rattle.machine.specs.declared.Step.TheVariants as step
+use Rattle.machine.specs.Done.{meant, Stays, Done}
 use Rattle.machine.specs.Containers.{Makeable, Extendable}
 use Rattle.machine.specs.Memo.{Rememberable}
 use Rattle.machine.specs.Words.{Buildable}
@@ -23,7 +23,7 @@ pub record Fitting (e : Effect) (had : ℕ) (rooms : LentAs → List ℕ → Roo
   pub fits : Fits e (rooms lent pickle) had
 
 -- in whatever way they were lent and with whatever pickle, if it fits the step t has it
-unfoldable pub Applies : Effect → ℕ → Step → (LentAs → List ℕ → Rooms) → (LentAs → List ℕ → Rooms) → Type 0
+unfoldable pub Applies : Effect → ℕ → Result Step Refusal → (LentAs → List ℕ → Rooms) → (LentAs → List ℕ → Rooms) → Type 0
 Applies e had t before after = (l : LentAs) (p : List ℕ) → Fits e (before l p) had → Done t (before l p) (after l p) (enacted e (before l p) had)
 
 module _ (r : Rooms) (h : ℕ) (c : Counts) where
@@ -45,23 +45,19 @@ module _ (r : Rooms) (h : ℕ) (c : Counts) where
   pub extendable : (o : NodeId) → Fits (Extend c o) r h → Extendable r.nodes r.owners r.children r.stack c o.0 h
   extendable o f = record { rooms = r; nodes_are = refl; owners_are = refl; children_are = refl; stack_is = refl; fits = f }
 
-  pub rememberable : (i : NodeId) (w : ℕ) (k : MemoKey) → Fits (Remember c i w k) r h → Rememberable r.keys r.held c k.0 i.0
+  pub rememberable : (i : NodeId) (k : MemoKey) → Fits (Remember c i k) r h → Rememberable r.keys r.held c k.0 i.0
   unfolding Fits
-  rememberable i w k f = record { rooms = r; keys_are = refl; held_are = refl; fits = f }
+  rememberable i k f = record { rooms = r; keys_are = refl; held_are = refl; fits = f }
 
   pub buildable : (o i : NodeId) → Fits (Build c o i) r h → Buildable r.nodes c o.0 i.0
   unfolding Fits
   buildable o i f = record { rooms = r; nodes_are = refl; fits = f }
 
   -- effects that change no room
-  pub goes_on : Fits (Go c) r h → Done (step.Next c) r r (enacted (Go c) r h)
+  pub goes_on : Fits (Go c) r h → Done (Ok (step.Next c)) r r (enacted (Go c) r h)
   unfolding Fits enacted meant Stays
   goes_on f = record { means = refl; stays = f }
 
-  pub stops : Fits (Stop c) r h → Done (step.Stop c) r r (enacted (Stop c) r h)
+  pub stops : Fits (Stop c) r h → Done (Ok (step.Stop c)) r r (enacted (Stop c) r h)
   unfolding Fits enacted meant Stays
   stops f = record { means = refl; stays = f }
-
-pub refusal_applied : (r : Rooms) (h : ℕ) (c : Counts) (v w : ℕ) (why : Refusal) → Done (step.Refused c why) r r (enacted (Refused c v w why) r h)
-unfolding enacted
-refusal_applied r h c v w why = done_refused why r (enacted (Refused c v w why) r h) refl

@@ -1,5 +1,5 @@
 -- A container made of its items, and one that grows.
-use Rattle.std.specs.Prelude.{ℕ, ◌+◌, ◌-◌, ◌*◌, ◌^◌, ◌/◌, ◌%◌, ◌<◌, ◌≤◌, ◌≡◌, set}
+use Rattle.std.specs.Prelude.{Result, Ok, Err, ℕ, ◌+◌, ◌-◌, ◌*◌, ◌^◌, ◌/◌, ◌%◌, ◌<◌, ◌≤◌, ◌≡◌, set}
 use mathlib.Core.List.{List, [], ◌∷◌, ◌++◌}
 use Rattle.std.proofs.Math.Path.{refl, sym}
 use Rattle.std.proofs.Common.{◌∙◌, ap, length-drop}
@@ -20,9 +20,9 @@ use Rattle.store.specs.RoomReads.{nodes-length, stack_length, links_of_lem}
 use Rattle.store.specs.RoomKeeps.{Empty, class_none}
 use Rattle.store.specs.RoomLinks.{extend_new}
 use Rattle.store.specs.Effects.{Firm, Fits, enacted, container, grow, above}
-use Rattle.machine.specs.declared.effects.Step.{Step}
-use Rattle.machine.specs.declared.effects.Step.TheVariants as step
-use Rattle.machine.specs.Done.{meant, Stays, Done, done_refused, pushed_to, words-plus}
+use Rattle.refusal.specs.declared.Refusal.{Refusal}
+use Rattle.machine.specs.declared.Step.TheVariants as step
+use Rattle.machine.specs.Done.{meant, Stays, Done, gone_on, done_refused, pushed_to, words-plus}
 use Rattle.machine.specs.Push.{with_node, one_node, node_pushed, node_firm, id_pushed, id_firm}
 use Rattle.machine.specs.Links.{linked_in, LinkedTo, Linkable, LinkAll}
 
@@ -36,9 +36,9 @@ pub record Makeable (nodes owners children stack : List ℕ) (c : Counts) (k had
   pub stack_is : rooms.stack ≡ stack
   pub fits : Fits (Make c k) rooms had
 
-unfoldable pub MakesNode : List ℕ → List ℕ → List ℕ → List ℕ → Counts → ℕ → ℕ → List ℕ → List ℕ → List ℕ → List ℕ → Step → Type 0
+unfoldable pub MakesNode : List ℕ → List ℕ → List ℕ → List ℕ → Counts → ℕ → ℕ → List ℕ → List ℕ → List ℕ → List ℕ → Result Counts Refusal → Type 0
 MakesNode nodes owners children stack c k had ns ws cs st t =
-    (r : Rooms) → r.nodes ≡ nodes → r.owners ≡ owners → r.children ≡ children → r.stack ≡ stack → Fits (Make c k) r had → Done t r (stack_in (linked_in r ns ws cs) st) (enacted (Make c k) r had)
+    (r : Rooms) → r.nodes ≡ nodes → r.owners ≡ owners → r.children ≡ children → r.stack ≡ stack → Fits (Make c k) r had → Done (gone_on t) r (stack_in (linked_in r ns ws cs) st) (enacted (Make c k) r had)
 
 pub record Extendable (nodes owners children stack : List ℕ) (c : Counts) (o had : ℕ) : Type 0 where
   pub rooms : Rooms
@@ -48,10 +48,10 @@ pub record Extendable (nodes owners children stack : List ℕ) (c : Counts) (o h
   pub stack_is : rooms.stack ≡ stack
   pub fits : Fits (Extend c (record { 0 = o })) rooms had
 
-unfoldable pub Extends : List ℕ → List ℕ → List ℕ → List ℕ → Counts → ℕ → ℕ → List ℕ → List ℕ → List ℕ → Step → Type 0
+unfoldable pub Extends : List ℕ → List ℕ → List ℕ → List ℕ → Counts → ℕ → ℕ → List ℕ → List ℕ → List ℕ → Result Counts Refusal → Type 0
 Extends nodes owners children stack c o had ns ws cs t =
     (r : Rooms) → r.nodes ≡ nodes → r.owners ≡ owners → r.children ≡ children → r.stack ≡ stack → Fits (Extend c (record { 0 = o })) r had
-    → Done t r (linked_in r ns ws cs) (enacted (Extend c (record { 0 = o })) r had)
+    → Done (gone_on t) r (linked_in r ns ws cs) (enacted (Extend c (record { 0 = o })) r had)
 
 -- ---- links that are wanted
 
@@ -74,12 +74,12 @@ module _ (r : Rooms) (c : Counts) (had : ℕ) (f : Firm r c) (low : c.stack ≤ 
 -- ---- a container that grows
 
 module _ (r : Rooms) (c : Counts) (o had : ℕ) (f : Fits (Extend c (record { 0 = o })) r had) where
-  pub extend_full : links_limit - c.links < had - c.stack → Done (step.Refused c LinksFull) r r (enacted (Extend c (record { 0 = o })) r had)
+  pub extend_full : links_limit - c.links < had - c.stack → Done (Err LinksFull) r r (enacted (Extend c (record { 0 = o })) r had)
   unfolding enacted Fits going grow ◌>>=◌
   extend_full h = done_refused LinksFull r (going (grow o (above c.stack had r.stack) (state_of r c))) (rw (links_short r c had f.0 f.1 f.2 h))
 
   pub extend-done : (ns ws cs : List ℕ) → had - c.stack ≤ links_limit - c.links → LinkedTo r c o (above c.stack had r.stack) (c.links + (had - c.stack)) ns ws cs
-      → Done (step.Next (links_to c (c.links + (had - c.stack)))) r (linked_in r ns ws cs) (enacted (Extend c (record { 0 = o })) r had)
+      → Done (Ok (step.Next (links_to c (c.links + (had - c.stack))))) r (linked_in r ns ws cs) (enacted (Extend c (record { 0 = o })) r had)
   unfolding enacted Fits going grow ◌>>=◌ meant Stays
   extend-done ns ws cs h l = record { means = rw (links_enough r c had f.0 f.1 f.2 h, l.state); stays = l.firm }
 
@@ -133,7 +133,7 @@ module _ (r : Rooms) (c : Counts) (k had : ℕ) (f : Fits (Make c k) r had) wher
   abbrev n : ℕ
   n = c.links + (had - c.stack)
 
-  pub make_full : links_limit - c.links < had - c.stack → Done (step.Refused c LinksFull) r r (enacted (Make c k) r had)
+  pub make_full : links_limit - c.links < had - c.stack → Done (Err LinksFull) r r (enacted (Make c k) r had)
   unfolding enacted going container made ◌>>=◌
   make_full h = done_refused LinksFull r (going (container k r is (state_of r c))) (rw (links_short r c had firm low high h))
 
@@ -143,7 +143,7 @@ module _ (r : Rooms) (c : Counts) (k had : ℕ) (f : Fits (Make c k) r had) wher
     unfolding container made ◌>>=◌
     rest = rw (links_enough r c had firm low high h)
 
-    pub make_crowded : nodes_limit ≤ c.nodes → Done (step.Refused c NodesFull) r r (enacted (Make c k) r had)
+    pub make_crowded : nodes_limit ≤ c.nodes → Done (Err NodesFull) r r (enacted (Make c k) r had)
     unfolding enacted going
     make_crowded l = done_refused NodesFull r (going (container k r is (state_of r c))) (rw (rest, crowded r c n (record { label = label; kids = is }) l))
 
@@ -152,7 +152,7 @@ module _ (r : Rooms) (c : Counts) (k had : ℕ) (f : Fits (Make c k) r had) wher
       pushing : container k r is (state_of r c) ≡ push_id c.nodes (with_nodes (with_links (state_of r c) n) ((state_of r c).nodes ++ (record { label = label; kids = is } ∷ [])))
       pushing = rest ∙ roomy r c n (record { label = label; kids = is }) l
 
-      pub make_high : stack_limit ≤ c.stack → Done (step.Refused c StackFull) r r (enacted (Make c k) r had)
+      pub make_high : stack_limit ≤ c.stack → Done (Err StackFull) r r (enacted (Make c k) r had)
       unfolding enacted going
       make_high m = done_refused StackFull r (going (container k r is (state_of r c))) (rw (pushing, piled r c c.nodes (with_nodes (with_links (state_of r c) n) ((state_of r c).nodes ++ (record { label = label; kids = is } ∷ []))) firm refl m))
 
@@ -187,7 +187,7 @@ module _ (r : Rooms) (c : Counts) (k had : ℕ) (f : Fits (Make c k) r had) wher
             ∙ ap (λ (i : ℕ). extend i is (with_nodes (with_links (state_of r c) n) ((state_of r c).nodes ++ (kidless label ∷ [])))) (sym (nodes-length r c))
             ∙ extend_new is label (with_links (state_of r c) n)
 
-        pub make_done : c.stack < stack_limit → Done (step.Next (pushed_to c (c.nodes + 1) n)) r (stack_in (linked_in r ns ws cs) (set r.stack c.stack c.nodes)) (enacted (Make c k) r had)
+        pub make_done : c.stack < stack_limit → Done (Ok (step.Next (pushed_to c (c.nodes + 1) n))) r (stack_in (linked_in r ns ws cs) (set r.stack c.stack c.nodes)) (enacted (Make c k) r had)
         unfolding enacted going meant Stays
         make_done m = record {
           means = rw (pushing, ← filled, id_pushed (linked_in r₁ ns ws cs) (links_to c₁ n) d.firm m c.nodes);
@@ -232,7 +232,7 @@ module _ {nodes owners children stack : List ℕ} {c : Counts} {k had : ℕ} (a 
 
   pub made_lent : (ns ws cs : List ℕ) (n : ℕ) → had - c.stack ≤ links_limit - c.links → c.nodes < nodes_limit → c.stack < stack_limit → n ≡ c.links + (had - c.stack)
       → LinkAll (set (set nodes (2 * c.nodes) k) (2 * c.nodes + 1) (c.links * 2 ^ 32)) owners children stack c.stack c.links c.nodes had ns ws cs n
-      → MakesNode nodes owners children stack c k had ns ws cs (set stack c.stack c.nodes) (step.Next (pushed_to c (c.nodes + 1) n))
+      → MakesNode nodes owners children stack c k had ns ws cs (set stack c.stack c.nodes) (Ok (pushed_to c (c.nodes + 1) n))
   unfolding MakesNode LinkAll
   made_lent ns ws cs n h l m e d r p q s t f =
       let v = make_rooms in
@@ -242,15 +242,15 @@ module _ {nodes owners children stack : List ℕ} {c : Counts} {k had : ℕ} (a 
       (rw (words-plus nodes c.nodes k (c.links * 2 ^ 32), first-set nodes c.nodes k (c.links * 2 ^ 32) (omega arith)) (kin r c k had f))
       (rw (words-plus nodes c.nodes k (c.links * 2 ^ 32), second-set nodes c.nodes k (c.links * 2 ^ 32) (omega arith)) (λ z. omega arith)))) m)
 
-  pub make_full_lent : links_limit - c.links < had - c.stack → MakesNode nodes owners children stack c k had nodes owners children stack (step.Refused c LinksFull)
+  pub make_full_lent : links_limit - c.links < had - c.stack → MakesNode nodes owners children stack c k had nodes owners children stack (Err LinksFull)
   unfolding MakesNode
   make_full_lent h r p q s t f = rw (← p, ← q, ← s, ← t) (make_full r c k had f h)
 
-  pub make_crowded_lent : had - c.stack ≤ links_limit - c.links → nodes_limit ≤ c.nodes → MakesNode nodes owners children stack c k had nodes owners children stack (step.Refused c NodesFull)
+  pub make_crowded_lent : had - c.stack ≤ links_limit - c.links → nodes_limit ≤ c.nodes → MakesNode nodes owners children stack c k had nodes owners children stack (Err NodesFull)
   unfolding MakesNode
   make_crowded_lent h l r p q s t f = rw (← p, ← q, ← s, ← t) (make_crowded r c k had f h l)
 
-  pub make_high_lent : had - c.stack ≤ links_limit - c.links → c.nodes < nodes_limit → stack_limit ≤ c.stack → MakesNode nodes owners children stack c k had nodes owners children stack (step.Refused c StackFull)
+  pub make_high_lent : had - c.stack ≤ links_limit - c.links → c.nodes < nodes_limit → stack_limit ≤ c.stack → MakesNode nodes owners children stack c k had nodes owners children stack (Err StackFull)
   unfolding MakesNode
   make_high_lent h l m r p q s t f = rw (← p, ← q, ← s, ← t) (make_high r c k had f h l m)
 
@@ -270,10 +270,10 @@ module _ {nodes owners children stack : List ℕ} {c : Counts} {o had : ℕ} (a 
       record { rooms = a.rooms; counts = c; nodes_are = a.nodes_are; owners_are = a.owners_are; children_are = a.children_are; stack_is = refl; links_are = refl; firm = f; inside = a.fits.3; holds = rw a.nodes_are at a.fits.4; end = λ z. absurd (a.fits.5 (rw a.nodes_are z)); low = a.fits.1; high = omega arith; room = omega arith }
 
   pub extended_lent : (ns ws cs : List ℕ) (n : ℕ) → had - c.stack ≤ links_limit - c.links → n ≡ c.links + (had - c.stack) → LinkAll nodes owners children stack c.stack c.links o had ns ws cs n
-      → Extends nodes owners children stack c o had ns ws cs (step.Next (links_to c n))
+      → Extends nodes owners children stack c o had ns ws cs (Ok (links_to c n))
   unfolding Extends LinkAll Fits
   extended_lent ns ws cs n h e d r p q s t f = rw e (extend-done r c o had f ns ws cs h (rw (e, ← t) at (d r c p q s refl refl f.0 f.3 (rw p at f.4) (λ z. absurd (f.5 (rw p z))))))
 
-  pub extend_full_lent : links_limit - c.links < had - c.stack → Extends nodes owners children stack c o had nodes owners children (step.Refused c LinksFull)
+  pub extend_full_lent : links_limit - c.links < had - c.stack → Extends nodes owners children stack c o had nodes owners children (Err LinksFull)
   unfolding Extends
   extend_full_lent h r p q s t f = rw (← p, ← q, ← s) (extend_full r c o had f h)

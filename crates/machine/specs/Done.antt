@@ -1,5 +1,5 @@
 -- What a step comes to in the rooms: its meaning for the machine, and what is kept.
-use Rattle.std.specs.Prelude.{ℕ, ◌+◌, ◌-◌, ◌*◌, ◌<◌, ◌≤◌, max, List, ◌≡◌, refl, set, drop}
+use Rattle.std.specs.Prelude.{Result, Ok, Err, ℕ, ◌+◌, ◌-◌, ◌*◌, ◌<◌, ◌≤◌, max, List, ◌≡◌, refl, set, drop}
 use Rattle.std.proofs.Common.{sym, ◌∙◌, ap, drop-set-lt, drop-drop, add-one, arith}
 use Rattle.refusal.specs.declared.Refusal.{Refusal}
 use Rattle.store.specs.declared.Counts.{Counts}
@@ -8,27 +8,32 @@ use Rattle.steps.specs.Run.{Next, goes, stops}
 use Rattle.store.specs.Rooms.{Rooms, state_of}
 use Rattle.steps.specs.NodeWords.{words_set}
 use Rattle.store.specs.Effects.{Firm, AsLentBehind}
-use Rattle.machine.specs.declared.effects.Step.{Step}
-use Rattle.machine.specs.declared.effects.Step.TheVariants as step
+use Rattle.machine.specs.declared.Step.{Step}
+use Rattle.machine.specs.declared.Step.TheVariants as step
 
 -- for the machine
-unfoldable pub meant : Step → Rooms → Res Next
-meant (step.Next c) r = ok (goes (state_of r c))
-meant (step.Stop c) r = ok (stops (state_of r c))
-meant (step.Refused c why) r = no why
+unfoldable pub meant : Result Step Refusal → Rooms → Res Next
+meant (Ok (step.Next c)) r = ok (goes (state_of r c))
+meant (Ok (step.Stop c)) r = ok (stops (state_of r c))
+meant (Err why) r = no why
 
 -- the rooms r' after a step from r: firm, and on a refusal as they were
-unfoldable pub Stays : Step → Rooms → Rooms → Type 0
-Stays (step.Next c) r r' = Firm r' c
-Stays (step.Stop c) r r' = Firm r' c
-Stays (step.Refused c why) r r' = r' ≡ r
+unfoldable pub Stays : Result Step Refusal → Rooms → Rooms → Type 0
+Stays (Ok (step.Next c)) r r' = Firm r' c
+Stays (Ok (step.Stop c)) r r' = Firm r' c
+Stays (Err why) r r' = r' ≡ r
 
 -- the step t from the rooms r to r' is n
-pub record Done (t : Step) (r r' : Rooms) (n : Res Next) : Type 0 where
+pub record Done (t : Result Step Refusal) (r r' : Rooms) (n : Res Next) : Type 0 where
   pub means : meant t r' ≡ n
   pub stays : Stays t r r'
 
-pub done_refused : {c : Counts} (why : Refusal) (r : Rooms) (n : Res Next) → n ≡ no why → Done (step.Refused c why) r r n
+-- an effect that has these counts, or is refused, as a step
+abbrev pub gone_on : Result Counts Refusal → Result Step Refusal
+gone_on (Ok c) = Ok (step.Next c)
+gone_on (Err why) = Err why
+
+pub done_refused : (why : Refusal) (r : Rooms) (n : Res Next) → n ≡ no why → Done (Err why) r r n
 unfolding meant Stays
 done_refused why r n e = record { means = sym e; stays = refl }
 

@@ -1,14 +1,18 @@
 -- Links to the items of a container, one after the other.
 use Prim.Native.Nat.{ℕ, suc, zero, ◌+◌, ◌-◌, ◌*◌, ◌^◌, ◌/◌, ◌%◌, ◌<◌, ◌≤◌}
-use Rattle.std.specs.Prelude.{Bool, true, false, cond, ◌≡◌, take, set, eqb}
+use Rattle.std.specs.Prelude.{Bool, true, false, cond, ◌≡◌, ◌≢◌, take, set, eqb}
 use mathlib.Core.List.{List, [], ◌∷◌, ◌++◌}
 use Rattle.std.proofs.Math.Path.{refl, sym}
-use Rattle.std.proofs.Common.{◌∙◌, ap, length-set, length-take, drop_of_length-le, take-suc, get_or-set_other}
+use Rattle.std.proofs.Common.{◌∙◌, length-set, length-take, drop_of_length-le, take-suc, get_or-set_other}
 use Rattle.std.proofs.Math.ListN.{length, get_or}
-use Rattle.std.proofs.lemmas.List.{drop-append-le}
+use Rattle.std.proofs.lemmas.List.{drop-append-le, places}
 use Rattle.std.proofs.Math.Seq.{length-take-le, get_or-set_same, set-set, set-get_or}
 use Rattle.std.proofs.Math.Numerals.{add-one}
 use native.Mathlib.Omega.{arith}
+use native.Mathlib.Decide.{dec_lt}
+use borrow.Author.Rules.{rules}
+use borrow.Rule.Slice.PartMut.{put_mid}
+use Rattle.std.proofs.lemmas.Grind.{same_number_lists}
 use Rattle.value.specs.Shape.{kind_in}
 use Rattle.store.specs.declared.Counts.{Counts}
 use Rattle.steps.specs.State.{links_limit, with_links, extend}
@@ -161,21 +165,41 @@ unfolding filled_by
 filled-length l at f zero = refl
 filled-length l at f (suc n) = length-set (filled_by l at f n) (at + n) (f n) ∙ filled-length l at f n
 
--- a filling loop's start, its turn, and its end
 module _ (l : List ℕ) (at : ℕ) (f : ℕ → ℕ) where
-  pub filled_none : l ≡ filled_by l at f 0
+  filled-inside : (n k : ℕ) → k < n → at + n ≤ length l → get_or (filled_by l at f n) (at + k) 0 ≡ f k
   unfolding filled_by
-  filled_none = refl
+  filled-inside zero k h r = absurd (omega arith)
+  filled-inside (suc n) k h r = go (dec_lt k n) (filled-inside n k)
+    where
+      room : at + n < length (filled_by l at f n)
+      room = rw (filled-length l at f n) (omega arith)
 
-  pub filled_more : (i : ℕ) (m : List ℕ) → m ≡ filled_by l at f i → set m (at + i) (f i) ≡ filled_by l at f (i + 1)
+      go : Dec (k < n) → (k < n → at + n ≤ length l → get_or (filled_by l at f n) (at + k) 0 ≡ f k) → get_or (set (filled_by l at f n) (at + n) (f n)) (at + k) 0 ≡ f k
+      go (yes m) i = rw (get_or-set_other (filled_by l at f n) (at + n) (at + k) (f n) 0 (λ e. omega arith)) (i m (omega arith))
+      go (no m) i = let e : k ≡ n = omega arith in rw e (get_or-set_same (filled_by l at f n) (at + n) (f n) 0 room)
+
+  filled-outside : (n j : ℕ) → ((k : ℕ) → k < n → j ≢ at + k) → get_or (filled_by l at f n) j 0 ≡ get_or l j 0
   unfolding filled_by
-  filled_more i m e = rw (e, add-one i)
+  filled-outside zero j d = refl
+  filled-outside (suc n) j d = rw (get_or-set_other (filled_by l at f n) (at + n) j (f n) 0 (d n (omega arith))) (filled-outside n j (λ k h. d k (omega arith)))
 
-  pub filled-same : (i : ℕ) (m : List ℕ) → m ≡ filled_by l at f i → length m ≡ length l
-  filled-same i m e = ap length e ∙ filled-length l at f i
+  -- a part written at once
+  pub filled_part : (n : ℕ) (part : List ℕ) → at + n ≤ length l → length part ≡ n → ((k : ℕ) → k < n → get_or part k 0 ≡ f k) → put_mid at n l part ≡ filled_by l at f n
+  filled_part n part h e each = same_number_lists _ _ size same
+    where
+      size : length (put_mid at n l part) ≡ length (filled_by l at f n)
+      size = rw (filled-length l at f n) (search (rules, places))
 
-  pub filled_end : (i n : ℕ) (m : List ℕ) → m ≡ filled_by l at f i → i ≤ n → n ≤ i → m ≡ filled_by l at f n
-  filled_end i n m e h k = let z : i ≡ n = omega arith in rw (← z) e
+      same : (j : ℕ) → j < length (put_mid at n l part) → get_or (put_mid at n l part) j 0 ≡ get_or (filled_by l at f n) j 0
+      same j m = go (dec_lt j at) (dec_lt j (at + n))
+        where
+          go : Dec (j < at) → Dec (j < at + n) → get_or (put_mid at n l part) j 0 ≡ get_or (filled_by l at f n) j 0
+          go (yes x) y = rw (filled-outside n j (λ k z. λ q. omega arith)) (search (rules, places))
+          go (no x) (yes y) =
+              let z : at + (j - at) ≡ j = omega arith in
+              let v : get_or part (j - at) 0 ≡ get_or (filled_by l at f n) j 0 = each (j - at) (omega arith) ∙ sym (rw z at (filled-inside n (j - at) (omega arith) h)) in
+              rw (← v) (search (rules, places))
+          go (no x) (no y) = rw (filled-outside n j (λ k z. λ q. omega arith)) (search (rules, places))
 
 module _ (nodes owners children stack : List ℕ) (from links o : ℕ) where
   link-none : LinkAll nodes owners children stack from links o from nodes owners children links

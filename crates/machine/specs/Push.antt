@@ -1,7 +1,7 @@
 -- A node or a number pushed, and a mark.
 use Prim.Native.Nat.{ℕ, suc, ◌+◌, ◌*◌, ◌<◌, ◌≤◌, max}
 use mathlib.Core.List.{List, [], ◌∷◌, ◌++◌}
-use Rattle.std.specs.Prelude.{◌≡◌, length, take, set}
+use Rattle.std.specs.Prelude.{Result, Ok, Err, ◌≡◌, length, take, set}
 use Rattle.std.proofs.Common.{◌∙◌, length-set, add-one}
 use Rattle.std.proofs.Math.Path.{ap}
 use borrow.Author.Tests.{lt-ltb, le-ltb}
@@ -18,22 +18,22 @@ use Rattle.store.specs.RoomLaws.{node_more, stack_more, marks_more}
 use Rattle.store.specs.RoomReads.{nodes-length, stack_length, marks_length}
 use Rattle.store.specs.RoomKeeps.{Empty, empty_zero, kept_node}
 use Rattle.store.specs.Effects.{Firm, Fits, enacted}
-use Rattle.machine.specs.declared.effects.Step.{Step}
-use Rattle.machine.specs.declared.effects.Step.TheVariants as step
-use Rattle.machine.specs.Done.{meant, Stays, Done, done_refused, pushed_to, behind-set}
+use Rattle.refusal.specs.declared.Refusal.{Refusal}
+use Rattle.machine.specs.declared.Step.TheVariants as step
+use Rattle.machine.specs.Done.{meant, Stays, Done, gone_on, done_refused, pushed_to, behind-set}
 
 -- ---- the functions' promises
 
-unfoldable pub PushNode : List ℕ → List ℕ → Counts → ℕ → ℕ → List ℕ → List ℕ → Step → Type 0
+unfoldable pub PushNode : List ℕ → List ℕ → Counts → ℕ → ℕ → List ℕ → List ℕ → Result Counts Refusal → Type 0
 PushNode nodes stack c a b nodes' stack' t =
-    (r : Rooms) (h : ℕ) → r.nodes ≡ nodes → r.stack ≡ stack → Fits (Push c a b) r h → Done t r (stack_in (words_in r nodes') stack') (enacted (Push c a b) r h)
+    (r : Rooms) (h : ℕ) → r.nodes ≡ nodes → r.stack ≡ stack → Fits (Push c a b) r h → Done (gone_on t) r (stack_in (words_in r nodes') stack') (enacted (Push c a b) r h)
 
-unfoldable pub PushId : List ℕ → Counts → ℕ → List ℕ → Step → Type 0
+unfoldable pub PushId : List ℕ → Counts → ℕ → List ℕ → Result Counts Refusal → Type 0
 PushId stack c i stack' t =
-    (r : Rooms) (h : ℕ) → r.stack ≡ stack → Fits (Share c (record { 0 = i })) r h → Done t r (stack_in r stack') (enacted (Share c (record { 0 = i })) r h)
+    (r : Rooms) (h : ℕ) → r.stack ≡ stack → Fits (Share c (record { 0 = i })) r h → Done (gone_on t) r (stack_in r stack') (enacted (Share c (record { 0 = i })) r h)
 
-unfoldable pub PutMark : List ℕ → Counts → List ℕ → Step → Type 0
-PutMark marks c marks' t = (r : Rooms) (h : ℕ) → r.marks ≡ marks → Fits (Mark c) r h → Done t r (marks_in r marks') (enacted (Mark c) r h)
+unfoldable pub PutMark : List ℕ → Counts → List ℕ → Result Counts Refusal → Type 0
+PutMark marks c marks' t = (r : Rooms) (h : ℕ) → r.marks ≡ marks → Fits (Mark c) r h → Done (gone_on t) r (marks_in r marks') (enacted (Mark c) r h)
 
 -- ---- a number pushed
 
@@ -124,27 +124,27 @@ module _ (r : Rooms) (c : Counts) (f : Firm r c) where
 -- ---- what the functions answer
 
 module _ (r : Rooms) (h : ℕ) (c : Counts) where
-  pub push_id_full : (i : ℕ) → Fits (Share c (record { 0 = i })) r h → stack_limit ≤ c.stack → Done (step.Refused c StackFull) r r (enacted (Share c (record { 0 = i })) r h)
+  pub push_id_full : (i : ℕ) → Fits (Share c (record { 0 = i })) r h → stack_limit ≤ c.stack → Done (Err StackFull) r r (enacted (Share c (record { 0 = i })) r h)
   unfolding enacted Fits going
   push_id_full i f l = done_refused StackFull r (going (push_id i (state_of r c))) (rw (id_full r c f.0 l i))
 
-  pub push_id-done : (i : ℕ) → Fits (Share c (record { 0 = i })) r h → c.stack < stack_limit → Done (step.Next (pushed_to c c.nodes c.links)) r (stack_in r (set r.stack c.stack i)) (enacted (Share c (record { 0 = i })) r h)
+  pub push_id-done : (i : ℕ) → Fits (Share c (record { 0 = i })) r h → c.stack < stack_limit → Done (Ok (step.Next (pushed_to c c.nodes c.links))) r (stack_in r (set r.stack c.stack i)) (enacted (Share c (record { 0 = i })) r h)
   unfolding enacted Fits going meant Stays
   push_id-done i f l = record { means = rw (id_pushed r c f.0 l i); stays = id_firm r c f.0 l i }
 
   module _ (a b : ℕ) (f : Fits (Push c a b) r h) where
-    pub push_node_full : nodes_limit ≤ c.nodes → Done (step.Refused c NodesFull) r r (enacted (Push c a b) r h)
+    pub push_node_full : nodes_limit ≤ c.nodes → Done (Err NodesFull) r r (enacted (Push c a b) r h)
     unfolding enacted Fits going
     push_node_full l = done_refused NodesFull r (going (push_node (node_is r.pickle r.nodes [] a b) (state_of r c))) (rw (node_full r c f.0 l (node_is r.pickle r.nodes [] a b)))
 
-    pub push_node-high : c.nodes < nodes_limit → stack_limit ≤ c.stack → Done (step.Refused c StackFull) r r (enacted (Push c a b) r h)
+    pub push_node-high : c.nodes < nodes_limit → stack_limit ≤ c.stack → Done (Err StackFull) r r (enacted (Push c a b) r h)
     unfolding enacted Fits going
     push_node-high l k =
         done_refused StackFull r (going (push_node (node_is r.pickle r.nodes [] a b) (state_of r c)))
         (rw (node_then r c f.0 l a b f.1, id_full (with_node r c f.0 a b) (one_node r c f.0) (node_firm r c f.0 l a b f.1 (empty_zero c.links a b f.2)) k c.nodes))
 
     pub push_node-done : c.nodes < nodes_limit → c.stack < stack_limit
-        → Done (step.Next (pushed_to c (c.nodes + 1) c.links)) r (stack_in (words_in r (words_set r.nodes c.nodes a b)) (set r.stack c.stack c.nodes)) (enacted (Push c a b) r h)
+        → Done (Ok (step.Next (pushed_to c (c.nodes + 1) c.links))) r (stack_in (words_in r (words_set r.nodes c.nodes a b)) (set r.stack c.stack c.nodes)) (enacted (Push c a b) r h)
     unfolding enacted Fits going meant Stays
     push_node-done l k =
         let g = node_firm r c f.0 l a b f.1 (empty_zero c.links a b f.2) in
@@ -196,10 +196,10 @@ module _ (r : Rooms) (h : ℕ) (c : Counts) where
       clean = record { nodes = f.clean.nodes; owners = f.clean.owners; children = f.clean.children; stack = f.clean.stack; marks = behind-set f.clean.marks (omega arith) c.marks c.stack (omega arith); keys = f.clean.keys; held = f.clean.held };
     }
 
-  pub put_mark_full : Fits (Mark c) r h → marks_limit ≤ c.marks → Done (step.Refused c MarksFull) r r (enacted (Mark c) r h)
+  pub put_mark_full : Fits (Mark c) r h → marks_limit ≤ c.marks → Done (Err MarksFull) r r (enacted (Mark c) r h)
   unfolding enacted Fits going
   put_mark_full f l = done_refused MarksFull r (going (mark (state_of r c))) (rw (mark_is_full f l))
 
-  pub put_mark-done : Fits (Mark c) r h → c.marks < marks_limit → Done (step.Next marked_to) r (marks_in r (set r.marks c.marks c.stack)) (enacted (Mark c) r h)
+  pub put_mark-done : Fits (Mark c) r h → c.marks < marks_limit → Done (Ok (step.Next marked_to)) r (marks_in r (set r.marks c.marks c.stack)) (enacted (Mark c) r h)
   unfolding enacted Fits going meant Stays
   put_mark-done f l = record { means = rw (mark_is_put f l); stays = mark_firm f l }

@@ -1,5 +1,5 @@
 -- The run to STOP in the rooms: what an outcome means, and the run step by step.
-use Rattle.std.specs.Prelude.{ℕ, zero, suc, ◌-◌, ◌<◌, ◌≤◌, List, ◌≡◌, refl, replicate}
+use Rattle.std.specs.Prelude.{Result, Ok, Err, ℕ, zero, suc, ◌-◌, ◌<◌, ◌≤◌, List, ◌≡◌, refl, replicate}
 use Rattle.std.proofs.Math.Path.{sym}
 use Rattle.std.proofs.Common.{◌∙◌, ap, length-drop, arith}
 use Rattle.std.proofs.Math.ListN.{length}
@@ -19,19 +19,21 @@ use Rattle.store.specs.RoomReads.{start_of, input_of}
 use Rattle.store.specs.RoomKeeps.{kept_start}
 use Rattle.store.specs.RoomMemo.{numbered-none}
 use Rattle.store.specs.Effects.{Lengths, AsLentBehind, Sound}
-use Rattle.machine.specs.declared.effects.Step.{Step}
-use Rattle.machine.specs.declared.effects.Step.TheVariants as taken_step
+use Rattle.machine.specs.declared.Step.{Step}
+use Rattle.machine.specs.declared.Step.TheVariants as taken_step
 use Rattle.machine.specs.Done.{meant, Stays, Done}
 use Rattle.machine.specs.RoomsOf.{lent_rooms}
 use Rattle.machine.specs.declared.Outcome.{Outcome}
-use Rattle.machine.specs.declared.Outcome.TheVariants as outcome
 
 -- nothing read or used
 abbrev pub start_counts : Counts
 start_counts = record { at = 0; nodes = 0; links = 0; stack = 0; deepest = 0; marks = 0; most = 0; memo = 0; greatest = 0 }
 
+pub all_zero : (c : Counts) → (c.at ≡ 0) × ((c.nodes ≡ 0) × ((c.links ≡ 0) × ((c.stack ≡ 0) × ((c.deepest ≡ 0) × ((c.marks ≡ 0) × ((c.most ≡ 0) × ((c.memo ≡ 0) × (c.greatest ≡ 0)))))))) → c ≡ start_counts
+all_zero c e = λ i. record { at = e.0 i; nodes = e.1.0 i; links = e.1.1.0 i; stack = e.1.1.1.0 i; deepest = e.1.1.1.1.0 i; marks = e.1.1.1.1.1.0 i; most = e.1.1.1.1.1.1.0 i; memo = e.1.1.1.1.1.1.1.0 i; greatest = e.1.1.1.1.1.1.1.1 i }
+
 -- a step in the rooms r with the counts c, which leaves the rooms r'
-abbrev pub Stepped : Edition → Step → Counts → Rooms → Rooms → Type 0
+abbrev pub Stepped : Edition → Result Step Refusal → Counts → Rooms → Rooms → Type 0
 Stepped ed t c r r' = Done t r r' (step ed (state_of r c))
 
 -- rooms that are sound, had they been lent in some way
@@ -40,23 +42,21 @@ pub record SomeSound (c : Counts) (rooms : LentAs → Rooms) : Type 0 where
   pub sound : Sound (rooms lent) c
 
 -- in whatever way they were lent, if they are sound the step is t
-unfoldable pub StepTaken : Edition → Step → Counts → (LentAs → Rooms) → (LentAs → Rooms) → Type 0
+unfoldable pub StepTaken : Edition → Result Step Refusal → Counts → (LentAs → Rooms) → (LentAs → Rooms) → Type 0
 StepTaken ed t c before after = (l : LentAs) → Sound (before l) c → Stepped ed t c (before l) (after l)
 
 -- what an outcome means
 unfoldable pub ended : Outcome → Rooms → Res State
-ended (outcome.Stopped c) r = ok (state_of r c)
-ended (outcome.Refused c why) r = no why
-
--- the counts that it carries
-unfoldable pub counts_of : Outcome → Counts
-counts_of (outcome.Stopped c) = c
-counts_of (outcome.Refused c why) = c
+ended o r = at o.ended
+  where
+    at : Result (Unit {0}) Refusal → Res State
+    at (Ok u) = ok (state_of r o.counts)
+    at (Err why) = no why
 
 -- a run of the pickle p in an edition that leaves the rooms r
 pub record Ran (ed : Edition) (o : Outcome) (p : List ℕ) (r : Rooms) : Type 0 where
   pub means : ended o r ≡ run ed p
-  pub sound : Sound r (counts_of o)
+  pub sound : Sound r o.counts
   pub same : r.pickle ≡ p
 
 -- rooms as long as they were lent
@@ -104,7 +104,7 @@ made-long p h = record { pickle = h; nodes = long 8192; owners = long 8192; chil
 -- ---- one step
 
 module _ (ed : Edition) (r r' : Rooms) (c : Counts) (s : Sound r c) where
-  module _ (d : Counts) (t : Done (taken_step.Next d) r r' (step ed (state_of r c))) where
+  module _ (d : Counts) (t : Done (Ok (taken_step.Next d)) r r' (step ed (state_of r c))) where
     stepped : step ed (state_of r c) ≡ ok (goes (state_of r' d))
     unfolding meant
     stepped = sym t.means
@@ -125,14 +125,14 @@ module _ (ed : Edition) (r r' : Rooms) (c : Counts) (s : Sound r c) where
     pub step-goes : run_from ed (state_of r c) ≡ run_from ed (state_of r' d)
     step-goes = finish-goes ed (state_of r c) (state_of r' d) stepped
 
-  pub step_stops : (d : Counts) → Done (taken_step.Stop d) r r' (step ed (state_of r c)) → (run_from ed (state_of r c) ≡ ok (state_of r' d)) × Sound r' d
+  pub step_stops : (d : Counts) → Done (Ok (taken_step.Stop d)) r r' (step ed (state_of r c)) → (run_from ed (state_of r c) ≡ ok (state_of r' d)) × Sound r' d
   unfolding meant Stays state_after
   step_stops d t =
       (finish_stops ed (state_of r c) (state_of r' d) (sym t.means), record { firm = t.stays; range = of_out (λ (n : Next). InRange (state_after n)) (step ed (state_of r c)) (stops (state_of r' d)) (step_range ed (state_of r c) s.range) (sym t.means) })
 
-  pub step-refuses : (d : Counts) (why : Refusal) → Done (taken_step.Refused d why) r r' (step ed (state_of r c)) → (run_from ed (state_of r c) ≡ no why) × (r' ≡ r)
+  pub step-refuses : (why : Refusal) → Done (Err why) r r' (step ed (state_of r c)) → (run_from ed (state_of r c) ≡ no why) × (r' ≡ r)
   unfolding meant Stays
-  step-refuses d why t = (finish_refused ed (state_of r c) (state_of r c) why (sym t.means), t.stays)
+  step-refuses why t = (finish_refused ed (state_of r c) (state_of r c) why (sym t.means), t.stays)
 
 -- ---- the loop: what is left is what there was
 
@@ -145,26 +145,26 @@ pub running-start : (ed : Edition) (r : Rooms) → Sound r start_counts → Runn
 running-start ed r s = record { left = rw (start_of r) (sym (run_finish ed r.pickle)); sound = s; same = refl }
 
 module _ (ed : Edition) (p : List ℕ) (r r' : Rooms) (c : Counts) (h : Running ed p r c) (e : r'.pickle ≡ r.pickle) where
-  pub running_next : (d : Counts) → Done (taken_step.Next d) r r' (step ed (state_of r c)) → Running ed p r' d
+  pub running_next : (d : Counts) → Done (Ok (taken_step.Next d)) r r' (step ed (state_of r c)) → Running ed p r' d
   running_next d t = record { left = sym (step-goes ed r r' c h.sound d t) ∙ h.left; sound = step_sound ed r r' c h.sound d t; same = e ∙ h.same }
 
-  pub running-less : (d : Counts) → Done (taken_step.Next d) r r' (step ed (state_of r c)) → length p - d.at < length p - c.at
+  pub running-less : (d : Counts) → Done (Ok (taken_step.Next d)) r r' (step ed (state_of r c)) → length p - d.at < length p - c.at
   running-less d t = rw h.same at (step_further ed r r' c h.sound d t e)
 
-  pub ran_stopped : (d : Counts) → Done (taken_step.Stop d) r r' (step ed (state_of r c)) → Ran ed (outcome.Stopped d) p r'
-  unfolding ended counts_of
+  pub ran_stopped : (d : Counts) → Done (Ok (taken_step.Stop d)) r r' (step ed (state_of r c)) → Ran ed (record { counts = d; ended = Ok tt }) p r'
+  unfolding ended
   ran_stopped d t = let x = step_stops ed r r' c h.sound d t in record { means = sym x.0 ∙ h.left; sound = x.1; same = e ∙ h.same }
 
-  pub ran_refused : (d : Counts) (why : Refusal) → Done (taken_step.Refused d why) r r' (step ed (state_of r c)) → Ran ed (outcome.Refused c why) p r'
-  unfolding ended counts_of
-  ran_refused d why t = let x = step-refuses ed r r' c h.sound d why t in record { means = sym x.0 ∙ h.left; sound = rw x.1 h.sound; same = e ∙ h.same }
+  pub ran_refused : (why : Refusal) → Done (Err why) r r' (step ed (state_of r c)) → Ran ed (record { counts = c; ended = Err why }) p r'
+  unfolding ended
+  ran_refused why t = let x = step-refuses ed r r' c h.sound why t in record { means = sym x.0 ∙ h.left; sound = rw x.1 h.sound; same = e ∙ h.same }
 
 -- ---- after n steps
 
 -- rooms and counts, one step after the other, as the code takes them
 pub record Steps (ed : Edition) (f : ℕ → Rooms) (g : ℕ → Counts) (n : ℕ) : Type 0 where
   pub first : state_of (f 0) (g 0) ≡ begin (f 0).pickle
-  pub each : (i : ℕ) → i < n → Done (taken_step.Next (g (suc i))) (f i) (f (suc i)) (step ed (state_of (f i) (g i)))
+  pub each : (i : ℕ) → i < n → Done (Ok (taken_step.Next (g (suc i)))) (f i) (f (suc i)) (step ed (state_of (f i) (g i)))
 
 -- a step behind a step: a machine that has stopped stays as it is
 unfoldable pub onward : Edition → Next → Res Next

@@ -1,5 +1,5 @@
 -- The rooms that are lent, as one; and the opcode that is read of them.
-use Rattle.std.specs.Prelude.{ℕ, suc, zero, ◌+◌, ◌-◌, ◌≤◌, ◌<◌, true, false, Some, None, List, [], ◌∷◌, ◌≢◌, drop}
+use Rattle.std.specs.Prelude.{Result, Ok, Err, ℕ, suc, zero, ◌+◌, ◌-◌, ◌≤◌, ◌<◌, true, false, Some, None, List, [], ◌∷◌, ◌≢◌, drop}
 use Rattle.std.proofs.Math.Option.{Option, none, some}
 use Rattle.std.proofs.Math.Path.{◌≡◌, refl, sym, ap}
 use Rattle.std.proofs.Common.{◌∙◌, get_or-take}
@@ -7,6 +7,7 @@ use Rattle.std.proofs.Math.ListN.{length, get_or}
 use Rattle.std.proofs.Math.Seq.{get_or-drop}
 use Rattle.std.proofs.Math.Decide.{ℕ_discrete}
 use native.Mathlib.Omega.{arith}
+use Rattle.refusal.specs.declared.Refusal.{Refusal}
 use Rattle.refusal.specs.declared.Refusal.TheVariants.{EndOfInput, UnsupportedOpcode, OutsideProfile}
 use Rattle.op.specs.Table.{code_of, number_in, is_named, place, opcode_of}
 use Rattle.op.specs.Named.{named}
@@ -27,7 +28,7 @@ use Rattle.store.specs.Rooms.{LentAs, Rooms, state_of}
 use Rattle.steps.specs.NodeWords.{node_is, HoldsLinks, a_list, a_tuple, a_dict}
 use Rattle.store.specs.RoomKeeps.{class_none}
 use Rattle.steps.specs.Pickletools.{decided_own}
-use Rattle.store.specs.Effects.{Sound, SomeRooms, Decides, Fits, enacted, refusing}
+use Rattle.store.specs.Effects.{Sound, SomeRooms, Decides, Fits, enacted}
 use Rattle.decoder.specs.Reads.{cut_to, bytes-short, bytes_got}
 use Rattle.decoder.specs.ReadsMemo.{sound_read}
 
@@ -76,7 +77,7 @@ module _ (p n d s m k h : List ℕ) (c : Counts) where
 
   module _ (ed : Edition) where
     -- at the end of the pickle
-    pub ended : length p ≤ c.at → Decides c SameRooms (step ed) (refusing c EndOfInput)
+    pub ended : length p ≤ c.at → Decides c SameRooms (step ed) (Err EndOfInput)
     unfolding Decides step byte ◌>>=◌ enacted Fits
     ended l r z a =
         let e : length r.pickle ≡ length p = ap length a.pickle in
@@ -97,52 +98,52 @@ module _ (p n d s m k h : List ℕ) (c : Counts) where
           rw (bytes_got r c 1 t (omega arith)) (ap (λ (b : ℕ). admit (against ed b) b (decide (highest ed) (opcode_of b) b (state_of r c₁))) (get_or-take 1 (drop c.at r.pickle) 0 0 (omega arith) ∙ get_or-drop c.at r.pickle 0 0 ∙ rw (q, a.pickle)))
 
       -- outside the edition, or unknown to it
-      pub outside_it : Some Outside ≡ against ed code → Decides c SameRooms (step ed) (refusing c (OutsideProfile code))
+      pub outside_it : Some Outside ≡ against ed code → Decides c SameRooms (step ed) (Err (OutsideProfile code))
       unfolding Decides admit enacted Fits
       outside_it b r z a = record { enacts = sym (read r z a ∙ rw (← b)); fits = tt }
 
-      pub unknown_to_it : Some Unknown ≡ against ed code → Decides c SameRooms (step ed) (refusing c (UnsupportedOpcode code))
+      pub unknown_to_it : Some Unknown ≡ against ed code → Decides c SameRooms (step ed) (Err (UnsupportedOpcode code))
       unfolding Decides admit enacted Fits
       unknown_to_it b r z a = record { enacts = sym (read r z a ∙ rw (← b)); fits = tt }
 
       -- nothing against it
       module _ (free : None ≡ against ed code) where
         -- the opcode o
-        pub arm : (o : Opcode) (Q : Rooms → Type 0) (e : Effect) → code ≡ code_of o → ((r : Rooms) → SameRooms r → Q r) → Decides c₁ Q (does (highest ed) o) e → Decides c SameRooms (step ed) e
+        pub arm : (o : Opcode) (Q : Rooms → Type 0) (e : Result Effect Refusal) → code ≡ code_of o → ((r : Rooms) → SameRooms r → Q r) → Decides c₁ Q (does (highest ed) o) e → Decides c SameRooms (step ed) e
         unfolding Decides decide admit
         arm o Q e q f t r z a =
             let x = t r (next l r z a) (f r a) in
             record { enacts = x.enacts ∙ sym (read r z a ∙ rw (← free, q, named o)); fits = x.fits }
 
         -- no opcode
-        pub unsupported : ((o : Opcode) → code ≢ code_of o) → Decides c SameRooms (step ed) (refusing c (UnsupportedOpcode code))
+        pub unsupported : ((o : Opcode) → code ≢ code_of o) → Decides c SameRooms (step ed) (Err (UnsupportedOpcode code))
         unfolding Decides decide admit enacted Fits
         unsupported h r z a = record { enacts = sym (read r z a ∙ rw (← free, unknown code h)); fits = tt }
 
 -- ---- opcodes that read nothing more
 
 module _ (v : ℕ) (c : Counts) where
-  pub marks : Decides c (λ r. Unit {0}) (does v MARK) (Mark c)
+  pub marks : Decides c (λ r. Unit {0}) (does v MARK) (Ok (Mark c))
   unfolding Decides does enacted Fits
   marks r z a = record { enacts = refl; fits = z.firm }
 
-  pub stop : Decides c (λ r. Unit {0}) (does v STOP) (Stop c)
+  pub stop : Decides c (λ r. Unit {0}) (does v STOP) (Ok (Stop c))
   unfolding Decides does enacted Fits
   stop r z a = record { enacts = refl; fits = z.firm }
 
   -- a value without contents, of the kind a
-  pushes : (o : Opcode) (l : Label) (a b : ℕ) → ((s : State) → does v o s ≡ going (push l s)) → ((p ws : List ℕ) → node_is p ws [] a b ≡ kidless l) → kind_in a < 11 → (HoldsLinks a → b ≡ 0) → Decides c (λ r. Unit {0}) (does v o) (Push c a b)
+  pushes : (o : Opcode) (l : Label) (a b : ℕ) → ((s : State) → does v o s ≡ going (push l s)) → ((p ws : List ℕ) → node_is p ws [] a b ≡ kidless l) → kind_in a < 11 → (HoldsLinks a → b ≡ 0) → Decides c (λ r. Unit {0}) (does v o) (Ok (Push c a b))
   unfolding Decides enacted Fits push
   pushes o l a b e n k t r z x = record {
     enacts = rw (e (state_of r c), n r.pickle r.nodes);
     fits = (z.firm, class_none r.nodes c.nodes a (λ q. omega arith), t);
   }
 
-  pub none_pushed : Decides c (λ r. Unit {0}) (does v NONE) (Push c 0 0)
+  pub none_pushed : Decides c (λ r. Unit {0}) (does v NONE) (Ok (Push c 0 0))
   unfolding does node_is kind_in
   none_pushed = pushes NONE NoneL 0 0 (λ s. refl) (λ p ws. refl) (omega arith) (λ t. refl)
 
-  pub true_pushed : Decides c (λ r. Unit {0}) (does v NEWTRUE) (Push c 1 1)
+  pub true_pushed : Decides c (λ r. Unit {0}) (does v NEWTRUE) (Ok (Push c 1 1))
   unfolding does node_is kind_in
   true_pushed = pushes NEWTRUE (BoolL true) 1 1 (λ s. refl) (λ p ws. refl) (omega arith) bool
     where
@@ -151,26 +152,26 @@ module _ (v : ℕ) (c : Counts) where
       bool (a_tuple e) = absurd (omega arith)
       bool (a_dict e) = absurd (omega arith)
 
-  pub false_pushed : Decides c (λ r. Unit {0}) (does v NEWFALSE) (Push c 1 0)
+  pub false_pushed : Decides c (λ r. Unit {0}) (does v NEWFALSE) (Ok (Push c 1 0))
   unfolding does node_is kind_in
   false_pushed = pushes NEWFALSE (BoolL false) 1 0 (λ s. refl) (λ p ws. refl) (omega arith) (λ t. refl)
 
-  pub list_pushed : Decides c (λ r. Unit {0}) (does v EMPTY_LIST) (Push c 6 0)
+  pub list_pushed : Decides c (λ r. Unit {0}) (does v EMPTY_LIST) (Ok (Push c 6 0))
   unfolding does node_is kind_in
   list_pushed = pushes EMPTY_LIST ListL 6 0 (λ s. refl) (λ p ws. refl) (omega arith) (λ t. refl)
 
-  pub tuple_pushed : Decides c (λ r. Unit {0}) (does v EMPTY_TUPLE) (Push c 7 0)
+  pub tuple_pushed : Decides c (λ r. Unit {0}) (does v EMPTY_TUPLE) (Ok (Push c 7 0))
   unfolding does node_is kind_in
   tuple_pushed = pushes EMPTY_TUPLE TupleL 7 0 (λ s. refl) (λ p ws. refl) (omega arith) (λ t. refl)
 
-  pub dict_pushed : Decides c (λ r. Unit {0}) (does v EMPTY_DICT) (Push c 10 0)
+  pub dict_pushed : Decides c (λ r. Unit {0}) (does v EMPTY_DICT) (Ok (Push c 10 0))
   unfolding does node_is kind_in
   dict_pushed = pushes EMPTY_DICT DictL 10 0 (λ s. refl) (λ p ws. refl) (omega arith) (λ t. refl)
 
 -- ---- TUPLE1 to TUPLE3, and what no arm takes
 
 module _ (p n d s m k h : List ℕ) (c : Counts) (ed : Edition) (l : c.at < length p) (free : None ≡ against ed (get_or p c.at 0)) where
-  pub tuples : (e : Effect) → 133 ≤ get_or p c.at 0 → get_or p c.at 0 < 136 → Decides (c₁ p n d s m k h c) (λ r. Unit {0}) (λ t. going (tuple_n (get_or p c.at 0 - 0x84) t)) e → Decides c (Agrees p n d s m k h) (step ed) e
+  pub tuples : (e : Result Effect Refusal) → 133 ≤ get_or p c.at 0 → get_or p c.at 0 < 136 → Decides (c₁ p n d s m k h c) (λ r. Unit {0}) (λ t. going (tuple_n (get_or p c.at 0 - 0x84) t)) e → Decides c (Agrees p n d s m k h) (step ed) e
   unfolding does code_of number_in is_named place
   tuples e a b t = go (get_or p c.at 0) refl
     where

@@ -1,5 +1,5 @@
 -- An Object's state.
-use Rattle.std.specs.Prelude.{ℕ, suc, ◌+◌, ◌*◌, ◌^◌, ◌%◌, ◌<◌, ◌≤◌, cond, List, ◌≡◌, length, set}
+use Rattle.std.specs.Prelude.{Ok, ℕ, suc, ◌+◌, ◌*◌, ◌^◌, ◌%◌, ◌<◌, ◌≤◌, cond, List, ◌≡◌, length, set}
 use Rattle.std.proofs.Math.Path.{ap}
 use Rattle.std.proofs.Common.{length-set}
 use Rattle.std.proofs.Math.ListN.{get_or}
@@ -15,8 +15,7 @@ use Rattle.steps.specs.NodeWords.{first, second, words_set, class_in, state_set}
 use Rattle.store.specs.RoomLaws.{build-set}
 use Rattle.store.specs.RoomKeeps.{kept_build}
 use Rattle.store.specs.Effects.{Fits, enacted, with_state}
-use Rattle.machine.specs.declared.effects.Step.{Step}
-use Rattle.machine.specs.declared.effects.Step.TheVariants as step
+use Rattle.machine.specs.declared.Step.TheVariants as step
 use Rattle.machine.specs.Done.{meant, Stays, Done, words-plus, behind-set}
 
 -- ---- the functions' promises
@@ -26,9 +25,9 @@ pub record Buildable (nodes : List ℕ) (c : Counts) (o i : ℕ) : Type 0 where
   pub nodes_are : rooms.nodes ≡ nodes
   pub fits : Fits (Build c (record { 0 = o }) (record { 0 = i })) rooms 0
 
-unfoldable pub SetsState : List ℕ → Counts → ℕ → ℕ → List ℕ → Step → Type 0
+unfoldable pub SetsState : List ℕ → Counts → ℕ → ℕ → List ℕ → Counts → Type 0
 SetsState nodes c o i nodes' t =
-    (r : Rooms) (h : ℕ) → r.nodes ≡ nodes → Fits (Build c (record { 0 = o }) (record { 0 = i })) r h → Done t r (words_in r nodes') (enacted (Build c (record { 0 = o }) (record { 0 = i })) r h)
+    (r : Rooms) (h : ℕ) → r.nodes ≡ nodes → Fits (Build c (record { 0 = o }) (record { 0 = i })) r h → Done (Ok (step.Next t)) r (words_in r nodes') (enacted (Build c (record { 0 = o }) (record { 0 = i })) r h)
 
 -- ---- an Object's state
 
@@ -55,7 +54,7 @@ module _ (r : Rooms) (c : Counts) (o i h : ℕ) (f : Fits (Build c (record { 0 =
       let y = f.2 in
       (omega arith, omega arith, omega arith, f.0.lengths.nodes)
 
-  pub build-done : Done (step.Next c) r (words_in r (words_set r.nodes o a' b')) (enacted (Build c (record { 0 = o }) (record { 0 = i })) r h)
+  pub build-done : Done (Ok (step.Next c)) r (words_in r (words_set r.nodes o a' b')) (enacted (Build c (record { 0 = o }) (record { 0 = i })) r h)
   unfolding enacted Fits meant Stays with_state words_set
   build-done =
       let g = f.0 in
@@ -87,6 +86,6 @@ module _ (nodes : List ℕ) (c : Counts) (o i : ℕ) where
   unfolding first
   build_room k = rw (← k.nodes_are) (build-small k.rooms c o i 0 k.fits)
 
-  pub state_lent : SetsState nodes c o i (set (set nodes (2 * o) (cond (state_in (get_or nodes (2 * o) 0)) (get_or nodes (2 * o) 0) (get_or nodes (2 * o) 0 + 32))) (2 * o + 1) (i * 2 ^ 32 + get_or nodes (2 * o + 1) 0 % 2 ^ 32)) (step.Next c)
+  pub state_lent : SetsState nodes c o i (set (set nodes (2 * o) (cond (state_in (get_or nodes (2 * o) 0)) (get_or nodes (2 * o) 0) (get_or nodes (2 * o) 0 + 32))) (2 * o + 1) (i * 2 ^ 32 + get_or nodes (2 * o + 1) 0 % 2 ^ 32)) c
   unfolding SetsState first second
   state_lent r h q f = rw (← q, words-plus r.nodes o (cond (state_in (get_or r.nodes (2 * o) 0)) (get_or r.nodes (2 * o) 0) (get_or r.nodes (2 * o) 0 + 32)) (i * 2 ^ 32 + get_or r.nodes (2 * o + 1) 0 % 2 ^ 32), add-one (2 * o)) (build-done r c o i h f)

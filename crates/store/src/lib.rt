@@ -17,7 +17,7 @@ pub struct MemoKey(pub u32);
 
 // The place in the pickle, and how much of each room is used; of stack and marks also how much ever was. `greatest` is above every
 // number in the memo.
-#[derive(Clone, Copy)]
+#[derive(Clone, Copy, Default)]
 pub struct Counts {
     pub at: usize,
     pub nodes: usize,
