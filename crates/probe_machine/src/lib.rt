@@ -5,15 +5,15 @@ use machine::Outcome;
 use op::Edition;
 use refusal::{Answer, Refusal};
 
-fn ended(o: Outcome) -> Answer {
-    match o {
-        Outcome::Stopped(c) => Answer {
+fn answered(run: Outcome) -> Answer {
+    match run.ended {
+        Ok(()) => Answer {
             number: 0,
             detail: 0,
-            length: c.at as u64,
-            count: c.nodes as u64,
+            length: run.counts.at as u64,
+            count: run.counts.nodes as u64,
         },
-        Outcome::Refused(_, why) => refusal::refused(why),
+        Err(why) => refusal::refused(why),
     }
 }
 
@@ -30,7 +30,7 @@ pub extern "C" fn probe_machine(pickle: &[u8]) -> Answer {
     let mut marks = [0u16; 256];
     let mut keys = [0u32; 1024];
     let mut held = [0u16; 1024];
-    ended(machine::run(
+    answered(machine::run(
         Edition::Full,
         pickle,
         &mut nodes,

@@ -69,9 +69,9 @@ fn steps(
             c,
         );
         match t {
-            Step::Next(d) => c = d,
-            Step::Stop(d) => return Outcome::Stopped(d),
-            Step::Refused(_, why) => return Outcome::Refused(c, why),
+            Ok(Step::Next(d)) => c = d,
+            Ok(Step::Stop(d)) => return Outcome { counts: d, ended: Ok(()) },
+            Err(why) => return Outcome { counts: c, ended: Err(why) },
         }
     }
 }
@@ -113,9 +113,10 @@ fn show(
 )
     requires { Lengths (lent_rooms pickle.now nodes.old owners.old children.old stack.old marks.old keys.old held.old) }
 {
-    match steps(pickle, nodes, owners, children, stack, marks, keys, held) {
-        Outcome::Stopped(c) => show_stop(nodes, owners, children, stack, c),
-        Outcome::Refused(_, why) => show_refusal(refusal::number(why), refusal::detail(why)),
+    let run = steps(pickle, nodes, owners, children, stack, marks, keys, held);
+    match run.ended {
+        Ok(()) => show_stop(nodes, owners, children, stack, run.counts),
+        Err(why) => show_refusal(refusal::number(why), refusal::detail(why)),
     }
 }
 
