@@ -9,8 +9,8 @@ use Rattle.value.specs.WellFormed.{WellFormed}
 use Rattle.table.specs.Compare.{decided}
 use Rattle.scorer.specs.Sheet.{is_sheet, score_of, items_of}
 use Rattle.scorer.specs.declared.Scored.{Scored}
-use Rattle.scorer.specs.declared.Tally.{Tally}
-use Rattle.scorer.specs.declared.Tally.TheVariants.{Off, Sum}
+use Rattle.std.specs.declared.option.Option.{Option}
+use Rattle.std.specs.declared.option.Option.TheVariants.{None, Some}
 
 -- number and detail of SheetShape
 abbrev pub sheet_shape : ℕ × ℕ
@@ -21,15 +21,15 @@ abbrev pub unscored : ℕ × ℕ → Scored
 unscored why = record { number = why.0; detail = why.1; score = 0; items = 0 }
 
 -- the answer for a value
-unfoldable pub scored_of : Tally → Scored
-scored_of Off = unscored sheet_shape
-scored_of (Sum s n) = record { number = 0; detail = 0; score = s; items = n }
+unfoldable pub scored_of : Option (ℕ × ℕ) → Scored
+scored_of None = unscored sheet_shape
+scored_of (Some (s, n)) = record { number = 0; detail = 0; score = s; items = n }
 
-unfoldable pub tally_of : Value → Tally
-tally_of v = cond (is_sheet v) (Sum (score_of v) (items_of v)) Off
+unfoldable pub tally_of : Value → Option (ℕ × ℕ)
+tally_of v = cond {A = Option (ℕ × ℕ)} (is_sheet v) (Some (score_of v, items_of v)) None
 
 -- of whatever count the table is well formed
-abbrev pub Assesses : List ℕ → List ℕ → Tally → Type 0
+abbrev pub Assesses : List ℕ → List ℕ → Option (ℕ × ℕ) → Type 0
 Assesses w t r = (n : ℕ) (f : WellFormed w n t) → r ≡ tally_of f.value
 
 -- the call, lent n records in w and the text t, answers r
@@ -48,8 +48,5 @@ score_one {w} {n} {t} {r} {s} x y = go (decided w n t)
 -- ---- the code's answers
 
 module _ (w : List ℕ) (n : ℕ) (t : List ℕ) (r : Scored) where
-  pub scores_bad : (WellFormed w n t → ⊥) → r ≡ unscored (number_of (BadTable First)) → Scores w n t r
-  scores_bad h e = record { bad = λ q. e; good = λ f. absurd (h f) }
-
   pub scores_good : WellFormed w n t → ((f : WellFormed w n t) → r ≡ scored_of (tally_of f.value)) → Scores w n t r
   scores_good f h = record { bad = λ q. absurd (q f); good = h }

@@ -1,5 +1,5 @@
 -- The value of a well-formed table as the code goes through it: a Dict at record 0, what is under its four keys, and the walk.
-use Rattle.std.specs.Prelude.{ℕ, suc, ◌+◌, ◌*◌, ◌≤◌, ◌<◌, Bool, false, cond, ◌&&◌, List, ◌≡◌, refl, length, get_or, T}
+use Rattle.std.specs.Prelude.{ℕ, suc, ◌+◌, ◌*◌, ◌≤◌, Bool, false, cond, ◌&&◌, List, ◌≡◌, refl, length, get_or, T}
 use Rattle.std.proofs.Math.Bool.{true, and-false}
 use Rattle.std.proofs.Math.Path.{sym, ap}
 use Rattle.std.proofs.Common.{◌∙◌}
@@ -16,9 +16,9 @@ use Rattle.scorer.specs.Sheet.{bits, between, is_key, under, answers_key, revers
 use Rattle.scorer.specs.Call.{tally_of}
 use Rattle.scorer.specs.Walk.{tally_walk, walk_is}
 use Rattle.scorer.specs.Place.{Lies, FirstAndRest, parts, formed_lies}
-use Rattle.scorer.specs.Steps.{kind-says, bits-says, mark-says, between_at, between-says, kind-read, Lain, Sought, Both}
-use Rattle.scorer.specs.declared.Tally.{Tally}
-use Rattle.scorer.specs.declared.Tally.TheVariants.{Off}
+use Rattle.scorer.specs.Steps.{kind-says, bits-says, mark-says, between_at, between-says, kind-read, Lain, Found, Both}
+use Rattle.std.specs.declared.option.Option.{Option}
+use Rattle.std.specs.declared.option.Option.TheVariants.{None}
 
 -- ---- how many values a record says
 
@@ -116,28 +116,28 @@ under-shaped k (node l c (node m d r)) h =
 
 -- ---- no sheet
 
-off : (v : Value) → is_sheet v ≡ false → Off ≡ tally_of v
+off : (v : Value) → is_sheet v ≡ false → None ≡ tally_of v
 unfolding tally_of
 off v e = rw e
 
 module _ (v : Value) where
-  off_dict : eqb (kind v.label) 10 ≡ false → Off ≡ tally_of v
+  off_dict : eqb (kind v.label) 10 ≡ false → None ≡ tally_of v
   unfolding is_sheet
   off_dict e = off v (rw e)
 
-  pub off_answers : eqb (kind (answers v).label) 10 ≡ false → Off ≡ tally_of v
+  pub off_answers : eqb (kind (answers v).label) 10 ≡ false → None ≡ tally_of v
   unfolding is_sheet
   off_answers e = off v (rw e (simp and-false))
 
-  pub off_reverse : eqb (kind (reverse v).label) 8 ≡ false → Off ≡ tally_of v
+  pub off_reverse : eqb (kind (reverse v).label) 8 ≡ false → None ≡ tally_of v
   unfolding is_sheet
   off_reverse e = off v (rw e (simp and-false))
 
-  pub off_flipped : eqb (kind (flipped v).label) 1 ≡ false → Off ≡ tally_of v
+  pub off_flipped : eqb (kind (flipped v).label) 1 ≡ false → None ≡ tally_of v
   unfolding is_sheet
   off_flipped e = off v (rw e (simp and-false))
 
-  pub off_range : between 1 100 (highest_answer v).label ≡ false → Off ≡ tally_of v
+  pub off_range : between 1 100 (highest_answer v).label ≡ false → None ≡ tally_of v
   unfolding is_sheet
   off_range e = off v (rw e (simp and-false))
 
@@ -145,14 +145,14 @@ module _ (v : Value) where
   unfolding between
   no_int e = rw e
 
-  pub off_highest : eqb (kind (highest_answer v).label) 2 ≡ false → Off ≡ tally_of v
+  pub off_highest : eqb (kind (highest_answer v).label) 2 ≡ false → None ≡ tally_of v
   off_highest e = off_range (no_int e)
 
 -- ---- what was sought
 
-module _ {w t : List ℕ} {v : Value} {k r : ℕ} (s : Sought w t v k r) (some : 0 < r) where
+module _ {w t : List ℕ} {v : Value} {k r : ℕ} (s : Found w t v k r) where
   sought_parts : FirstAndRest w t r v.label v.contents nil
-  sought_parts = parts (s.there some)
+  sought_parts = parts s.there
 
   pub sought_inside : 4 * r + 4 ≤ length w
   sought_inside = sought_parts.says.reads.inside
@@ -179,7 +179,7 @@ module _ {w : List ℕ} {n : ℕ} {t : List ℕ} (a : WellFormed w n t) where
     root_kind : kind a.value.label ≡ h.kind
     root_kind = sym (kind-says root.says) ∙ kind-read w 0 h q
 
-    pub root_off : (h.kind ≡ 10 → ⊥) → Off ≡ tally_of a.value
+    pub root_off : (h.kind ≡ 10 → ⊥) → None ≡ tally_of a.value
     root_off e = off_dict a.value (ne_eqb (kind a.value.label) 10 (λ k. e (sym root_kind ∙ k)))
 
     pub root_dict : h.kind ≡ 10 → kind a.value.label ≡ 10
@@ -195,21 +195,29 @@ module _ {w : List ℕ} {n : ℕ} {t : List ℕ} (a : WellFormed w n t) where
     pub entries_lain : Lain w t 1 (get_or w 1 0 + get_or w 1 0)
     entries_lain = record { values = a.value.contents; lies = entries_lie; counted = entries-count }
 
+    -- what is under a key, by what was sought in the Dict
+    module _ (key : List ℕ) (d : ℕ) where
+      pub under_found : {r : ℕ} → ((f : Forest) → Lies w t 1 f → count f ≡ get_or w 1 0 + get_or w 1 0 → Found w t (under key f) d r) → Found w t (under key a.value.contents) d r
+      under_found s = s a.value.contents entries_lie entries-count
+
+      pub under_missing : ((f : Forest) → Lies w t 1 f → count f ≡ get_or w 1 0 + get_or w 1 0 → eqb (kind (under key f).label) d ≡ false) → eqb (kind (under key a.value.contents).label) d ≡ false
+      under_missing s = s a.value.contents entries_lie entries-count
+
     -- the four values
-    module _ {i j : ℕ} (x : Sought w t (answers a.value) 10 i) (x₀ : 0 < i) (y : Sought w t (reverse a.value) 8 j) (y₀ : 0 < j) where
+    module _ {i j : ℕ} (x : Found w t (answers a.value) 10 i) (y : Found w t (reverse a.value) 8 j) where
       answers-count : count (answers a.value).contents ≡ word_at w i 1 + word_at w i 1
-      answers-count = dict-count (sought_says x x₀) (x.right x₀)
+      answers-count = dict-count (sought_says x) (x.right)
 
       reverse-count : count (reverse a.value).contents ≡ word_at w j 1
-      reverse-count = set-count (sought_says y y₀) (y.right y₀)
+      reverse-count = set-count (sought_says y) (y.right)
 
       pub both_lie : Both w (i + 1) (word_at w i 1) (j + 1) (word_at w j 1)
       both_lie =
-          let in-y = sought_inside y y₀ in
+          let in-y = sought_inside y in
           record {
             text = t;
-            answers = record { values = (answers a.value).contents; lies = sought_lie x x₀; counted = answers-count };
-            reversed = record { values = (reverse a.value).contents; lies = sought_lie y y₀; counted = reverse-count };
+            answers = record { values = (answers a.value).contents; lies = sought_lie x; counted = answers-count };
+            reversed = record { values = (reverse a.value).contents; lies = sought_lie y; counted = reverse-count };
             inside = omega arith;
           }
 
@@ -223,26 +231,26 @@ module _ {w : List ℕ} {n : ℕ} {t : List ℕ} (a : WellFormed w n t) where
           let n₂ = a.few in
           omega arith
 
-      pub assessed : {f m : ℕ} → Sought w t (flipped a.value) 1 f → 0 < f → Sought w t (highest_answer a.value) 2 m → 0 < m → between_at w m 1 100 ≡ true
-          → (r : Tally) → ((s : List ℕ) (g h : Forest) → Lies w s (i + 1) g → count g ≡ word_at w i 1 + word_at w i 1 → Lies w s (j + 1) h → count h ≡ word_at w j 1 → r ≡ tally_walk (word_at w m 1) (eqb (word_at w f 1) 1) (word_at w i 1) 0 g h)
+      pub assessed : {f m : ℕ} → Found w t (flipped a.value) 1 f → Found w t (highest_answer a.value) 2 m → between_at w m 1 100 ≡ true
+          → (r : Option (ℕ × ℕ)) → ((s : List ℕ) (g h : Forest) → Lies w s (i + 1) g → count g ≡ word_at w i 1 + word_at w i 1 → Lies w s (j + 1) h → count h ≡ word_at w j 1 → r ≡ tally_walk (word_at w m 1) (eqb (word_at w f 1) 1) (word_at w i 1) 0 g h)
           → r ≡ tally_of a.value
       unfolding tally_of is_sheet score_of items_of marked
-      assessed {f} {m} z z₀ o o₀ range r ens =
+      assessed {f} {m} z o range r ens =
           let v = a.value in
           let g = (answers v).contents in
           let h = (reverse v).contents in
           let k₀ : eqb (kind v.label) 10 ≡ true = eq-eqb (kind v.label) 10 dict in
-          let k₁ : eqb (kind (answers v).label) 10 ≡ true = eq-eqb (kind (answers v).label) 10 (x.right x₀) in
-          let k₂ : eqb (kind (reverse v).label) 8 ≡ true = eq-eqb (kind (reverse v).label) 8 (y.right y₀) in
-          let k₃ : eqb (kind (flipped v).label) 1 ≡ true = eq-eqb (kind (flipped v).label) 1 (z.right z₀) in
-          let k₄ : between 1 100 (highest_answer v).label ≡ true = sym (between-says 1 100 (sought_says o o₀)) ∙ range in
-          let e₁ : word_at w m 1 ≡ bits (highest_answer v).label = bits-says (sought_says o o₀) (o.right o₀) in
-          let e₂ : eqb (word_at w f 1) 1 ≡ eqb (bits (flipped v).label) 1 = mark-says (sought_says z z₀) (z.right z₀) in
+          let k₁ : eqb (kind (answers v).label) 10 ≡ true = eq-eqb (kind (answers v).label) 10 (x.right) in
+          let k₂ : eqb (kind (reverse v).label) 8 ≡ true = eq-eqb (kind (reverse v).label) 8 (y.right) in
+          let k₃ : eqb (kind (flipped v).label) 1 ≡ true = eq-eqb (kind (flipped v).label) 1 (z.right) in
+          let k₄ : between 1 100 (highest_answer v).label ≡ true = sym (between-says 1 100 (sought_says o)) ∙ range in
+          let e₁ : word_at w m 1 ≡ bits (highest_answer v).label = bits-says (sought_says o) (o.right) in
+          let e₂ : eqb (word_at w f 1) 1 ≡ eqb (bits (flipped v).label) 1 = mark-says (sought_says z) (z.right) in
           let e₃ : half (count g) ≡ word_at w i 1 = ap half answers-count ∙ half_twice (word_at w i 1) in
           let inner = inner-order v a.settle in
-          let up = dict_ascends (answers v).label g (x.right x₀) (own_order (answers v) (under-settled answers_key v.contents inner)) in
-          let up₂ = set-items (reverse v).label h (y.right y₀) (own_order (reverse v) (under-settled reverse_key v.contents inner)) in
-          let start : r ≡ tally_walk (bits (highest_answer v).label) (eqb (bits (flipped v).label) 1) (word_at w i 1) 0 g h = rw (e₁, e₂) at (ens t g h (sought_lie x x₀) answers-count (sought_lie y y₀) reverse-count) in
-          let law = walk_is (bits (highest_answer v).label) (eqb (bits (flipped v).label) 1) (word_at w i 1) 0 g h (sought_shape x x₀) (sought_shape y y₀) up up₂ in
+          let up = dict_ascends (answers v).label g (x.right) (own_order (answers v) (under-settled answers_key v.contents inner)) in
+          let up₂ = set-items (reverse v).label h (y.right) (own_order (reverse v) (under-settled reverse_key v.contents inner)) in
+          let start : r ≡ tally_walk (bits (highest_answer v).label) (eqb (bits (flipped v).label) 1) (word_at w i 1) 0 g h = rw (e₁, e₂) at (ens t g h (sought_lie x) answers-count (sought_lie y) reverse-count) in
+          let law = walk_is (bits (highest_answer v).label) (eqb (bits (flipped v).label) 1) (word_at w i 1) 0 g h (sought_shape x) (sought_shape y) up up₂ in
           let zero : 0 + answers_sum (bits (highest_answer v).label) (eqb (bits (flipped v).label) 1) h g ≡ answers_sum (bits (highest_answer v).label) (eqb (bits (flipped v).label) 1) h g = omega arith in
           rw (k₀, k₁, k₂, k₃, k₄, e₃) (start ∙ law ∙ rw zero)

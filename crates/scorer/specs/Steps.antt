@@ -1,10 +1,10 @@
 -- What the code reads of a record, and the steps of its two loops: from key to key of a Dict, and from answer to answer.
 use Rattle.std.specs.Prelude.{ℕ, ◌+◌, ◌-◌, ◌*◌, ◌≤◌, ◌<◌, Bool, ◌&&◌, List, ◌≡◌, refl, length, get_or, take, drop, ltb, leb}
-use Rattle.std.proofs.Math.Bool.{true, false, and-false}
+use Rattle.std.proofs.Math.Bool.{true, false}
 use Rattle.std.proofs.Math.Path.{sym, ap, subst}
 use Rattle.std.proofs.Common.{◌∙◌, add-zero}
 use Rattle.std.proofs.Math.Dec.{eqb, compare_is_eq}
-use borrow.Author.Tests.{eqb-true, eq-eqb, ne_eqb, lt-ltb, le-leb, lt-leb, leb-true, ltb-true}
+use borrow.Author.Tests.{eqb-true, eq-eqb, ne_eqb, lt-ltb, leb-true, ltb-true}
 use native.Mathlib.Omega.{arith}
 use Rattle.utf8.specs.Rows.{both}
 use Rattle.value.specs.Value.{Label, Forest, Value, one, bit, kind, count, size, nil, node}
@@ -13,14 +13,18 @@ use Rattle.value.specs.Stands.{word_at, label_at, Reads, Says}
 use Rattle.value.specs.Left.{kind_at}
 use Rattle.value.specs.Labels.{text_inside}
 use Rattle.value.specs.declared.Head.{Head}
-use Rattle.value.specs.Order.{lex}
+use Rattle.value.specs.Order.{lex, ◌then◌}
+use Prim.Native.Nat.{compare, Ordering}
+use lib.Pointwise.{pointwise}
+use mathlib.Core.List.{[], ◌∷◌}
 use Rattle.value.specs.WellFormed.{WellFormed}
 use Rattle.table.specs.Sound.{size_at}
 use Rattle.scorer.specs.Sheet.{bits, between, same_int, is_key, under, counted}
 use Rattle.scorer.specs.Walk.{same_parts, is_first, past_if, tally_walk, int_leaf}
 use Rattle.scorer.specs.Place.{Lies, FirstAndRest, parts}
-use Rattle.scorer.specs.declared.Tally.{Tally}
-use Rattle.scorer.specs.declared.Tally.TheVariants.{Off, Sum}
+use Rattle.std.specs.declared.option.Option.{Option}
+use Rattle.std.specs.declared.option.Option.TheVariants.{None, Some}
+use Rattle.std.specs.Bool.{then_some}
 
 -- ---- a record's words and its label
 
@@ -58,17 +62,6 @@ between-says {w} {t} {i} {l} {n} a b q = rw (kind-says q) (go (eqb (kind l) 2) r
     go true e = rw (bits-says q (eqb-true (kind l) 2 e))
     go false e = refl
 
--- what is in no wider range is in no narrower one
-pub narrower : (w : List ℕ) (i a b c : ℕ) → b ≤ c → between_at w i a c ≡ false → between_at w i a b ≡ false
-unfolding between_at
-narrower w i a b c h e = go (eqb (kind_in (word_at w i 0)) 2) (leb a (word_at w i 1)) (leb (word_at w i 1) b) refl e
-  where
-    go : (x y z : Bool) → leb (word_at w i 1) b ≡ z → (x && (y && leb (word_at w i 1) c)) ≡ false → (x && (y && z)) ≡ false
-    go false y z q e = refl
-    go true false z q e = refl
-    go true true false q e = refl
-    go true true true q e = let n = leb-true (word_at w i 1) b q in sym (le-leb (word_at w i 1) c (omega arith)) ∙ e
-
 -- some items are left, and the next one, at record j, is this one
 unfoldable pub hit_at : List ℕ → ℕ → ℕ → ℕ → Bool
 hit_at w j left item = ltb 0 left && (eqb (kind_in (word_at w j 0)) 2 && eqb item (word_at w j 1))
@@ -86,14 +79,18 @@ pub record Lain (w t : List ℕ) (i m : ℕ) : Type 0 where
   pub lies : Lies w t i values
   pub counted : count values ≡ m
 
--- what was sought, a value of kind k: at record r, or 0 where there is none
-pub record Sought (w t : List ℕ) (v : Value) (k r : ℕ) : Type 0 where
-  pub missing : r ≡ 0 → eqb (kind v.label) k ≡ false
-  pub there : 0 < r → Lies w t r (one v)
-  pub right : 0 < r → kind v.label ≡ k
+-- what was sought, a value of kind k, is at record r
+pub record Found (w t : List ℕ) (v : Value) (k r : ℕ) : Type 0 where
+  pub there : Lies w t r (one v)
+  pub right : kind v.label ≡ k
+
+-- whether it was found
+abbrev pub Sought : List ℕ → List ℕ → Value → ℕ → Option ℕ → Type 0
+Sought w t v k None = eqb (kind v.label) k ≡ false
+Sought w t v k (Some r) = Found w t v k r
 
 -- whatever n values lie from record 1 on: what is under the key in them is sought, of kind d
-abbrev pub Seeks : List ℕ → List ℕ → ℕ → List ℕ → ℕ → ℕ → Type 0
+abbrev pub Seeks : List ℕ → List ℕ → ℕ → List ℕ → ℕ → Option ℕ → Type 0
 Seeks w t n k d r = (f : Forest) → Lies w t 1 f → count f ≡ n → Sought w t (under k f) d r
 
 -- so many entries are left from record i on, and what is sought, v, is under the key in them
@@ -166,7 +163,7 @@ module _ {w t : List ℕ} {k : List ℕ} {i left : ℕ} {v : Value} where
 -- ---- from answer to answer
 
 -- so many answers are left from record i on, and so many reversed items from record j on; with the score so far they decide
-pub record TallySoFar (w t : List ℕ) (m : ℕ) (mark : Bool) (n i left j rest s : ℕ) (all : Tally) : Type 0 where
+pub record TallySoFar (w t : List ℕ) (m : ℕ) (mark : Bool) (n i left j rest s : ℕ) (all : Option (ℕ × ℕ)) : Type 0 where
   pub answers : Forest
   pub reversed : Forest
   pub answers_lie : Lies w t i answers
@@ -183,16 +180,16 @@ pub record Both (w : List ℕ) (i left j rest : ℕ) : Type 0 where
   pub inside : j ≤ length w
 
 -- whatever answers and reversed items lie there: what the walk through them comes to
-abbrev pub AddsUp : List ℕ → ℕ → ℕ → ℕ → ℕ → ℕ → Bool → Tally → Type 0
+abbrev pub AddsUp : List ℕ → ℕ → ℕ → ℕ → ℕ → ℕ → Bool → Option (ℕ × ℕ) → Type 0
 AddsUp w i left j rest m mark r =
     (t : List ℕ) (f g : Forest) → Lies w t i f → count f ≡ left + left → Lies w t j g → count g ≡ rest → r ≡ tally_walk m mark left 0 f g
 
 -- the next answer
-pub record AnswerStep (w t : List ℕ) (m : ℕ) (mark : Bool) (n i left j rest s : ℕ) (all : Tally) : Type 0 where
+pub record AnswerStep (w t : List ℕ) (m : ℕ) (mark : Bool) (n i left j rest s : ℕ) (all : Option (ℕ × ℕ)) : Type 0 where
   pub inside : 4 * i + 8 ≤ length w
   pub reversed_inside : 0 < rest → 4 * j + 4 ≤ length w
-  pub bad_item : between_at w i 1 200 ≡ false → all ≡ Off
-  pub bad_answer : between_at w i 1 200 ≡ true → between_at w (i + 1) 0 m ≡ false → all ≡ Off
+  pub bad_item : between_at w i 1 200 ≡ false → all ≡ None
+  pub bad_answer : between_at w i 1 200 ≡ true → between_at w (i + 1) 0 m ≡ false → all ≡ None
   pub on : between_at w i 1 200 ≡ true → between_at w (i + 1) 0 m ≡ true → (b : Bool) → b ≡ hit_at w j rest (word_at w i 1) → TallySoFar w t m mark n (i + 2) (left - 1) (j + bit b) (rest - bit b) (s + counted m mark b (word_at w (i + 1) 1)) all
 
 -- the next reversed item is the one at hand
@@ -228,7 +225,7 @@ unfolding count
 lies_inside nil y o = absurd (omega arith)
 lies_inside (node r c f) y o = (parts y).says.reads.inside
 
-module _ {w t : List ℕ} {m : ℕ} {mark : Bool} {n i left j rest s : ℕ} {all : Tally} where
+module _ {w t : List ℕ} {m : ℕ} {mark : Bool} {n i left j rest s : ℕ} {all : Option (ℕ × ℕ)} where
   answer_of : (l a : Label) (c d g f : Forest) → Lies w t i (node l c (node a d g)) → Lies w t j f → count g ≡ left - 1 + (left - 1) → count f ≡ rest → all ≡ tally_walk m mark n s (node l c (node a d g)) f → AnswerStep w t m mark n i left j rest s all
   unfolding tally_walk size
   answer_of l a c d g f h y x z e =
@@ -276,19 +273,19 @@ module _ {w t : List ℕ} {m : ℕ} {mark : Bool} {n i left j rest s : ℕ} {all
 
   -- no answer is left
   module _ (q : TallySoFar w t m mark n i left j rest s all) (h : left ≡ 0) where
-    ended : (rest ≡ 0 → all ≡ Sum s n) × (0 < rest → all ≡ Off)
+    ended : (rest ≡ 0 → all ≡ Some (s, n)) × (0 < rest → all ≡ None)
     unfolding count tally_walk
     ended = go q.answers q.reversed q.answers-count q.reversed_count q.same
       where
-        go : (f g : Forest) → count f ≡ left + left → count g ≡ rest → all ≡ tally_walk m mark n s f g → (rest ≡ 0 → all ≡ Sum s n) × (0 < rest → all ≡ Off)
+        go : (f g : Forest) → count f ≡ left + left → count g ≡ rest → all ≡ tally_walk m mark n s f g → (rest ≡ 0 → all ≡ Some (s, n)) × (0 < rest → all ≡ None)
         go nil nil a b e = (λ o. e, λ o. absurd (omega arith))
         go nil (node l c r) a b e = (λ o. absurd (omega arith), λ o. e)
         go (node l c r) g a b e = absurd (omega arith)
 
-    pub all-answered : rest ≡ 0 → all ≡ Sum s n
+    pub all-answered : rest ≡ 0 → all ≡ Some (s, n)
     all-answered = ended.0
 
-    pub one_left : 0 < rest → all ≡ Off
+    pub one_left : 0 < rest → all ≡ None
     one_left = ended.1
 
 -- ---- numbers of a turn
@@ -301,10 +298,6 @@ hit_some w j rest item = go (ltb 0 rest) refl _
     go false e y = omega arith
     go true e false = omega arith
     go true e true = let h = ltb-true 0 rest e in omega arith
-
-pub bit_back : (b : Bool) → eqb (bit b) 1 ≡ b
-bit_back true = refl
-bit_back false = refl
 
 pub counted_most : (m : ℕ) (mark b : Bool) (a : ℕ) → a ≤ m → counted m mark b a ≤ m
 counted_most m true b a h = h
@@ -328,47 +321,20 @@ module _ (w : List ℕ) (i : ℕ) (h : Head) (q : h ≡ head_of (get_or w (4 * i
         let f : v ≡ e.found = e.yes (ap (is_key k) (sym e.label) ∙ y) in
         ap (λ (x : Value). kind x.label) f ∙ sym e.value-kind ∙ rw (← at) kind-read
 
-    pub seek_found : h.kind ≡ d → Sought w t v d i
-    seek_found g =
-        let f : v ≡ e.found = e.yes (ap (is_key k) (sym e.label) ∙ y) in
-        let far = e.further in
-        record {
-          missing = λ o. absurd (omega arith);
-          there = λ o. rw (f, at) e.value_lies;
-          right = λ o. found_kind ∙ g;
-        }
+    pub sought_here : Sought w t v d (then_some (eqb h.kind d) i)
+    sought_here = go (eqb h.kind d) refl
+      where
+        go : (b : Bool) → eqb h.kind d ≡ b → Sought w t v d (then_some b i)
+        go true g = let f : v ≡ e.found = e.yes (ap (is_key k) (sym e.label) ∙ y) in record { there = rw (f, at) e.value_lies; right = found_kind ∙ eqb-true h.kind d g }
+        go false g = rw found_kind g
 
-    pub seek_other : (h.kind ≡ d → ⊥) → Sought w t v d 0
-    seek_other g =
-        record {
-          missing = λ o. ne_eqb (kind v.label) d (λ q. g (sym found_kind ∙ q));
-          there = λ o. absurd (omega arith);
-          right = λ o. absurd (omega arith);
-        }
-
-  pub not_int : (a b : ℕ) → (h.kind ≡ 2 → ⊥) → false ≡ between_at w i a b
+  pub between-read : (a b : ℕ) → between_at w i a b ≡ (eqb h.kind 2 && (leb a (word_at w i 1) && leb (word_at w i 1) b))
   unfolding between_at
-  not_int a b n = rw (kind-read, ne_eqb h.kind 2 n)
+  between-read a b = rw kind-read
 
-  pub too_low : (a b : ℕ) → word_at w i 1 < a → false ≡ between_at w i a b
-  unfolding between_at
-  too_low a b l = sym (rw (lt-leb a (word_at w i 1) l) (and-false (eqb (kind_in (word_at w i 0)) 2)))
-
-  pub not_low : (a b : ℕ) → h.kind ≡ 2 → a ≤ word_at w i 1 → leb (word_at w i 1) b ≡ between_at w i a b
-  unfolding between_at
-  not_low a b k l = rw (kind-read, eq-eqb h.kind 2 k, le-leb a (word_at w i 1) l)
-
-  pub hit_other : (left item : ℕ) → (left ≡ 0 → ⊥) → (h.kind ≡ 2 → ⊥) → 0 ≡ bit (hit_at w i left item)
+  pub hit_read : (left item : ℕ) → 0 < left → hit_at w i left item ≡ (eqb h.kind 2 && eqb item (word_at w i 1))
   unfolding hit_at
-  hit_other left item some n = rw (lt-ltb 0 left (omega arith), kind-read, ne_eqb h.kind 2 n)
-
-  pub hit_yes : (left item : ℕ) → (left ≡ 0 → ⊥) → h.kind ≡ 2 → item ≡ word_at w i 1 → 1 ≡ bit (hit_at w i left item)
-  unfolding hit_at
-  hit_yes left item some k e = rw (lt-ltb 0 left (omega arith), kind-read, eq-eqb h.kind 2 k, eq-eqb item (word_at w i 1) e)
-
-  pub hit_no : (left item : ℕ) → (left ≡ 0 → ⊥) → h.kind ≡ 2 → (item ≡ word_at w i 1 → ⊥) → 0 ≡ bit (hit_at w i left item)
-  unfolding hit_at
-  hit_no left item some k e = rw (lt-ltb 0 left (omega arith), kind-read, eq-eqb h.kind 2 k, ne_eqb item (word_at w i 1) e)
+  hit_read left item some = rw (lt-ltb 0 left some, kind-read)
 
   module _ (t : List ℕ) (r : Reads w t i) (k : List ℕ) where
     pub not_key : (h.kind ≡ 4 → ⊥) → false ≡ is_key k (label_at w t i)
@@ -383,14 +349,8 @@ module _ (w : List ℕ) (i : ℕ) (h : Head) (q : h ≡ head_of (get_or w (4 * i
     key_by_lem e = let u : kind_in (word_at w i 0) ≡ 4 = kind-read ∙ e in rw u
 
 -- no entry is left
-pub seek_end : {w t : List ℕ} {k : List ℕ} {i left : ℕ} {v : Value} (d : ℕ) → Seeking w t k i left v → left ≡ 0 → 0 < d → Sought w t v d 0
-seek_end {v = v} d s h p =
-    let z = seek_none s h in
-    record {
-      missing = λ o. ne_eqb (kind v.label) d (λ q. omega arith);
-      there = λ o. absurd (omega arith);
-      right = λ o. absurd (omega arith);
-    }
+pub seek_end : {w t : List ℕ} {k : List ℕ} {i left : ℕ} {v : Value} (d : ℕ) → Seeking w t k i left v → left ≡ 0 → 0 < d → Sought w t v d None
+seek_end {v = v} d s h p = let z = seek_none s h in ne_eqb (kind v.label) d (λ q. omega arith)
 
 -- the next place among the reversed items
 pub hit_room : (w : List ℕ) (j rest item r : ℕ) → r ≡ bit (hit_at w j rest item) → (0 < rest → 4 * j + 4 ≤ length w) → j ≤ length w → j + r ≤ length w
@@ -399,3 +359,28 @@ hit_room w j rest item r e h l = go (hit_at w j rest item) refl
     go : (b : Bool) → hit_at w j rest item ≡ b → j + r ≤ length w
     go true q = let u : r ≡ 1 = e ∙ ap bit q in let m = hit_some w j rest item in let o : 0 < rest = omega arith in let i = h o in omega arith
     go false q = let u : r ≡ 0 = e ∙ ap bit q in omega arith
+
+-- no item is left
+pub hit_none : (w : List ℕ) (i left item : ℕ) → left ≤ 0 → hit_at w i left item ≡ false
+unfolding hit_at
+hit_none w i left item h = let e : left ≡ 0 = omega arith in rw e
+
+-- what lies there at first, and what is left of it: the next answer and the next reversed item are inside
+pub next_inside : {w : List ℕ} {from entries first items m i left j rest s : ℕ} {mark : Bool} → Both w from entries first items
+    → ((t : List ℕ) (f g : Forest) → Lies w t from f → count f ≡ entries + entries → Lies w t first g → count g ≡ items → TallySoFar w t m mark entries i left j rest s (tally_walk m mark entries 0 f g))
+    → 0 < left → (4 * i + 8 ≤ length w) × (0 < rest → 4 * j + 4 ≤ length w)
+next_inside b h some = let a = answer (h b.text _ _ b.answers.lies b.answers.counted b.reversed.lies b.reversed.counted) some in (a.inside, a.reversed_inside)
+
+-- ---- two texts are the same where neither is before the other
+
+pub same_texts : (a b : List ℕ) → pointwise eqb a b ≡ compare_is_eq (lex a b)
+unfolding lex ◌then◌
+same_texts [] [] = refl
+same_texts [] (y ∷ b) = refl
+same_texts (x ∷ a) [] = refl
+same_texts (x ∷ a) (y ∷ b) = go (compare x y) refl (same_texts a b)
+  where
+    go : (o : Ordering) → compare x y ≡ o → pointwise eqb a b ≡ compare_is_eq (lex a b) → (compare_is_eq (compare x y) && pointwise eqb a b) ≡ compare_is_eq (compare x y then lex a b)
+    go Ordering.lt e h = rw e
+    go Ordering.eq e h = rw e h
+    go Ordering.gt e h = rw e

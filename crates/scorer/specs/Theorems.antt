@@ -24,22 +24,23 @@ use Rattle.scorer.specs.Steps.{counted_most}
 use Rattle.scorer.specs.Root.{dict_ascends, own_order, inner-order, inner_shape, under-settled, under-shaped}
 use Rattle.scorer.specs.Flip.{sheet_holds, is_true, flip, flip-sheet, flip-marked, flip-items, flip_score, flip_formed, flip-value}
 use Rattle.scorer.specs.declared.Scored.{Scored}
-use Rattle.scorer.specs.declared.Tally.TheVariants.{Off, Sum}
+use Rattle.std.specs.declared.option.Option.{Option}
+use Rattle.std.specs.declared.option.Option.TheVariants.{None, Some}
 
 -- ---- what the call answers of a well-formed table
 
 abbrev pub scored : ℕ → ℕ → Scored
 scored s n = record { number = 0; detail = 0; score = s; items = n }
 
-tally_sheet : (v : Value) → Sheet v → tally_of v ≡ Sum (score_of v) (items_of v)
+tally_sheet : (v : Value) → Sheet v → tally_of v ≡ Some (score_of v, items_of v)
 unfolding tally_of
 tally_sheet v h = rw (is_true (is_sheet v) h)
 
-tally_none : (v : Value) → (Sheet v → ⊥) → tally_of v ≡ Off
+tally_none : (v : Value) → (Sheet v → ⊥) → tally_of v ≡ None
 unfolding tally_of
 tally_none v h = go (is_sheet v) h
   where
-    go : (b : Bool) → (T b → ⊥) → cond b (Sum (score_of v) (items_of v)) Off ≡ Off
+    go : (b : Bool) → (T b → ⊥) → cond {A = Option (ℕ × ℕ)} b (Some (score_of v, items_of v)) None ≡ None
     go true h = absurd (h tt)
     go false h = refl
 

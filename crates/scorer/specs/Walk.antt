@@ -13,8 +13,8 @@ use Rattle.value.specs.Order.{order}
 use Rattle.value.specs.Total.{order_same, order-less}
 use Rattle.value.specs.WellFormed.{less, ascending, ascending-rest, keys}
 use Rattle.scorer.specs.Sheet.{bits, between, same_int, holds_int, in_range, all_answered, counted, answers_sum}
-use Rattle.scorer.specs.declared.Tally.{Tally}
-use Rattle.scorer.specs.declared.Tally.TheVariants.{Off, Sum}
+use Rattle.std.specs.declared.option.Option.{Option}
+use Rattle.std.specs.declared.option.Option.TheVariants.{None, Some}
 
 abbrev value : Label → Forest → Value
 value l c = record { label = l; contents = c }
@@ -184,20 +184,20 @@ past_if true nil = nil
 past_if true (node l c r) = r
 
 -- with the score s so far, of n items
-unfoldable pub tally_walk : ℕ → Bool → ℕ → ℕ → Forest → Forest → Tally
-tally_walk m mark n s nil nil = Sum s n
-tally_walk m mark n s nil (node r e f) = Off
-tally_walk m mark n s (node l c nil) f = Off
+unfoldable pub tally_walk : ℕ → Bool → ℕ → ℕ → Forest → Forest → Option (ℕ × ℕ)
+tally_walk m mark n s nil nil = Some (s, n)
+tally_walk m mark n s nil (node r e f) = None
+tally_walk m mark n s (node l c nil) f = None
 tally_walk m mark n s (node l c (node a d g)) f =
-    cond (between 1 200 l) (cond (between 0 m a) (tally_walk m mark n (s + counted m mark (is_first l f) (bits a)) g (past_if (is_first l f) f)) Off) Off
+    cond (between 1 200 l) (cond (between 0 m a) (tally_walk m mark n (s + counted m mark (is_first l f) (bits a)) g (past_if (is_first l f) f)) None) None
 
-verdict : ℕ → Bool → ℕ → Tally
-verdict n b s = cond b (Sum s n) Off
+verdict : ℕ → Bool → ℕ → Option (ℕ × ℕ)
+verdict n b s = cond {A = Option (ℕ × ℕ)} b (Some (s, n)) None
 
 module _ (m : ℕ) (mark : Bool) (n : ℕ) where
   walk_end : (s : ℕ) (f : Forest) → tally_walk m mark n s nil f ≡ verdict n (in_range m nil && all_answered (keys nil) f) (s + answers_sum m mark f nil)
   unfolding tally_walk verdict in_range all_answered keys holds_int answers_sum
-  walk_end s nil = let e : s ≡ s + 0 = omega arith in ap (λ (x : ℕ). Sum x n) e
+  walk_end s nil = let e : s + 0 ≡ s = omega arith in rw e
   walk_end s (node l c r) = refl
 
   -- an entry whose item and answer are in range
@@ -263,7 +263,7 @@ module _ (m : ℕ) (mark : Bool) (n : ℕ) where
   past-ascending true nil h = tt
   past-ascending true (node r e f) h = ascending-rest r e f h
 
-  pub walk_is : (s : ℕ) (g f : Forest) → T (shaped g) → T (shaped f) → T (ascending (keys g)) → T (ascending f) → tally_walk m mark n s g f ≡ cond (in_range m g && all_answered (keys g) f) (Sum (s + answers_sum m mark f g) n) Off
+  pub walk_is : (s : ℕ) (g f : Forest) → T (shaped g) → T (shaped f) → T (ascending (keys g)) → T (ascending f) → tally_walk m mark n s g f ≡ cond {A = Option (ℕ × ℕ)} (in_range m g && all_answered (keys g) f) (Some (s + answers_sum m mark f g, n)) None
   unfolding tally_walk in_range keys answers_sum shaped verdict
   walk_is s nil f x y h k = walk_end s f
   walk_is s (node l c nil) f x y h k = refl
@@ -275,8 +275,8 @@ module _ (m : ℕ) (mark : Bool) (n : ℕ) where
       go (between 1 200 l) (between 0 m a) refl refl (others ∙ decides s l a c d g fits (ascending-before l c (keys g) h) (keys-shaped g rest) f y k)
     where
       go : (p q : Bool) → between 1 200 l ≡ p → between 0 m a ≡ q
-          → tally_walk m mark n (s + counted m mark (is_first l f) (bits a)) g (past_if (is_first l f) f) ≡ cond (in_range m g && all_answered (node l c (keys g)) f) (Sum (s + (counted m mark (holds_int l f) (bits a) + answers_sum m mark f g)) n) Off
-          → tally_walk m mark n s (node l c (node a d g)) f ≡ cond (in_range m (node l c (node a d g)) && all_answered (keys (node l c (node a d g))) f) (Sum (s + answers_sum m mark f (node l c (node a d g))) n) Off
+          → tally_walk m mark n (s + counted m mark (is_first l f) (bits a)) g (past_if (is_first l f) f) ≡ cond {A = Option (ℕ × ℕ)} (in_range m g && all_answered (node l c (keys g)) f) (Some (s + (counted m mark (holds_int l f) (bits a) + answers_sum m mark f g), n)) None
+          → tally_walk m mark n s (node l c (node a d g)) f ≡ cond {A = Option (ℕ × ℕ)} (in_range m (node l c (node a d g)) && all_answered (keys (node l c (node a d g))) f) (Some (s + answers_sum m mark f (node l c (node a d g)), n)) None
       go false q i j o = rw i
       go true false i j o = rw (i, j)
       go true true i j o = rw (i, j) o
