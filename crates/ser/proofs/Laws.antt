@@ -1,72 +1,65 @@
 -- One law for each turn and each end of the code's loops, and for each way that a function writes. Assumes nothing.
 use Prim.Native.Nat.{ℕ, suc, zero, ◌+◌, ◌-◌, ◌*◌, ◌^◌, ◌/◌, ◌%◌, ◌≤◌, ◌<◌}
-use mathlib.Core.Bool.{Bool, true, false, not, cond, ◌&&◌, ◌||◌}
+use mathlib.Core.Bool.{Bool, true, false, not}
 use mathlib.Core.List.{List, [], ◌∷◌, ◌++◌}
 use mathlib.Core.Path.{◌≡◌, refl, sym, ◌∙◌, ap}
 use native.Mathlib.Nat.{add-zero}
+use Rattle.std.proofs.Math.Nat.{div-div-eq-div-mul, mul_comm, pow-suc}
+use Rattle.std.specs.Int.{w64, to_le_bytes, to_be_bytes, bytes_low_first, bytes_high_first}
+use Rattle.std.specs.List.{ends_with, list_any}
+use Rattle.std.proofs.Common.{drop-cons, drop_of_length-le, eqb-true, eq-eqb}
+use Rattle.std.proofs.Math.Bool.{and-true}
+use Rattle.std.proofs.lemmas.Bool.{eqb-false}
 use native.Mathlib.Omega.{arith}
 use mathlib.Core.Logic.{◌≢◌}
 use lib.Dec.{eqb, ltb}
 use borrow.Author.Tests.{le-leb, lt-leb, ne_eqb}
-use lib.ListN.{length, set, get_or, take, drop}
-use lib.Seq.{sets, drop-drop}
-use Rattle.utf8.specs.Encode.{by_lt}
-use Rattle.output.specs.Put.{Put, Room, StillToPut, left_more, left_room, left_none, room_first, sets_last}
+use lib.ListN.{length, get_or, take, drop}
+use lib.Seq.{drop-drop}
 use Rattle.op.specs.Table.{code_of, number_in, is_named, place}
-use Rattle.std.specs.Prelude.{Result, Ok, Err}
-use Rattle.std.specs.Result.{is_err}
-use Rattle.refusal.specs.Read.{Read, got, refused, answered}
-use Rattle.refusal.specs.declared.Refusal.{Refusal}
 use Rattle.input.specs.Bytes.{last_byte}
-use Rattle.input.specs.Line.{first_from, newline_of}
 use Rattle.value.specs.Value.{bit}
 use Rattle.value.specs.declared.Head.{Head}
 use Rattle.value.specs.Shape.{kind_in, head_of, module_part, name_part}
-use Rattle.table.specs.Record.{EachBelow, each_below}
-use Rattle.value.specs.Stands.{word_at, label_at}
+use Rattle.value.specs.Stands.{word_at}
 use Rattle.output.specs.Decimal.{signed_text, either_way}
 use Rattle.output.specs.Put.{newline_byte}
-use Rattle.ser.specs.Image.{low, high, in_i32, int_image, float_image, bytes_image, string_image, global_image, builtin, set_opening, bool_image, joined, list_batch, dict_batch, one_batch, batches_up_to, batches, items_image, tuple_opcode, tuple_mark, tuple_image, object_opcode, state_image, object_image, framed}
-use Rattle.ser.specs.Short.{high-length}
-use Rattle.ser.specs.Length.{batches_take, appends_take, tuple_takes, around, opening_takes, record_takes, records_take, records_more}
-use Rattle.ser.specs.Writable.{has_newline, ends_cr, writable, writable_label, writable_from, from_more}
+use Rattle.ser.specs.Image.{low, high, in_i32, int_image, float_image, bytes_image, string_image, global_image, builtin, set_opening, joined, list_batch, dict_batch, one_batch, batches_up_to, batches, items_image, tuple_opcode, tuple_mark, tuple_image, object_opcode, state_image, object_image, framed}
+use Rattle.ser.specs.Length.{batches_take, appends_take, record_takes, records_take, records_more}
+use Rattle.ser.specs.Writable.{has_newline, ends_cr, writable}
 use Rattle.ser.specs.Parts.{Same, Cuts, preceded_by, followed_by}
 
--- ---- put_low: the low bytes of what is left are left
+-- ---- numbers as bytes
 
-low_more : (k n : ℕ) → 0 < k → low k n ≡ (n % 256 ∷ []) ++ low (k - 1) (n / 256)
+-- the bytes from the i-th on are those of what is left without the ones before
+bytes_low : (k i n : ℕ) → bytes_low_first i k n ≡ low k (n / 256 ^ i)
 unfolding low
-low_more zero n h = absurd (omega arith)
-low_more (suc k) n h = let e : suc k - 1 ≡ k = omega arith in rw e
+bytes_low zero i n = refl
+bytes_low (suc k) zero n = let e : n / 1 ≡ n = omega arith in rw (bytes_low k 1 n, e)
+bytes_low (suc k) (suc i) n = rw (bytes_low k (suc (suc i)) n, div-div-eq-div-mul n (256 ^ suc i) 256, pow-suc 256 (suc i)) refl
 
-module _ {o₀ o b : List ℕ} {at next : ℕ} (k n : ℕ) (l : StillToPut o₀ at b o next (low k n)) where
-  low_left : 0 < k → StillToPut o₀ at b o next ((n % 256 ∷ []) ++ low (k - 1) (n / 256))
-  low_left h = rw (low_more k n h) at l
+low_front : (k j n : ℕ) → k ≤ j → take k (low j n) ≡ low k n
+unfolding low
+low_front zero j n h = refl
+low_front (suc k) zero n h = absurd (omega arith)
+low_front (suc k) (suc j) n h = ap (λ (x : List ℕ). n % 256 ∷ x) (low_front k j (n / 256) (omega arith))
 
-  pub low_room : Room o₀ at b → 0 < k → Room o next (n % 256 ∷ [])
-  low_room r h = room_first (low (k - 1) (n / 256)) (left_room r (low_left h))
+pub low_of : (k n : ℕ) → k ≤ 8 → take k (to_le_bytes w64 n) ≡ low k n
+low_of k n h = let e : n / 1 ≡ n = omega arith in ap (take k) (bytes_low 8 0 n ∙ rw e) ∙ low_front k 8 n h
 
-  pub low_turn : {o' : List ℕ} {q : ℕ} → 0 < k → Put o next (n % 256 ∷ []) o' q → StillToPut o₀ at b o' q (low (k - 1) (n / 256))
-  low_turn h p = left_more (low (k - 1) (n / 256)) (low_left h) p
-
-  pub low_done : k ≤ 0 → Put o₀ at b o next
-  unfolding low
-  low_done h = let e : k ≡ 0 = omega arith in left_none (rw e at l)
-
--- ---- put_high: the last byte is stored first
-
-pub high_turn : (o o' : List ℕ) (at k n : ℕ) → 0 < k → o' ≡ set o (at + (k - 1)) (n % 256) → sets o' at (high (k - 1) (n / 256)) ≡ sets o at (high k n)
+high_next : (k n : ℕ) → high (suc k) n ≡ n / 256 ^ k % 256 ∷ high k n
 unfolding high
-high_turn o o' at zero n h w = absurd (omega arith)
-high_turn o o' at (suc k) n h w =
-    let e : suc k - 1 ≡ k = omega arith in
-    let x = high k (n / 256) in
-    rw (w, e) (rw (high-length k (n / 256)) at (sets_last x o at (n % 256)))
+high_next zero n = let e : n / 1 ≡ n = omega arith in rw e
+high_next (suc k) n = rw (high_next k (n / 256), div-div-eq-div-mul n 256 (256 ^ k), mul_comm 256 (256 ^ k), pow-suc 256 k) refl
 
-pub high-done : (o₀ o : List ℕ) (at k m count n : ℕ) → k ≤ 0 → sets o at (high k m) ≡ sets o₀ at (high count n) → Put o₀ at (high count n) o (at + count)
+bytes_high : (k n : ℕ) → bytes_high_first k n ≡ high k n
 unfolding high
-high-done o₀ o at zero m count n h e = record { wrote = e; ends = rw (high-length count n) }
-high-done o₀ o at (suc k) m count n h e = absurd (omega arith)
+bytes_high zero n = refl
+bytes_high (suc zero) n = refl
+bytes_high (suc (suc k)) n = ap (λ (x : List ℕ). n / 256 ^ suc k % 256 ∷ x) (bytes_high (suc k) n) ∙ sym (high_next (suc k) n)
+
+pub high_of : (n : ℕ) → to_be_bytes w64 n ≡ high 8 n
+high_of n = bytes_high 8 n
 
 -- ---- opcodes by number
 
@@ -75,31 +68,7 @@ unfoldable pub numbers : Unit {0}
 unfolding code_of number_in is_named place
 numbers = tt
 
-pub bool_true : (b : Bool) → b ≡ true → 0x88 ∷ [] ≡ bool_image b
-unfolding bool_image numbers
-bool_true b e = sym (rw e)
-
-pub bool_false : (b : Bool) → b ≡ false → 0x89 ∷ [] ≡ bool_image b
-unfolding bool_image numbers
-bool_false b e = sym (rw e)
-
 module _ (n : ℕ) where
-  pub tuple_0 : n ≡ 0 → 0x29 ≡ code_of (tuple_opcode n)
-  unfolding tuple_opcode numbers
-  tuple_0 e = rw e
-
-  pub tuple_1 : n ≡ 1 → 0x85 ≡ code_of (tuple_opcode n)
-  unfolding tuple_opcode numbers
-  tuple_1 e = rw e
-
-  pub tuple_2 : n ≡ 2 → 0x86 ≡ code_of (tuple_opcode n)
-  unfolding tuple_opcode numbers
-  tuple_2 e = rw e
-
-  pub tuple_3 : n ≡ 3 → 0x87 ≡ code_of (tuple_opcode n)
-  unfolding tuple_opcode numbers
-  tuple_3 e = rw e
-
   pub mark-none : n ≤ 3 → [] ≡ tuple_mark n
   unfolding tuple_mark
   mark-none h = sym (rw (le-leb n 3 h))
@@ -107,14 +76,6 @@ module _ (n : ℕ) where
   pub mark-some : 3 < n → 0x28 ∷ [] ≡ tuple_mark n
   unfolding tuple_mark numbers
   mark-some h = sym (rw (lt-leb n 3 h))
-
-pub tuple_more : (n : ℕ) → n ≢ 0 → n ≢ 1 → n ≢ 2 → n ≢ 3 → 0x74 ≡ code_of (tuple_opcode n)
-unfolding tuple_opcode numbers
-tuple_more zero a b c d = absurd (a refl)
-tuple_more (suc zero) a b c d = absurd (b refl)
-tuple_more (suc (suc zero)) a b c d = absurd (c refl)
-tuple_more (suc (suc (suc zero))) a b c d = absurd (d refl)
-tuple_more (suc (suc (suc (suc n)))) a b c d = refl
 
 -- ---- numbers and text
 
@@ -161,154 +122,43 @@ set_parts k = refl
 pub names-global : (t : List ℕ) (p c : ℕ) (m k : List ℕ) → m ≡ take (c / 2 ^ 32) (drop p t) → k ≡ take (c % 2 ^ 32) (drop (p + c / 2 ^ 32) t) → global_image m k ≡ global_image (module_part c (drop p t)) (name_part c (drop p t))
 names-global t p c m k e f = rw (e, f, drop-drop (c / 2 ^ 32) p t)
 
--- ---- names that can be read back: the search for a newline, and the last byte
+-- ---- names that can be read back: no newline, and the last byte
 
--- whether a search found a place
-abbrev found : Read ℕ → Bool
-found (got i) = true
-found (refused why at) = false
+no_newline : (s : List ℕ) → list_any (λ y. eqb y 0x0A) s ≡ has_newline s
+unfolding has_newline
+no_newline [] = refl
+no_newline (b ∷ s) = rw (no_newline s)
 
-newline_found : (s : List ℕ) (k : ℕ) → has_newline s ≡ found (first_from s k)
-unfolding has_newline first_from
-newline_found [] k = refl
-newline_found (b ∷ s) k = go (eqb b 10) (newline_found s (suc k))
+eqb_comm : (a b : ℕ) → eqb a b ≡ eqb b a
+eqb_comm a b = go (eqb a b) refl
   where
-    go : (c : Bool) → has_newline s ≡ found (first_from s (suc k)) → (c || has_newline s) ≡ found (cond c (got k) (first_from s (suc k)))
-    go true e = refl
-    go false e = e
+    go : (x : Bool) → eqb a b ≡ x → x ≡ eqb b a
+    go true e = sym (eq-eqb b a (sym (eqb-true a b e)))
+    go false e = sym (ne_eqb b a (λ q. eqb-false a b e (sym q)))
 
-module _ (s : List ℕ) (r : Result ℕ Refusal) (e : answered r ≡ newline_of s 0) where
-  newline_told : has_newline s ≡ found (answered r)
-  unfolding newline_of
-  newline_told = newline_found s 0 ∙ ap found (sym e)
-
-  pub name_broken : is_err r ≡ false → false ≡ writable s
-  unfolding writable
-  name_broken q = sym (rw (newline_told ∙ go r q))
-    where
-      go : (x : Result ℕ Refusal) → is_err x ≡ false → found (answered x) ≡ true
-      go (Ok i) h = refl
-      go (Err why) h = cc
-
-  pub name-whole : {c : Bool} → is_err r ≡ true → c ≡ ends_cr s → not c ≡ writable s
-  unfolding writable
-  name-whole q h = rw (newline_told ∙ go r q, h)
-    where
-      go : (x : Result ℕ Refusal) → is_err x ≡ true → found (answered x) ≡ false
-      go (Ok i) h = cc
-      go (Err why) h = refl
-
-pub empty_no_cr : (s : List ℕ) → length s ≡ 0 → false ≡ ends_cr s
+cr_last : (s : List ℕ) → ends_with eqb s (0x0D ∷ []) ≡ ends_cr s
 unfolding ends_cr last_byte
-empty_no_cr [] h = refl
-empty_no_cr (b ∷ s) h = absurd (omega arith)
+cr_last [] = refl
+cr_last (b ∷ s) =
+    let h : length s < length (b ∷ s) = omega arith in
+    let e : length (b ∷ s) - 1 ≡ length s = omega arith in
+    let d : drop (length s) s ≡ [] = drop_of_length-le s (omega arith) in
+    rw (e, drop-cons (b ∷ s) (length s) 0 h, d, eqb_comm 13, and-true)
 
-module _ (t : List ℕ) (p c : ℕ) {m : List ℕ} (e : m ≡ take (c / 2 ^ 32) (drop p t)) where
-  pub module_not : writable m ≡ false → false ≡ (writable (module_part c (drop p t)) && writable (name_part c (drop p t)))
-  module_not h = sym (rw (← e, h))
-
-  pub module_and : {k : List ℕ} → writable m ≡ true → k ≡ take (c % 2 ^ 32) (drop (p + c / 2 ^ 32) t) → writable k ≡ (writable (module_part c (drop p t)) && writable (name_part c (drop p t)))
-  module_and h f = sym (rw (← e, h, f, drop-drop (c / 2 ^ 32) p t))
-
--- the records from i on are left to look at
-
-pub names-all : (w t : List ℕ) (n : ℕ) → writable_from w t 0 (n - 0) ≡ writable_from w t 0 n
-names-all w t n = ap (writable_from w t 0) (omega arith)
-
-module _ (w t : List ℕ) (i n : ℕ) where
-  pub names_turn : i < n → writable_label (label_at w t i) ≡ true → writable_from w t (i + 1) (n - (i + 1)) ≡ writable_from w t i (n - i)
-  names_turn h l = let e : n - i - 1 ≡ n - (i + 1) = omega arith in sym (from_more w t i (n - i) (omega arith) ∙ rw (l, e))
-
-  pub names-stop : i < n → writable_label (label_at w t i) ≡ false → false ≡ writable_from w t i (n - i)
-  names-stop h l = sym (from_more w t i (n - i) (omega arith) ∙ rw l)
-
-  pub names_end_lem : n ≤ i → true ≡ writable_from w t i (n - i)
-  unfolding writable_from
-  names_end_lem h = let e : n - i ≡ 0 = omega arith in rw e
+pub name_writable : (s : List ℕ) {n c : Bool} → n ≡ list_any (λ y. eqb y 0x0A) s → c ≡ ends_with eqb s (0x0D ∷ []) → n ≡ false → not c ≡ writable s
+unfolding writable
+name_writable s e f z = rw (← no_newline s, ← cr_last s, ← e, ← f, z)
 
 -- ---- the length
 
 pub head_kind : (w : List ℕ) (i : ℕ) (h : Head) → h ≡ head_of (get_or w (4 * i) 0) → kind_in (word_at w i 0) ≡ h.kind
 head_kind w i h q = rw (add-zero, q)
 
-module _ (k b c : ℕ) where
-  pub takes_low : k < 2 → opening_takes k b c ≡ 1
-  unfolding opening_takes
-  takes_low h = by_lt k 1 (λ l. let e : k ≡ 0 = omega arith in rw e) (λ l. let e : k ≡ 1 = omega arith in rw e)
-
-  pub takes_int : k ≡ 2 → opening_takes k b c ≡ length (int_image b)
-  unfolding opening_takes
-  takes_int e = rw e
-
-  pub takes_float : k ≡ 3 → opening_takes k b c ≡ 9
-  unfolding opening_takes
-  takes_float e = rw e
-
-  pub takes_short : k ≡ 4 → c ≤ 255 → opening_takes k b c ≡ c + 2
-  unfolding opening_takes
-  takes_short e h = rw (e, le-leb c 255 h)
-
-  pub takes_long : k ≡ 4 → 255 < c → opening_takes k b c ≡ c + 5
-  unfolding opening_takes
-  takes_long e h = rw (e, lt-leb c 255 h)
-
-  pub takes_string : k ≡ 5 → opening_takes k b c ≡ c + 5
-  unfolding opening_takes
-  takes_string e = rw e
-
-  pub takes_held : 5 < k → k ≤ 10 → k ≢ 7 → k ≢ 8 → k ≢ 9 → opening_takes k b c ≡ 1
-  unfolding opening_takes
-  takes_held g h x y z = by_lt k 7 (λ l. let e : k ≡ 6 = omega arith in rw e) (λ l. let e : k ≡ 10 = omega arith in rw e)
-
-  pub takes_tuple : k ≡ 7 → opening_takes k b c ≡ 0
-  unfolding opening_takes
-  takes_tuple e = rw e
-
-  pub takes_set : k ≡ 8 → opening_takes k b c ≡ 18
-  unfolding opening_takes
-  takes_set e = rw e
-
-  pub takes_frozenset : k ≡ 9 → opening_takes k b c ≡ 24
-  unfolding opening_takes
-  takes_frozenset e = rw e
-
-  pub takes_names : 10 < k → k < 13 → opening_takes k b c ≡ c / 2 ^ 32 + c % 2 ^ 32 + 3
-  unfolding opening_takes
-  takes_names g h = by_lt k 12 (λ l. let e : k ≡ 11 = omega arith in rw e) (λ l. let e : k ≡ 12 = omega arith in rw e)
-
-module _ (k n : ℕ) where
-  pub around-leaf : k < 6 → around k n ≡ 0
-  unfolding around EachBelow
-  around-leaf h = each_below 6 (λ j. around j n ≡ 0) (refl, (refl, (refl, (refl, (refl, (refl, tt)))))) k h
-
-  pub around-list : k ≡ 6 → around k n ≡ appends_take n
-  unfolding around
-  around-list e = rw e
-
-  pub around-tuple : k ≡ 7 → around k n ≡ tuple_takes n
-  unfolding around
-  around-tuple e = rw e
-
-  pub around-set : 7 < k → k < 10 → around k n ≡ appends_take n + 2
-  unfolding around
-  around-set g h = by_lt k 9 (λ l. let e : k ≡ 8 = omega arith in rw e) (λ l. let e : k ≡ 9 = omega arith in rw e)
-
-  pub around-dict : k ≡ 10 → around k n ≡ batches_take true n
-  unfolding around
-  around-dict e = rw e
-
-  pub around-names : 10 < k → k < 13 → around k n ≡ n
-  unfolding around
-  around-names g h = by_lt k 12 (λ l. let e : k ≡ 11 = omega arith in rw e) (λ l. let e : k ≡ 12 = omega arith in rw e)
-
 pub appends_few : (n : ℕ) → n ≤ 2048 → appends_take n < 4096
 unfolding appends_take batches_take
 appends_few n h = either_way (λ (x : ℕ). x < 4096) (ltb n 2) n ((n + 999) / 1000 * 2) (omega arith) (omega arith)
 
 -- the records from i on are left to add
-
-pub sum-none : (w : List ℕ) (n : ℕ) → 3 + records_take w 0 (n - 0) ≡ records_take w 0 n + 3
-sum-none w n = let e : n - 0 ≡ n = omega arith in rw e (omega arith)
 
 module _ (w : List ℕ) (i n sum m : ℕ) (l : sum + records_take w i (n - i) ≡ m) where
   pub sum_turn : i < n → sum + record_takes w i + records_take w (i + 1) (n - (i + 1)) ≡ m

@@ -24,53 +24,28 @@ use value::{
 
 // The low `count` bytes of a number, low byte first.
 fn put_low(n: u64, count: usize, output: &mut [u8], at: usize) -> usize
-    requires { Room output.old at (low count n) }
+    requires count_bound { count ≤ 8 }
+    requires room { Room output.old at (low count n) }
     ensures { Put output.old at (low count n) output.new result }
 {
-    let mut rest = n;
-    let mut left = count;
-    let mut next = at;
-    while left > 0 {
-        next = output::put_byte((rest % 256) as u8, output, next);
-        rest /= 256;
-        left -= 1;
-    }
-    next
+    output::put_run(&n.to_le_bytes()[..count], output, at)
 }
 
-// The same, high byte first; the last one is stored first.
-fn put_high(n: u64, count: usize, output: &mut [u8], at: usize) -> usize
-    requires { Room output.old at (high count n) }
-    ensures { Put output.old at (high count n) output.new result }
-{
-    let mut rest = n;
-    let mut places = count;
-    while places > 0 {
-        places -= 1;
-        output[at + places] = (rest % 256) as u8;
-        rest /= 256;
-    }
-    at + count
-}
-
+#[tactic(auto, unfolding(crate::specs::Image::bool_image, crate::proofs::Laws::numbers))]
 fn encode_bool(value: bool, output: &mut [u8], at: usize) -> usize
     requires { Room output.old at (bool_image value) }
     ensures { Put output.old at (bool_image value) output.new result }
 {
-    if value {
-        return output::put_byte(op::NEWTRUE, output, at);
-    }
-    output::put_byte(op::NEWFALSE, output, at)
+    let code = if value { op::NEWTRUE } else { op::NEWFALSE };
+    output::put_byte(code, output, at)
 }
 
 // Whether the i64 of 64 bits is one of an i32.
+#[tactic(auto, unfolding(crate::specs::Image::in_i32))]
 fn in_i32(bits: u64) -> bool
     ensures { result ≡ in_i32 bits }
 {
-    if bits < 0x8000_0000 {
-        return true;
-    }
-    0xFFFF_FFFF_8000_0000 <= bits
+    bits < 1 << 31 || u64::MAX << 31 <= bits
 }
 
 // An i64, from its 64 bits.
@@ -100,7 +75,7 @@ fn encode_f64(bits: u64, output: &mut [u8], at: usize) -> usize
     ensures { Put output.old at (float_image bits) output.new result }
 {
     let next = output::put_byte(op::BINFLOAT, output, at);
-    put_high(bits, 8, output, next)
+    output::put_run(&bits.to_be_bytes(), output, next)
 }
 
 fn encode_bytes(value: &[u8], output: &mut [u8], at: usize) -> usize
@@ -172,68 +147,48 @@ fn encode_opening(words: &[u64], text: &[u8], i: usize, output: &mut [u8], at: u
     requires room { Room output.old at (opening (label_at words.now text.now i)) }
     ensures { Put output.old at (opening (label_at words.now text.now i)) output.new result }
 {
-    let kind = value::head_of(words[4 * i]).kind;
     let second = words[4 * i + 1];
     let third = words[4 * i + 2];
-    if kind > KIND_DICT {
-        return encode_names(text, second, third, output, at);
+    match value::head_of(words[4 * i]).kind {
+        KIND_NONE => output::put_byte(op::NONE, output, at),
+        KIND_BOOL => encode_bool(second == 1, output, at),
+        KIND_I64 => encode_i64(second, output, at),
+        KIND_F64 => encode_f64(second, output, at),
+        KIND_BYTES => encode_bytes(
+            value::part(text, second as usize, third as usize),
+            output,
+            at,
+        ),
+        KIND_STRING => encode_string(
+            value::part(text, second as usize, third as usize),
+            output,
+            at,
+        ),
+        KIND_LIST => output::put_byte(op::EMPTY_LIST, output, at),
+        KIND_TUPLE => at,
+        KIND_SET => encode_set(b"set", output, at),
+        KIND_FROZEN_SET => encode_set(b"frozenset", output, at),
+        KIND_DICT => output::put_byte(op::EMPTY_DICT, output, at),
+        _ => encode_names(text, second, third, output, at),
     }
-    if kind > KIND_STRING {
-        if kind == KIND_LIST {
-            return output::put_byte(op::EMPTY_LIST, output, at);
-        }
-        if kind == KIND_TUPLE {
-            return at;
-        }
-        if kind == KIND_SET {
-            return encode_set(b"set", output, at);
-        }
-        if kind == KIND_FROZEN_SET {
-            return encode_set(b"frozenset", output, at);
-        }
-        return output::put_byte(op::EMPTY_DICT, output, at);
-    }
-    if kind == KIND_NONE {
-        return output::put_byte(op::NONE, output, at);
-    }
-    if kind == KIND_BOOL {
-        return encode_bool(second == 1, output, at);
-    }
-    if kind == KIND_I64 {
-        return encode_i64(second, output, at);
-    }
-    if kind == KIND_F64 {
-        return encode_f64(second, output, at);
-    }
-    let value = value::part(text, second as usize, third as usize);
-    if kind == KIND_BYTES {
-        return encode_bytes(value, output, at);
-    }
-    encode_string(value, output, at)
 }
 
 // How many items Python appends or sets at once.
 const BATCH: usize = 1000;
 
 // The values of a batch: an entry has two.
+#[tactic(auto, unfolding(crate::specs::Image::batch_size))]
 fn batch_size(entries: bool) -> usize
     ensures { result ≡ batch_size entries }
 {
-    if entries {
-        return 2 * BATCH;
-    }
-    BATCH
+    if entries { 2 * BATCH } else { BATCH }
 }
 
 // Of so many values, those of the next batch.
 fn batch_of(left: usize, entries: bool) -> usize
     ensures { result ≡ min (batch_size entries) left }
 {
-    let size = batch_size(entries);
-    if left < size {
-        return left;
-    }
-    size
+    left.min(batch_size(entries))
 }
 
 // The value that begins at record i. This function and those below call one another; with each call fewer records are left, or as
@@ -409,22 +364,17 @@ fn tuple_mark(len: usize, output: &mut [u8], at: usize) -> usize
     output::put_byte(op::MARK, output, at)
 }
 
+#[tactic(auto, unfolding(crate::specs::Image::tuple_opcode, crate::proofs::Laws::numbers))]
 fn tuple_opcode(len: usize) -> u8
     ensures { result ≡ code_of (tuple_opcode len) }
 {
-    if len == 0 {
-        return op::EMPTY_TUPLE;
+    match len {
+        0 => op::EMPTY_TUPLE,
+        1 => op::TUPLE1,
+        2 => op::TUPLE2,
+        3 => op::TUPLE3,
+        _ => op::TUPLE,
     }
-    if len == 1 {
-        return op::TUPLE1;
-    }
-    if len == 2 {
-        return op::TUPLE2;
-    }
-    if len == 3 {
-        return op::TUPLE3;
-    }
-    op::TUPLE
 }
 
 #[cycle(encode)]
@@ -447,13 +397,11 @@ fn encode_tuple(
     }
 }
 
+#[tactic(auto, unfolding(crate::specs::Image::object_opcode, crate::proofs::Laws::numbers))]
 fn object_opcode(new: bool) -> u8
     ensures { result ≡ code_of (object_opcode new) }
 {
-    if new {
-        return op::NEWOBJ;
-    }
-    op::REDUCE
+    if new { op::NEWOBJ } else { op::REDUCE }
 }
 
 // An Object's arguments, which are a Tuple, and any state.
@@ -488,109 +436,79 @@ fn encode_object(
 
 // ---- the length, by arithmetic: no byte is looked at
 
+#[tactic(auto, unfolding(crate::specs::Image::int_image, crate::specs::Image::low, crate::proofs::Laws::numbers))]
 fn int_len(bits: u64) -> usize
     ensures { result ≡ length (int_image bits) }
 {
-    if bits <= 255 {
-        return 2;
+    match bits {
+        0..=255 => 2,
+        256..=65535 => 3,
+        _ if in_i32(bits) => 5,
+        _ => output::signed_len(bits) + 2,
     }
-    if bits <= 65535 {
-        return 3;
-    }
-    if in_i32(bits) {
-        return 5;
-    }
-    output::signed_len(bits) + 2
 }
 
 // What stands before the contents of a record, from its kind and its words 1 and 2.
+#[tactic(auto, unfolding(crate::specs::Length::opening_takes))]
 fn opening_len(kind: u64, second: u64, third: u64) -> usize
     requires kind_bound { kind < 13 }
     requires len_bound { opening_takes kind second third < 2 ^ 64 }
     ensures { result ≡ opening_takes kind second third }
 {
-    if kind > KIND_DICT {
-        return (third / 0x1_0000_0000) as usize + (third % 0x1_0000_0000) as usize + 3;
+    match kind {
+        KIND_I64 => int_len(second),
+        KIND_F64 => 9,
+        KIND_BYTES if third <= 255 => third as usize + 2,
+        KIND_BYTES | KIND_STRING => third as usize + 5,
+        KIND_TUPLE => 0,
+        KIND_SET => 18,
+        KIND_FROZEN_SET => 24,
+        KIND_NONE..=KIND_DICT => 1,
+        _ => (third / 0x1_0000_0000) as usize + (third % 0x1_0000_0000) as usize + 3,
     }
-    if kind > KIND_STRING {
-        if kind == KIND_TUPLE {
-            return 0;
-        }
-        if kind == KIND_SET {
-            return 18;
-        }
-        if kind == KIND_FROZEN_SET {
-            return 24;
-        }
-        return 1;
-    }
-    if kind == KIND_I64 {
-        return int_len(second);
-    }
-    if kind == KIND_F64 {
-        return 9;
-    }
-    if kind == KIND_BYTES {
-        if third <= 255 {
-            return third as usize + 2;
-        }
-        return third as usize + 5;
-    }
-    if kind == KIND_STRING {
-        return third as usize + 5;
-    }
-    1
 }
 
 // What batches of so many values take beside those: MARK and an opcode each, but an entry alone one opcode.
+#[tactic(auto, unfolding(crate::specs::Length::batches_take, crate::specs::Image::batch_size))]
 fn batches_len(count: usize, entries: bool) -> usize
     requires { count ≤ 2048 }
     ensures { result ≡ batches_take entries count }
 {
-    if entries {
-        if count % 2000 == 2 {
-            return count / 2000 * 2 + 1;
-        }
-        return (count + 1999) / 2000 * 2;
+    let size = batch_size(entries);
+    if entries && count % size == 2 {
+        count / size * 2 + 1
+    } else {
+        count.div_ceil(size) * 2
     }
-    (count + 999) / 1000 * 2
 }
 
+#[tactic(auto, unfolding(crate::specs::Length::appends_take))]
 fn appends_len(count: usize) -> usize
     requires { count ≤ 2048 }
     ensures { result ≡ appends_take count }
 {
     if count < 2 {
-        return count;
+        count
+    } else {
+        batches_len(count, false)
     }
-    batches_len(count, false)
 }
 
 // What the contents of a record of so many values take beside those.
+#[tactic(auto, unfolding(crate::specs::Length::around, crate::specs::Length::tuple_takes))]
 fn contents_len(kind: u64, count: usize) -> usize
     requires kind_bound { kind < 13 }
     requires count_bound { count ≤ 2048 }
     ensures { result ≡ around kind count }
 {
-    if kind < KIND_LIST {
-        return 0;
+    match kind {
+        KIND_NONE..=KIND_STRING => 0,
+        KIND_LIST => appends_len(count),
+        KIND_TUPLE => if count <= 3 { 1 } else { 2 },
+        KIND_SET | KIND_FROZEN_SET => appends_len(count) + 2,
+        KIND_DICT => batches_len(count, true),
+        _ => count,
     }
-    if kind == KIND_LIST {
-        return appends_len(count);
-    }
-    if kind == KIND_TUPLE {
-        if count <= 3 {
-            return 1;
-        }
-        return 2;
-    }
-    if kind < KIND_DICT {
-        return appends_len(count) + 2;
-    }
-    if kind == KIND_DICT {
-        return batches_len(count, true);
-    }
-    count
 }
 
 // What record i takes without the values in it.
@@ -612,11 +530,9 @@ fn pickle_len(words: &[u64], count: usize, text: &[u8]) -> usize
     requires len_bound { records_take words.now 0 count + 3 < 2 ^ 64 }
     ensures { result ≡ records_take words.now 0 count + 3 }
 {
-    let mut i = 0;
     let mut sum = 3;
-    while i < count {
+    for i in 0..count {
         sum += record_len(words, i);
-        i += 1;
     }
     sum
 }
@@ -632,21 +548,12 @@ fn encode_pickle(words: &[u64], text: &[u8], output: &mut [u8]) -> usize
     output::put_byte(op::STOP, output, end.at)
 }
 
-fn ends_with_cr(name: &[u8]) -> bool
-    ensures { result ≡ ends_cr name.now }
-{
-    let len = name.len();
-    if len == 0 {
-        return false;
-    }
-    name[len - 1] == b'\r'
-}
-
 // Whether a module or a name is the line that a reader finds where it was written.
+#[tactic(auto, unfolding(crate::specs::Writable::writable, crate::specs::Writable::has_newline, crate::specs::Writable::ends_cr))]
 fn name_is_writable(name: &[u8]) -> bool
     ensures { result ≡ writable name.now }
 {
-    input::newline(name, 0).is_err() && !ends_with_cr(name)
+    !name.contains(&b'\n') && !name.ends_with(b"\r")
 }
 
 // The same of a module and a name, which stand as for `encode_names`.
@@ -657,10 +564,8 @@ fn names_are_writable(text: &[u8], from: u64, lengths: u64) -> bool
     let start = from as usize;
     let first = (lengths / 0x1_0000_0000) as usize;
     let second = (lengths % 0x1_0000_0000) as usize;
-    if !name_is_writable(value::part(text, start, first)) {
-        return false;
-    }
-    name_is_writable(value::part(text, start + first, second))
+    name_is_writable(value::part(text, start, first))
+        && name_is_writable(value::part(text, start + first, second))
 }
 
 // The same of record i; only a Global and an Object have names.
@@ -668,11 +573,8 @@ fn record_is_writable(words: &[u64], text: &[u8], i: usize) -> bool
     requires { Reads words.now text.now i }
     ensures { result ≡ writable_label (label_at words.now text.now i) }
 {
-    let kind = value::head_of(words[4 * i]).kind;
-    if kind > KIND_DICT {
-        return names_are_writable(text, words[4 * i + 1], words[4 * i + 2]);
-    }
-    true
+    value::head_of(words[4 * i]).kind <= KIND_DICT
+        || names_are_writable(text, words[4 * i + 1], words[4 * i + 2])
 }
 
 // The same of all records.
@@ -680,14 +582,7 @@ fn is_writable(words: &[u64], count: usize, text: &[u8]) -> bool
     requires { RecordsReadable words.now text.now 0 count }
     ensures { result ≡ writable_from words.now text.now 0 count }
 {
-    let mut i = 0;
-    while i < count {
-        if !record_is_writable(words, text, i) {
-            return false;
-        }
-        i += 1;
-    }
-    true
+    (0..count).all(|i| record_is_writable(words, text, i))
 }
 
 // BadTable, then UnwritableName, then OutputFull, else the bytes written; measured first, so that an output that is too short
