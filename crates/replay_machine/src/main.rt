@@ -8,8 +8,7 @@ ghost use Rattle.store.specs.Effects.{Lengths};
 ghost use Rattle.machine.specs.RoomsOf.{lent_rooms};
 ghost use Rattle.replay_machine.specs.Shown.{CountsInRange};
 
-use machine::effects::Step;
-use machine::{Outcome, take_step};
+use machine::{Outcome, Step, take_step};
 use op::Edition;
 use store::Counts;
 
@@ -43,17 +42,7 @@ fn steps(
 ) -> Outcome
     requires { Lengths (lent_rooms pickle.now nodes.old owners.old children.old stack.old marks.old keys.old held.old) }
 {
-    let mut c = Counts {
-        at: 0,
-        nodes: 0,
-        links: 0,
-        stack: 0,
-        deepest: 0,
-        marks: 0,
-        most: 0,
-        memo: 0,
-        greatest: 0,
-    };
+    let mut c = Counts::default();
     loop {
         show_step(c);
         let t = take_step(
@@ -70,33 +59,29 @@ fn steps(
         );
         match t {
             Ok(Step::Next(d)) => c = d,
-            Ok(Step::Stop(d)) => return Outcome { counts: d, ended: Ok(()) },
-            Err(why) => return Outcome { counts: c, ended: Err(why) },
+            Ok(Step::Stop(d)) => return Outcome {
+                counts: d,
+                ended: Ok(()),
+            },
+            Err(why) => return Outcome {
+                counts: c,
+                ended: Err(why),
+            },
         }
     }
 }
 
 // The first n words.
 fn show_words(words: &[u64], n: usize) {
-    let mut i = 0;
-    while i < words.len() {
-        if n <= i {
-            return;
-        }
-        io::print_hex(1, words[i], 16);
-        i += 1;
+    for word in words.iter().take(n) {
+        io::print_hex(1, *word, 16);
     }
 }
 
 // The first n numbers.
 fn show_numbers(numbers: &[u16], n: usize) {
-    let mut i = 0;
-    while i < numbers.len() {
-        if n <= i {
-            return;
-        }
-        io::print_hex(1, numbers[i] as u64, 4);
-        i += 1;
+    for number in numbers.iter().take(n) {
+        io::print_hex(1, *number as u64, 4);
     }
 }
 
