@@ -1,5 +1,5 @@
 -- The numbers 1, 2 and 11 are those of a whole call: a slice too short, a pickle too long, bytes left over. Here: no leaf refuses with one.
-use Rattle.std.specs.Prelude.{ℕ, suc, zero, Bool, true, false, cond, not, ◌||◌, List, [], ◌∷◌, eqb, T}
+use Rattle.std.specs.Prelude.{Option, None, Some, ℕ, suc, zero, Bool, true, false, cond, not, ◌||◌, List, [], ◌∷◌, eqb, T}
 use Rattle.refusal.specs.Read.{Read, got, refused}
 use Rattle.refusal.specs.declared.Refusal.{Refusal}
 use Rattle.refusal.specs.Numbers.{number_of}
@@ -11,7 +11,6 @@ use Rattle.number.specs.Number.{whole, invalid, turned, only, digits, natural, p
 use Rattle.float.specs.Form.{behind_sign, Number, number, formless, is_word}
 use Rattle.float.specs.Literal.{nearest_within, valued, signed_value, float_literal, parse_f64}
 use Rattle.text.specs.declared.TextPiece.{TextPiece}
-use Rattle.text.specs.declared.TextPiece.TheVariants.{One, Bad}
 use Rattle.text.specs.Pieces.{bytes_before, piece_then, texts}
 use Rattle.text.specs.Text.{has_quotes, unescape_string, unescape_unicode}
 
@@ -117,12 +116,12 @@ unfolding bytes_before InnerRead
 before-inner l (got v) h = tt
 before-inner l (refused why at) h = h
 
-after-inner : (form : ℕ → List ℕ) (q : TextPiece) (at : ℕ) (rest : ℕ → Read (List ℕ)) → ((n : ℕ) → InnerRead (rest n)) → InnerRead (piece_then form q at rest)
+after-inner : (form : ℕ → List ℕ) (q : Option TextPiece) (at : ℕ) (rest : ℕ → Read (List ℕ)) → ((n : ℕ) → InnerRead (rest n)) → InnerRead (piece_then form q at rest)
 unfolding piece_then InnerRead
-after-inner form (One v more) at rest h = before-inner (form v) (rest more) (h more)
-after-inner form Bad at rest h = tt
+after-inner form (Some p) at rest h = before-inner (form p.value) (rest p.more) (h p.more)
+after-inner form None at rest h = tt
 
-texts-inner : (head : List ℕ → TextPiece) (form : ℕ → List ℕ) (n at : ℕ) (s : List ℕ) → InnerRead (texts head form n at s)
+texts-inner : (head : List ℕ → Option TextPiece) (form : ℕ → List ℕ) (n at : ℕ) (s : List ℕ) → InnerRead (texts head form n at s)
 unfolding texts InnerRead
 texts-inner head form zero at [] = tt
 texts-inner head form (suc n) at [] = tt

@@ -1,7 +1,7 @@
 -- A run is its steps: for every pickle there is one number of steps that gives what `run` gives, the machine at STOP or the refusal, and
 -- before that the machine goes on. Of the code: steps of `take_step`, one after the other, end in what `machine::run` comes to.
 use Prim.Native.Nat.{ℕ, suc, zero, ◌+◌, ◌<◌, ◌≤◌}
-use Rattle.std.specs.Prelude.{List, ◌⊎◌, length}
+use Rattle.std.specs.Prelude.{Ok, Err, List, ◌⊎◌, length}
 use Rattle.std.proofs.Common.{inl, inr, ◌∙◌, ap}
 use Rattle.std.proofs.Math.Path.{◌≡◌, refl, sym}
 use native.Mathlib.Omega.{arith}
@@ -16,7 +16,7 @@ use Rattle.steps.specs.Keeps.{state_after}
 use Rattle.steps.specs.Shrinks.{step_less}
 use Rattle.steps.specs.Fuel.{run_from, run_finish, finish_refused, finish_stops, finish-goes}
 use Rattle.store.specs.Rooms.{Rooms, state_of}
-use Rattle.machine.specs.declared.effects.Step.TheVariants as taken_step
+use Rattle.machine.specs.declared.Step.TheVariants as taken_step
 use Rattle.machine.specs.Done.{meant, Done}
 use Rattle.machine.specs.declared.Outcome.{Outcome}
 use Rattle.machine.specs.Ran.{ended, Ran, Steps, onward, after_steps, after_n_steps}
@@ -128,17 +128,17 @@ module _ (ed : Edition) (f : ℕ → Rooms) (g : ℕ → Counts) (n : ℕ) (s : 
   rest : run_from ed (state_of (f n) (g n)) ≡ run ed (f 0).pickle
   rest = still_to_run ed (f 0).pickle n (state_of (f n) (g n)) (sym (after_n_steps ed f g n s))
 
-  pub steps_stop : Done (taken_step.Stop d) (f n) r (step ed (state_of (f n) (g n))) → run ed (f 0).pickle ≡ ok (state_of r d)
+  pub steps_stop : Done (Ok (taken_step.Stop d)) (f n) r (step ed (state_of (f n) (g n))) → run ed (f 0).pickle ≡ ok (state_of r d)
   unfolding meant
   steps_stop t = sym rest ∙ finish_stops ed (state_of (f n) (g n)) (state_of r d) (sym t.means)
 
-  pub steps_refuse : (why : Refusal) → Done (taken_step.Refused d why) (f n) r (step ed (state_of (f n) (g n))) → run ed (f 0).pickle ≡ no why
+  pub steps_refuse : (why : Refusal) → Done (Err why) (f n) r (step ed (state_of (f n) (g n))) → run ed (f 0).pickle ≡ no why
   unfolding meant
   steps_refuse why t = sym rest ∙ finish_refused ed (state_of (f n) (g n)) (state_of (f n) (g n)) why (sym t.means)
 
   module _ (o : Outcome) (r' : Rooms) (ran : Ran ed o (f 0).pickle r') where
-    pub ran_stops : Done (taken_step.Stop d) (f n) r (step ed (state_of (f n) (g n))) → ended o r' ≡ ok (state_of r d)
+    pub ran_stops : Done (Ok (taken_step.Stop d)) (f n) r (step ed (state_of (f n) (g n))) → ended o r' ≡ ok (state_of r d)
     ran_stops t = ran.means ∙ steps_stop t
 
-    pub ran_refuses : (why : Refusal) → Done (taken_step.Refused d why) (f n) r (step ed (state_of (f n) (g n))) → ended o r' ≡ no why
+    pub ran_refuses : (why : Refusal) → Done (Err why) (f n) r (step ed (state_of (f n) (g n))) → ended o r' ≡ no why
     ran_refuses why t = ran.means ∙ steps_refuse why t
