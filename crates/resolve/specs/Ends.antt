@@ -1,6 +1,6 @@
 -- What `measure` asks and ensures: each answer says what the walk makes of the node. A law for each of its returns, and for each arm of a turn.
 use Prim.Native.Nat.{ℕ, suc, zero, ◌+◌, ◌-◌, ◌*◌, ◌<◌, ◌≤◌, min, max}
-use Rattle.std.specs.Prelude.{Bool, false, ◌≡◌, ◌≢◌, length, set, eqb}
+use Rattle.std.specs.Prelude.{Bool, Option, None, Some, Result, Ok, Err, false, ◌≡◌, ◌≢◌, length, set, eqb}
 use Rattle.std.proofs.Math.Bool.{true}
 use mathlib.Core.List.{List, [], ◌∷◌}
 use Rattle.std.proofs.Math.Path.{refl, sym}
@@ -29,8 +29,8 @@ use Rattle.resolve.specs.DuesRoom.{Notes}
 use Rattle.resolve.specs.Class.{OwnTextReadable, Owns}
 use Rattle.resolve.specs.Known.{word_big, Yields, Knows, k_open, k_empty, k_word, Learns}
 use Rattle.resolve.specs.Loop.{AtStage, LoopBegins, ChildWalked, Midway, mid_start, called, child_below, too_deep, mid_same, mid_none, mid_word, mid_shallow, mid_finish}
-use Rattle.resolve.specs.declared.WalkAnswer.{WalkAnswer}
-use Rattle.resolve.specs.declared.WalkAnswer.TheVariants as answer
+use Rattle.refusal.specs.declared.Refusal.{Refusal}
+use Rattle.refusal.specs.declared.Refusal.TheVariants.{TooDeep}
 use Rattle.resolve.specs.declared.Seen.{Seen}
 use Rattle.resolve.specs.declared.Seen.TheVariants.{Open, Empty, Word}
 
@@ -39,16 +39,21 @@ abbrev pub Opens : List ℕ → List ℕ → List ℕ → List ℕ → List ℕ 
 Opens = AtStage fresh
 
 -- what an answer says of m, which the walk makes of n, and of the rooms after
-pub data WalkEnds (t : List Node) (beyond : length t ≤ 4096) (starts lent : List ℕ) (levels n : ℕ) (m : WalkMade) (measures sorted room : List ℕ) : WalkAnswer → Type 0 where
-  ends_deep : levels < (value_measure m.value).deep → WalkEnds t beyond starts lent levels n m measures sorted room answer.TooDeep
+pub data WalkEnds (t : List Node) (beyond : length t ≤ 4096) (starts lent : List ℕ) (levels n : ℕ) (m : WalkMade) (measures sorted room : List ℕ) : Result (Option ℕ) Refusal → Type 0 where
+  ends_deep : levels < (value_measure m.value).deep → WalkEnds t beyond starts lent levels n m measures sorted room (Err TooDeep)
   ends_empty : m.slot ≡ 4096 → m.value ≡ none → HoldsWalk t beyond starts lent measures sorted room m.after
-      → WalkEnds t beyond starts lent levels n m measures sorted room answer.Empty
+      → WalkEnds t beyond starts lent levels n m measures sorted room (Ok None)
   ends_word : (w : ℕ) → m.slot ≡ n → w ≡ value_word m.value → (value_measure m.value).deep ≤ levels
       → HoldsWalk t beyond starts lent measures sorted room m.after
-      → WalkEnds t beyond starts lent levels n m measures sorted room (answer.Word w)
+      → WalkEnds t beyond starts lent levels n m measures sorted room (Ok (Some w))
+
+-- a refusal is that it is too deep
+pub why_deep : {t : List Node} {beyond : length t ≤ 4096} {starts lent : List ℕ} {levels n : ℕ} {m : WalkMade} {measures sorted room : List ℕ} {why : Refusal}
+    → WalkEnds t beyond starts lent levels n m measures sorted room (Err why) → why ≡ TooDeep
+why_deep (ends_deep d) = refl
 
 -- whatever nodes and state they are
-unfoldable pub Walks : List ℕ → List ℕ → List ℕ → ℕ → ℕ → List ℕ → List ℕ → List ℕ → List ℕ → List ℕ → List ℕ → WalkAnswer → Type 0
+unfoldable pub Walks : List ℕ → List ℕ → List ℕ → ℕ → ℕ → List ℕ → List ℕ → List ℕ → List ℕ → List ℕ → List ℕ → Result (Option ℕ) Refusal → Type 0
 Walks p ws starts levels n measures sorted room measures' sorted' room' r =
     (o : Opens p ws starts measures sorted room n) → WalkEnds o.nodes o.facts.beyond starts o.lent levels n (walk o.nodes 4096 levels n o.state) measures' sorted' room' r
 
@@ -150,7 +155,7 @@ module _ {p ws starts measures sorted room : List ℕ} {n : ℕ} (o : Opens p ws
 
     -- measures[n] = 3
     pub ends_blocked : {r : Bool} → r ≡ arguments_taken (kind_at ws n) (slice (get_or starts n 0) (get_or starts (n + 1) 0) sorted) measures → r ≡ true
-        → WalkEnds o.nodes o.facts.beyond starts o.lent levels n (walk o.nodes 4096 levels n o.state) (set measures n 3) sorted room answer.Empty
+        → WalkEnds o.nodes o.facts.beyond starts o.lent levels n (walk o.nodes 4096 levels n o.state) (set measures n 3) sorted room (Ok None)
     unfolding blocked measure
     ends_blocked e h =
         let b : blocked o.nodes o.state.stages n ≡ true = sym held_is ∙ (sym e ∙ h) in
@@ -167,7 +172,7 @@ module _ {p ws starts measures sorted room : List ℕ} {n : ℕ} (o : Opens p ws
     module _ (h : blocked o.nodes o.state.stages n ≡ false) {len : ℕ} {measures' sorted' room' : List ℕ} {deepest values texts i : ℕ} (T : Midway enter (levels - 1) len measures' sorted' room' deepest values texts i) where
       -- a child is too deep
       pub ends_too : (measures'' sorted'' room'' : List ℕ) → i < get_or starts (n + 1) 0 → levels ≤ (value_measure (called enter (levels - 1) T).value).deep
-          → WalkEnds o.nodes o.facts.beyond starts o.lent levels n (walk o.nodes 4096 levels n o.state) measures'' sorted'' room'' answer.TooDeep
+          → WalkEnds o.nodes o.facts.beyond starts o.lent levels n (walk o.nodes 4096 levels n o.state) measures'' sorted'' room'' (Err TooDeep)
       unfolding finish_r
       ends_too measures'' sorted'' room'' m q =
           let m' : i < get_or starts (suc n) 0 = rw add-one at m in
@@ -178,7 +183,7 @@ module _ {p ws starts measures sorted room : List ℕ} {n : ℕ} (o : Opens p ws
       pub ends_done : (w : ℕ) (room'' : List ℕ) → levels ≤ 64 → get_or starts (n + 1) 0 ≤ i → Notes (kind_at ws n) n room' room''
           → len ≡ min (length (text_of (at o.nodes n).label)) 65537
           → w ≡ deepest + 1 + 128 * min values 2049 + 524288 * min texts 65537
-          → WalkEnds o.nodes o.facts.beyond starts o.lent levels n (walk o.nodes 4096 levels n o.state) (set measures' n w) sorted' room'' (answer.Word w)
+          → WalkEnds o.nodes o.facts.beyond starts o.lent levels n (walk o.nodes 4096 levels n o.state) (set measures' n w) sorted' room'' (Ok (Some w))
       unfolding finish_r
       ends_done w room'' b m x q e =
           let m' : get_or starts (suc n) 0 ≤ i = rw add-one at m in
@@ -264,7 +269,7 @@ module _ {p ws starts measures₀ sorted₀ room₀ : List ℕ} {n : ℕ} (I : L
     known_open = opened (learns Open a)
 
     module _ (measures'' sorted'' room'' : List ℕ) where
-      walks : (r : WalkAnswer) → Walks p ws starts k (get_or sorted i 0) measures' sorted room measures'' sorted'' room'' r
+      walks : (r : Result (Option ℕ) Refusal) → Walks p ws starts k (get_or sorted i 0) measures' sorted room measures'' sorted'' room'' r
           → WalkEnds I.nodes I.facts.beyond starts I.lent k (get_or sorted i 0) (called I k T) measures'' sorted'' room'' r
       unfolding Walks opened
       walks r b = go (learns Open a)
@@ -273,28 +278,28 @@ module _ {p ws starts measures₀ sorted₀ room₀ : List ℕ} {n : ℕ} (I : L
               → WalkEnds I.nodes I.facts.beyond starts I.lent k (get_or sorted i 0) (called I k T) measures'' sorted'' room'' r
           go (k_open c f e) = b (opened (k_open c f e))
 
-      pub walk-deep : Walks p ws starts k (get_or sorted i 0) measures' sorted room measures'' sorted'' room'' answer.TooDeep
+      pub walk-deep : Walks p ws starts k (get_or sorted i 0) measures' sorted room measures'' sorted'' room'' (Err TooDeep)
           → k < (value_measure (called I k T).value).deep
-      walk-deep b = go (walks answer.TooDeep b)
+      walk-deep b = go (walks (Err TooDeep) b)
         where
-          go : WalkEnds I.nodes I.facts.beyond starts I.lent k (get_or sorted i 0) (called I k T) measures'' sorted'' room'' answer.TooDeep
+          go : WalkEnds I.nodes I.facts.beyond starts I.lent k (get_or sorted i 0) (called I k T) measures'' sorted'' room'' (Err TooDeep)
               → k < (value_measure (called I k T).value).deep
           go (ends_deep d) = d
 
-      pub walk-word : (w : ℕ) → Walks p ws starts k (get_or sorted i 0) measures' sorted room measures'' sorted'' room'' (answer.Word w)
+      pub walk-word : (w : ℕ) → Walks p ws starts k (get_or sorted i 0) measures' sorted room measures'' sorted'' room'' (Ok (Some w))
           → Midway I k len measures'' sorted'' room'' (max deepest (deep_w w)) (values + values_w w) (texts + texts_w w) (i + 1)
-      walk-word w b = go (walks (answer.Word w) b)
+      walk-word w b = go (walks (Ok (Some w)) b)
         where
-          go : WalkEnds I.nodes I.facts.beyond starts I.lent k (get_or sorted i 0) (called I k T) measures'' sorted'' room'' (answer.Word w)
+          go : WalkEnds I.nodes I.facts.beyond starts I.lent k (get_or sorted i 0) (called I k T) measures'' sorted'' room'' (Ok (Some w))
               → Midway I k len measures'' sorted'' room'' (max deepest (deep_w w)) (values + values_w w) (texts + texts_w w) (i + 1)
           go (ends_word w e q d f) = mid_same I k T h' small.1 w measures'' sorted'' room'' (record { is = q; shallow = d; holds = f }) e
 
-      pub walk_empty : Walks p ws starts k (get_or sorted i 0) measures' sorted room measures'' sorted'' room'' answer.Empty
+      pub walk_empty : Walks p ws starts k (get_or sorted i 0) measures' sorted room measures'' sorted'' room'' (Ok None)
           → Midway I k len measures'' (set sorted'' i 4096) room'' (max deepest (deep_w 129)) (values + values_w 129) (texts + texts_w 129) (i + 1)
       unfolding measure pack_w
-      walk_empty b = go (walks answer.Empty b)
+      walk_empty b = go (walks (Ok None) b)
         where
-          go : WalkEnds I.nodes I.facts.beyond starts I.lent k (get_or sorted i 0) (called I k T) measures'' sorted'' room'' answer.Empty
+          go : WalkEnds I.nodes I.facts.beyond starts I.lent k (get_or sorted i 0) (called I k T) measures'' sorted'' room'' (Ok None)
               → Midway I k len measures'' (set sorted'' i 4096) room'' (max deepest (deep_w 129)) (values + values_w 129) (texts + texts_w 129) (i + 1)
           go (ends_empty e q f) = mid_none I k T h' small.1 129 measures'' sorted'' room'' (record { is = rw q; shallow = rw q (omega (arith, small.0)); holds = f }) e
 

@@ -1,17 +1,17 @@
 -- How long the text of a node is, off its words: no text is decoded for it.
-use Rattle.std.specs.Prelude.{ℕ, ◌+◌, ◌-◌, ◌*◌, ◌/◌, ◌%◌, ◌<◌, ◌≤◌, List, ◌++◌, ◌≡◌, ◌≢◌, get_or, set, replicate}
+use Rattle.std.specs.Prelude.{ℕ, ◌+◌, ◌-◌, ◌*◌, ◌/◌, ◌%◌, ◌<◌, ◌≤◌, List, ◌++◌, ◌≡◌, ◌≢◌, get_or, set, replicate, Result, Ok, Err}
 use Rattle.std.proofs.Math.Path.{sym, ap}
 use Rattle.std.proofs.Common.{◌∙◌, length-append, length-take, length-drop, get_or-set_other, add-one, arith}
 use Rattle.std.proofs.Math.ListN.{length, get_or-map, get_or-eq_default}
 use Rattle.std.proofs.lemmas.List.{length-replicate, get_or-replicate}
 use Rattle.std.proofs.Math.Decide.{dec_lt}
+use Rattle.std.specs.Result.{result_unwrap_or}
 use Rattle.utf8.specs.Utf8.{repair}
 use Rattle.utf8.specs.Laws.{repair-length}
 use Rattle.refusal.specs.Read.{Read, refused}
 use Rattle.refusal.specs.declared.Refusal.{Refusal}
 use Rattle.refusal.specs.declared.Refusal.TheVariants.{InvalidLiteral}
-use Rattle.text.specs.declared.Decoded.{Decoded}
-use Rattle.text.specs.declared.Decoded.TheVariants as decoded
+use Rattle.text.specs.declared.FaultAt.{FaultAt}
 use Rattle.text.specs.declared.Quoted.{Quoted}
 use Rattle.text.specs.declared.Quoted.TheVariants as quoted
 use Rattle.text.specs.Pieces.{bytes_of, length_of}
@@ -71,28 +71,25 @@ no_bytes : (r : Read (List ℕ)) (why : Refusal) (k : ℕ) → r ≡ refused why
 unfolding bytes_of
 no_bytes r why k e = rw e
 
-module _ (l : List ℕ) (r : Quoted) (y : quoted_says l r ≡ string_measured l) where
-  pub plain_two : r ≡ quoted.Plain → 2 ≤ length l
+module _ (l : List ℕ) (r : Result Quoted FaultAt) (y : quoted_says l r ≡ string_measured l) where
+  pub plain_two : r ≡ Ok quoted.Plain → 2 ≤ length l
   plain_two z = quotes_two l (inner l) (quoted_plain l (rw z at y))
 
-  pub plain_len : r ≡ quoted.Plain → length l - 2 ≡ length (bytes_of (unescape_string l))
+  pub plain_len : r ≡ Ok quoted.Plain → length l - 2 ≡ length (bytes_of (unescape_string l))
   unfolding bytes_of inner
   plain_len z =
       let v : length (inner l) ≡ length l - 2 = simp (length-take, length-drop) (omega arith) in
       sym v ∙ ap (λ (t : Read (List ℕ)). length (bytes_of t)) (sym (quoted_plain l (rw z at y)))
 
-  pub escaped_len : (n : ℕ) → r ≡ quoted.Escaped n → n ≡ length (bytes_of (unescape_string l))
+  pub escaped_len : (n : ℕ) → r ≡ Ok (quoted.Escaped n) → n ≡ length (bytes_of (unescape_string l))
   escaped_len n z = sym (quoted_escaped l n (rw z at y)).1
 
-  pub unquoted_len : (k : ℕ) → r ≡ quoted.Refused k → 0 ≡ length (bytes_of (unescape_string l))
-  unquoted_len k z = no_bytes (unescape_string l) InvalidLiteral k (quoted_bad l k (rw z at y))
+  pub unquoted_len : (k : FaultAt) → r ≡ Err k → 0 ≡ length (bytes_of (unescape_string l))
+  unquoted_len k z = no_bytes (unescape_string l) InvalidLiteral k.0 (quoted_bad l k (rw z at y))
 
-module _ (l : List ℕ) (r : Decoded) (y : decoded_says r ≡ length_of (unescape_unicode l)) where
-  pub unicode_len : (n : ℕ) → r ≡ decoded.Len n → n ≡ length (bytes_of (unescape_unicode l))
-  unicode_len n z = sym (decoded_len (unescape_unicode l) n (rw z at y)).1
-
-  pub undecoded_len : (k : ℕ) → r ≡ decoded.Refused k → 0 ≡ length (bytes_of (unescape_unicode l))
-  undecoded_len k z = no_bytes (unescape_unicode l) InvalidLiteral k (decoded_bad (unescape_unicode l) k (rw z at y))
+pub unicode_len : (l : List ℕ) (r : Result ℕ FaultAt) → decoded_says r ≡ length_of (unescape_unicode l) → result_unwrap_or r 0 ≡ length (bytes_of (unescape_unicode l))
+unicode_len l (Ok n) y = sym (decoded_len (unescape_unicode l) n y).1
+unicode_len l (Err k) y = no_bytes (unescape_unicode l) InvalidLiteral k.0 (decoded_bad (unescape_unicode l) k y)
 
 -- ---- the code's returns, with the words as it reads them
 

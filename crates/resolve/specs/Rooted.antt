@@ -1,6 +1,6 @@
 -- The pass over the root's tree, from rooms in which nothing is noted: what its answer says of the tree that `Builder` makes, and what the rooms
 -- hold for the passes behind it.
-use Rattle.std.specs.Prelude.{ℕ, suc, ◌+◌, ◌*◌, ◌<◌, ◌≤◌, Bool, true, false, ◌&&◌, ◌||◌, List, ◌≡◌, refl, length, get_or, leb, ltb}
+use Rattle.std.specs.Prelude.{ℕ, Option, Some, Result, Ok, Err, suc, ◌+◌, ◌*◌, ◌<◌, ◌≤◌, Bool, true, false, ◌&&◌, ◌||◌, List, ◌≡◌, refl, length, get_or, leb, ltb}
 use Rattle.std.proofs.Common.{sym, ◌∙◌, ap, leb-true, ltb-true, arith}
 use Rattle.std.proofs.Math.Decide.{dec_lt}
 use Rattle.utf8.specs.Rows.{both}
@@ -31,8 +31,8 @@ use Rattle.resolve.specs.Facts.{value_word, Facts, Shallow, HoldsWalk}
 use Rattle.resolve.specs.Known.{word_big, word_low, leaf-deep, Knows, k_open, k_empty, k_word, Learns}
 use Rattle.resolve.specs.Ends.{Opens, WalkEnds, ends_deep, ends_empty, ends_word, Walks}
 use Rattle.resolve.specs.Standing.{facts}
-use Rattle.resolve.specs.declared.WalkAnswer.{WalkAnswer}
-use Rattle.resolve.specs.declared.WalkAnswer.TheVariants as answer
+use Rattle.refusal.specs.declared.Refusal.{Refusal}
+use Rattle.refusal.specs.declared.Refusal.TheVariants.{TooDeep}
 use Rattle.resolve.specs.declared.Seen.{Seen}
 use Rattle.resolve.specs.declared.Seen.TheVariants as seen
 
@@ -58,15 +58,15 @@ pub record ReadyToResolve (p ws starts sorted measures room : List ℕ) (root : 
   pub below : root < length nodes
 
 -- what the answer says of the tree and of the rooms after; `lent` is the room of dues before
-pub data RootEnds (t : List Node) (beyond : length t ≤ 4096) (starts lent measures sorted room : List ℕ) (root : ℕ) : WalkAnswer → Type 0 where
-  r_deep : 64 < depth (one (tree t root)) → RootEnds t beyond starts lent measures sorted room root answer.TooDeep
+pub data RootEnds (t : List Node) (beyond : length t ≤ 4096) (starts lent measures sorted room : List ℕ) (root : ℕ) : Result (Option ℕ) Refusal → Type 0 where
+  r_deep : 64 < depth (one (tree t root)) → RootEnds t beyond starts lent measures sorted room root (Err TooDeep)
   r_word : (w : ℕ)
       → MeasuresTo (tree t root) w
       → StandsFor t (walked t 4096 64 root).after.kids root (tree t root)
       → HoldsWalk t beyond starts lent measures sorted room (walked t 4096 64 root).after
-      → RootEnds t beyond starts lent measures sorted room root (answer.Word w)
+      → RootEnds t beyond starts lent measures sorted room root (Ok (Some w))
 
-unfoldable pub Roots : List ℕ → List ℕ → List ℕ → List ℕ → List ℕ → List ℕ → List ℕ → List ℕ → List ℕ → ℕ → WalkAnswer → Type 0
+unfoldable pub Roots : List ℕ → List ℕ → List ℕ → List ℕ → List ℕ → List ℕ → List ℕ → List ℕ → List ℕ → ℕ → Result (Option ℕ) Refusal → Type 0
 Roots p ws starts sorted measures room sorted' measures' room' root r =
     (b : ReadyToResolve p ws starts sorted measures room root) → RootEnds b.nodes b.beyond starts room measures' sorted' room' root r
 
@@ -219,7 +219,7 @@ module _ {p ws starts sorted measures room : List ℕ} {root : ℕ} (b : ReadyTo
   rooted : (w : ℕ) (measures' sorted' room' : List ℕ) → w ≡ value_word (walked b.nodes 4096 64 root).value
       → (value_measure (walked b.nodes 4096 64 root).value).deep ≤ 64
       → HoldsWalk b.nodes b.beyond starts room measures' sorted' room' (walked b.nodes 4096 64 root).after
-      → RootEnds b.nodes b.beyond starts room measures' sorted' room' root (answer.Word w)
+      → RootEnds b.nodes b.beyond starts room measures' sorted' room' root (Ok (Some w))
   rooted w measures' sorted' room' e d h =
       let x = value-deep (walked b.nodes 4096 64 root).value in
       let y : depth (one (walked b.nodes 4096 64 root).value) ≤ 64 = omega arith in
@@ -230,7 +230,7 @@ module _ {p ws starts sorted measures room : List ℕ} {root : ℕ} (b : ReadyTo
       r_word w (record { shallow = s; is = e ∙ (ap value_word i ∙ value-word (tree b.nodes root)) }) (tree_stands b.nodes 4096 b.beyond 63 root s) h
 
   rooted_deep : (measures' sorted' room' : List ℕ) → 64 < (value_measure (walked b.nodes 4096 64 root).value).deep
-      → RootEnds b.nodes b.beyond starts room measures' sorted' room' root answer.TooDeep
+      → RootEnds b.nodes b.beyond starts room measures' sorted' room' root (Err TooDeep)
   rooted_deep measures' sorted' room' h = r_deep (go (dec_lt 64 (depth (one (tree b.nodes root)))))
     where
       go : Dec (64 < depth (one (tree b.nodes root))) → 64 < depth (one (tree b.nodes root))
@@ -259,11 +259,11 @@ module _ {p ws starts sorted measures room : List ℕ} {root : ℕ} (b : ReadyTo
 
     -- a leaf
     pub root_word : (w : ℕ) → Learns p ws measures measures' root (seen.Word w)
-        → RootEnds b.nodes b.beyond starts room measures' sorted room root (answer.Word w)
+        → RootEnds b.nodes b.beyond starts room measures' sorted room root (Ok (Some w))
     root_word w a = go (learns (seen.Word w) a)
       where
         go : Knows b.nodes measures measures' (walk_start b.nodes) root (seen.Word w)
-            → RootEnds b.nodes b.beyond starts room measures' sorted room root (answer.Word w)
+            → RootEnds b.nodes b.beyond starts room measures' sorted room root (Ok (Some w))
         go (k_word w q) =
             let x = q 63 in
             let e = x.kids in
@@ -283,13 +283,13 @@ module _ {p ws starts sorted measures room : List ℕ} {root : ℕ} (b : ReadyTo
         go : Knows b.nodes measures measures' (walk_start b.nodes) root seen.Empty → ⊥
         go (k_empty q) = let x = (q 63).slot_is in omega (arith, root_own, b.below, b.beyond)
 
-    pub root_walk : (a : Learns p ws measures measures' root seen.Open) (measures'' sorted'' room'' : List ℕ) (r : WalkAnswer)
+    pub root_walk : (a : Learns p ws measures measures' root seen.Open) (measures'' sorted'' room'' : List ℕ) (r : Result (Option ℕ) Refusal)
         → Walks p ws starts 64 root measures' sorted room measures'' sorted'' room'' r
         → RootEnds b.nodes b.beyond starts room measures'' sorted'' room'' root r
     unfolding Walks opened
     root_walk a measures'' sorted'' room'' r q = pick (learns seen.Open a)
       where
-        go : (r : WalkAnswer) → WalkEnds b.nodes b.beyond starts room 64 root (walked b.nodes 4096 64 root) measures'' sorted'' room'' r
+        go : (r : Result (Option ℕ) Refusal) → WalkEnds b.nodes b.beyond starts room 64 root (walked b.nodes 4096 64 root) measures'' sorted'' room'' r
             → RootEnds b.nodes b.beyond starts room measures'' sorted'' room'' root r
         go _ (ends_deep d) = rooted_deep measures'' sorted'' room'' d
         go _ (ends_empty e v h) = absurd (omega (arith, root_own, e, b.below, b.beyond))

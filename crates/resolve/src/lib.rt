@@ -8,7 +8,7 @@ pub mod lists;
 pub mod siblings;
 pub mod texts;
 
-ghost use Rattle.std.specs.Prelude.{◌≡◌, ◌+◌, ◌*◌, ◌<◌, ◌≤◌, min, max, length, get_or};
+ghost use Rattle.std.specs.Prelude.{◌≡◌, ◌+◌, ◌*◌, ◌<◌, ◌≤◌, length, get_or};
 ghost use Rattle.std.proofs.Math.Seq.{slice};
 ghost use Rattle.text.specs.Pieces.{bytes_of};
 ghost use Rattle.text.specs.Text.{unescape_string, unescape_unicode};
@@ -22,8 +22,9 @@ ghost use Rattle.resolve.specs.Ends.{Opens, Walks};
 ghost use Rattle.resolve.specs.Rooted.{ReadyToResolve, Roots};
 
 use crate::texts::{module_text, raw_text};
+use refusal::Refusal;
 use store::NodeId;
-use text::{Decoded, Quoted, string_len, unicode_len};
+use text::{Quoted, string_len, unicode_len};
 use utf8::repaired_len;
 
 // A measure: 0 for a fresh node, 1 for one taken out, 3 for an Object that is None for good, else a word, packed as store says: depth, values and text,
@@ -35,13 +36,6 @@ const LEAF: u64 = 1 + store::DEPTHS;
 // As the rooms of u16 hold it.
 const NOWHERE: u16 = store::NOWHERE as u16;
 
-#[derive(Drop)]
-pub enum WalkAnswer {
-    TooDeep,
-    Empty,
-    Word(u64),
-}
-
 // What a node comes to without a walk: it is to be walked, it is None at its place, or its word.
 #[derive(Drop)]
 pub enum Seen {
@@ -50,24 +44,12 @@ pub enum Seen {
     Word(u64),
 }
 
-fn least(x: u64, y: u64) -> u64
-    ensures { result ≡ min x y }
-{
-    if x < y { x } else { y }
-}
-
-fn most(x: u64, y: u64) -> u64
-    ensures { result ≡ max x y }
-{
-    if x < y { y } else { x }
-}
-
 // A measure's word, values and text capped. The bound on depth is only so that nothing wraps.
 fn measure_word(depth: u64, values: u64, text_len: u64) -> u64
     requires { depth ≤ 128 }
     ensures { result ≡ pack_w depth values text_len }
 {
-    depth + store::DEPTHS * least(values, 2049) + store::TEXT_AT * least(text_len, 65537)
+    depth + store::DEPTHS * values.min(2049) + store::TEXT_AT * text_len.min(65537)
 }
 
 // ---- how long a node's text is
@@ -87,9 +69,9 @@ fn string_text_len(line: &[u8]) -> usize
     ensures { result ≡ length (bytes_of (unescape_string line.now)) }
 {
     match string_len(line) {
-        Quoted::Plain => line.len() - 2,
-        Quoted::Escaped(n) => n,
-        Quoted::Refused(_) => 0,
+        Ok(Quoted::Plain) => line.len() - 2,
+        Ok(Quoted::Escaped(n)) => n,
+        Err(_) => 0,
     }
 }
 
@@ -97,10 +79,7 @@ fn string_text_len(line: &[u8]) -> usize
 fn unicode_text_len(line: &[u8]) -> usize
     ensures { result ≡ length (bytes_of (unescape_unicode line.now)) }
 {
-    match unicode_len(line) {
-        Decoded::Len(n) => n,
-        Decoded::Refused(_) => 0,
-    }
+    unicode_len(line).unwrap_or(0)
 }
 
 // Of a node; an Object's is its class's.
@@ -202,15 +181,10 @@ fn blocked(kind: u64, at: usize, end: usize, sorted: &[u16], measures: &[u64]) -
     requires at_in_bounds { at < end → get_or sorted.now at 0 < length measures.now }
     ensures { result ≡ arguments_taken kind (slice at end sorted.now) measures.now }
 {
-    if kind != value::KIND_OBJECT {
-        false
-    } else if at < end {
-        let arguments = NodeId(sorted[at] as usize);
-        let i = arguments.0;
-        measures[i] == 1
-    } else {
-        false
+    if kind != value::KIND_OBJECT || end <= at {
+        return false;
     }
+    measures[sorted[at] as usize] == 1
 }
 
 // Notes a finished node where it is a Set or a Dict: the number of those noted stands in front of them.
@@ -226,7 +200,8 @@ fn note(kind: u64, node: NodeId, dues: &mut [u16])
     dues[0] = count as u16;
 }
 
-// The word of a fresh container's tree, with so many levels left, at least one.
+// The word of a fresh container's tree, with so many levels left, at least one; none where it is None at its place, and too deep where more
+// levels are needed.
 fn measure(
     node: NodeId,
     levels: u64,
@@ -236,7 +211,7 @@ fn measure(
     nodes: &[u64],
     measures: &mut [u64],
     dues: &mut [u16],
-) -> WalkAnswer
+) -> Result<Option<u64>, Refusal>
     requires levels_in_range { (1 ≤ levels) × (levels ≤ 64) }
     requires opens { Opens pickle.now nodes.now starts.now measures.old sorted.old dues.old node.0 }
     ensures { Walks pickle.now nodes.now starts.now levels node.0
@@ -249,30 +224,26 @@ fn measure(
     let end = starts[n + 1] as usize;
     if blocked(kind, at, end, sorted, measures) {
         measures[n] = 3;
-        return WalkAnswer::Empty;
+        return Ok(None);
     }
     let mut texts = own_text_len(kind, node, pickle, nodes, measures);
     measures[n] = 1;
     let mut deepest: u64 = 0;
-    let mut values: u64 = 1;
-    let mut i = at;
-    while i < end {
+    let mut values = 1;
+    for i in at..end {
         if levels == 1 {
-            return WalkAnswer::TooDeep;
+            return Err(Refusal::TooDeep);
         }
         let child = NodeId(sorted[i] as usize);
-        let mut w: u64 = LEAF;
-        match known(child, pickle, nodes, measures) {
-            Seen::Word(k) => {
-                if levels <= k % store::DEPTHS {
-                    return WalkAnswer::TooDeep;
+        let found = match known(child, pickle, nodes, measures) {
+            Seen::Word(w) => {
+                if levels <= w % store::DEPTHS {
+                    return Err(Refusal::TooDeep);
                 }
-                w = k;
+                Some(w)
             }
-            Seen::Empty => {
-                sorted[i] = NOWHERE;
-            }
-            Seen::Open => match measure(
+            Seen::Empty => None,
+            Seen::Open => measure(
                 child,
                 levels - 1,
                 starts,
@@ -281,28 +252,27 @@ fn measure(
                 nodes,
                 measures,
                 dues,
-            ) {
-                WalkAnswer::TooDeep => return WalkAnswer::TooDeep,
-                WalkAnswer::Empty => {
-                    sorted[i] = NOWHERE;
-                }
-                WalkAnswer::Word(k) => {
-                    w = k;
-                }
-            },
-        }
-        deepest = most(deepest, w % store::DEPTHS);
+            )?,
+        };
+        let w = match found {
+            Some(w) => w,
+            None => {
+                sorted[i] = NOWHERE;
+                LEAF
+            }
+        };
+        deepest = deepest.max(w % store::DEPTHS);
         values += w / store::DEPTHS % store::VALUES;
         texts += w / store::TEXT_AT % store::TEXTS;
-        i += 1;
     }
     note(kind, node, dues);
     let w = measure_word(deepest + 1, values, texts);
     measures[n] = w;
-    WalkAnswer::Word(w)
+    Ok(Some(w))
 }
 
-// The root's tree: too deep where it has more than 64 levels, else its word, and a graph in which the root stands for it.
+// The root's tree: too deep where it has more than 64 levels, else its word, and a graph in which the root stands for it. (None is never a
+// root's.)
 pub fn measure_root(
     node: NodeId,
     starts: &[u16],
@@ -311,15 +281,15 @@ pub fn measure_root(
     nodes: &[u64],
     measures: &mut [u64],
     dues: &mut [u16],
-) -> WalkAnswer
+) -> Result<Option<u64>, Refusal>
     requires { ReadyToResolve pickle.now nodes.now starts.now sorted.old measures.old dues.old node.0 }
     ensures { Roots pickle.now nodes.now starts.now
         sorted.old measures.old dues.old
         sorted.new measures.new dues.new node.0 result }
 {
     match known(node, pickle, nodes, measures) {
-        Seen::Word(w) => WalkAnswer::Word(w),
-        Seen::Empty => WalkAnswer::Empty,
+        Seen::Word(w) => Ok(Some(w)),
+        Seen::Empty => Ok(None),
         Seen::Open => measure(node, 64, starts, sorted, pickle, nodes, measures, dues),
     }
 }

@@ -1,133 +1,26 @@
 // The texts of nodes after STOP: where a node's text stands, in the pickle or in the decoded text; and the pass that decodes what
 // cannot be read straight off the pickle.
-ghost use Rattle.std.specs.Prelude.{◌≡◌, List, [], ℕ, ◌+◌, ◌/◌, ◌≤◌, length};
+ghost use Rattle.std.specs.Prelude.{◌≡◌, [], ◌+◌, ◌/◌, ◌≤◌, length};
 ghost use Rattle.utf8.specs.Utf8.{repair};
 ghost use Rattle.text.specs.Pieces.{bytes_of};
-ghost use Rattle.text.specs.Text.{pick, unescape_string, unescape_unicode};
+ghost use Rattle.text.specs.Text.{unescape_string, unescape_unicode};
 ghost use Rattle.steps.specs.NodeWords.{within};
 ghost use Rattle.resolve.specs.Shown.{lead_text, trail_text};
 ghost use Rattle.resolve.specs.Readable.{TextReadable};
-ghost use Rattle.resolve.specs.Place.{placed};
 ghost use Rattle.resolve.specs.DecodedMeasure.{measure_of};
 ghost use Rattle.resolve.specs.Spell.{PutsText, TextRoom, Spells, StandsDecoded, SpellsNode, Unspelled};
 ghost use Rattle.resolve.specs.TextsDue.{text_kind, text_due_word, DecodableOne, DecodesOne, Decodable, Decodes};
 
 use store::NodeId;
-use text::{Decoded, Quoted};
 
 // The measure of a node whose text was decoded: this, its place, 2^17 times the length of what leads, 2^34 times that of what trails.
 const DECODED: u64 = 0x4000_0000_0000_0000;
 
-// A text by its place and its length, as far as there is any, in the decoded text or in the pickle.
-#[derive(Drop)]
-struct TextPlace {
-    decoded: bool,
-    at: u64,
-    len: u64,
-}
+// How far the parts of such a measure go: a place or a length is below it.
+const SPAN: u64 = 0x2_0000;
 
-// How long the text is that holds a node's.
-fn held_len(pickle: &[u8], decoded: &[u8], is_decoded: bool) -> usize
-    ensures { result ≡ length (pick is_decoded decoded.now pickle.now) }
-{
-    if is_decoded {
-        decoded.len()
-    } else {
-        pickle.len()
-    }
-}
-
-// The text at a place.
-fn text_of_place<'a>(pickle: &'a [u8], decoded: &'a [u8], place: TextPlace) -> &'a [u8]
-    ensures { result.now ≡ placed place pickle.now decoded.now }
-{
-    let held = held_len(pickle, decoded, place.decoded);
-    let from = value::least(place.at as usize, held);
-    text::part(
-        pickle,
-        decoded,
-        place.decoded,
-        from,
-        from + value::least(place.len as usize, held - from),
-    )
-}
-
-// The module of a Global with this first word.
-fn module_place(first: u64) -> TextPlace
-    ensures { (p d : List ℕ) → placed result p d ≡ within 24 (first / 16) p }
-{
-    let word = first / store::KIND_RADIX;
-    TextPlace {
-        decoded: false,
-        at: word % store::MODULE_LEN_AT,
-        len: word / store::MODULE_LEN_AT,
-    }
-}
-
-// The name of a Global with this second word, and any other text.
-fn text_place(second: u64) -> TextPlace
-    ensures { (p d : List ℕ) → placed result p d ≡ within 32 second p }
-{
-    TextPlace {
-        decoded: false,
-        at: second % store::HALF,
-        len: second / store::HALF,
-    }
-}
-
-fn lead_place(node: NodeId, nodes: &[u64], measures: &[u64]) -> TextPlace
-    requires { TextReadable nodes.now measures.now node.0 }
-    ensures { (p d : List ℕ) → placed result p d ≡ lead_text p d nodes.now measures.now node.0 }
-{
-    let i = node.0;
-    let measure = measures[i];
-    if DECODED <= measure {
-        return TextPlace {
-            decoded: true,
-            at: measure % 0x2_0000,
-            len: measure / 0x2_0000 % 0x2_0000,
-        };
-    }
-    let first = nodes[2 * i];
-    let kind = first % store::KIND_RADIX;
-    if kind == value::KIND_GLOBAL {
-        return module_place(first);
-    }
-    if kind == value::KIND_OBJECT {
-        let class = NodeId((first / store::CLASS) as usize);
-        return module_place(nodes[2 * class.0]);
-    }
-    text_place(nodes[2 * i + 1])
-}
-
-fn trail_place(node: NodeId, nodes: &[u64], measures: &[u64]) -> TextPlace
-    requires { TextReadable nodes.now measures.now node.0 }
-    ensures { (p d : List ℕ) → placed result p d ≡ trail_text p d nodes.now measures.now node.0 }
-{
-    let i = node.0;
-    let measure = measures[i];
-    if DECODED <= measure {
-        return TextPlace {
-            decoded: true,
-            at: measure % 0x2_0000 + measure / 0x2_0000 % 0x2_0000,
-            len: measure / 0x4_0000_0000 % 0x2_0000,
-        };
-    }
-    let first = nodes[2 * i];
-    let kind = first % store::KIND_RADIX;
-    if kind == value::KIND_GLOBAL {
-        return text_place(nodes[2 * i + 1]);
-    }
-    if kind == value::KIND_OBJECT {
-        let class = NodeId((first / store::CLASS) as usize);
-        return text_place(nodes[2 * class.0 + 1]);
-    }
-    TextPlace {
-        decoded: false,
-        at: 0,
-        len: 0,
-    }
-}
+// Where the length of what trails stands: SPAN times SPAN.
+const TRAIL_AT: u64 = 0x4_0000_0000;
 
 // Bytes or a String, or the module of a Global or of an Object's class.
 pub fn lead_part<'a>(
@@ -140,7 +33,20 @@ pub fn lead_part<'a>(
     requires { TextReadable nodes.now measures.now node.0 }
     ensures { result.now ≡ lead_text pickle.now decoded.now nodes.now measures.now node.0 }
 {
-    text_of_place(pickle, decoded, lead_place(node, nodes, measures))
+    let i = node.0;
+    let measure = measures[i];
+    if DECODED <= measure {
+        return value::cut(decoded, measure % SPAN, measure / SPAN % SPAN);
+    }
+    let first = nodes[2 * i];
+    match first % store::KIND_RADIX {
+        value::KIND_GLOBAL => module_text(pickle, first),
+        value::KIND_OBJECT => {
+            let class = NodeId((first / store::CLASS) as usize);
+            module_text(pickle, nodes[2 * class.0])
+        }
+        _ => raw_text(pickle, nodes[2 * i + 1]),
+    }
 }
 
 // The name of a Global or of an Object's class.
@@ -154,7 +60,24 @@ pub fn trail_part<'a>(
     requires { TextReadable nodes.now measures.now node.0 }
     ensures { result.now ≡ trail_text pickle.now decoded.now nodes.now measures.now node.0 }
 {
-    text_of_place(pickle, decoded, trail_place(node, nodes, measures))
+    let i = node.0;
+    let measure = measures[i];
+    if DECODED <= measure {
+        return value::cut(
+            decoded,
+            measure % SPAN + measure / SPAN % SPAN,
+            measure / TRAIL_AT % SPAN,
+        );
+    }
+    let first = nodes[2 * i];
+    match first % store::KIND_RADIX {
+        value::KIND_GLOBAL => raw_text(pickle, nodes[2 * i + 1]),
+        value::KIND_OBJECT => {
+            let class = NodeId((first / store::CLASS) as usize);
+            raw_text(pickle, nodes[2 * class.0 + 1])
+        }
+        _ => &[],
+    }
 }
 
 // ---- the pass
@@ -171,7 +94,7 @@ fn decoded_measure(at: usize, lead: usize, trail: usize) -> u64
     requires { (at ≤ 65536) × (lead ≤ 65536) × (trail ≤ 65536) }
     ensures { result ≡ measure_of at lead trail }
 {
-    DECODED + at as u64 + 0x2_0000 * lead as u64 + 0x4_0000_0000 * trail as u64
+    DECODED + at as u64 + SPAN * lead as u64 + TRAIL_AT * trail as u64
 }
 
 // The module of a Global with this first word, as it stands in the pickle.
@@ -207,9 +130,8 @@ fn put_string(line: &[u8], decoded: &mut [u8], at: usize) -> usize
     ensures { PutsText (bytes_of (unescape_string line.now)) decoded.old at decoded.new result }
 {
     match text::string_len(line) {
-        Quoted::Refused(_) => 0,
-        Quoted::Plain => text::unescape_string(line, &mut decoded[at..]),
-        Quoted::Escaped(_) => text::unescape_string(line, &mut decoded[at..]),
+        Ok(_) => text::unescape_string(line, &mut decoded[at..]),
+        Err(_) => 0,
     }
 }
 
@@ -219,8 +141,8 @@ fn put_unicode(line: &[u8], decoded: &mut [u8], at: usize) -> usize
     ensures { PutsText (bytes_of (unescape_unicode line.now)) decoded.old at decoded.new result }
 {
     match text::unicode_len(line) {
-        Decoded::Refused(_) => 0,
-        Decoded::Len(_) => text::unescape_unicode(line, &mut decoded[at..]),
+        Ok(_) => text::unescape_unicode(line, &mut decoded[at..]),
+        Err(_) => 0,
     }
 }
 
@@ -399,10 +321,8 @@ pub fn decode_all(
         decoded.new measures.new result }
 {
     let mut used = 0;
-    let mut i = 0;
-    while i < count {
+    for i in 0..count {
         used = decode_one(NodeId(i), nodes, pickle, decoded, measures, used);
-        i += 1;
     }
     used
 }

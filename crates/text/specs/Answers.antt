@@ -5,6 +5,7 @@ use Rattle.std.proofs.Math.Path.{◌≡◌, refl, ap}
 use Rattle.std.proofs.Common.{sym, ◌∙◌, arith, leb-true}
 use Rattle.refusal.specs.Read.{Read, got, refused}
 use Rattle.refusal.specs.declared.Refusal.TheVariants.{InvalidLiteral}
+use Rattle.text.specs.declared.Quoted.{Quoted}
 use Rattle.text.specs.declared.Quoted.TheVariants.{Plain, Escaped}
 use Rattle.text.specs.declared.FaultAt.{FaultAt}
 use Rattle.text.specs.Escapes.{string_head}
@@ -76,6 +77,12 @@ module _ (line : List ℕ) where
       → (is_read (unescape_string line) ≡ true) × (length (bytes_of (unescape_string line)) ≡ n)
   unfolding quoted_says
   quoted_escaped n e = is_length (unescape_string line) n (apart true n e).1
+
+  -- either way there is a value
+  pub quoted_read : (q : Quoted) → quoted_says line (Ok q) ≡ string_measured line → is_read (unescape_string line) ≡ true
+  unfolding is_read
+  quoted_read Plain e = rw (quoted_plain e)
+  quoted_read (Escaped n) e = (quoted_escaped n e).0
 
   -- there is none
   pub quoted_bad : (fault : FaultAt) → quoted_says line (Err fault) ≡ string_measured line → unescape_string line ≡ refused InvalidLiteral fault.0

@@ -56,8 +56,3 @@ quoted_says line (Err fault) = refused InvalidLiteral fault.0
 unfoldable pub decoded_says : Result ℕ FaultAt → Read ℕ
 decoded_says (Ok n) = got n
 decoded_says (Err fault) = refused InvalidLiteral fault.0
-
--- whichever of two lists holds a value
-unfoldable pub pick : Bool → List ℕ → List ℕ → List ℕ
-pick true a b = a
-pick false a b = b

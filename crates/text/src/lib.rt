@@ -2,14 +2,14 @@
 // call that changes nothing, and written by another into a lent slice. A line comes without its newline and CR.
 #![tactic(auto)]
 
-ghost use Rattle.std.specs.Prelude.{true, false, ◌≡◌, ◌+◌, ◌-◌, ◌<◌, ◌≤◌, length, take, drop, MatchOption, Some, SomeIff};
+ghost use Rattle.std.specs.Prelude.{true, false, ◌≡◌, ◌+◌, ◌<◌, ◌≤◌, length, MatchOption, Some, SomeIff};
 ghost use Rattle.std.proofs.lemmas.List.Edits.{sets};
 ghost use Rattle.refusal.specs.declared.Refusal.TheVariants.{InvalidLiteral};
 ghost use Rattle.utf8.specs.Utf8.{encode};
 ghost use Rattle.text.specs.Pieces.{texts, length_of, RoomForText, WroteText};
 ghost use Rattle.text.specs.Escapes.{hex_digit, hex_number, hex_digits, hex_escape, octal_digit, octal_escape};
 ghost use Rattle.text.specs.Escapes.{letters, look, string_escape, string_head, scalar_of, scalar_piece, unicode_escape, unicode_head};
-ghost use Rattle.text.specs.Text.{has_quotes, inner, byte_itself, unescape_string, unescape_unicode, string_measured, quoted_says, decoded_says, pick};
+ghost use Rattle.text.specs.Text.{has_quotes, inner, byte_itself, unescape_string, unescape_unicode, string_measured, quoted_says, decoded_says};
 
 use refusal::Refusal;
 
@@ -354,22 +354,4 @@ pub fn unescape_unicode(line: &[u8], out: &mut [u8]) -> usize
         }
     }
     n
-}
-
-// A STRING value: a part of the pickle, or of the unescaped text where it had an escape.
-pub fn part<'a>(
-    pickle: &'a [u8],
-    unescaped: &'a [u8],
-    escaped: bool,
-    from: usize,
-    end: usize,
-) -> &'a [u8]
-    requires { (from ≤ end) × (end ≤ length (pick escaped unescaped.now pickle.now)) }
-    ensures { result.now ≡ take (end - from) (drop from (pick escaped unescaped.now pickle.now)) }
-{
-    if escaped {
-        &unescaped[from..end]
-    } else {
-        &pickle[from..end]
-    }
 }
