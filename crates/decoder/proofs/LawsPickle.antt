@@ -30,7 +30,6 @@ use Rattle.text.specs.declared.Quoted.{Quoted}
 use Rattle.text.specs.declared.Quoted.TheVariants as quoted
 use Rattle.value.specs.Value.{Label, BoolL, I64L, F64L, BytesL, StringL, GlobalL}
 use Rattle.store.specs.declared.Effect.TheVariants.{Push, Go}
-use Rattle.decoder.specs.declared.LongRead.TheVariants as long
 use Rattle.steps.specs.State.{ok, no, ◌>>=◌, need, byte, bytes, push}
 use Rattle.steps.specs.Opcodes.{int_label, signed_length, proto, binstring, global}
 use Rattle.steps.specs.Run.{going}
@@ -126,10 +125,10 @@ module _ (p : List ℕ) (n at : ℕ) (t : Result (ℕ × ℕ) Refusal) (h : Read
   part_says : long_of (take m (drop a p)) ≡ answered x
   part_says = sym (d ∙ ap long_of (cut_part p a m))
 
-  pub long-value : (v : ℕ) → x ≡ Ok v → ReadsLong n at p (long.At (a + m) v)
+  pub long-value : (v : ℕ) → x ≡ Ok v → ReadsLong n at p (Ok (a + m, v))
   long-value v k = long_got p n at t h a m e v (part_says ∙ ap answered k)
 
-  pub long-outside : (why : Refusal) → x ≡ Err why → ReadsLong n at p (long.None why)
+  pub long-outside : (why : Refusal) → x ≡ Err why → ReadsLong n at p (Err why)
   long-outside why k = long_large p n at t h a m e why (part_says ∙ ap answered k)
 
 -- ---- a line's own part

@@ -20,8 +20,6 @@ use Rattle.value.specs.Value.{Label, BoolL, I64L, F64L, BytesL, StringL, GlobalL
 use Rattle.value.specs.Shape.{kind_in}
 use Rattle.store.specs.declared.Effect.{Effect}
 use Rattle.store.specs.declared.Effect.TheVariants.{Push, Go}
-use Rattle.decoder.specs.declared.LongRead.{LongRead}
-use Rattle.decoder.specs.declared.LongRead.TheVariants as longs
 use Rattle.steps.specs.State.{State, Res, ok, no, ◌>>=◌, leaf, kidless, bytes, line, push}
 use Rattle.steps.specs.Opcodes.{low_bytes, long_n}
 use Rattle.steps.specs.Run.{going}
@@ -62,18 +60,18 @@ long_read n s = do
   v ← leaf (long_of b)
   ok (v, s₁)
 
--- what the code says of it: why there is none, or the integer and the place behind it
-unfoldable pub IsLong : LongRead → Rooms → Counts → Res (ℕ × State) → Type 0
-IsLong (longs.None why) r c m = m ≡ no why
-IsLong (longs.At a v) r c m = m ≡ ok (v, state_of r (at_to c a))
+-- what the code says of it: why there is none, or the place behind it and the integer
+unfoldable pub IsLong : Result (ℕ × ℕ) Refusal → Rooms → Counts → Res (ℕ × State) → Type 0
+IsLong (Err why) r c m = m ≡ no why
+IsLong (Ok x) r c m = m ≡ ok (x.1, state_of r (at_to c x.0))
 
 -- that place is behind this one, inside the pickle
-unfoldable pub EndsBehind : ℕ → List ℕ → LongRead → Type 0
-EndsBehind at p (longs.None why) = Unit
-EndsBehind at p (longs.At a v) = (at ≤ a) × (a ≤ length p)
+unfoldable pub EndsBehind : ℕ → List ℕ → Result (ℕ × ℕ) Refusal → Type 0
+EndsBehind at p (Err why) = Unit
+EndsBehind at p (Ok x) = (at ≤ x.0) × (x.0 ≤ length p)
 
 -- in all rooms with the pickle p and with all counts at this place, x is what `long_read` gives
-pub record ReadsLong (n at : ℕ) (p : List ℕ) (x : LongRead) : Type 0 where
+pub record ReadsLong (n at : ℕ) (p : List ℕ) (x : Result (ℕ × ℕ) Refusal) : Type 0 where
   pub behind : EndsBehind at p x
   pub is : (c : Counts) → c.at ≡ at → (r : Rooms) → Sound r c → r.pickle ≡ p → IsLong x r c (long_read n (state_of r c))
 
@@ -393,16 +391,16 @@ module _ (p : List ℕ) where
 
 -- t is the part behind a length of n bytes
 module _ (p : List ℕ) (n at : ℕ) (t : Result (ℕ × ℕ) Refusal) (h : ReadsPart at p (prefixed n) t) where
-  pub long-short : (why : Refusal) → t ≡ Err why → ReadsLong n at p (longs.None why)
+  pub long-short : (why : Refusal) → t ≡ Err why → ReadsLong n at p (Err why)
   unfolding EndsBehind IsLong long_read ◌>>=◌
   long-short why e = record { behind = tt; is = λ c d r s q. rw (none_found p n at t h why e c d r s q) }
 
   module _ (a m : ℕ) (e : t ≡ Ok (a, m)) where
-    pub long_large : (why : Refusal) → long_of (take m (drop a p)) ≡ refused why 0 → ReadsLong n at p (longs.None why)
+    pub long_large : (why : Refusal) → long_of (take m (drop a p)) ≡ refused why 0 → ReadsLong n at p (Err why)
     unfolding EndsBehind IsLong long_read leaf ◌>>=◌
     long_large why k = record { behind = tt; is = λ c d r s q. rw (found p n at t h a m e c d r s q, k) }
 
-    pub long_got : (v : ℕ) → long_of (take m (drop a p)) ≡ got v → ReadsLong n at p (longs.At (a + m) v)
+    pub long_got : (v : ℕ) → long_of (take m (drop a p)) ≡ got v → ReadsLong n at p (Ok (a + m, v))
     unfolding EndsBehind IsLong long_read leaf ◌>>=◌
     long_got v k =
         let i = part_inside p n at t h a m e in
@@ -421,12 +419,12 @@ long_is n s = prefixed_is n s (λ q. leaf (long_of q.0) >>= λ v. push (I64L v) 
     go (no why) = refl
     go (ok q) = sym (bind_assoc (leaf (long_of q.0)) (λ (v : ℕ). ok (v, q.1)) (λ (x : ℕ × State). push (I64L x.0) x.1))
 
-module _ (c : Counts) (x : LongRead) (n : ℕ) (p : List ℕ) (h : ReadsLong n c.at p x) where
-  pub long-none : (why : Refusal) → x ≡ longs.None why → Decides c (λ r. r.pickle ≡ p) (λ s. going (long_n n s)) (Err why)
+module _ (c : Counts) (x : Result (ℕ × ℕ) Refusal) (n : ℕ) (p : List ℕ) (h : ReadsLong n c.at p x) where
+  pub long-none : (why : Refusal) → x ≡ Err why → Decides c (λ r. r.pickle ≡ p) (λ s. going (long_n n s)) (Err why)
   unfolding Decides IsLong ◌>>=◌
   long-none why e r s q = refused_going r c s why (long_n n (state_of r c)) (long_is n (state_of r c) ∙ rw ((rw e at h).is c refl r s q))
 
-  pub long-push : (a v : ℕ) → x ≡ longs.At a v → (c₁ : Counts) → c₁ ≡ cut_to c a c.stack c.marks → Decides c (λ r. r.pickle ≡ p) (λ s. going (long_n n s)) (Ok (Push c₁ 2 v))
+  pub long-push : (a v : ℕ) → x ≡ Ok (a, v) → (c₁ : Counts) → c₁ ≡ cut_to c a c.stack c.marks → Decides c (λ r. r.pickle ≡ p) (λ s. going (long_n n s)) (Ok (Push c₁ 2 v))
   unfolding EndsBehind IsLong ◌>>=◌
   long-push a v e c₁ d =
       let b = (rw e at h).behind in

@@ -118,40 +118,24 @@ pub fn long(pickle: &[u8], c: Counts) -> Result<Effect, Refusal>
     Ok(Effect::Push(Counts { at, ..c }, value::KIND_I64, v))
 }
 
-// The integer of a LONG1 or LONG4, with the place behind it, or why there is none.
-#[derive(Drop)]
-pub enum LongRead {
-    None(Refusal),
-    At(usize, u64),
-}
-
-// Bytes that are missing come before an integer that is too large. It takes the place, not the counts: where the compiler makes a call of
-// it, they stay in registers.
-pub fn long_at(pickle: &[u8], at: usize, width: usize) -> LongRead
+// The place behind the integer of a LONG1 or LONG4, and the integer. Bytes that are missing come before an integer that is too large. It
+// takes the place, not the counts: where the compiler makes a call of it, they stay in registers.
+fn long_at(pickle: &[u8], at: usize, width: usize) -> Result<(usize, u64), Refusal>
     requires { (at ≤ length pickle.now) × (width ≤ 8) }
     ensures { ReadsLong width at pickle.now result }
 {
-    match prefixed(pickle, at, width) {
-        Err(why) => LongRead::None(why),
-        Ok((from, len)) => {
-            let end = from + len;
-            match input::long(&pickle[from..end]) {
-                Ok(v) => LongRead::At(end, v),
-                Err(why) => LongRead::None(why),
-            }
-        }
-    }
+    let (from, len) = prefixed(pickle, at, width)?;
+    let end = from + len;
+    Ok((end, input::long(&pickle[from..end])?))
 }
 
-// LONG1, LONG4: what was read at the counts' place.
-pub fn long_n(c: Counts, read: LongRead) -> Result<Effect, Refusal>
-    ensures { (n : ℕ) (p : List ℕ) → ReadsLong n c.at p read
-        → Decides c (λ r. r.pickle ≡ p) (λ s. going (long_n n s)) result }
+// LONG1, LONG4: an integer behind its length, which has `width` bytes.
+pub fn long_n(pickle: &[u8], c: Counts, width: usize) -> Result<Effect, Refusal>
+    requires { SomeRooms c (λ r. r.pickle ≡ pickle.now) × (width ≤ 8) }
+    ensures { Decides c (λ r. r.pickle ≡ pickle.now) (λ s. going (long_n width s)) result }
 {
-    match read {
-        LongRead::None(why) => Err(why),
-        LongRead::At(end, v) => Ok(Effect::Push(Counts { at: end, ..c }, value::KIND_I64, v)),
-    }
+    let (at, v) = long_at(pickle, c.at, width)?;
+    Ok(Effect::Push(Counts { at, ..c }, value::KIND_I64, v))
 }
 
 // FLOAT: a line; what is outside the numbers that are read has a refusal of its own.
