@@ -129,7 +129,8 @@ fn long_at(pickle: &[u8], at: usize, width: usize) -> Result<(usize, u64), Refus
     Ok((end, input::long(&pickle[from..end])?))
 }
 
-// LONG1, LONG4: an integer behind its length, which has `width` bytes.
+// LONG1, LONG4: an integer behind its length, which has `width` bytes. Inlined, since a call would be handed the counts.
+#[inline(always)]
 pub fn long_n(pickle: &[u8], c: Counts, width: usize) -> Result<Effect, Refusal>
     requires { SomeRooms c (λ r. r.pickle ≡ pickle.now) × (width ≤ 8) }
     ensures { Decides c (λ r. r.pickle ≡ pickle.now) (λ s. going (long_n width s)) result }
