@@ -4,6 +4,7 @@ use mathlib.Core.Bool.{Bool, true, false, ◌&&◌}
 use mathlib.Core.List.{List, [], ◌∷◌, ◌++◌, append_assoc, append-nil}
 use mathlib.Core.Path.{◌≡◌, refl, sym, ◌∙◌, ap}
 use native.Mathlib.Omega.{arith}
+use Rattle.std.proofs.Common.{add-one, drop_of_length-le}
 use lib.ListN.{length, length-append, length-take, length-drop, get_or, take, drop}
 use lib.Seq.{drop-cons, drop-drop, take-add}
 use borrow.Author.Tests.{ne_eqb}
@@ -15,7 +16,7 @@ use Rattle.list.specs.Verbatim.{Verbatim, VerbatimTo}
 
 -- ---- what the branches write
 
-pub listed_slash : {b : ℕ} → b ≡ 0x5C → listed_byte b ≡ (b ∷ []) ++ (b ∷ [])
+pub listed_slash : {b : ℕ} → b ≡ 0x5C → listed_byte b ≡ 0x5C ∷ 0x5C ∷ []
 unfolding listed_byte
 listed_slash e = rw e
 
@@ -23,7 +24,7 @@ pub listed-printable : {b : ℕ} → (b ≡ 0x5C → ⊥) → printable b ≡ tr
 unfolding listed_byte
 listed-printable {b} n h = rw (ne_eqb b 0x5C n, h)
 
-pub listed_escape : {b : ℕ} → (b ≡ 0x5C → ⊥) → printable b ≡ false → listed_byte b ≡ (0x5C ∷ []) ++ ((0x78 ∷ []) ++ figures 16 2 b)
+pub listed_escape : {b : ℕ} → (b ≡ 0x5C → ⊥) → printable b ≡ false → listed_byte b ≡ (0x5C ∷ 0x78 ∷ []) ++ figures 16 2 b
 unfolding listed_byte
 listed_escape {b} n h = rw (ne_eqb b 0x5C n, h)
 
@@ -64,6 +65,26 @@ run_more {t} {i} {e} {j} n h y r =
     let s : i + (j - i) ≡ j = omega (arith, r.ahead) in
     record { ahead = omega (arith, r.ahead); within = h; same = rw k (verbatim_then t i (j - i) n r.same (rw s y)) }
 
+-- ---- the bytes behind the first i
+
+listed_drop : (t : List ℕ) (i d : ℕ) → i < length t → listed_text (drop i t) ≡ listed_byte (get_or t i d) ++ listed_text (drop (i + 1) t)
+unfolding listed_text
+listed_drop t i d h = rw (drop-cons t i d h, add-one i)
+
+pub length_drop : (t : List ℕ) (i d : ℕ) → i < length t → length (listed_text (drop i t)) ≡ length (listed_byte (get_or t i d)) + length (listed_text (drop (i + 1) t))
+length_drop t i d h = ap length (listed_drop t i d h) ∙ length-append (listed_byte (get_or t i d)) _
+
+pub drop-none : (t : List ℕ) (i : ℕ) → length t ≤ i → listed_text (drop i t) ≡ []
+unfolding listed_text
+drop-none t i h = rw (drop_of_length-le t h)
+
+module _ (t : List ℕ) (i d : ℕ) (h : i < length t) {o₀ b o : List ℕ} {at p : ℕ} (x : StillToPut o₀ at b o p (listed_text (drop i t))) where
+  pub byte_room : Room o₀ at b → Room o p (listed_byte (get_or t i d))
+  byte_room m = room_first (listed_text (drop (i + 1) t)) (left_room m (rw (listed_drop t i d h) at x))
+
+  pub byte_left : {o' : List ℕ} {p' : ℕ} → Put o p (listed_byte (get_or t i d)) o' p' → StillToPut o₀ at b o' p' (listed_text (drop (i + 1) t))
+  byte_left y = left_more (listed_text (drop (i + 1) t)) (rw (listed_drop t i d h) at x) y
+
 -- ---- the bytes from i to the end
 
 abbrev pub rest : List ℕ → ℕ → ℕ → List ℕ
@@ -71,10 +92,6 @@ rest t e i = listed_text (take (e - i) (drop i t))
 
 pub rest_all : (t : List ℕ) (from count : ℕ) → rest t (from + count) from ≡ listed_text (take count (drop from t))
 rest_all t from count = let e : from + count - from ≡ count = omega arith in rw e
-
-pub rest-none : (t : List ℕ) (e i : ℕ) → e ≤ i → rest t e i ≡ []
-unfolding listed_text
-rest-none t e i h = let k : e - i ≡ 0 = omega arith in rw k
 
 rest_part : (t : List ℕ) (e i n : ℕ) → i + n ≤ e → rest t e i ≡ listed_text (take n (drop i t)) ++ rest t e (i + n)
 rest_part t e i n h = let k : e - i ≡ n + (e - (i + n)) = omega arith in rw (k, part_add t i n (e - (i + n))) (listed-append (take n (drop i t)) (take (e - (i + n)) (drop (i + n) t)))
@@ -93,7 +110,3 @@ module _ (t : List ℕ) (i n : ℕ) {e : ℕ} (h : i + n ≤ e) {o₀ b o : List
 
   pub part_left : {o' : List ℕ} {p' : ℕ} → Put o p (listed_text (take n (drop i t))) o' p' → StillToPut o₀ at b o' p' (rest t e (i + n))
   part_left y = left_more (rest t e (i + n)) (rw (rest_part t e i n h) at x) y
-
--- all that is left was put
-pub left_last : {o₀ b o b' o' : List ℕ} {at p p' : ℕ} → StillToPut o₀ at b o p b' → Put o p b' o' p' → Put o₀ at b o' p'
-left_last x y = record { wrote = y.wrote ∙ x.same; ends = y.ends ∙ x.place }

@@ -1,11 +1,11 @@
--- What the code reads of a record, and the names of the kinds. Assumes nothing.
+-- What the code reads of a record. Assumes nothing.
 use Prim.Native.Nat.{ℕ, suc, zero, ◌+◌, ◌-◌, ◌*◌, ◌^◌, ◌/◌, ◌%◌, ◌≤◌, ◌<◌}
 use mathlib.Core.Bool.{Bool, true, false}
 use mathlib.Core.List.{List, [], ◌∷◌, ◌++◌}
 use mathlib.Core.Path.{◌≡◌, refl, sym, ◌∙◌, ap, subst}
 use native.Mathlib.Nat.{add-zero}
 use native.Mathlib.Omega.{arith}
-use lib.Dec.{eqb, lit≤}
+use lib.Dec.{eqb}
 use lib.ListN.{length, length-append, get_or, take, drop}
 use lib.Seq.{drop-drop}
 use Rattle.utf8.specs.Encode.{by_lt}
@@ -16,7 +16,7 @@ use Rattle.value.specs.Stands.{word_at, label_at, arity_at, Reads}
 use Rattle.value.specs.Left.{kind_at}
 use Rattle.value.specs.Labels.{text_inside, names_inside}
 use Rattle.output.specs.Decimal.{decimal_text, signed_text, figures}
-use Rattle.list.specs.Listing.{listed_text, names, kind_name, flag, listed_names, names_at, content_of, record_line, tab_byte}
+use Rattle.list.specs.Listing.{listed_text, kind_name, flag, listed_names, names_at, content_of, record_line, tab_byte}
 use Rattle.output.specs.Put.{newline_byte, Room, room_first}
 
 -- a fact of each number below a bound
@@ -27,9 +27,6 @@ Below P (suc n) = Below P n × P n
 below : (P : ℕ → Type 0) (n : ℕ) → Below P n → (k : ℕ) → k < n → P k
 below P zero b k h = absurd (omega arith)
 below P (suc n) b k h = by_lt k n (below P n b.0 k) (λ l. let e : n ≡ k = omega arith in subst P e b.1)
-
-pub beyond : {n k : ℕ} → n ≤ k → (k ≡ n → ⊥) → n < k
-beyond h x = omega arith
 
 half-double : (b : ℕ) → half (b + b) ≡ b
 half-double zero = refl
@@ -45,6 +42,9 @@ half_state false = refl
 pub record Opened (w t : List ℕ) (i : ℕ) (h : Head) : Type 0 where
   pub reads : Reads w t i
   pub head : h ≡ head_of (get_or w (4 * i) 0)
+
+pub opened : {w t : List ℕ} {i : ℕ} {h : Head} → Reads w t i → h ≡ head_of (get_or w (4 * i) 0) → Opened w t i h
+opened r e = record { reads = r; head = e }
 
 module _ {w t : List ℕ} {i : ℕ} {h : Head} (x : Opened w t i h) where
   abbrev content : List ℕ
@@ -139,26 +139,3 @@ names_parts t b c = rw drop-drop
 
 pub names-length : (t : List ℕ) (b c : ℕ) → length (names_at t b c) ≡ length (listed_text (take (c / 2 ^ 32) (drop b t))) + 1 + length (listed_text (take (c % 2 ^ 32) (drop (b + c / 2 ^ 32) t)))
 names-length t b c = ap length (names_parts t b c) ∙ length-append (listed_text (take (c / 2 ^ 32) (drop b t))) _ ∙ omega arith
-
--- ---- the names side by side, and where each begins
-
-abbrev pub name_bytes : List ℕ
-name_bytes = 0x6E ∷ 0x6F ∷ 0x6E ∷ 0x65 ∷ 0x62 ∷ 0x6F ∷ 0x6F ∷ 0x6C ∷ 0x69 ∷ 0x6E ∷ 0x74 ∷ 0x66 ∷ 0x6C ∷ 0x6F ∷ 0x61 ∷ 0x74 ∷ 0x62 ∷ 0x79 ∷ 0x74 ∷ 0x65 ∷ 0x73 ∷ 0x73 ∷ 0x74 ∷ 0x72 ∷ 0x69 ∷ 0x6E ∷ 0x67 ∷ 0x6C ∷ 0x69 ∷ 0x73 ∷ 0x74 ∷ 0x74 ∷ 0x75 ∷ 0x70 ∷ 0x6C ∷ 0x65 ∷ 0x73 ∷ 0x65 ∷ 0x74 ∷ 0x66 ∷ 0x72 ∷ 0x6F ∷ 0x7A ∷ 0x65 ∷ 0x6E ∷ 0x73 ∷ 0x65 ∷ 0x74 ∷ 0x64 ∷ 0x69 ∷ 0x63 ∷ 0x74 ∷ 0x67 ∷ 0x6C ∷ 0x6F ∷ 0x62 ∷ 0x61 ∷ 0x6C ∷ 0x6F ∷ 0x62 ∷ 0x6A ∷ 0x65 ∷ 0x63 ∷ 0x74 ∷ []
-
-abbrev pub starts : List ℕ
-starts = 0 ∷ 4 ∷ 8 ∷ 11 ∷ 16 ∷ 21 ∷ 27 ∷ 31 ∷ 36 ∷ 39 ∷ 48 ∷ 52 ∷ 58 ∷ 64 ∷ []
-
-abbrev pub Named : ℕ → Type 0
-Named k =
-    let from = get_or starts k 0 in
-    let end = get_or starts (k + 1) 0 in
-    (from ≤ end) × (from + (end - from) ≤ 64) × (take (end - from) (drop from name_bytes) ≡ kind_name k) × (end - from ≡ length (kind_name k))
-
-pub named : (k : ℕ) → k < 13 → Named k
-unfolding names kind_name
-named =
-    below Named 13 (((((((((((((tt, (lit≤ tt, lit≤ tt, refl, refl)), (lit≤ tt, lit≤ tt, refl, refl)), (lit≤ tt, lit≤ tt, refl, refl)), (lit≤ tt, lit≤ tt, refl, refl)), (lit≤ tt, lit≤ tt, refl, refl)), (lit≤ tt, lit≤ tt, refl, refl)), (lit≤ tt, lit≤ tt, refl, refl)), (lit≤ tt, lit≤ tt, refl, refl)), (lit≤ tt, lit≤ tt, refl, refl)), (lit≤ tt, lit≤ tt, refl, refl)), (lit≤ tt, lit≤ tt, refl, refl)), (lit≤ tt, lit≤ tt, refl, refl)), (lit≤ tt, lit≤ tt, refl, refl))
-
--- the bytes of a name's length from where it begins on
-pub name_part_lem : (k : ℕ) → k < 13 → (n : ℕ) (s : List ℕ) → n ≡ length (kind_name k) → s ≡ take n (drop (get_or starts k 0) name_bytes) → s ≡ kind_name k
-name_part_lem k h n s e q = let m = named k h in q ∙ rw (e, ← m.3) m.2

@@ -13,7 +13,10 @@ ghost use Rattle.list.specs.Call.{ListCall};
 
 use output::Place;
 use refusal::{Answer, Refusal, Which};
-use value::{KIND_BOOL, KIND_F64, KIND_GLOBAL, KIND_I64, KIND_LIST, KIND_NONE};
+use value::{
+    KIND_BOOL, KIND_BYTES, KIND_DICT, KIND_F64, KIND_FROZEN_SET, KIND_GLOBAL, KIND_I64, KIND_LIST,
+    KIND_NONE, KIND_SET, KIND_STRING, KIND_TUPLE,
+};
 
 fn stands(byte: u8) -> bool
     ensures { result ≡ printable byte }
@@ -25,29 +28,26 @@ fn put_listed(byte: u8, output: &mut [u8], at: usize) -> usize
     requires { Room output.old at (listed_byte byte) }
     ensures { Put output.old at (listed_byte byte) output.new result }
 {
-    if byte == b'\\' {
-        let second = output::put_byte(byte, output, at);
-        return output::put_byte(byte, output, second);
+    match byte {
+        b'\\' => output::put_run(b"\\\\", output, at),
+        _ if stands(byte) => output::put_byte(byte, output, at),
+        _ => {
+            let next = output::put_run(b"\\x", output, at);
+            output::put_figures(byte as u64, 16, 2, output, next)
+        }
     }
-    if stands(byte) {
-        return output::put_byte(byte, output, at);
-    }
-    let slash = output::put_byte(b'\\', output, at);
-    let next = output::put_byte(b'x', output, slash);
-    output::put_figures(byte as u64, 16, 2, output, next)
 }
 
 // How many bytes a byte is listed as.
+#[tactic(auto, unfolding(crate::specs::Listing::listed_byte, crate::specs::Listing::printable, output::specs::Decimal::figures))]
 fn byte_len(byte: u8) -> usize
     ensures { result ≡ length (listed_byte byte) }
 {
-    if byte != b'\\' {
-        if stands(byte) {
-            return 1;
-        }
-        return 4;
+    match byte {
+        b'\\' => 2,
+        _ if stands(byte) => 1,
+        _ => 4,
     }
-    2
 }
 
 // A byte that is listed as it is. The tests are joined by `&`, so that several bytes are tested in one vector and cost one branch.
@@ -71,33 +71,25 @@ fn eight_verbatim(text: &[u8], i: usize) -> bool
     four_verbatim(text, i) & four_verbatim(text, i + 4)
 }
 
-// The text of `count` bytes at `from`, byte by byte: how long it is, and the text.
-fn each_len(text: &[u8], from: usize, count: usize) -> usize
-    requires count_in_bounds { from + count ≤ length text.now }
-    requires text_len_bound { length (listed_text (take count (drop from text.now))) < 2 ^ 64 }
-    ensures { result ≡ length (listed_text (take count (drop from text.now))) }
+// A text, byte by byte: how long it is when listed, and the text.
+fn each_len(text: &[u8]) -> usize
+    requires { length (listed_text text.now) < 2 ^ 64 }
+    ensures { result ≡ length (listed_text text.now) }
 {
-    let end = from + count;
-    let mut i = from;
     let mut sum = 0;
-    while i < end {
-        sum += byte_len(text[i]);
-        i += 1;
+    for byte in text {
+        sum += byte_len(*byte);
     }
     sum
 }
 
-fn put_each(text: &[u8], from: usize, count: usize, output: &mut [u8], at: usize) -> usize
-    requires count_in_bounds { from + count ≤ length text.now }
-    requires room { Room output.old at (listed_text (take count (drop from text.now))) }
-    ensures { Put output.old at (listed_text (take count (drop from text.now))) output.new result }
+fn put_each(text: &[u8], output: &mut [u8], at: usize) -> usize
+    requires { Room output.old at (listed_text text.now) }
+    ensures { Put output.old at (listed_text text.now) output.new result }
 {
-    let end = from + count;
-    let mut i = from;
     let mut next = at;
-    while i < end {
-        next = put_listed(text[i], output, next);
-        i += 1;
+    for byte in text {
+        next = put_listed(*byte, output, next);
     }
     next
 }
@@ -111,7 +103,7 @@ fn put_eight(text: &[u8], i: usize, output: &mut [u8], at: usize) -> usize
     if eight_verbatim(text, i) {
         return output::put_run(value::part(text, i, 8), output, at);
     }
-    put_each(text, i, 8, output, at)
+    put_each(&text[i..i + 8], output, at)
 }
 
 // How far the bytes from `from` on are surely listed as they are, by eight at a time.
@@ -138,7 +130,7 @@ fn listed_len(text: &[u8], from: usize, count: usize) -> usize
 {
     let end = from + count;
     let stop = run_by_eight(text, from, end);
-    stop - from + each_len(text, stop, end - stop)
+    stop - from + each_len(&text[stop..end])
 }
 
 // The text, eight bytes at a time.
@@ -154,43 +146,37 @@ fn put_text(text: &[u8], from: usize, count: usize, output: &mut [u8], at: usize
         next = put_eight(text, i, output, next);
         i += 8;
     }
-    put_each(text, i, end - i, output, next)
+    put_each(&text[i..end], output, next)
 }
 
-// Where each kind's name begins among the names, and where the last one ends.
-const NAMES: [usize; 14] = [0, 4, 8, 11, 16, 21, 27, 31, 36, 39, 48, 52, 58, 64];
-
-fn name_len(kind: u64) -> usize
+#[tactic(auto, unfolding(crate::specs::Listing::kind_name, crate::specs::Listing::names))]
+fn kind_name(kind: u64) -> &'static [u8]
     requires { kind < 13 }
-    ensures { result ≡ length (kind_name kind) }
+    ensures { result.now ≡ kind_name kind }
 {
-    let k = kind as usize;
-    NAMES[k + 1] - NAMES[k]
+    match kind {
+        KIND_NONE => b"none",
+        KIND_BOOL => b"bool",
+        KIND_I64 => b"int",
+        KIND_F64 => b"float",
+        KIND_BYTES => b"bytes",
+        KIND_STRING => b"string",
+        KIND_LIST => b"list",
+        KIND_TUPLE => b"tuple",
+        KIND_SET => b"set",
+        KIND_FROZEN_SET => b"frozenset",
+        KIND_DICT => b"dict",
+        KIND_GLOBAL => b"global",
+        _ => b"object",
+    }
 }
 
-fn put_name(kind: u64, output: &mut [u8], at: usize) -> usize
-    requires kind_bound { kind < 13 }
-    requires room { Room output.old at (kind_name kind) }
-    ensures { Put output.old at (kind_name kind) output.new result }
-{
-    let k = kind as usize;
-    let from = NAMES[k];
-    let name = value::part(
-        b"noneboolintfloatbytesstringlisttuplesetfrozensetdictglobalobject",
-        from,
-        name_len(kind),
-    );
-    output::put_run(name, output, at)
-}
-
+#[tactic(auto, unfolding(crate::specs::Listing::flag, value::specs::Value::bit))]
 fn put_flag(value: bool, output: &mut [u8], at: usize) -> usize
     requires { Room output.old at (flag value ∷ []) }
     ensures { Put output.old at (flag value ∷ []) output.new result }
 {
-    if value {
-        return output::put_byte(b'1', output, at);
-    }
-    output::put_byte(b'0', output, at)
+    output::put_byte(b'0' + value as u8, output, at)
 }
 
 // A module and a name, whose texts stand side by side from `from` on; `lengths` has the module's in its upper half.
@@ -235,29 +221,17 @@ fn content_len(words: &[u64], text: &[u8], i: usize) -> usize
     requires len_bound { length (content_of (label_at words.now text.now i) (arity_at words.now i)) < 2 ^ 64 }
     ensures { result ≡ length (content_of (label_at words.now text.now i) (arity_at words.now i)) }
 {
-    let kind = value::head_of(words[4 * i]).kind;
     let second = words[4 * i + 1];
     let third = words[4 * i + 2];
-    if kind < KIND_I64 {
-        return 1;
+    match value::head_of(words[4 * i]).kind {
+        KIND_NONE | KIND_BOOL => 1,
+        KIND_I64 => output::signed_len(second),
+        KIND_F64 => 16,
+        KIND_BYTES | KIND_STRING => listed_len(text, second as usize, third as usize),
+        KIND_LIST..=KIND_DICT => output::digits(second),
+        KIND_GLOBAL => listed_names_len(text, second, third),
+        _ => listed_names_len(text, second, third) + 4,
     }
-    if kind == KIND_I64 {
-        return output::signed_len(second);
-    }
-    if kind == KIND_F64 {
-        return 16;
-    }
-    if kind < KIND_LIST {
-        return listed_len(text, second as usize, third as usize);
-    }
-    if kind < KIND_GLOBAL {
-        return output::digits(second);
-    }
-    let names = listed_names_len(text, second, third);
-    if kind == KIND_GLOBAL {
-        return names;
-    }
-    names + 4
 }
 
 fn put_content(words: &[u64], text: &[u8], i: usize, output: &mut [u8], at: usize) -> usize
@@ -268,32 +242,21 @@ fn put_content(words: &[u64], text: &[u8], i: usize, output: &mut [u8], at: usiz
         output.new result }
 {
     let head = value::head_of(words[4 * i]);
-    let kind = head.kind;
     let second = words[4 * i + 1];
     let third = words[4 * i + 2];
-    if kind == KIND_NONE {
-        return output::put_byte(b'-', output, at);
+    match head.kind {
+        KIND_NONE => output::put_byte(b'-', output, at),
+        KIND_BOOL => put_flag(second == 1, output, at),
+        KIND_I64 => output::put_signed(second, output, at),
+        KIND_F64 => output::put_figures(second, 16, 16, output, at),
+        KIND_BYTES | KIND_STRING => put_text(text, second as usize, third as usize, output, at),
+        KIND_LIST..=KIND_DICT => output::put_decimal(second, output, at),
+        KIND_GLOBAL => put_listed_names(text, second, third, output, at),
+        _ => {
+            let end = put_listed_names(text, second, third, output, at);
+            put_flags(head.new, head.state, output, end)
+        }
     }
-    if kind == KIND_BOOL {
-        return put_flag(second == 1, output, at);
-    }
-    if kind == KIND_I64 {
-        return output::put_signed(second, output, at);
-    }
-    if kind == KIND_F64 {
-        return output::put_figures(second, 16, 16, output, at);
-    }
-    if kind < KIND_LIST {
-        return put_text(text, second as usize, third as usize, output, at);
-    }
-    if kind < KIND_GLOBAL {
-        return output::put_decimal(second, output, at);
-    }
-    let end = put_listed_names(text, second, third, output, at);
-    if kind == KIND_GLOBAL {
-        return end;
-    }
-    put_flags(head.new, head.state, output, end)
 }
 
 // The line of record i.
@@ -303,7 +266,7 @@ fn line_len(words: &[u64], text: &[u8], i: usize, depth: u64) -> usize
     ensures { result ≡ length (record_line depth (label_at words.now text.now i) (arity_at words.now i)) }
 {
     let head = value::head_of(words[4 * i]);
-    output::digits(depth) + name_len(head.kind) + content_len(words, text, i) + 3
+    output::digits(depth) + kind_name(head.kind).len() + content_len(words, text, i) + 3
 }
 
 fn put_line(words: &[u64], text: &[u8], i: usize, depth: u64, output: &mut [u8], at: usize) -> usize
@@ -316,7 +279,7 @@ fn put_line(words: &[u64], text: &[u8], i: usize, depth: u64, output: &mut [u8],
     let head = value::head_of(words[4 * i]);
     let a = output::put_decimal(depth, output, at);
     let b = output::put_byte(b'\t', output, a);
-    let c = put_name(head.kind, output, b);
+    let c = output::put_run(kind_name(head.kind), output, b);
     let d = output::put_byte(b'\t', output, c);
     let e = put_content(words, text, i, output, d);
     output::put_byte(b'\n', output, e)
