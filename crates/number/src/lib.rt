@@ -30,7 +30,7 @@ fn space_one(a: u8) -> bool
 fn space_two(a: u8, b: u8) -> bool
     ensures { result ≡ space (a ∷ b ∷ []) }
 {
-    a == 0xC2 && (b == 0x85 || b == 0xA0)
+    matches!((a, b), (0xC2, 0x85 | 0xA0))
 }
 
 // U+2000 to U+200A, U+2028, U+2029 and U+202F by their last byte.
