@@ -14,27 +14,22 @@ pub const TO_VALUE: u64 = store::KIND_ESCAPED - value::KIND_BYTES;
 pub fn value_kind(first: u64) -> u64
     ensures { result ≡ kind_of first }
 {
-    let kind = first % store::KIND_RADIX;
-    if kind < store::KIND_ESCAPED {
-        return kind;
+    match first % store::KIND_RADIX {
+        kind @ value::KIND_NONE..=value::KIND_OBJECT => kind,
+        kind @ store::KIND_ESCAPED..=store::KIND_UNICODE => kind - TO_VALUE,
+        _ => value::KIND_NONE,
     }
-    if kind < store::NODE_KINDS {
-        return kind - TO_VALUE;
-    }
-    value::KIND_NONE
 }
 
 // Has a value, or a node, of this kind contents? (Of a value's kind as `value::holds` says; the two kinds that only a node has have none.)
+#[tactic(auto, unfolding(crate::specs::Kinds::container_kind))]
 pub fn is_container(kind: u64) -> bool
     ensures { result ≡ container_kind kind }
 {
-    if kind < value::KIND_LIST {
-        return false;
-    }
-    if kind < value::KIND_GLOBAL {
-        return true;
-    }
-    kind == value::KIND_OBJECT
+    matches!(
+        kind,
+        value::KIND_LIST..=value::KIND_DICT | value::KIND_OBJECT
+    )
 }
 
 // The numbers from `at` to `end`, in the log or among the children.
@@ -46,13 +41,11 @@ pub struct Range {
 }
 
 // Whether lists of a kind are put in order.
+#[tactic(auto, unfolding(crate::specs::Shown::sorted_in))]
 pub fn is_sorted(kind: u64) -> bool
     ensures { result ≡ sorted_in kind }
 {
-    if kind < value::KIND_SET {
-        return false;
-    }
-    kind < value::KIND_GLOBAL
+    matches!(kind, value::KIND_SET..=value::KIND_DICT)
 }
 
 // Where a container's list stands: a Set's or Dict's where its measure says, once it is in order.

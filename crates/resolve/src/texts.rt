@@ -253,19 +253,14 @@ fn spell_node(
 }
 
 // Whether nodes of a kind have text.
+#[tactic(auto, unfolding(crate::specs::TextsDue::text_kind))]
 fn kind_has_text(kind: u64) -> bool
     ensures { result ≡ text_kind kind }
 {
-    if kind < value::KIND_BYTES {
-        return false;
-    }
-    if kind < value::KIND_LIST {
-        return true;
-    }
-    if kind < value::KIND_GLOBAL {
-        return false;
-    }
-    kind < store::NODE_KINDS
+    matches!(
+        kind,
+        value::KIND_BYTES..=value::KIND_STRING | value::KIND_GLOBAL..=store::KIND_UNICODE
+    )
 }
 
 // Whether a node's text is wanted: the walk reached it, as its measure says.
