@@ -112,6 +112,6 @@ module _ (r : Rooms) (c : Counts) (s : Sound r c) (key : MemoKey) where
   unfolding ◌>>=◌ going
   put_none e = says_refused StackUnderflow r c (going (put key.0 (state_of r c))) (rw (put_is key.0 (state_of r c), top_none r c s.firm e))
 
-  pub put_some : (n : NodeId) → 0 < c.stack → n.0 ≡ get_or r.stack (c.stack - 1) 0 → IsStep (Ok (Remember c n key)) r c (going (put key.0 (state_of r c)))
+  pub put_some : (n : NodeId) → 0 < c.stack → n.0 ≡ get_or r.stack (c.stack - 1) 0 → IsStep (Ok (Remember c n 0 key)) r c (going (put key.0 (state_of r c)))
   unfolding enacted Fits ◌>>=◌ going
   put_some n h e = record { enacts = rw (put_is key.0 (state_of r c), top_got r c s.firm h, e); fits = (s.firm, rw e (on_stack r c s (c.stack - 1) (omega arith))) }

@@ -552,7 +552,7 @@ fn put(stack: &[u16], c: Counts, key: MemoKey) -> Result<Effect, Refusal>
     if c.stack == 0 {
         return Err(Refusal::StackUnderflow);
     }
-    Ok(Effect::Remember(c, NodeId(stack[c.stack - 1] as usize), key))
+    Ok(Effect::Remember(c, NodeId(stack[c.stack - 1] as usize), 0, key))
 }
 
 pub fn put_by(pickle: &[u8], stack: &[u16], c: Counts, form: KeyForm) -> Result<Effect, Refusal>

@@ -45,9 +45,9 @@ module _ (r : Rooms) (h : ℕ) (c : Counts) where
   pub extendable : (o : NodeId) → Fits (Extend c o) r h → Extendable r.nodes r.owners r.children r.stack c o.0 h
   extendable o f = record { rooms = r; nodes_are = refl; owners_are = refl; children_are = refl; stack_is = refl; fits = f }
 
-  pub rememberable : (i : NodeId) (k : MemoKey) → Fits (Remember c i k) r h → Rememberable r.keys r.held c k.0 i.0
+  pub rememberable : (i : NodeId) (w : ℕ) (k : MemoKey) → Fits (Remember c i w k) r h → Rememberable r.keys r.held c k.0 i.0
   unfolding Fits
-  rememberable i k f = record { rooms = r; keys_are = refl; held_are = refl; fits = f }
+  rememberable i w k f = record { rooms = r; keys_are = refl; held_are = refl; fits = f }
 
   pub buildable : (o i : NodeId) → Fits (Build c o i) r h → Buildable r.nodes c o.0 i.0
   unfolding Fits

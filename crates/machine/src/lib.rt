@@ -50,7 +50,7 @@ fn apply(
         Effect::Go(c) => c,
         Effect::Make(c, kind) => make(nodes, owners, children, stack, c, kind, had)?,
         Effect::Extend(c, owner) => extend(nodes, owners, children, stack, c, owner, had)?,
-        Effect::Remember(c, id, key) => remember(keys, held, c, key, id)?,
+        Effect::Remember(c, id, _, key) => remember(keys, held, c, key, id)?,
         Effect::Build(c, object, state) => set_state(nodes, c, object, state),
         Effect::Stop(c) => return Ok(Step::Stop(c)),
     };

@@ -52,7 +52,7 @@ enacted (Mark c) r h = going (mark (state_of r c))
 enacted (Go c) r h = ok (goes (state_of r c))
 enacted (Make c k) r h = going (container k r (above c.stack h r.stack) (state_of r c))
 enacted (Extend c o) r h = going (grow o.0 (above c.stack h r.stack) (state_of r c))
-enacted (Remember c i k) r h = going (remember k.0 i.0 (state_of r c))
+enacted (Remember c i w k) r h = going (remember k.0 i.0 (state_of r c))
 enacted (Build c o i) r h = ok (goes (with_state o.0 i.0 (state_of r c)))
 enacted (Stop c) r h = ok (stops (state_of r c))
 
@@ -116,7 +116,7 @@ Fits (Mark c) r h = Firm r c
 Fits (Go c) r h = Firm r c
 Fits (Make c k) r h = Firm r c × (c.stack ≤ h) × (h ≤ c.deepest) × HoldsLinks k
 Fits (Extend c o) r h = Firm r c × (c.stack ≤ h) × (h ≤ c.deepest) × (o.0 < c.nodes) × HoldsLinks (first r.nodes o.0) × (kind_in (first r.nodes o.0) ≢ 7)
-Fits (Remember c i k) r h = Firm r c × (i.0 < c.nodes)
+Fits (Remember c i w k) r h = Firm r c × (i.0 < c.nodes)
 Fits (Build c o i) r h = Firm r c × (o.0 < c.nodes) × (i.0 < c.nodes) × (kind_in (first r.nodes o.0) ≡ 12)
 Fits (Stop c) r h = Firm r c
 

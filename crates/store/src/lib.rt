@@ -30,7 +30,8 @@ pub struct Counts {
     pub greatest: usize,
 }
 
-// What an opcode comes to, with the counts after what it read and took.
+// What an opcode comes to, with the counts after what it read and took. Remember's word has no meaning: its number is then over no word of
+// another effect, which is quicker.
 #[derive(Clone, Copy)]
 pub enum Effect {
     Push(Counts, u64, u64),
@@ -39,7 +40,7 @@ pub enum Effect {
     Go(Counts),
     Make(Counts, u64),
     Extend(Counts, NodeId),
-    Remember(Counts, NodeId, MemoKey),
+    Remember(Counts, NodeId, u64, MemoKey),
     Build(Counts, NodeId, NodeId),
     Stop(Counts),
 }

@@ -72,7 +72,7 @@ unfolding Applies Extends
 returns-in_ok-next-in-Extend c = λ l p f. rw c.in-Extend.is (rw c.in_ok-next-in-Extend.was at (c.extend.ensures _ refl refl refl refl (rw c.in-Extend.is at f)))
 
 pub remember-requires : goal.remember-requires
-remember-requires c = rememberable _ _ _ _ _ (subst (λ (x : Effect). Fits x (rooms_of c.requires.lent c.requires.pickle c.args.nodes.now c.args.owners.now c.args.children.now c.args.stack.now c.args.marks.now c.args.keys.now c.args.held.now) c.args.had) c.in-Remember.is c.requires.fits)
+remember-requires c = rememberable _ _ _ _ _ _ (subst (λ (x : Effect). Fits x (rooms_of c.requires.lent c.requires.pickle c.args.nodes.now c.args.owners.now c.args.children.now c.args.stack.now c.args.marks.now c.args.keys.now c.args.held.now) c.args.had) c.in-Remember.is c.requires.fits)
 
 pub returns-in_err-next-in-Remember : goal.returns-in_err-next-in-Remember
 unfolding Applies Remembers Fits enacted
