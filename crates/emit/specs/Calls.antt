@@ -23,7 +23,8 @@ use Rattle.resolve.specs.Shown.{Shown, node_label}
 use Rattle.resolve.specs.Readable.{TextReadable, shown_readable, spelled_measure}
 use Rattle.resolve.specs.Kinds.{kind_of, kind-same, container_kind, container_is}
 use Rattle.emit.specs.Stores.{sets_before, sets_behind, sets_there}
-use Rattle.emit.specs.Words.{packed_place, record_in, text_in, written_w, written_record, written-size, written-text, written-long, record_from}
+use Rattle.emit.specs.declared.Place.{Place}
+use Rattle.emit.specs.Words.{place_of, same_place, written_w, written_record, written-size, written-text, written-long, record_from}
 use Rattle.emit.specs.Places.{written_copyable}
 use Rattle.emit.specs.Leaves.{TextReady, LeafReady, LeafPut, kind_below, CopyReady, CopyPut, opened}
 use Rattle.emit.specs.Since.{Stored, Since, since_leaf, since_stored}
@@ -38,14 +39,14 @@ pub record Begun (t : List Node) (h : Kids) (done m p d ws starts sorted log : L
   pub unwritten : (j : ℕ) → get_or m j 0 < 2 ^ 63
 
 -- room for the value v
-pub record HasRoom (v : Value) (to : ℕ) (table bytes : List ℕ) : Type 0 where
-  pub records : record_in to + size (one v) ≤ 2048
-  pub texts : text_in to + length (text (one v)) ≤ 65536
+pub record HasRoom (v : Value) (to : Place) (table bytes : List ℕ) : Type 0 where
+  pub records : to.records + size (one v) ≤ 2048
+  pub texts : to.bytes + length (text (one v)) ≤ 65536
   pub table-long : 8192 ≤ length table
   pub text-long : 65536 ≤ length bytes
 
 -- node i stands for the value v
-pub record ReadyNode (p d ws starts sorted log : List ℕ) (i to : ℕ) (measures table bytes : List ℕ) : Type 0 where
+pub record ReadyNode (p d ws starts sorted log : List ℕ) (i : ℕ) (to : Place) (measures table bytes : List ℕ) : Type 0 where
   pub t : List Node
   pub h : Kids
   pub done : List ℕ
@@ -56,10 +57,10 @@ pub record ReadyNode (p d ws starts sorted log : List ℕ) (i to : ℕ) (measure
   pub stands : StandsFor t h i v
   pub fits : HasRoom v to table bytes
   pub measures_long : length measures ≡ length m
-  pub since : Since t h table bytes 0 (record_in to) (text_in to) m measures
+  pub since : Since t h table bytes 0 to.records to.bytes m measures
 
 -- it needs no walk
-pub record Flat (p d ws : List ℕ) (i to : ℕ) (measures table bytes : List ℕ) : Type 0 where
+pub record Flat (p d ws : List ℕ) (i : ℕ) (to : Place) (measures table bytes : List ℕ) : Type 0 where
   pub starts : List ℕ
   pub sorted : List ℕ
   pub log : List ℕ
@@ -67,24 +68,24 @@ pub record Flat (p d ws : List ℕ) (i to : ℕ) (measures table bytes : List �
   pub closed : opened ws measures i ≡ false
 
 -- it is to be walked, with so many levels left
-pub record Open (p d ws starts sorted log : List ℕ) (levels i to : ℕ) (measures table bytes : List ℕ) : Type 0 where
+pub record Open (p d ws starts sorted log : List ℕ) (levels i : ℕ) (to : Place) (measures table bytes : List ℕ) : Type 0 where
   pub ready : ReadyNode p d ws starts sorted log i to measures table bytes
   pub unclosed : opened ws measures i ≡ true
   pub deep : depth (one ready.v) ≤ levels
 
 -- ---- made
 
-pub record PutValue (t : List Node) (h : Kids) (v : Value) (i to : ℕ) (table bytes table' bytes' : List ℕ) (r : ℕ) : Type 0 where
-  pub next : r ≡ packed_place (record_in to + size (one v)) (text_in to + length (text (one v)))
-  pub written : Written t h table' bytes' (i ∷ []) (one v) (record_in to) (text_in to)
-  pub table_before : take (4 * record_in to) table' ≡ take (4 * record_in to) table
-  pub table-behind : drop (4 * (record_in to + size (one v))) table' ≡ drop (4 * (record_in to + size (one v))) table
-  pub text-before : take (text_in to) bytes' ≡ take (text_in to) bytes
-  pub text-behind : drop (text_in to + length (text (one v))) bytes' ≡ drop (text_in to + length (text (one v))) bytes
+pub record PutValue (t : List Node) (h : Kids) (v : Value) (i : ℕ) (to : Place) (table bytes table' bytes' : List ℕ) (r : Place) : Type 0 where
+  pub next : r ≡ place_of (to.records + size (one v)) (to.bytes + length (text (one v)))
+  pub written : Written t h table' bytes' (i ∷ []) (one v) to.records to.bytes
+  pub table_before : take (4 * to.records) table' ≡ take (4 * to.records) table
+  pub table-behind : drop (4 * (to.records + size (one v))) table' ≡ drop (4 * (to.records + size (one v))) table
+  pub text-before : take to.bytes bytes' ≡ take to.bytes bytes
+  pub text-behind : drop (to.bytes + length (text (one v))) bytes' ≡ drop (to.bytes + length (text (one v))) bytes
 
-pub record WroteNode (t : List Node) (h : Kids) (v : Value) (i to : ℕ) (measures table bytes measures' table' bytes' : List ℕ) (r : ℕ) : Type 0 where
+pub record WroteNode (t : List Node) (h : Kids) (v : Value) (i : ℕ) (to : Place) (measures table bytes measures' table' bytes' : List ℕ) (r : Place) : Type 0 where
   pub made : PutValue t h v i to table bytes table' bytes' r
-  pub since : Since t h table' bytes' (record_in to) (record_in to + size (one v)) (text_in to + length (text (one v))) measures measures'
+  pub since : Since t h table' bytes' to.records (to.records + size (one v)) (to.bytes + length (text (one v))) measures measures'
 
 -- ---- sizes
 
@@ -104,7 +105,7 @@ no_node (x ∷ t) (suc i) h = no_node t i (omega arith)
 
 -- ---- what is there
 
-module _ {p d ws starts sorted log : List ℕ} {i to : ℕ} {measures table bytes : List ℕ} (R : ReadyNode p d ws starts sorted log i to measures table bytes) where
+module _ {p d ws starts sorted log : List ℕ} {i : ℕ} {to : Place} {measures table bytes : List ℕ} (R : ReadyNode p d ws starts sorted log i to measures table bytes) where
   ready_nodes : (i ≡ 4096) ⊎ (i < length R.t)
   ready_nodes = R.begun.shown.nodes i R.known
 
@@ -137,7 +138,7 @@ module _ {p d ws starts sorted log : List ℕ} {i to : ℕ} {measures table byte
   ready_container h = ap is_container (ready_label h) ∙ container_is p ws i
 
   -- its text, where its measure is as it was
-  pub ready_text : i < 4096 → get_or measures i 0 ≡ get_or R.m i 0 → text_in to + length (text_of (node_label p ws i)) ≤ 65536 → TextReady p d ws measures i bytes (text_in to)
+  pub ready_text : i < 4096 → get_or measures i 0 ≡ get_or R.m i 0 → to.bytes + length (text_of (node_label p ws i)) ≤ 65536 → TextReady p d ws measures i bytes to.bytes
   ready_text h e l =
       let q = ready_label h in
       record {
@@ -150,13 +151,13 @@ module _ {p d ws starts sorted log : List ℕ} {i to : ℕ} {measures table byte
 -- ---- what is made without a walk
 
 -- a node with nothing in it
-leaf-made : (t : List Node) (h : Kids) (v : Value) (i to : ℕ) (table bytes table' bytes' : List ℕ) (r : ℕ) → StandsFor t h i v → h i ≡ [] → HasRoom v to table bytes → LeafPut (at t i).label to table bytes table' bytes' r
+leaf-made : (t : List Node) (h : Kids) (v : Value) (i : ℕ) (to : Place) (table bytes table' bytes' : List ℕ) (r : Place) → StandsFor t h i v → h i ≡ [] → HasRoom v to table bytes → LeafPut (at t i).label to table bytes table' bytes' r
     → PutValue t h v i to table bytes table' bytes' r
 unfolding size text
 leaf-made t h v i to table bytes table' bytes' r s e f l =
     let l₀ = (at t i).label in
-    let a = record_in to in
-    let p = text_in to in
+    let a = to.records in
+    let p = to.bytes in
     let w : Value = leaf_of t i in
     let q : v ≡ w = value_unique s (s_node (rw e s_nil) s_nil) in
     let z : size (one w) ≡ 1 = size_none w refl in
@@ -182,19 +183,19 @@ leaf-made t h v i to table bytes table' bytes' r s e f l =
     text-none : (w : Value) → w.contents ≡ nil → length (text (one w)) ≡ length (text_of w.label)
     text-none w e = let x = text_one w in let y : length (text w.contents) ≡ 0 = rw e in omega arith
 
-    nodes : HasAt table' (4 * record_in to) (record_of (at t i).label (text_in to) (length (h i)) 1) → HasAt bytes' (text_in to) (text_of (at t i).label) → Written t h table' bytes' (h i) nil (suc (record_in to)) (text_in to + length (text_of (at t i).label))
-        → Written t h table' bytes' (i ∷ []) (one (leaf_of t i)) (record_in to) (text_in to)
-    nodes x y z = written_node t h table' bytes' (record_in to) (text_in to) x y z
+    nodes : HasAt table' (4 * to.records) (record_of (at t i).label to.bytes (length (h i)) 1) → HasAt bytes' to.bytes (text_of (at t i).label) → Written t h table' bytes' (h i) nil (suc to.records) (to.bytes + length (text_of (at t i).label))
+        → Written t h table' bytes' (i ∷ []) (one (leaf_of t i)) to.records to.bytes
+    nodes x y z = written_node t h table' bytes' to.records to.bytes x y z
 
 -- what is written already, once more
-module _ (t : List Node) (h : Kids) (v : Value) (i to : ℕ) (table bytes : List ℕ) (w : ℕ) (s : StandsFor t h i v) (f : HasRoom v to table bytes) (x : Stored t h table bytes 0 (record_in to) (text_in to) i w) where
+module _ (t : List Node) (h : Kids) (v : Value) (i : ℕ) (to : Place) (table bytes : List ℕ) (w : ℕ) (s : StandsFor t h i v) (f : HasRoom v to table bytes) (x : Stored t h table bytes 0 to.records to.bytes i w) where
   same-value : x.value ≡ v
   same-value = value_unique x.written.stands s
 
-  records_there : x.a + size (one v) ≤ record_in to
+  records_there : x.a + size (one v) ≤ to.records
   records_there = rw (← same-value) x.records_end
 
-  text_there : x.p + length (text (one v)) ≤ text_in to
+  text_there : x.p + length (text (one v)) ≤ to.bytes
   text_there = rw (← same-value) x.text_ends
 
   measure_there : w ≡ written_w x.a (size (one v)) x.p (length (text (one v)))
@@ -217,16 +218,16 @@ module _ (t : List Node) (h : Kids) (v : Value) (i to : ℕ) (table bytes : List
 
   stored_copy : CopyReady w to table bytes
   stored_copy = record {
-    copyable = rw (measure_record, measure-size, measure-text) (written_copyable x.a x.p (record_in to) (text_in to) written_there records_there (omega (arith, f.records, f.table-long)) (omega (arith, text_there, f.texts)) (omega (arith, f.texts)));
+    copyable = rw (measure_record, measure-size, measure-text) (written_copyable x.a x.p to.records to.bytes written_there records_there (omega (arith, f.records, f.table-long)) (omega (arith, text_there, f.texts)) (omega (arith, f.texts)));
     apart = rw (measure-text, measure-long) text_there;
     room = rw measure-long (omega (arith, f.texts, f.text-long));
     texts = rw measure-long f.texts;
   }
 
-  stored_made : (table' bytes' : List ℕ) (r : ℕ) → CopyPut w to table bytes table' bytes' r → PutValue t h v i to table bytes table' bytes' r
+  stored_made : (table' bytes' : List ℕ) (r : Place) → CopyPut w to table bytes table' bytes' r → PutValue t h v i to table bytes table' bytes' r
   stored_made table' bytes' r y =
-      let a = record_in to in
-      let q = text_in to in
+      let a = to.records in
+      let q = to.bytes in
       let rs = moves x.p q (take (4 * size (one v)) (drop (4 * x.a) table)) in
       let bs = take (length (text (one v))) (drop x.p bytes) in
       let e₁ : table' ≡ sets table (4 * a) rs = rw (measure_record, measure-size, measure-text) at y.table_is in
@@ -245,19 +246,19 @@ module _ (t : List Node) (h : Kids) (v : Value) (i to : ℕ) (table bytes : List
         text-behind = rw e₂ (sets_behind bytes q bs (q + length (text (one v))) (omega arith));
       }
     where
-      moves-length : length (moves x.p (text_in to) (take (4 * size (one v)) (drop (4 * x.a) table))) ≡ 4 * size (one v)
+      moves-length : length (moves x.p to.bytes (take (4 * size (one v)) (drop (4 * x.a) table))) ≡ 4 * size (one v)
       moves-length =
           let e : take (4 * size (one v)) (drop (4 * x.a) table) ≡ table_of (one v) x.p = rw (← (table-length (one v) x.p)) written_there.table_is in
-          rw (e, moved x.p (text_in to) (one v)) (table-length (one v) (text_in to))
+          rw (e, moved x.p to.bytes (one v)) (table-length (one v) to.bytes)
 
 -- ---- a node that needs no walk
 
-abbrev pub FlatWrites : (p d ws : List ℕ) (i to : ℕ) (measures table bytes table' bytes' : List ℕ) (r : ℕ) → Type 0
+abbrev pub FlatWrites : (p d ws : List ℕ) (i : ℕ) (to : Place) (measures table bytes table' bytes' : List ℕ) (r : Place) → Type 0
 FlatWrites p d ws i to measures table bytes table' bytes' r = (F : Flat p d ws i to measures table bytes) → PutValue F.ready.t F.ready.h F.ready.v i to table bytes table' bytes' r
 
-module _ {p d ws : List ℕ} {i to : ℕ} {measures table bytes : List ℕ} (F : Flat p d ws i to measures table bytes) where
+module _ {p d ws : List ℕ} {i : ℕ} {to : Place} {measures table bytes : List ℕ} (F : Flat p d ws i to measures table bytes) where
   -- no node
-  pub flat_none : (table' words : List ℕ) (r : ℕ) → i ≡ 4096 → words ≡ record_from (kind_of 0) (fresh_in 0) 0 0 0 0 1 → table' ≡ sets table (4 * record_in to) words → r ≡ to + 1
+  pub flat_none : (table' words : List ℕ) (r : Place) → i ≡ 4096 → words ≡ record_from (kind_of 0) (fresh_in 0) 0 0 0 0 1 → table' ≡ sets table (4 * to.records) words → r ≡ place_of (to.records + 1) to.bytes
       → PutValue F.ready.t F.ready.h F.ready.v i to table bytes table' bytes r
   unfolding record_from kind_of kind_in
   flat_none table' words r e q s n =
@@ -265,7 +266,7 @@ module _ {p d ws : List ℕ} {i to : ℕ} {measures table bytes : List ℕ} (F :
       let S = R.begun.shown in
       let l : (at R.t i).label ≡ NoneL = no_node R.t i (omega (arith, S.beyond)) in
       let k : R.h i ≡ [] = rw e S.none in
-      leaf-made R.t R.h R.v i to table bytes table' bytes r R.stands k R.fits (rw l (record { table_is = s ∙ ap (sets table (4 * record_in to)) q; text_is = refl; next = n ∙ omega arith }))
+      leaf-made R.t R.h R.v i to table bytes table' bytes r R.stands k R.fits (rw l (record { table_is = s ∙ ap (sets table (4 * to.records)) q; text_is = refl; next = n ∙ same_place refl (omega arith) }))
 
   module _ (u : i < 4096) where
     -- a container that is written
@@ -281,13 +282,13 @@ module _ {p d ws : List ℕ} {i to : ℕ} {measures table bytes : List ℕ} (F :
               absurd (let z : ◌≡◌ {A = ℕ} 0 1 = cc in omega arith)
           go (no l) = omega arith
 
-      pub flat_stored : Stored F.ready.t F.ready.h table bytes 0 (record_in to) (text_in to) i (get_or measures i 0)
-      flat_stored = let R = F.ready in since_stored R.t R.h table bytes 0 (record_in to) (text_in to) R.m measures R.since i (R.begun.unwritten i) not_fresh
+      pub flat_stored : Stored F.ready.t F.ready.h table bytes 0 to.records to.bytes i (get_or measures i 0)
+      flat_stored = let R = F.ready in since_stored R.t R.h table bytes 0 to.records to.bytes R.m measures R.since i (R.begun.unwritten i) not_fresh
 
       pub flat_copy : CopyReady (get_or measures i 0) to table bytes
       flat_copy = let R = F.ready in stored_copy R.t R.h R.v i to table bytes (get_or measures i 0) R.stands R.fits flat_stored
 
-      pub flat_copied : (table' bytes' : List ℕ) (r : ℕ) → CopyPut (get_or measures i 0) to table bytes table' bytes' r → PutValue F.ready.t F.ready.h F.ready.v i to table bytes table' bytes' r
+      pub flat_copied : (table' bytes' : List ℕ) (r : Place) → CopyPut (get_or measures i 0) to table bytes table' bytes' r → PutValue F.ready.t F.ready.h F.ready.v i to table bytes table' bytes' r
       flat_copied = let R = F.ready in stored_made R.t R.h R.v i to table bytes (get_or measures i 0) R.stands R.fits flat_stored
 
     -- a leaf
@@ -295,19 +296,19 @@ module _ {p d ws : List ℕ} {i to : ℕ} {measures table bytes : List ℕ} (F :
       flat_leaf : is_container (at F.ready.t i).label ≡ false
       flat_leaf = ready_container F.ready u ∙ b
 
-      flat_texts : text_in to + length (text_of (node_label p ws i)) ≤ 65536
+      flat_texts : to.bytes + length (text_of (node_label p ws i)) ≤ 65536
       flat_texts = let R = F.ready in let l : R.v.label ≡ node_label p ws i = stand_label R.stands ∙ ready_label R u in rw (← l) (omega (arith, text_one R.v, R.fits.texts))
 
       pub flat_leaf_ready : LeafReady p d ws measures i to table bytes
       flat_leaf_ready =
           let R = F.ready in
           record {
-            text_ready = ready_text R u (since_leaf R.t R.h table bytes 0 (record_in to) (text_in to) R.m measures R.since i flat_leaf) flat_texts;
+            text_ready = ready_text R u (since_leaf R.t R.h table bytes 0 to.records to.bytes R.m measures R.since i flat_leaf) flat_texts;
             texts = flat_texts;
             records = omega (arith, size_one R.v, R.fits.records, R.fits.table-long);
           }
 
-      pub flat_made : (table' bytes' : List ℕ) (r : ℕ) → LeafPut (node_label p ws i) to table bytes table' bytes' r → PutValue F.ready.t F.ready.h F.ready.v i to table bytes table' bytes' r
+      pub flat_made : (table' bytes' : List ℕ) (r : Place) → LeafPut (node_label p ws i) to table bytes table' bytes' r → PutValue F.ready.t F.ready.h F.ready.v i to table bytes table' bytes' r
       flat_made table' bytes' r l =
           let R = F.ready in
           let q = ready_label R u in
@@ -315,7 +316,7 @@ module _ {p d ws : List ℕ} {i to : ℕ} {measures table bytes : List ℕ} (F :
 
 -- ---- a node of a kind before the containers', with its text if it has any
 
-module _ {p d ws starts sorted log : List ℕ} {i to : ℕ} {measures table bytes : List ℕ} (R : ReadyNode p d ws starts sorted log i to measures table bytes) (n : ℕ) (few : n ≤ 6) (e : kind_below n ws i ≡ true) where
+module _ {p d ws starts sorted log : List ℕ} {i : ℕ} {to : Place} {measures table bytes : List ℕ} (R : ReadyNode p d ws starts sorted log i to measures table bytes) (n : ℕ) (few : n ≤ 6) (e : kind_below n ws i ≡ true) where
   below-small : i < 4096
   unfolding kind_below
   below-small = go (ℕ_discrete i 4096)
@@ -352,7 +353,7 @@ module _ {p d ws starts sorted log : List ℕ} {i to : ℕ} {measures table byte
   pub below_ready : LeafReady p d ws measures i to table bytes
   below_ready = flat_leaf_ready below_flat below-small below-leaf
 
-  pub below-made : (table' bytes' : List ℕ) (r : ℕ) → LeafPut (node_label p ws i) to table bytes table' bytes' r → PutValue R.t R.h R.v i to table bytes table' bytes' r
+  pub below-made : (table' bytes' : List ℕ) (r : Place) → LeafPut (node_label p ws i) to table bytes table' bytes' r → PutValue R.t R.h R.v i to table bytes table' bytes' r
   unfolding below_flat
   below-made table' bytes' r l = flat_made below_flat below-small below-leaf table' bytes' r l
 

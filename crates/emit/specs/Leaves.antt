@@ -17,7 +17,8 @@ use Rattle.resolve.specs.Readable.{TextReadable}
 use Rattle.utf8.specs.Stores.{sets_append}
 use Rattle.resolve.specs.Kinds.{kind_of, kind-small, container_kind, kind_is}
 use Rattle.emit.specs.Copies.{Copyable}
-use Rattle.emit.specs.Words.{packed_place, record_in, text_in, written_w, lengths_of, record_from, text_by, lengths_by, spoken, text_by_lem, lengths_by_lem, has_text_lem, lengths_all, record_is, from-text, from-names}
+use Rattle.emit.specs.declared.Place.{Place}
+use Rattle.emit.specs.Words.{place_of, same_place, written_w, lengths_of, record_from, text_by, lengths_by, spoken, text_by_lem, lengths_by_lem, has_text_lem, lengths_all, record_is, from-text, from-names}
 
 -- ---- a node's text
 
@@ -116,15 +117,15 @@ module _ (p d ws measures : List ℕ) (i : ℕ) (bytes : List ℕ) (at : ℕ) (g
 
 -- ---- a leaf
 
-pub record LeafReady (p d ws measures : List ℕ) (i to : ℕ) (table bytes : List ℕ) : Type 0 where
-  pub text_ready : TextReady p d ws measures i bytes (text_in to)
-  pub texts : text_in to + length (text_of (node_label p ws i)) ≤ 65536
-  pub records : 4 * record_in to + 4 ≤ length table
+pub record LeafReady (p d ws measures : List ℕ) (i : ℕ) (to : Place) (table bytes : List ℕ) : Type 0 where
+  pub text_ready : TextReady p d ws measures i bytes to.bytes
+  pub texts : to.bytes + length (text_of (node_label p ws i)) ≤ 65536
+  pub records : 4 * to.records + 4 ≤ length table
 
-pub record LeafPut (l : Label) (to : ℕ) (table bytes table' bytes' : List ℕ) (r : ℕ) : Type 0 where
-  pub table_is : table' ≡ sets table (4 * record_in to) (record_of l (text_in to) 0 1)
-  pub text_is : bytes' ≡ sets bytes (text_in to) (text_of l)
-  pub next : r ≡ packed_place (record_in to + 1) (text_in to + length (text_of l))
+pub record LeafPut (l : Label) (to : Place) (table bytes table' bytes' : List ℕ) (r : Place) : Type 0 where
+  pub table_is : table' ≡ sets table (4 * to.records) (record_of l to.bytes 0 1)
+  pub text_is : bytes' ≡ sets bytes to.bytes (text_of l)
+  pub next : r ≡ place_of (to.records + 1) (to.bytes + length (text_of l))
 
 module _ (p ws : List ℕ) (i : ℕ) where
   -- the record of node i, by its words and its text's lengths
@@ -132,12 +133,12 @@ module _ (p ws : List ℕ) (i : ℕ) where
   unfolding first second
   record_at w at n z e = rw (e, add-one (2 * i), ← (kind_is p ws i)) (record_is p ws i at n z)
 
-  leaf-done : (to w : ℕ) (table bytes table' bytes' words : List ℕ) (r : ℕ) → text_in to + length (text_of (node_label p ws i)) ≤ 65536 → TextPut p ws i bytes (text_in to) bytes' w
-      → words ≡ record_from (kind_of (get_or ws (2 * i) 0)) (fresh_in (get_or ws (2 * i) 0)) (get_or ws (2 * i + 1) 0) w (text_in to) 0 1 → table' ≡ sets table (4 * record_in to) words
-      → r ≡ packed_place (record_in to + 1) (text_in to + (w / 2 ^ 32 + w % 2 ^ 32)) → LeafPut (node_label p ws i) to table bytes table' bytes' r
+  leaf-done : (to : Place) (w : ℕ) (table bytes table' bytes' words : List ℕ) (r : Place) → to.bytes + length (text_of (node_label p ws i)) ≤ 65536 → TextPut p ws i bytes to.bytes bytes' w
+      → words ≡ record_from (kind_of (get_or ws (2 * i) 0)) (fresh_in (get_or ws (2 * i) 0)) (get_or ws (2 * i + 1) 0) w to.bytes 0 1 → table' ≡ sets table (4 * to.records) words
+      → r ≡ place_of (to.records + 1) (to.bytes + (w / 2 ^ 32 + w % 2 ^ 32)) → LeafPut (node_label p ws i) to table bytes table' bytes' r
   leaf-done to w table bytes table' bytes' words r h l q s n =
       let a = lengths_all (node_label p ws i) (omega arith) in
-      record { table_is = s ∙ ap (sets table (4 * record_in to)) (q ∙ record_at w (text_in to) 0 1 l.lengths); text_is = l.text_is; next = n ∙ rw (l.lengths, a) }
+      record { table_is = s ∙ ap (sets table (4 * to.records)) (q ∙ record_at w to.bytes 0 1 l.lengths); text_is = l.text_is; next = n ∙ rw (l.lengths, a) }
 
 -- is the kind in its first word below n? Decoded text has 13 or 14 there
 unfoldable pub kind_below : ℕ → List ℕ → ℕ → Bool
@@ -145,18 +146,18 @@ kind_below n ws i = cond (eqb i 4096) false (ltb (kind_in (first ws i)) n)
 
 -- ---- a value with neither text nor contents: None, a Bool, an I64 or an F64
 
-pub record AtomReady (ws : List ℕ) (i to : ℕ) (table : List ℕ) : Type 0 where
+pub record AtomReady (ws : List ℕ) (i : ℕ) (to : Place) (table : List ℕ) : Type 0 where
   pub words : 2 * i + 1 < length ws
-  pub records : 4 * record_in to + 4 ≤ length table
-  pub texts : text_in to ≤ 65536
+  pub records : 4 * to.records + 4 ≤ length table
+  pub texts : to.bytes ≤ 65536
 
-pub record AtomPut (ws : List ℕ) (i to : ℕ) (table table' : List ℕ) (r : ℕ) : Type 0 where
-  pub table_is : table' ≡ sets table (4 * record_in to) (record_from (kind_of (get_or ws (2 * i) 0)) (fresh_in (get_or ws (2 * i) 0)) (get_or ws (2 * i + 1) 0) 0 (text_in to) 0 1)
-  pub next : r ≡ to + 1
+pub record AtomPut (ws : List ℕ) (i : ℕ) (to : Place) (table table' : List ℕ) (r : Place) : Type 0 where
+  pub table_is : table' ≡ sets table (4 * to.records) (record_from (kind_of (get_or ws (2 * i) 0)) (fresh_in (get_or ws (2 * i) 0)) (get_or ws (2 * i + 1) 0) 0 to.bytes 0 1)
+  pub next : r ≡ place_of (to.records + 1) to.bytes
 
 -- ---- each kind of leaf
 
-module _ {p d ws measures : List ℕ} {i to : ℕ} {table bytes : List ℕ} (g : LeafReady p d ws measures i to table bytes) where
+module _ {p d ws measures : List ℕ} {i : ℕ} {to : Place} {table bytes : List ℕ} (g : LeafReady p d ws measures i to table bytes) where
   leaf-words : 2 * i + 1 < length ws
   leaf-words = g.text_ready.readable.words
 
@@ -164,30 +165,30 @@ module _ {p d ws measures : List ℕ} {i to : ℕ} {table bytes : List ℕ} (g :
   atom_ready = record { words = leaf-words; records = g.records; texts = omega (arith, g.texts) }
 
   -- the text stays
-  pub atom_leaf : kind_of (first ws i) < 4 → (table' : List ℕ) (r : ℕ) → AtomPut ws i to table table' r → LeafPut (node_label p ws i) to table bytes table' bytes r
+  pub atom_leaf : kind_of (first ws i) < 4 → (table' : List ℕ) (r : Place) → AtomPut ws i to table table' r → LeafPut (node_label p ws i) to table bytes table' bytes r
   atom_leaf h table' r b =
-      leaf-done p ws i to 0 table bytes table' bytes _ r g.texts (texts-small p d ws measures i bytes (text_in to) g.text_ready (kind_of (first ws i)) refl h) refl b.table_is (b.next ∙ omega arith)
+      leaf-done p ws i to 0 table bytes table' bytes _ r g.texts (texts-small p d ws measures i bytes to.bytes g.text_ready (kind_of (first ws i)) refl h) refl b.table_is (b.next ∙ same_place refl (omega arith))
 
   -- Bytes or a String: its text is what leads
   module _ (h : (4 ≤ kind_of (first ws i)) × (kind_of (first ws i) < 6)) (lead : List ℕ) (q : lead ≡ lead_text p d ws measures i) where
-    pub text_room : text_in to + length lead ≤ length bytes
-    text_room = lead_room p d ws measures i bytes (text_in to) g.text_ready (kind_of (first ws i)) refl h.0 h.1 lead q
+    pub text_room : to.bytes + length lead ≤ length bytes
+    text_room = lead_room p d ws measures i bytes to.bytes g.text_ready (kind_of (first ws i)) refl h.0 h.1 lead q
 
-    text_put : (bytes' : List ℕ) → bytes' ≡ sets bytes (text_in to) lead → TextPut p ws i bytes (text_in to) bytes' (length lead)
-    text_put = texts-lead p d ws measures i bytes (text_in to) g.text_ready (kind_of (first ws i)) refl h.0 h.1 lead q
+    text_put : (bytes' : List ℕ) → bytes' ≡ sets bytes to.bytes lead → TextPut p ws i bytes to.bytes bytes' (length lead)
+    text_put = texts-lead p d ws measures i bytes to.bytes g.text_ready (kind_of (first ws i)) refl h.0 h.1 lead q
 
     spoken-text : text_of (node_label p ws i) ≡ lead
-    spoken-text = one_text p d ws measures i bytes (text_in to) g.text_ready (kind_of (first ws i)) refl h.0 h.1 lead q
+    spoken-text = one_text p d ws measures i bytes to.bytes g.text_ready (kind_of (first ws i)) refl h.0 h.1 lead q
 
-    pub text_fits : text_in to + length lead ≤ 65536
+    pub text_fits : to.bytes + length lead ≤ 65536
     text_fits = rw (← spoken-text) g.texts
 
-    pub text-leaf : (bytes' table' : List ℕ) (r : ℕ) → bytes' ≡ sets bytes (text_in to) lead → table' ≡ sets table (4 * record_in to) (kind_of (first ws i) ∷ text_in to ∷ length lead ∷ 0 ∷ []) → r ≡ to + 1 + 4096 * length lead → LeafPut (node_label p ws i) to table bytes table' bytes' r
+    pub text-leaf : (bytes' table' : List ℕ) (r : Place) → bytes' ≡ sets bytes to.bytes lead → table' ≡ sets table (4 * to.records) (kind_of (first ws i) ∷ to.bytes ∷ length lead ∷ 0 ∷ []) → r ≡ place_of (to.records + 1) (to.bytes + length lead) → LeafPut (node_label p ws i) to table bytes table' bytes' r
     unfolding first
     text-leaf bytes' table' r s t n =
         let h₀ = h.0 in
         let f = text_fits in
-        leaf-done p ws i to (length lead) table bytes table' bytes' _ r g.texts (text_put bytes' s) (from-text (kind_of (first ws i)) _ _ _ _ _ _ _ (omega arith) (λ z. omega arith) (λ z. omega arith) h₀ h.1) t (n ∙ omega arith)
+        leaf-done p ws i to (length lead) table bytes table' bytes' _ r g.texts (text_put bytes' s) (from-text (kind_of (first ws i)) _ _ _ _ _ _ _ (omega arith) (λ z. omega arith) (λ z. omega arith) h₀ h.1) t (n ∙ same_place refl (omega arith))
 
   -- a Global: its module and name
   module _ (b : container_kind (kind_of (first ws i)) ≡ false) (h : 6 ≤ kind_of (first ws i)) where
@@ -200,42 +201,43 @@ module _ {p d ws measures : List ℕ} {i to : ℕ} {table bytes : List ℕ} (g :
         go (no l) (yes e) = absurd (let x : true ≡ false = rw e at b in let z : ◌≡◌ {A = ℕ} 0 1 = cc in omega arith)
         go (no l) (no e) = omega (arith, kind-small (first ws i))
 
-    module _ (w : ℕ) (bytes' : List ℕ) (t : TextPut p ws i bytes (text_in to) bytes' w) where
-      pub names_fit : text_in to + (w / 2 ^ 32 + w % 2 ^ 32) ≤ 65536
+    module _ (w : ℕ) (bytes' : List ℕ) (t : TextPut p ws i bytes to.bytes bytes' w) where
+      pub names_fit : to.bytes + (w / 2 ^ 32 + w % 2 ^ 32) ≤ 65536
       names_fit = rw (t.lengths, lengths_all (node_label p ws i) g.text_ready.short) g.texts
 
-      pub names-leaf : (table' : List ℕ) (r : ℕ) → table' ≡ sets table (4 * record_in to) (kind_of (first ws i) ∷ text_in to ∷ w ∷ 0 ∷ []) → r ≡ packed_place (record_in to + 1) (text_in to + (w / 2 ^ 32 + w % 2 ^ 32)) → LeafPut (node_label p ws i) to table bytes table' bytes' r
+      pub names-leaf : (table' : List ℕ) (r : Place) → table' ≡ sets table (4 * to.records) (kind_of (first ws i) ∷ to.bytes ∷ w ∷ 0 ∷ []) → r ≡ place_of (to.records + 1) (to.bytes + (w / 2 ^ 32 + w % 2 ^ 32)) → LeafPut (node_label p ws i) to table bytes table' bytes' r
       unfolding first
       names-leaf table' r s n =
           leaf-done p ws i to w table bytes table' bytes' _ r g.texts t (from-names (kind_of (first ws i)) _ _ _ _ _ _ _ (omega arith) (omega (arith, named_kind)) (λ z. omega (arith, named_kind)) (omega (arith, named_kind)) (λ z. omega (arith, named_kind))) s n
 
 -- ---- once more: m is the measure of what is written
 
-pub record CopyReady (m to : ℕ) (table bytes : List ℕ) : Type 0 where
-  pub copyable : Copyable table (m % 2 ^ 12) (m / 2 ^ 12 % 2 ^ 12) (record_in to) (m / 2 ^ 24 % 2 ^ 17) (text_in to)
-  pub apart : m / 2 ^ 24 % 2 ^ 17 + m / 2 ^ 41 % 2 ^ 17 ≤ text_in to
-  pub room : text_in to + m / 2 ^ 41 % 2 ^ 17 ≤ length bytes
-  pub texts : text_in to + m / 2 ^ 41 % 2 ^ 17 ≤ 65536
+pub record CopyReady (m : ℕ) (to : Place) (table bytes : List ℕ) : Type 0 where
+  pub copyable : Copyable table (m % 2 ^ 12) (m / 2 ^ 12 % 2 ^ 12) to.records (m / 2 ^ 24 % 2 ^ 17) to.bytes
+  pub apart : m / 2 ^ 24 % 2 ^ 17 + m / 2 ^ 41 % 2 ^ 17 ≤ to.bytes
+  pub room : to.bytes + m / 2 ^ 41 % 2 ^ 17 ≤ length bytes
+  pub texts : to.bytes + m / 2 ^ 41 % 2 ^ 17 ≤ 65536
 
-pub record CopyPut (m to : ℕ) (table bytes table' bytes' : List ℕ) (r : ℕ) : Type 0 where
-  pub table_is : table' ≡ sets table (4 * record_in to) (moves (m / 2 ^ 24 % 2 ^ 17) (text_in to) (take (4 * (m / 2 ^ 12 % 2 ^ 12)) (drop (4 * (m % 2 ^ 12)) table)))
-  pub text_is : bytes' ≡ sets bytes (text_in to) (take (m / 2 ^ 41 % 2 ^ 17) (drop (m / 2 ^ 24 % 2 ^ 17) bytes))
-  pub next : r ≡ packed_place (record_in to + m / 2 ^ 12 % 2 ^ 12) (text_in to + m / 2 ^ 41 % 2 ^ 17)
+pub record CopyPut (m : ℕ) (to : Place) (table bytes table' bytes' : List ℕ) (r : Place) : Type 0 where
+  pub table_is : table' ≡ sets table (4 * to.records) (moves (m / 2 ^ 24 % 2 ^ 17) to.bytes (take (4 * (m / 2 ^ 12 % 2 ^ 12)) (drop (4 * (m % 2 ^ 12)) table)))
+  pub text_is : bytes' ≡ sets bytes to.bytes (take (m / 2 ^ 41 % 2 ^ 17) (drop (m / 2 ^ 24 % 2 ^ 17) bytes))
+  pub next : r ≡ place_of (to.records + m / 2 ^ 12 % 2 ^ 12) (to.bytes + m / 2 ^ 41 % 2 ^ 17)
 
 -- ---- a container whose contents end at the place `next`
 
-pub record FinishReady (ws : List ℕ) (i to next values : ℕ) (table : List ℕ) : Type 0 where
+pub record FinishReady (ws : List ℕ) (i : ℕ) (to next : Place) (values : ℕ) (table : List ℕ) : Type 0 where
   pub words : 2 * i + 1 < length ws
   pub few : kind_of (get_or ws (2 * i) 0) ≡ 12 → values ≤ 2
-  pub room : 4 * record_in to + 4 ≤ length table
-  pub records : record_in to ≤ record_in next
-  pub texts : text_in to ≤ text_in next
-  pub most : text_in next ≤ 65536
+  pub room : 4 * to.records + 4 ≤ length table
+  pub records : to.records ≤ next.records
+  pub short : next.records < 4096
+  pub texts : to.bytes ≤ next.bytes
+  pub most : next.bytes ≤ 65536
 
 -- its record, w the lengths of its text, and its measure r
-pub record FinishPut (ws : List ℕ) (i to next w values : ℕ) (table table' : List ℕ) (r : ℕ) : Type 0 where
-  pub table_is : table' ≡ sets table (4 * record_in to) (record_from (kind_of (get_or ws (2 * i) 0)) (fresh_in (get_or ws (2 * i) 0)) (get_or ws (2 * i + 1) 0) w (text_in to) values (record_in next - record_in to))
-  pub measure : r ≡ written_w (record_in to) (record_in next - record_in to) (text_in to) (text_in next - text_in to)
+pub record FinishPut (ws : List ℕ) (i : ℕ) (to next : Place) (w values : ℕ) (table table' : List ℕ) (r : ℕ) : Type 0 where
+  pub table_is : table' ≡ sets table (4 * to.records) (record_from (kind_of (get_or ws (2 * i) 0)) (fresh_in (get_or ws (2 * i) 0)) (get_or ws (2 * i + 1) 0) w to.bytes values (next.records - to.records))
+  pub measure : r ≡ written_w to.records (next.records - to.records) to.bytes (next.bytes - to.bytes)
 
 -- ---- whether a node is to be walked: a container that is not written yet
 

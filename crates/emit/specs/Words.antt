@@ -1,25 +1,24 @@
--- The words that the code packs: a place to write at, the measure of what is written, a record by its node's words.
+-- A place to write at, and the words that the code packs: the measure of what is written, a record by its node's words.
 use Rattle.std.specs.Prelude.{ℕ, suc, zero, ◌+◌, ◌*◌, ◌^◌, ◌/◌, ◌%◌, ◌<◌, ◌≤◌, Bool, true, false, cond, List, [], ◌∷◌, ◌++◌, map, ◌≡◌, ◌≢◌, length, eqb, ltb}
 use Rattle.std.proofs.Math.Path.{refl, sym}
-use Rattle.std.proofs.Common.{◌∙◌, length-append}
+use Rattle.std.proofs.Common.{◌∙◌, ap₂, length-append}
 use Rattle.std.proofs.Math.ListN.{get_or-map}
 use borrow.Author.Tests.{lt-ltb, le-ltb, ne_eqb}
 use native.Mathlib.Omega.{arith}
 use Rattle.value.specs.Value.{Label, bit, half, kind, text_of, record_of, NoneL, BoolL, I64L, F64L, BytesL, StringL, ListL, TupleL, SetL, FrozenSetL, DictL, GlobalL, ObjectL}
 use Rattle.value.specs.Shape.{kind_in, fresh_in}
 use Rattle.steps.specs.NodeWords.{first, second}
+use Rattle.emit.specs.declared.Place.{Place}
 use Rattle.resolve.specs.Shown.{node_labels, node_label, label_has_text, leading, trailing}
 
--- ---- a place: the next record, and 4,096 times where the next text begins
+-- ---- a place to write at
 
-abbrev pub packed_place : ℕ → ℕ → ℕ
-packed_place a p = a + 4096 * p
+-- behind a records and p bytes of text
+abbrev pub place_of : ℕ → ℕ → Place
+place_of a p = record { records = a; bytes = p }
 
-abbrev pub record_in : ℕ → ℕ
-record_in to = to % 4096
-
-abbrev pub text_in : ℕ → ℕ
-text_in to = to / 4096
+pub same_place : {a b p q : ℕ} → a ≡ b → p ≡ q → place_of a p ≡ place_of b q
+same_place e f = ap₂ place_of e f
 
 -- ---- the measure of a container that is written: its record, how many there are in it, where its text begins, how long that is
 

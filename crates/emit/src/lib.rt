@@ -12,7 +12,7 @@ ghost use Rattle.value.specs.Shape.{fresh_in};
 ghost use Rattle.steps.specs.NodeWords.{first};
 ghost use Rattle.resolve.specs.Moved.{has_text_place, moves};
 ghost use Rattle.emit.specs.Copies.{Copyable};
-ghost use Rattle.emit.specs.Words.{packed_place, record_in, text_in, written_w, record_from};
+ghost use Rattle.emit.specs.Words.{place_of, written_w, record_from};
 ghost use Rattle.resolve.specs.Kinds.{kind_of, container_kind};
 ghost use Rattle.resolve.specs.Shown.{node_label};
 ghost use Rattle.emit.specs.Leaves.{TextReady, TextPut, kind_below, AtomReady, AtomPut, LeafReady, LeafPut, CopyReady, CopyPut, FinishReady, FinishPut, opened};
@@ -23,7 +23,12 @@ ghost use Rattle.emit.specs.Roots.{Rooted, Emits};
 use store::NodeId;
 use value::Head;
 
-// A place to write at is one number: the next record, and 4,096 times where the next text begins.
+// A place to write at: behind so many records, and so many bytes of text.
+#[derive(Clone, Copy)]
+pub struct Place {
+    pub records: usize,
+    pub bytes: usize,
+}
 
 // A container's measure from here on says where it is written: its record, 2^12 times its records, 2^24 times the place of its text, 2^41 times
 // the text's length.
@@ -181,11 +186,16 @@ fn put_class<'a>(
 }
 
 // The place behind one record with text of these lengths.
-fn behind(to: u64, lengths: u64) -> u64
-    requires { text_in to + (lengths / 2 ^ 32 + lengths % 2 ^ 32) ≤ 65536 }
-    ensures { result ≡ packed_place (record_in to + 1) (text_in to + (lengths / 2 ^ 32 + lengths % 2 ^ 32)) }
+fn behind(to: Place, lengths: u64) -> Place
+    requires records_fit { to.records < 2048 }
+    requires bytes_fit { to.bytes + (lengths / 2 ^ 32 + lengths % 2 ^ 32) ≤ 65536 }
+    ensures { result ≡ place_of (to.records + 1) (to.bytes + (lengths / 2 ^ 32 + lengths % 2 ^ 32)) }
 {
-    to + 1 + 0x1000 * (lengths / 0x1_0000_0000 + lengths % 0x1_0000_0000)
+    let long = lengths / 0x1_0000_0000 + lengths % 0x1_0000_0000;
+    Place {
+        records: to.records + 1,
+        bytes: to.bytes + long as usize,
+    }
 }
 
 // Does the kind in a node's first word come before this one?
@@ -202,62 +212,62 @@ fn is_below(node: NodeId, kind: u64, nodes: &[u64]) -> bool
 }
 
 // A value with neither text nor contents: None, a Bool, an I64 or an F64.
-fn write_atom(node: NodeId, to: u64, nodes: &[u64], table: &mut [u64]) -> u64
+fn write_atom(node: NodeId, to: Place, nodes: &[u64], table: &mut [u64]) -> Place
     requires { AtomReady nodes.now node.0 to table.old }
     ensures { AtomPut nodes.now node.0 to table.old table.new result }
 {
     let i = node.0;
-    let words = record_of(nodes[2 * i], nodes[2 * i + 1], 0, to / 0x1000, 0, 1);
-    put_record(table, (to % 0x1000) as usize, words);
-    to + 1
+    let words = record_of(nodes[2 * i], nodes[2 * i + 1], 0, to.bytes as u64, 0, 1);
+    put_record(table, to.records, words);
+    Place {
+        records: to.records + 1,
+        bytes: to.bytes,
+    }
 }
 
 // Bytes or a String.
 fn write_text<'a>(
     node: NodeId,
-    to: u64,
+    to: Place,
     pickle: &'a [u8],
     decoded: &'a [u8],
     nodes: &[u64],
     measures: &[u64],
     table: &mut [u64],
     text: &mut [u8],
-) -> u64
+) -> Place
     requires leaf_ready { LeafReady pickle.now decoded.now nodes.now measures.now node.0 to table.old text.old }
     requires kind_bound { (4 ≤ kind_of (first nodes.now node.0)) × (kind_of (first nodes.now node.0) < 6) }
     ensures { LeafPut
         (node_label pickle.now nodes.now node.0) to table.old
         text.old table.new text.new result }
 {
-    let i = node.0;
-    let at = to / 0x1000;
     let bytes = resolve::texts::lead_part(node, pickle, decoded, nodes, measures);
-    put_bytes(bytes, text, at as usize);
-    let len = bytes.len() as u64;
-    let word = plain_word(resolve::lists::value_kind(nodes[2 * i]));
-    put_record(table, (to % 0x1000) as usize, [word, at, len, 0]);
-    to + 1 + 0x1000 * len
+    put_bytes(bytes, text, to.bytes);
+    let word = plain_word(resolve::lists::value_kind(nodes[2 * node.0]));
+    let len = bytes.len();
+    put_record(table, to.records, [word, to.bytes as u64, len as u64, 0]);
+    Place {
+        records: to.records + 1,
+        bytes: to.bytes + len,
+    }
 }
 
 // A container that is written already, by its measure, once more.
-fn write_again(measure: u64, to: u64, table: &mut [u64], text: &mut [u8]) -> u64
+fn write_again(measure: u64, to: Place, table: &mut [u64], text: &mut [u8]) -> Place
     requires { CopyReady measure to table.old text.old }
     ensures { CopyPut measure to table.old text.old table.new text.new result }
 {
-    let size = measure / 0x1000 % 0x1000;
+    let from = (measure % 0x1000) as usize;
+    let size = (measure / 0x1000 % 0x1000) as usize;
     let origin = (measure / 0x100_0000 % 0x2_0000) as usize;
-    let long = measure / 0x200_0000_0000 % 0x2_0000;
-    let target = (to / 0x1000) as usize;
-    copy_records(
-        table,
-        (measure % 0x1000) as usize,
-        size as usize,
-        (to % 0x1000) as usize,
-        origin,
-        target,
-    );
-    text.copy_within(origin..origin + long as usize, target);
-    to + size + 0x1000 * long
+    let long = (measure / 0x200_0000_0000 % 0x2_0000) as usize;
+    copy_records(table, from, size, to.records, origin, to.bytes);
+    text.copy_within(origin..origin + long, to.bytes);
+    Place {
+        records: to.records + size,
+        bytes: to.bytes + long,
+    }
 }
 
 // Is a node a container that is not written yet?
@@ -279,14 +289,14 @@ fn is_open(node: NodeId, nodes: &[u64], measures: &[u64]) -> bool
 // A node that needs no walk: none, a leaf, or a container that is written already.
 fn write_flat<'a>(
     node: NodeId,
-    to: u64,
+    to: Place,
     pickle: &'a [u8],
     decoded: &'a [u8],
     nodes: &[u64],
     measures: &[u64],
     table: &mut [u64],
     text: &mut [u8],
-) -> u64
+) -> Place
     requires { Flat pickle.now decoded.now nodes.now node.0 to measures.now table.old text.old }
     ensures { FlatWrites
         pickle.now decoded.now nodes.now node.0 to measures.now
@@ -295,8 +305,11 @@ fn write_flat<'a>(
     let i = node.0;
     if i == store::NOWHERE {
         let words = record_of(0, 0, 0, 0, 0, 1);
-        put_record(table, (to % 0x1000) as usize, words);
-        return to + 1;
+        put_record(table, to.records, words);
+        return Place {
+            records: to.records + 1,
+            bytes: to.bytes,
+        };
     }
     let kind = resolve::lists::value_kind(nodes[2 * i]);
     if resolve::lists::is_container(kind) {
@@ -308,31 +321,34 @@ fn write_flat<'a>(
     if kind < value::KIND_LIST {
         return write_text(node, to, pickle, decoded, nodes, measures, table, text);
     }
-    let at = to / 0x1000;
-    let lengths = put_names(node, pickle, decoded, nodes, measures, text, at as usize);
+    let lengths = put_names(node, pickle, decoded, nodes, measures, text, to.bytes);
     put_record(
         table,
-        (to % 0x1000) as usize,
-        [plain_word(kind), at, lengths, 0],
+        to.records,
+        [plain_word(kind), to.bytes as u64, lengths, 0],
     );
     behind(to, lengths)
 }
 
 // The measure of a container that is written from `to` on and ends at `next`.
-fn written_measure(to: u64, next: u64) -> u64
-    requires { (record_in to ≤ record_in next) × (text_in to ≤ text_in next) × (text_in next ≤ 65536) }
-    ensures { result ≡ written_w (record_in to) (record_in next - record_in to) (text_in to) (text_in next - text_in to) }
+fn written_measure(to: Place, next: Place) -> u64
+    requires { (to.records ≤ next.records) × (next.records < 4096) × (to.bytes ≤ next.bytes) × (next.bytes ≤ 65536) }
+    ensures { result ≡ written_w to.records (next.records - to.records) to.bytes (next.bytes - to.bytes) }
 {
-    let size = next % 0x1000 - to % 0x1000;
-    let long = next / 0x1000 - to / 0x1000;
-    WRITTEN + to % 0x1000 + 0x1000 * size + 0x100_0000 * (to / 0x1000) + 0x200_0000_0000 * long
+    let size = (next.records - to.records) as u64;
+    let long = (next.bytes - to.bytes) as u64;
+    WRITTEN
+        + to.records as u64
+        + 0x1000 * size
+        + 0x100_0000 * to.bytes as u64
+        + 0x200_0000_0000 * long
 }
 
 // The record of a container whose contents end at `next`, with its text's lengths and the values directly in it; its measure.
 fn finish(
     node: NodeId,
-    to: u64,
-    next: u64,
+    to: Place,
+    next: Place,
     lengths: u64,
     values: usize,
     nodes: &[u64],
@@ -343,16 +359,15 @@ fn finish(
         nodes.now node.0 to next lengths values table.old table.new result }
 {
     let i = node.0;
-    let size = next % 0x1000 - to % 0x1000;
     let words = record_of(
         nodes[2 * i],
         nodes[2 * i + 1],
         lengths,
-        to / 0x1000,
+        to.bytes as u64,
         values as u64,
-        size,
+        (next.records - to.records) as u64,
     );
-    put_record(table, (to % 0x1000) as usize, words);
+    put_record(table, to.records, words);
     written_measure(to, next)
 }
 
@@ -360,7 +375,7 @@ fn finish(
 fn write<'a>(
     node: NodeId,
     levels: u64,
-    to: u64,
+    to: Place,
     starts: &[u16],
     sorted: &[u16],
     log: &[u16],
@@ -370,7 +385,7 @@ fn write<'a>(
     measures: &mut [u64],
     table: &mut [u64],
     text: &mut [u8],
-) -> u64
+) -> Place
     requires { Open
         pickle.now decoded.now nodes.now starts.now sorted.now log.now levels node.0 to
         measures.old table.old text.old }
@@ -381,8 +396,7 @@ fn write<'a>(
         result }
 {
     let range = resolve::lists::range_of(node, nodes, starts, measures);
-    let at = (to / 0x1000) as usize;
-    let lengths = put_class(node, pickle, decoded, nodes, measures, text, at);
+    let lengths = put_class(node, pickle, decoded, nodes, measures, text, to.bytes);
     let mut next = behind(to, lengths);
     for j in range.at..range.end {
         let child = resolve::lists::item(range.log, j, sorted, log);
@@ -414,7 +428,7 @@ fn write<'a>(
     next
 }
 
-// The root's value into the table and the text, from the front. The answer: the number of records + 4,096 * the length of the text.
+// The root's value into the table and the text, from the front. The answer: the place behind it, which says how much it is.
 pub fn write_root<'a>(
     root: NodeId,
     starts: &[u16],
@@ -426,7 +440,7 @@ pub fn write_root<'a>(
     measures: &mut [u64],
     table: &mut [u64],
     text: &mut [u8],
-) -> u64
+) -> Place
     requires { Rooted
         pickle.now decoded.now nodes.now starts.now sorted.now log.now root.0 measures.old
         table.old text.old }
@@ -437,11 +451,15 @@ pub fn write_root<'a>(
         measures.old table.old text.old
         table.new text.new result }
 {
+    let to = Place {
+        records: 0,
+        bytes: 0,
+    };
     if is_open(root, nodes, measures) {
         write(
-            root, 64, 0, starts, sorted, log, pickle, decoded, nodes, measures, table, text,
+            root, 64, to, starts, sorted, log, pickle, decoded, nodes, measures, table, text,
         )
     } else {
-        write_flat(root, 0, pickle, decoded, nodes, measures, table, text)
+        write_flat(root, to, pickle, decoded, nodes, measures, table, text)
     }
 }

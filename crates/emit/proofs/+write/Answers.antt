@@ -3,23 +3,23 @@ use Rattle.std.proofs.Common.{◌≡◌, true, false, Bool, ℕ, ◌+◌, ◌-�
 use Rattle.resolve.specs.NodeList.{Ranges}
 use Rattle.resolve.specs.Shown.{node_label}
 use Rattle.resolve.specs.declared.lists.Range.{Range}
-use Rattle.emit.specs.Words.{text_in}
+use Rattle.emit.specs.declared.Place.{Place}
 use Rattle.emit.specs.Leaves.{TextPut, kind_below, AtomPut, LeafPut, opened, atom_ready, atom_leaf}
 use Rattle.emit.specs.Calls.{Open, Flat, ReadyNode, FlatWrites, ready_most, ready_inside, below-kind, below_ready, not_below}
-use Rattle.emit.specs.Turns.{open_small, open_kind, open_text, open_behind, open_levels, open_listed, list_end, list_room, OpenWithText, text_entered, WrittenChildren, turn_start, turn_left, turn_over, turn_item, turn_finish, turn_ready, child_open, child_flat, next_walked, next_flat, next_leaf, turn_same, open_done, Writes}
+use Rattle.emit.specs.Turns.{open_small, open_kind, open_text, open_behind, open_levels, open_listed, open_short, list_end, list_room, OpenWithText, text_entered, WrittenChildren, turn_start, turn_left, turn_over, turn_item, turn_finish, turn_ready, child_open, child_flat, next_walked, next_flat, next_leaf, turn_same, open_done, Writes}
 use Rattle.emit.proofs.+write.Goals as goal
 use Rattle.emit.proofs.+write.Goals.{then-is_below, else-is_below+then-is_below-2, else-is_below+else-is_below-2+then-is_open, else-is_below+else-is_below-2+else-is_open}
 
 -- ---- a turn, over plain lists
 
 -- child c is at hand
-record Turn (p d ws starts sorted log : List ℕ) (levels i to from : ℕ) (measures₀ table₀ bytes₀ : List ℕ) (next j : ℕ) (measures table bytes : List ℕ) (c : ℕ) : Type 0 where
+record Turn (p d ws starts sorted log : List ℕ) (levels i : ℕ) (to : Place) (from : ℕ) (measures₀ table₀ bytes₀ : List ℕ) (next : Place) (j : ℕ) (measures table bytes : List ℕ) (c : ℕ) : Type 0 where
   entered : OpenWithText p d ws starts sorted log levels i to measures₀ table₀ bytes₀
   written : WrittenChildren entered.walk.ready.t entered.walk.ready.h entered.walk.ready.v i to from measures₀ table₀ bytes₀ next j measures table bytes
   left : written.k < length (entered.walk.ready.h i)
   child : c ≡ get_or (entered.walk.ready.h i) written.k 0
 
-module _ {p d ws starts sorted log : List ℕ} {levels i to : ℕ} {measures₀ table₀ bytes₀ : List ℕ} (E : OpenWithText p d ws starts sorted log levels i to measures₀ table₀ bytes₀) {r : Range} (g : Ranges ws starts measures₀ i r) {next j : ℕ} {measures table bytes : List ℕ}
+module _ {p d ws starts sorted log : List ℕ} {levels i : ℕ} {to : Place} {measures₀ table₀ bytes₀ : List ℕ} (E : OpenWithText p d ws starts sorted log levels i to measures₀ table₀ bytes₀) {r : Range} (g : Ranges ws starts measures₀ i r) {next : Place} {j : ℕ} {measures table bytes : List ℕ}
     (T : (E : OpenWithText p d ws starts sorted log levels i to measures₀ table₀ bytes₀) → WrittenChildren E.walk.ready.t E.walk.ready.h E.walk.ready.v i to r.at measures₀ table₀ bytes₀ next j measures table bytes) where
   abbrev turn_of : j < r.end → (c : ℕ) → c ≡ get_or (cond r.log log sorted) j 0 → Turn p d ws starts sorted log levels i to r.at measures₀ table₀ bytes₀ next j measures table bytes c
   turn_of h c e =
@@ -27,13 +27,13 @@ module _ {p d ws starts sorted log : List ℕ} {levels i to : ℕ} {measures₀ 
       record { entered = E; written = T E; left = l; child = turn_item E (T E) r g refl l c e }
 
 -- its class's text was put before the loop
-at_hand : {p d ws starts sorted log : List ℕ} {levels i to : ℕ} {measures₀ table₀ bytes bytes₀ : List ℕ} {w : ℕ} (O : Open p d ws starts sorted log levels i to measures₀ table₀ bytes) → TextPut p ws i bytes (text_in to) bytes₀ w → {r : Range} → Ranges ws starts measures₀ i r
-    → {next j : ℕ} {measures table bytes' : List ℕ}
+at_hand : {p d ws starts sorted log : List ℕ} {levels i : ℕ} {to : Place} {measures₀ table₀ bytes bytes₀ : List ℕ} {w : ℕ} (O : Open p d ws starts sorted log levels i to measures₀ table₀ bytes) → TextPut p ws i bytes to.bytes bytes₀ w → {r : Range} → Ranges ws starts measures₀ i r
+    → {next : Place} {j : ℕ} {measures table bytes' : List ℕ}
     → ((E : OpenWithText p d ws starts sorted log levels i to measures₀ table₀ bytes₀) → WrittenChildren E.walk.ready.t E.walk.ready.h E.walk.ready.v i to r.at measures₀ table₀ bytes₀ next j measures table bytes')
     → j < r.end → {c : ℕ} → c ≡ get_or (cond r.log log sorted) j 0 → Turn p d ws starts sorted log levels i to r.at measures₀ table₀ bytes₀ next j measures table bytes' c
 at_hand O P g T h e = turn_of (text_entered O _ _ P) g T h _ e
 
-module _ {p d ws starts sorted log : List ℕ} {levels i to from : ℕ} {measures₀ table₀ bytes₀ : List ℕ} {next j : ℕ} {measures table bytes : List ℕ} {c : ℕ} (U : Turn p d ws starts sorted log levels i to from measures₀ table₀ bytes₀ next j measures table bytes c) where
+module _ {p d ws starts sorted log : List ℕ} {levels i : ℕ} {to : Place} {from : ℕ} {measures₀ table₀ bytes₀ : List ℕ} {next : Place} {j : ℕ} {measures table bytes : List ℕ} {c : ℕ} (U : Turn p d ws starts sorted log levels i to from measures₀ table₀ bytes₀ next j measures table bytes c) where
   ready : ReadyNode p d ws starts sorted log c next measures table bytes
   ready = turn_ready U.entered U.written U.left c U.child
 
@@ -44,15 +44,15 @@ module _ {p d ws starts sorted log : List ℕ} {levels i to from : ℕ} {measure
   to_put = child_flat U.entered U.written U.left c U.child
 
   -- the child is written: from there to where the arms meet
-  module _ (measures' table' bytes' : List ℕ) (next' : ℕ) where
+  module _ (measures' table' bytes' : List ℕ) (next' : Place) where
     abbrev Next : Type 0
     Next = let R = U.entered.walk.ready in WrittenChildren R.t R.h R.v i to from measures₀ table₀ bytes₀ next' (j + 1) measures' table' bytes'
 
-    met : (measures₁ table₁ bytes₁ : List ℕ) (next₁ : ℕ) → measures' ≡ measures₁ → table' ≡ table₁ → bytes' ≡ bytes₁ → next' ≡ next₁
+    met : (measures₁ table₁ bytes₁ : List ℕ) (next₁ : Place) → measures' ≡ measures₁ → table' ≡ table₁ → bytes' ≡ bytes₁ → next' ≡ next₁
         → (let R = U.entered.walk.ready in WrittenChildren R.t R.h R.v i to from measures₀ table₀ bytes₀ next₁ (j + 1) measures₁ table₁ bytes₁) → Next
     met measures₁ table₁ bytes₁ next₁ x y z w = let R = U.entered.walk.ready in turn_same R.t R.h R.v i to from measures₀ table₀ bytes₀ next₁ next' (j + 1) measures₁ measures' table₁ table' bytes₁ bytes' x y z w
 
-    module _ (table₁ : List ℕ) (next₁ : ℕ) (b : Bool) (kept : length table₁ ≡ length table) where
+    module _ (table₁ : List ℕ) (next₁ : Place) (b : Bool) (kept : length table₁ ≡ length table) where
       atom : b ≡ kind_below 4 ws c → b ≡ true → AtomPut ws c next table table₁ next₁ → measures' ≡ measures → table' ≡ table₁ → bytes' ≡ bytes → next' ≡ next₁ → Next
       atom g h a x y z w =
           let o : kind_below 4 ws c ≡ true = sym g ∙ h in
@@ -83,7 +83,7 @@ pub put_class-lengths-requires : goal.put_class-lengths-requires
 put_class-lengths-requires t c = record { text_ready = open_text c.requires; is_container = open_kind c.requires }
 
 pub behind-next-requires : goal.behind-next-requires
-behind-next-requires t c = open_behind c.requires _ c.put_class-lengths.ensures.lengths
+behind-next-requires t c = record { records_fit = open_short c.requires; bytes_fit = open_behind c.requires _ c.put_class-lengths.ensures.lengths }
 
 pub loop-j-init : goal.loop-j-init
 loop-j-init t c E = turn_start E _ _ c.put_class-lengths.ensures.lengths c.behind-next.ensures

@@ -3,13 +3,14 @@ use Rattle.std.proofs.Common.{ℕ, ◌≡◌, ◌≢◌, true, false, ◌*◌, �
 use Rattle.steps.specs.NodeWords.{first}
 use Rattle.resolve.specs.Kinds.{kind_of, container_kind}
 use Rattle.resolve.specs.Shown.{node_label}
+use Rattle.emit.specs.declared.Place.{Place}
 use Rattle.emit.specs.Leaves.{LeafReady, LeafPut, atom_ready, atom_leaf, named_kind, names_fit, names-leaf}
 use Rattle.emit.specs.Calls.{Flat, PutValue, size_one, ready_most, ready_inside, flat_none, flat_copy, flat_copied, flat_leaf_ready, flat_made}
 use Rattle.emit.proofs.write_flat.Goals as goal
 
 -- ---- a node that is one of the nodes, over plain lists
 
-module _ {p d ws measures table bytes : List ℕ} {i to : ℕ} (F : Flat p d ws i to measures table bytes) (n : i ≢ 4096) where
+module _ {p d ws measures table bytes : List ℕ} {i : ℕ} {to : Place} (F : Flat p d ws i to measures table bytes) (n : i ≢ 4096) where
   small : i < 4096
   small = omega (arith, ready_most F.ready)
 
@@ -27,7 +28,7 @@ module _ {p d ws measures table bytes : List ℕ} {i to : ℕ} (F : Flat p d ws 
     ready : b ≡ false → LeafReady p d ws measures i to table bytes
     ready t = flat_leaf_ready F small (leaf t)
 
-    made : b ≡ false → (table' bytes' : List ℕ) (r : ℕ) → LeafPut (node_label p ws i) to table bytes table' bytes' r → PutValue F.ready.t F.ready.h F.ready.v i to table bytes table' bytes' r
+    made : b ≡ false → (table' bytes' : List ℕ) (r : Place) → LeafPut (node_label p ws i) to table bytes table' bytes' r → PutValue F.ready.t F.ready.h F.ready.v i to table bytes table' bytes' r
     made t = flat_made F small (leaf t)
 
 -- ---- none
@@ -103,7 +104,7 @@ behind-requires c =
     let b = c.is_container.ensures in
     let l = c.if-is_container.false in
     let n = c.if-i-eq-NOWHERE.false in
-    names_fit (ready c.requires n k b l) (leaf c.requires n k b l) (rw k at c.if-kind-lt-KIND_LIST.false) _ _ c.put_names-lengths.ensures
+    record { records_fit = let r = c.requires.ready in omega (arith, size_one r.v, r.fits.records); bytes_fit = names_fit (ready c.requires n k b l) (leaf c.requires n k b l) (rw k at c.if-kind-lt-KIND_LIST.false) _ _ c.put_names-lengths.ensures }
 
 pub returns : goal.returns
 unfolding first

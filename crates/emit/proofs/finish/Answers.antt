@@ -1,0 +1,7 @@
+-- Its record, and its measure.
+use Rattle.std.proofs.Common.{◌*◌, ◌∙◌, ap}
+use Rattle.std.proofs.lemmas.List.Edits.{sets}
+use Rattle.emit.proofs.finish.Goals as goal
+
+pub returns : goal.returns
+returns c = record { table_is = c.put_record.ensures ∙ ap (sets c.args.table.now (4 * c.args.to.records)) c.record_of-words.ensures; measure = c.written_measure.ensures }
