@@ -292,14 +292,12 @@ fn values_len(words: &[u64], text: &[u8], from: usize, count: usize, depth: u64,
     ensures { CountsListing words.now text.now from count depth at result.record result.at }
 {
     let mut i = from;
-    let mut left = count;
     let mut next = at;
-    while left > 0 {
+    for _ in 0..count {
         let inner = next + line_len(words, text, i, depth);
         let end = values_len(words, text, i + 1, value::arity(words, i), depth + 1, inner);
         i = end.record;
         next = end.at;
-        left -= 1;
     }
     Place {
         record: i,
@@ -321,9 +319,8 @@ fn put_values(
     ensures { PutsListing words.now text.now from count depth output.old at output.new result.record result.at }
 {
     let mut i = from;
-    let mut left = count;
     let mut next = at;
-    while left > 0 {
+    for _ in 0..count {
         next = put_line(words, text, i, depth, output, next);
         let end = put_values(
             words,
@@ -336,7 +333,6 @@ fn put_values(
         );
         i = end.record;
         next = end.at;
-        left -= 1;
     }
     Place {
         record: i,
