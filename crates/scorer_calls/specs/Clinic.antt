@@ -36,7 +36,7 @@ use Rattle.scorer.specs.Call.{tally_of, scored_of, scores_good}
 use Rattle.scorer.specs.Flip.{value_formed, formed_value}
 use Rattle.scorer.specs.Theorems.{scored, one_value}
 use Rattle.scorer.specs.declared.Scored.{Scored}
-use Rattle.scorer.specs.declared.Tally.TheVariants.{Sum}
+use Rattle.std.specs.declared.option.Option.TheVariants.{Some}
 use Rattle.scorer_calls.specs.Sharing.{ScoresLeft, ScoresPlain, shared_scores}
 
 -- ---- what computes
@@ -201,7 +201,7 @@ abbrev pub score_due : Bool → ℕ
 score_due true = 3
 score_due false = 7
 
-tally : (mark : Bool) → tally_of (value mark) ≡ Sum (score_due mark) 2
+tally : (mark : Bool) → tally_of (value mark) ≡ Some (score_due mark, 2)
 unfolding scoring
 tally true = refl
 tally false = refl

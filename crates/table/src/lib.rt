@@ -48,10 +48,15 @@ fn word0(a: u64) -> u64
 fn word1(a: u64, b: u64, at: u64) -> u64
     ensures { result ≡ right1 (kind_in a) b at }
 {
-    match head_of(a).kind {
-        KIND_NONE => 0,
-        KIND_BOOL => u64::from(b == 1),
-        KIND_I64 | KIND_F64 | KIND_LIST..=KIND_DICT => b,
+    let kind = head_of(a).kind;
+    match kind {
+        KIND_NONE..=KIND_F64 => match kind {
+            KIND_NONE => 0,
+            KIND_BOOL => u64::from(b == 1),
+            _ => b,
+        },
+        KIND_BYTES..=KIND_STRING => at,
+        KIND_LIST..=KIND_DICT => b,
         _ => at,
     }
 }
@@ -61,6 +66,7 @@ fn word2(a: u64, c: u64, size: u64) -> u64
 {
     match head_of(a).kind {
         KIND_NONE..=KIND_F64 => 0,
+        KIND_BYTES..=KIND_STRING => c,
         KIND_LIST..=KIND_DICT => size,
         _ => c,
     }
@@ -69,10 +75,10 @@ fn word2(a: u64, c: u64, size: u64) -> u64
 fn word3(a: u64, size: u64) -> u64
     ensures { result ≡ right3 (kind_in a) size }
 {
-    match head_of(a).kind {
-        KIND_NONE..=KIND_GLOBAL => 0,
-        _ => size,
+    if head_of(a).kind < KIND_OBJECT {
+        return 0;
     }
+    size
 }
 
 // The length of a record's text.
@@ -80,8 +86,9 @@ fn span(a: u64, c: u64) -> u64
     ensures { result ≡ span_of (kind_in a) c }
 {
     match head_of(a).kind {
-        KIND_BYTES | KIND_STRING => c,
-        KIND_NONE..=KIND_F64 | KIND_LIST..=KIND_DICT => 0,
+        KIND_NONE..=KIND_F64 => 0,
+        KIND_BYTES..=KIND_STRING => c,
+        KIND_LIST..=KIND_DICT => 0,
         _ => c / 0x1_0000_0000 + c % 0x1_0000_0000,
     }
 }
@@ -91,8 +98,9 @@ fn size(a: u64, c: u64, d: u64) -> u64
     ensures { result ≡ size_of (kind_in a) c d }
 {
     match head_of(a).kind {
-        KIND_NONE..=KIND_STRING | KIND_GLOBAL => 1,
+        KIND_NONE..=KIND_STRING => 1,
         KIND_LIST..=KIND_DICT => c,
+        KIND_GLOBAL => 1,
         _ => d,
     }
 }
@@ -117,8 +125,9 @@ fn named(a: u64, c: u64, text: &[u8], at: usize) -> bool
     ensures { result ≡ names_right (kind_in a) c (drop at text.now) }
 {
     match head_of(a).kind {
+        KIND_NONE..=KIND_BYTES => true,
         KIND_STRING => valid(part(text, at, c as usize)),
-        KIND_NONE..=KIND_BYTES | KIND_LIST..=KIND_DICT => true,
+        KIND_LIST..=KIND_DICT => true,
         _ => {
             let m = (c / 0x1_0000_0000) as usize;
             let n = (c % 0x1_0000_0000) as usize;
@@ -159,7 +168,10 @@ fn sized(words: &[u64], i: usize, size: u64) -> bool
 {
     let a = words[4 * i];
     let c = words[4 * i + 2];
-    c == word2(a, c, size) && words[4 * i + 3] == word3(a, size)
+    if c != word2(a, c, size) {
+        return false;
+    }
+    words[4 * i + 3] == word3(a, size)
 }
 
 // The record behind the value at record i.
@@ -210,7 +222,9 @@ fn compare_items(words: &[u64], text: &[u8], p: usize, q: usize) -> Ordering
     compare_at(words, p, text, words, q, text)
 }
 
-// The m values from record i on: items (entry 1), or keys with values (entry 2), strictly ascending.
+// The m values from record i on: items (entry 1), or keys with values (entry 2), strictly ascending. A call of its own, since in the
+// loop over the records its registers would be short.
+#[inline(never)]
 fn ascends(words: &[u64], text: &[u8], i: usize, m: usize, entry: usize) -> bool
     requires held { Held words.now text.now i m }
     requires entry_nonzero { 1 ≤ entry }
@@ -345,7 +359,7 @@ fn contents(
     ensures { result ≡ checked_of (find_many (find words.now count text.now levels) m i at) }
 {
     let (mut j, mut end) = (i, at);
-    for _ in 0..m {
+    for _ in (0..m).rev() {
         (j, end) = check(words, count, text, j, end, levels)?;
     }
     Some((j, end))

@@ -1,4 +1,4 @@
-use Rattle.std.proofs.Common.{◌≡◌, ◌∙◌, ◌-◌, ◌+◌, sym, arith}
+use Rattle.std.proofs.Common.{◌∙◌, sym, arith}
 use Rattle.table.specs.Find.{find}
 use Rattle.table.specs.Check.{is_bad, find_out, find_past, find-within, row_done, row_bad, row_next, answer_wrong, answer_bad, answer_closed, right, held, object-some}
 use Rattle.table.proofs.+check.Goals as goal
@@ -47,17 +47,16 @@ container-returns-else-closes t c = answer_closed _ _ _ _ _ _ c.requires.lent c.
 pub contents-returns-in_err-j : goal.contents-returns-in_err-j
 contents-returns-in_err-j t c =
     let a = c.args in
-    cc (row_bad (find a.words.now a.count a.text.now a.levels) (a.m - c.loop.counter) c.loop.j c.loop.end (omega arith) (sym c.check.ensures ∙ c.in_err-j.was) ∙ c.loop.invariant.2)
+    cc (row_bad (find a.words.now a.count a.text.now a.levels) c.loop.counter c.loop.j c.loop.end (omega arith) (sym c.check.ensures ∙ c.in_err-j.was) ∙ c.loop.invariant.2)
 
 pub contents-loop-preserved : goal.contents-loop-preserved
 contents-loop-preserved t c =
     let a = c.args in
     let q = sym c.check.ensures ∙ c.in_ok-j.was in
     let y = find-within a.words.now a.count a.text.now a.levels c.loop.j c.loop.end c.requires.lent c.loop.invariant.0 c.loop.invariant.1 q in
-    let d : a.m - (c.loop.counter + 1) ≡ a.m - c.loop.counter - 1 = omega arith in
-    (y.0, y.1, rw d (row_next (find a.words.now a.count a.text.now a.levels) (a.m - c.loop.counter) c.loop.j c.loop.end (omega arith) q ∙ c.loop.invariant.2))
+    (y.0, y.1, row_next (find a.words.now a.count a.text.now a.levels) c.loop.counter c.loop.j c.loop.end (omega arith) q ∙ c.loop.invariant.2)
 
 pub contents-returns : goal.contents-returns
 contents-returns t c =
     let a = c.args in
-    row_done (find a.words.now a.count a.text.now a.levels) (a.m - c.loop.counter) c.loop.j c.loop.end (omega arith) ∙ c.loop.invariant.2
+    row_done (find a.words.now a.count a.text.now a.levels) c.loop.counter c.loop.j c.loop.end (omega arith) ∙ c.loop.invariant.2

@@ -23,6 +23,10 @@ pub returns-in-0-to-4 : goal.returns-in-0-to-4
 unfolding names_right
 returns-in-0-to-4 c = rw (← kind_of c.args.a c.head_of.ensures) (grind (arith, nat_tests))
 
+pub returns-in-6-to-10 : goal.returns-in-6-to-10
+unfolding names_right
+returns-in-6-to-10 c = rw (← kind_of c.args.a c.head_of.ensures) (grind (arith, nat_tests))
+
 pub returns-then-valid : goal.returns-then-valid
 returns-then-valid c =
     let e = names-both c.args.a c.args.c _ (drop c.args.at c.args.text.now) (kind_of c.args.a c.head_of.ensures) (omega arith) in

@@ -6,8 +6,8 @@ use Rattle.table.proofs.sized.Goals as goal
 
 pub returns-then-c-word2 : goal.returns-then-c-word2
 unfolding sizes_right
-returns-then-c-word2 c = rw (← first_word c.args.words.now c.args.i, eq-eqb _ _ (c.if-c-word2.true ∙ c.word2.ensures), c.word3.ensures)
+returns-then-c-word2 c = rw (← first_word c.args.words.now c.args.i, ne_eqb _ _ (λ e. c.if-c-word2.true (e ∙ sym c.word2.ensures)))
 
-pub returns-else-c-word2 : goal.returns-else-c-word2
+pub returns : goal.returns
 unfolding sizes_right
-returns-else-c-word2 c = rw (← first_word c.args.words.now c.args.i, ne_eqb _ _ c.if-c-word2.false, ne_eqb _ _ (λ e. c.if-c-word2.false (e ∙ sym c.word2.ensures)))
+returns c = rw (← first_word c.args.words.now c.args.i, eq-eqb _ _ (c.if-c-word2.false ∙ c.word2.ensures), c.word3.ensures)

@@ -5,18 +5,18 @@ use Rattle.table.specs.Record.{span_of}
 use Rattle.table.proofs.ByKind.{kind_of}
 use Rattle.table.proofs.span.Goals as goal
 
-pub returns-in-4 : goal.returns-in-4
-unfolding span_of
-returns-in-4 c = rw (← kind_of c.args.a c.head_of.ensures) (grind (arith, nat_tests))
-
-pub returns-in_default : goal.returns-in_default
-unfolding span_of
-returns-in_default c = rw (← kind_of c.args.a c.head_of.ensures) (grind (arith, nat_tests))
-
 pub returns-in-0-to-3 : goal.returns-in-0-to-3
 unfolding span_of
 returns-in-0-to-3 c = rw (← kind_of c.args.a c.head_of.ensures) (grind (arith, nat_tests))
 
-pub returns-in-0-to-3-2 : goal.returns-in-0-to-3-2
+pub returns-in-4-to-5 : goal.returns-in-4-to-5
 unfolding span_of
-returns-in-0-to-3-2 c = rw (← kind_of c.args.a c.head_of.ensures) (grind (arith, nat_tests))
+returns-in-4-to-5 c = rw (← kind_of c.args.a c.head_of.ensures) (grind (arith, nat_tests))
+
+pub returns-in-6-to-10 : goal.returns-in-6-to-10
+unfolding span_of
+returns-in-6-to-10 c = rw (← kind_of c.args.a c.head_of.ensures) (grind (arith, nat_tests))
+
+pub returns-in_default : goal.returns-in_default
+unfolding span_of
+returns-in_default c = rw (← kind_of c.args.a c.head_of.ensures) (grind (arith, nat_tests))

@@ -7,24 +7,24 @@ use Rattle.table.proofs.word1.Goals as goal
 
 pub returns-in-0 : goal.returns-in-0
 unfolding right1
-returns-in-0 c = rw (← kind_of c.args.a c.head_of.ensures) (grind (arith, nat_tests))
+returns-in-0 c = rw (← kind_of c.args.a c.head_of-kind.ensures) (grind (arith, nat_tests))
 
 pub returns-in-1 : goal.returns-in-1
 unfolding right1
-returns-in-1 c = rw (← kind_of c.args.a c.head_of.ensures) (grind (arith, nat_tests))
-
-pub returns-in-2 : goal.returns-in-2
-unfolding right1
-returns-in-2 c = rw (← kind_of c.args.a c.head_of.ensures) (grind (arith, nat_tests))
-
-pub returns-in-2-2 : goal.returns-in-2-2
-unfolding right1
-returns-in-2-2 c = rw (← kind_of c.args.a c.head_of.ensures) (grind (arith, nat_tests))
+returns-in-1 c = rw (← kind_of c.args.a c.head_of-kind.ensures) (grind (arith, nat_tests))
 
 pub returns-in_default : goal.returns-in_default
 unfolding right1
-returns-in_default c = rw (← kind_of c.args.a c.head_of.ensures) (grind (arith, nat_tests))
+returns-in_default c = rw (← kind_of c.args.a c.head_of-kind.ensures) (grind (arith, nat_tests))
 
-pub returns-in_default-2 : goal.returns-in_default-2
+pub returns-in-4-to-5 : goal.returns-in-4-to-5
 unfolding right1
-returns-in_default-2 c = rw (← kind_of c.args.a c.head_of.ensures) (grind (arith, nat_tests))
+returns-in-4-to-5 c = rw (← kind_of c.args.a c.head_of-kind.ensures) (grind (arith, nat_tests))
+
+pub returns-in-6-to-10 : goal.returns-in-6-to-10
+unfolding right1
+returns-in-6-to-10 c = rw (← kind_of c.args.a c.head_of-kind.ensures) (grind (arith, nat_tests))
+
+pub returns-in_default-kind : goal.returns-in_default-kind
+unfolding right1
+returns-in_default-kind c = rw (← kind_of c.args.a c.head_of-kind.ensures) (grind (arith, nat_tests))
