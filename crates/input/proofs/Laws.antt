@@ -2,7 +2,7 @@
 use mathlib.Core.Path.{◌≡◌, refl, sym, ap, ◌∙◌}
 use mathlib.Core.Logic.{⊎_elim}
 use mathlib.Core.Bool.{Bool, true, false, cond, ◌&&◌, beq}
-use mathlib.Core.List.{List, [], ◌∷◌, reverse-append}
+use mathlib.Core.List.{List, [], ◌∷◌}
 use Prim.Native.Nat.{ℕ, zero, suc, ◌+◌, ◌-◌, ◌*◌, ◌^◌, ◌<◌, ◌≤◌}
 use native.Mathlib.Nat.{pow-suc, pow-le-pow_right}
 use native.Mathlib.Numerals.{add-one}
@@ -11,7 +11,8 @@ use Rattle.std.specs.Prelude.{Option, Some, None, MatchOption}
 use Rattle.std.specs.List.{list_all, AllWithin, HoldsAt}
 use lib.Dec.{eqb, ltb}
 use lib.ListN.{get_or-eq_default, length, get_or, take, drop, length-take, length-drop, drop_of_length-le}
-use lib.Seq.{drop-cons, take-suc, get_or-drop}
+use Rattle.std.specs.Int.{from_le_bytes, from_be_bytes, w16, w32, w64}
+use lib.Seq.{drop-cons, take_all}
 use Rattle.refusal.specs.Read.{got, refused}
 use Rattle.refusal.specs.declared.Refusal.TheVariants.{EndOfInput, IntegerTooLarge}
 use Rattle.input.specs.Bytes.{lt_or_le, Bytes, bytes_take, bytes_drop, low_first, high_first, last_byte, padded_to, filled-same, filled-length, filled_at}
@@ -88,27 +89,43 @@ module _ (w x : ℕ) (l : List ℕ) where
   above-all zero v h a = let z : w - 0 ≡ w = omega arith in (a.is, rw z at a.small)
   above-all (suc i) v h a = absurd (omega arith)
 
--- the loop of `high_at`, which goes up
-pub record Below (w : ℕ) (p : List ℕ) (at i v : ℕ) : Type 0 where
-  pub left : i ≤ w
-  pub is : v ≡ high_first (take i (drop at p))
-  pub small : v < 256 ^ i
+-- the library's numbers of two, four and eight bytes
+pub low_two : (l : List ℕ) → length l ≡ 2 → from_le_bytes w16 l ≡ low_first l
+unfolding low_first
+low_two [] h = absurd (omega arith)
+low_two (a ∷ []) h = absurd (omega arith)
+low_two (a ∷ b ∷ []) h = omega arith
+low_two (a ∷ b ∷ c ∷ l) h = absurd (omega arith)
 
-module _ (w : ℕ) (p : List ℕ) (at : ℕ) where
-  pub below_none : Below w p at 0 0
-  unfolding low_first high_first
-  below_none = record { left = omega arith; is = refl; small = omega arith }
+pub low_four : (l : List ℕ) → length l ≡ 4 → from_le_bytes w32 l ≡ low_first l
+unfolding low_first
+low_four [] h = absurd (omega arith)
+low_four (a ∷ []) h = absurd (omega arith)
+low_four (a ∷ b ∷ []) h = absurd (omega arith)
+low_four (a ∷ b ∷ c ∷ []) h = absurd (omega arith)
+low_four (a ∷ b ∷ c ∷ d ∷ []) h = omega arith
+low_four (a ∷ b ∷ c ∷ d ∷ e ∷ l) h = absurd (omega arith)
 
-  pub below_more : (i v : ℕ) → i < w → at + w ≤ length p → get_or p (at + i) 0 < 256 → Below w p at i v → Below w p at (i + 1) (v * 256 + get_or p (at + i) 0)
-  unfolding low_first high_first
-  below_more i v l h s a =
-      let f = a.is in
-      let k : i < length (drop at p) = simp length-drop (omega arith) in
-      record {
-        left = omega arith;
-        is = simp (add-one, take-suc (drop at p) i 0 k, reverse-append, get_or-drop) (omega arith);
-        small = grows i v _ a.small s;
-      }
+pub high_eight : (l : List ℕ) → length l ≡ 8 → from_be_bytes w64 l ≡ high_first l
+unfolding low_first high_first
+high_eight (a ∷ b ∷ c ∷ d ∷ e ∷ f ∷ g ∷ h ∷ []) k = omega arith
+high_eight (a ∷ b ∷ c ∷ d ∷ e ∷ f ∷ g ∷ h ∷ i ∷ l) k = absurd (omega arith)
+high_eight [] k = absurd (omega arith)
+high_eight (a ∷ []) k = absurd (omega arith)
+high_eight (a ∷ b ∷ []) k = absurd (omega arith)
+high_eight (a ∷ b ∷ c ∷ []) k = absurd (omega arith)
+high_eight (a ∷ b ∷ c ∷ d ∷ []) k = absurd (omega arith)
+high_eight (a ∷ b ∷ c ∷ d ∷ e ∷ []) k = absurd (omega arith)
+high_eight (a ∷ b ∷ c ∷ d ∷ e ∷ f ∷ []) k = absurd (omega arith)
+high_eight (a ∷ b ∷ c ∷ d ∷ e ∷ f ∷ g ∷ []) k = absurd (omega arith)
+
+-- the first n bytes of what is left of p
+module _ (p : List ℕ) (at n : ℕ) (l : List ℕ) (h : at + n ≤ length p) (e : l ≡ take n (take (length p - at) (drop at p))) where
+  pub chunk_is : l ≡ take n (drop at p)
+  chunk_is = e ∙ ap (take n) (take_all (length p - at) (drop at p) (omega (arith, length-drop at p)))
+
+  pub chunk_length : length l ≡ n
+  chunk_length = rw chunk_is (simp (length-take, length-drop) (omega arith))
 
 -- a width's bytes as a part
 module _ (w : ℕ) (p : List ℕ) (at : ℕ) where

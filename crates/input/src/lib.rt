@@ -32,30 +32,18 @@ pub fn low_at(pickle: &[u8], at: usize, width: usize) -> u64
     low_first(&pickle[at..end], width, 0)
 }
 
-// The same with the high byte first.
-fn high_at(pickle: &[u8], at: usize, width: usize) -> u64
-    requires { (at + width ≤ length pickle.now) × (width ≤ 8) }
-    ensures { (result ≡ high_first (take width (drop at pickle.now))) × (result < 256 ^ width) }
-{
-    let mut value: u64 = 0;
-    for b in &pickle[at..at + width] {
-        value = value * 256 + *b as u64;
-    }
-    value
-}
-
 pub fn u16_at(pickle: &[u8], at: usize) -> u16
     requires { at + 2 ≤ length pickle.now }
     ensures { result ≡ low_first (take 2 (drop at pickle.now)) }
 {
-    low_at(pickle, at, 2) as u16
+    u16::from_le_bytes(*pickle[at..].first_chunk().unwrap())
 }
 
 pub fn u32_at(pickle: &[u8], at: usize) -> u32
     requires { at + 4 ≤ length pickle.now }
     ensures { result ≡ low_first (take 4 (drop at pickle.now)) }
 {
-    low_at(pickle, at, 4) as u32
+    u32::from_le_bytes(*pickle[at..].first_chunk().unwrap())
 }
 
 // The byte that repeats the sign of the last one.
@@ -84,7 +72,7 @@ pub fn f64_at(pickle: &[u8], at: usize) -> u64
     requires { at + 8 ≤ length pickle.now }
     ensures { result ≡ high_first (take 8 (drop at pickle.now)) }
 {
-    high_at(pickle, at, 8)
+    u64::from_be_bytes(*pickle[at..].first_chunk().unwrap())
 }
 
 // The place of the first newline at or after `from`, or the end of the input.
