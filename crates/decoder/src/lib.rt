@@ -120,7 +120,7 @@ pub fn long(pickle: &[u8], c: Counts) -> Result<Effect, Refusal>
 
 // The place behind the integer of a LONG1 or LONG4, and the integer. Bytes that are missing come before an integer that is too large. It
 // takes the place, not the counts: where the compiler makes a call of it, they stay in registers.
-fn long_at(pickle: &[u8], at: usize, width: usize) -> Result<(usize, u64), Refusal>
+pub fn long_at(pickle: &[u8], at: usize, width: usize) -> Result<(usize, u64), Refusal>
     requires { (at ≤ length pickle.now) × (width ≤ 8) }
     ensures { ReadsLong width at pickle.now result }
 {
@@ -129,13 +129,12 @@ fn long_at(pickle: &[u8], at: usize, width: usize) -> Result<(usize, u64), Refus
     Ok((end, input::long(&pickle[from..end])?))
 }
 
-// LONG1, LONG4: an integer behind its length, which has `width` bytes. Inlined, since a call would be handed the counts.
-#[inline(always)]
-pub fn long_n(pickle: &[u8], c: Counts, width: usize) -> Result<Effect, Refusal>
-    requires { SomeRooms c (λ r. r.pickle ≡ pickle.now) × (width ≤ 8) }
-    ensures { Decides c (λ r. r.pickle ≡ pickle.now) (λ s. going (long_n width s)) result }
+// LONG1, LONG4: what was read at the counts' place.
+pub fn long_n(c: Counts, read: Result<(usize, u64), Refusal>) -> Result<Effect, Refusal>
+    ensures { (n : ℕ) (p : List ℕ) → ReadsLong n c.at p read
+        → Decides c (λ r. r.pickle ≡ p) (λ s. going (long_n n s)) result }
 {
-    let (at, v) = long_at(pickle, c.at, width)?;
+    let (at, v) = read?;
     Ok(Effect::Push(Counts { at, ..c }, value::KIND_I64, v))
 }
 

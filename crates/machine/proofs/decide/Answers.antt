@@ -114,12 +114,6 @@ global-requires c = lent _ _ _ _ _ _ _ _ c.if-pickle-c.false _ c.requires (λ r 
 pub unsigned-requires : goal.unsigned-requires
 unsigned-requires c = (lent _ _ _ _ _ _ _ _ c.if-pickle-c.false _ c.requires (λ r a. a.pickle), omega arith)
 
-pub long_n-requires : goal.long_n-requires
-long_n-requires c = (lent _ _ _ _ _ _ _ _ c.if-pickle-c.false _ c.requires (λ r a. a.pickle), omega arith)
-
-pub long_n-requires-in-139 : goal.long_n-requires-in-139
-long_n-requires-in-139 c = (lent _ _ _ _ _ _ _ _ c.if-pickle-c.false _ c.requires (λ r a. a.pickle), omega arith)
-
 pub unsigned-requires-in-77 : goal.unsigned-requires-in-77
 unsigned-requires-in-77 c = (lent _ _ _ _ _ _ _ _ c.if-pickle-c.false _ c.requires (λ r a. a.pickle), omega arith)
 
@@ -307,11 +301,11 @@ returns-in-137 c = says _ _ _ _ _ _ _ _ _ _ c.if-pickle-c.false c.in-None.is c.a
 
 pub returns-in-138 : goal.returns-in-138
 unfolding does code_of number_in is_named place binint1 binint2
-returns-in-138 c = says _ _ _ _ _ _ _ _ _ _ c.if-pickle-c.false c.in-None.is c.against.ensures LONG1 _ _ c.in-138.is (λ r a. a.pickle) c.long_n.ensures
+returns-in-138 c = says _ _ _ _ _ _ _ _ _ _ c.if-pickle-c.false c.in-None.is c.against.ensures LONG1 _ _ c.in-138.is (λ r a. a.pickle) (c.long_n.ensures _ _ c.long_at.ensures)
 
 pub returns-in-139 : goal.returns-in-139
 unfolding does code_of number_in is_named place binint1 binint2
-returns-in-139 c = says _ _ _ _ _ _ _ _ _ _ c.if-pickle-c.false c.in-None.is c.against.ensures LONG4 _ _ c.in-139.is (λ r a. a.pickle) c.long_n-in-139.ensures
+returns-in-139 c = says _ _ _ _ _ _ _ _ _ _ c.if-pickle-c.false c.in-None.is c.against.ensures LONG4 _ _ c.in-139.is (λ r a. a.pickle) (c.long_n-in-139.ensures _ _ c.long_at-in-139.ensures)
 
 pub returns-in-133-to-135 : goal.returns-in-133-to-135
 returns-in-133-to-135 c = tuples _ _ _ _ _ _ _ _ _ c.if-pickle-c.false (sym c.in-None.is ∙ c.against.ensures) _ c.in-133-to-135.if-code-lt133-own.false c.in-133-to-135.if-code-lt136-own.true c.small_tuple.ensures
