@@ -211,20 +211,18 @@ fn encode(words: &[u64], text: &[u8], i: usize, output: &mut [u8], at: usize) ->
         return encode_object(words, text, i + 1, head.new, head.state, output, next);
     }
     let count = value::arity(words, i);
-    if kind == KIND_LIST {
-        return encode_appends(words, text, i + 1, count, output, next);
-    }
-    if kind == KIND_TUPLE {
-        return encode_tuple(words, text, i + 1, count, output, next);
-    }
-    if kind == KIND_DICT {
-        return encode_batches(words, text, i + 1, count, true, output, next);
-    }
-    let end = encode_appends(words, text, i + 1, count, output, next);
-    let argument = output::put_byte(op::TUPLE1, output, end.at);
-    Place {
-        record: end.record,
-        at: output::put_byte(op::REDUCE, output, argument),
+    match kind {
+        KIND_LIST => encode_appends(words, text, i + 1, count, output, next),
+        KIND_TUPLE => encode_tuple(words, text, i + 1, count, output, next),
+        KIND_DICT => encode_batches(words, text, i + 1, count, true, output, next),
+        _ => {
+            let end = encode_appends(words, text, i + 1, count, output, next);
+            let argument = output::put_byte(op::TUPLE1, output, end.at);
+            Place {
+                record: end.record,
+                at: output::put_byte(op::REDUCE, output, argument),
+            }
+        }
     }
 }
 
@@ -243,9 +241,8 @@ fn encode_items(
     ensures { Wrote joined words.now text.now from count output.old at output.new result.record result.at }
 {
     let mut i = from;
-    let mut left = count;
     let mut next = at;
-    while left > 0 {
+    for _ in 0..count {
         if value::holds(value::head_of(words[4 * i]).kind) {
             let end = encode(words, text, i, output, next);
             i = end.record;
@@ -254,7 +251,6 @@ fn encode_items(
             next = encode_opening(words, text, i, output, next);
             i += 1;
         }
-        left -= 1;
     }
     Place {
         record: i,
