@@ -3,7 +3,6 @@ pub mod Value
 pub mod Order
 pub mod OrderLaws
 pub mod Shape
-pub mod Parts
 pub mod Stands
 pub mod Tabled
 pub mod WellFormed

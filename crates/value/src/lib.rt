@@ -3,7 +3,7 @@
 #![tactic(auto)]
 
 ghost use Rattle.std.specs.Prelude.{◌≡◌, true, length, take, drop};
-ghost use Prim.Native.Nat.{◌+◌, ◌*◌, ◌^◌, ◌≤◌, ◌<◌, min, max, compare};
+ghost use Prim.Native.Nat.{◌+◌, ◌*◌, ◌^◌, ◌≤◌, ◌<◌, compare};
 ghost use Rattle.value.specs.Value.{Value, one};
 ghost use Rattle.value.specs.Order.{◌then◌, lex, by_value, total_order, labels, order};
 ghost use Rattle.value.specs.Shape.{head_of, word_of, holding, names_end, module_part, name_part};
@@ -111,18 +111,6 @@ pub fn compare_bytes(a: &[u8], b: &[u8]) -> Ordering
     ensures { told result ≡ lex a.now b.now }
 {
     a.cmp(b)
-}
-
-pub fn least(a: usize, b: usize) -> usize
-    ensures { result ≡ min a b }
-{
-    a.min(b)
-}
-
-pub fn most(a: usize, b: usize) -> usize
-    ensures { result ≡ max a b }
-{
-    a.max(b)
 }
 
 pub fn part(text: &[u8], at: usize, len: usize) -> &[u8]
