@@ -41,7 +41,11 @@ fn put_record(table: &mut [u64], i: usize, words: Record)
     requires { 4 * i + 4 ≤ length table.old }
     ensures { table.new ≡ sets table.old (4 * i) words }
 {
-    table[4 * i..4 * i + 4].copy_from_slice(&words);
+    let [first, second, third, fourth] = words;
+    table[4 * i] = first;
+    table[4 * i + 1] = second;
+    table[4 * i + 2] = third;
+    table[4 * i + 3] = fourth;
 }
 
 fn put_bytes(bytes: &[u8], text: &mut [u8], at: usize)
