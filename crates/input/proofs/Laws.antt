@@ -34,8 +34,11 @@ pub newline_past : (p : List ℕ) (from : ℕ) → length p < from → newline_o
 unfolding newline_of first_from
 newline_past p from h = let k : length p ≤ from = omega arith in simp (drop_of_length-le p k)
 
--- what a search of the bytes from `from` on finds
-module _ (p : List ℕ) (from : ℕ) (r : Option ℕ) (h : MatchOption r (AllWithin (λ b. b ≡ 10 → ⊥) (drop from p) 0 (length (drop from p))) (λ i. (i < length (drop from p)) × HoldsAt (λ b. b ≡ 10) (drop from p) i × AllWithin (λ b. b ≡ 10 → ⊥) (drop from p) 0 i)) where
+-- r is the first newline of l
+abbrev pub Finds : List ℕ → Option ℕ → Type 0
+Finds l r = MatchOption r (AllWithin (λ b. b ≡ 10 → ⊥) l 0 (length l)) (λ i. (i < length l) × HoldsAt (λ b. b ≡ 10) l i × AllWithin (λ b. b ≡ 10 → ⊥) l 0 i)
+
+module _ (p : List ℕ) (from : ℕ) (r : Option ℕ) (h : Finds (drop from p) r) where
   pub newline_absent : r ≡ None → newline_of p from ≡ refused EndOfInput 0
   unfolding newline_of
   newline_absent e =

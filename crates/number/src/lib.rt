@@ -144,10 +144,10 @@ fn integer(text: &[u8]) -> Result<u64, Refusal>
     ensures { answered result ≡ turned bits64 (only in_i64 (integer text.now)) }
 {
     match text {
-        [b, digits @ ..] if *b == b'-' => Ok(natural(
-            digits,
-            0x8000_0000_0000_0000,
-        )?.wrapping_neg()),
+        [b, digits @ ..] if *b == b'-' => {
+            let n = natural(digits, 0x8000_0000_0000_0000)?;
+            Ok(n.wrapping_neg())
+        }
         _ => plus(text, 0x7FFF_FFFF_FFFF_FFFF),
     }
 }

@@ -6,17 +6,17 @@ use Rattle.number.proofs.Number.{negated_is, below_read, above_read}
 use Rattle.number.proofs.integer.Goals as goal
 use Rattle.number.proofs.integer.Goals.{in_default-via-then-text-lt1, in_default-via-in-len1-up+else-b-eq45}
 
-pub returns-in_err-natural-in-len1-up : goal.returns-in_err-natural-in-len1-up
+pub returns-in_err-n-in-len1-up : goal.returns-in_err-n-in-len1-up
 unfolding turned
-returns-in_err-natural-in-len1-up c =
-    let e = below_read c.args.text.now (omega arith) c.if-b-eq45.true _ c.in_err-natural-in-len1-up.ensures in
+returns-in_err-n-in-len1-up c =
+    let e = below_read c.args.text.now (omega arith) c.if-b-eq45.true _ c.in_err-n-in-len1-up.ensures in
     let p = err_from_is_err_and c.from_residual.result c.from_residual.ensures.1 in
     rw (p.1, p.2) e
 
-pub returns-in_ok-natural-in-len1-up : goal.returns-in_ok-natural-in-len1-up
+pub returns-in_ok-n-in-len1-up : goal.returns-in_ok-n-in-len1-up
 unfolding turned
-returns-in_ok-natural-in-len1-up c =
-    ap got (negated_is _ _ (omega arith) (omega arith) c.wrapping_neg.ensures) ∙ below_read c.args.text.now (omega arith) c.if-b-eq45.true _ c.in_ok-natural-in-len1-up.ensures
+returns-in_ok-n-in-len1-up c =
+    ap got (negated_is _ _ (omega arith) (omega arith) c.wrapping_neg.ensures) ∙ below_read c.args.text.now (omega arith) c.if-b-eq45.true _ c.in_ok-n-in-len1-up.ensures
 
 pub returns-in_default : goal.returns-in_default
 returns-in_default c =
