@@ -222,9 +222,7 @@ fn compare_items(words: &[u64], text: &[u8], p: usize, q: usize) -> Ordering
     compare_at(words, p, text, words, q, text)
 }
 
-// The m values from record i on: items (entry 1), or keys with values (entry 2), strictly ascending. A call of its own, since in the
-// loop over the records its registers would be short.
-#[inline(never)]
+// The m values from record i on: items (entry 1), or keys with values (entry 2), strictly ascending.
 fn ascends(words: &[u64], text: &[u8], i: usize, m: usize, entry: usize) -> bool
     requires held { Held words.now text.now i m }
     requires entry_nonzero { 1 ≤ entry }
