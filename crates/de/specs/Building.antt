@@ -1,7 +1,8 @@
 -- Building at STOP in zero rooms: what it asks for, and what it comes to.
-use Rattle.std.specs.Prelude.{ℕ, ◌+◌, ◌-◌, ◌*◌, ◌<◌, ◌≤◌, Bool, not, List, ◌++◌, ◌≡◌, refl, length, get_or, take, drop}
+use Rattle.std.specs.Prelude.{Result, Ok, Err, ℕ, ◌+◌, ◌*◌, ◌<◌, ◌≤◌, Bool, not, List, ◌++◌, ◌≡◌, refl, length, get_or, take, drop}
 use Rattle.std.proofs.Common.{sym, ◌∙◌, get_or-take, arith}
 use Rattle.std.proofs.Math.Seq.{length_front}
+use Rattle.refusal.specs.declared.Refusal.{Refusal}
 use Rattle.refusal.specs.declared.Refusal.TheVariants.{TrailingData}
 use Rattle.value.specs.Value.{Forest, one, size, text, table}
 use Rattle.rooms.specs.Cleared.{cleared}
@@ -16,10 +17,8 @@ use Rattle.reading.specs.Measure.{measured}
 use Rattle.reading.specs.Settle.{settle}
 use Rattle.resolve.specs.SideBySide.{Ended, SomeEnded, SideBySide}
 use Rattle.resolve.specs.Rooted.{ReadyToResolve}
-use Rattle.de.specs.Rooms.{Zeros, zeros_long, front_cleared, minus-none, part_length, part_behind, zeros_at, part_back}
+use Rattle.de.specs.Rooms.{Zeros, zeros_long, front_cleared, part_length, part_behind, zeros_at, part_back}
 use Rattle.de.specs.Measured.{WorkRooms}
-use Rattle.de.specs.declared.build.Built.{Built}
-use Rattle.de.specs.declared.build.Built.TheVariants as built
 
 -- r and c are the machine's at its STOP, with this pickle, these words, this log, which was zero, and these counts
 pub record At (p ws owners log : List ℕ) (count links : ℕ) (r : Rooms) (c : Counts) : Type 0 where
@@ -43,12 +42,12 @@ unfoldable pub due_of : Bool → Forest → Res (Unit {0})
 due_of left f = measured f >>= λ x. need (not left) TrailingData
 
 -- what building a tree comes to
-unfoldable pub Comes : Bool → Forest → Built → List ℕ → List ℕ → List ℕ → List ℕ → Type 0
-Comes left f (built.Refused why) o q o' q' = (due_of left f ≡ no why) × (o' ≡ o) × (q' ≡ q)
-Comes left f (built.Made n) o q o' q' = (due_of left f ≡ ok tt) × (n ≡ size (settle f)) × (o' ≡ table (settle f) 0 ++ drop (4 * size (settle f)) o) × (q' ≡ text (settle f) ++ drop (length (text (settle f))) q)
+unfoldable pub Comes : Bool → Forest → Result ℕ Refusal → List ℕ → List ℕ → List ℕ → List ℕ → Type 0
+Comes left f (Err why) o q o' q' = (due_of left f ≡ no why) × (o' ≡ o) × (q' ≡ q)
+Comes left f (Ok n) o q o' q' = (due_of left f ≡ ok tt) × (n ≡ size (settle f)) × (o' ≡ table (settle f) 0 ++ drop (4 * size (settle f)) o) × (q' ≡ text (settle f) ++ drop (length (text (settle f))) q)
 
 -- of whatever nodes the rooms say, once the children of each stand side by side
-unfoldable pub BuildsLaid : List ℕ → List ℕ → List ℕ → List ℕ → List ℕ → List ℕ → ℕ → Bool → Built → List ℕ → List ℕ → List ℕ → List ℕ → Type 0
+unfoldable pub BuildsLaid : List ℕ → List ℕ → List ℕ → List ℕ → List ℕ → List ℕ → ℕ → Bool → Result ℕ Refusal → List ℕ → List ℕ → List ℕ → List ℕ → Type 0
 BuildsLaid p ws starts sorted measures dues root left b o q o' q' = (k : ReadyToResolve p ws starts sorted measures dues root) → Comes left (one (tree k.nodes root)) b o q o' q'
 
 -- ---- at STOP
@@ -114,42 +113,42 @@ module _ {p ws owners log : List ℕ} {count links root : ℕ} {r : Rooms} {c : 
     )
 
     -- the parts lent to `build_laid`: the owners' room is for the dues
-    pub laid_begins : ReadyToResolve p ws starts' (take (used - 0) sorted') (take (count - 0) measures) (take (count + 1 - 0) owners') root
+    pub laid_begins : ReadyToResolve p ws starts' (take used sorted') (take count measures) (take (count + 1) owners') root
     laid_begins =
         record {
           nodes = (state_of r c).nodes;
           stands = stands a;
-          graph = rw (minus-none used) (S.graph r c a.ended);
+          graph = S.graph r c a.ended;
           beyond = omega (arith, nodes-many a, nodes_few a);
           many = part_length count measures parts_fit.1 ∙ sym (nodes-many a);
-          blank = λ i l. rw (minus-none count) (get_or-take count measures i 0 (omega (arith, nodes-many a)) ∙ zeros_at w.measures_zero i (omega (arith, nodes-many a, nodes_few a)));
+          blank = λ i l. (get_or-take count measures i 0 (omega (arith, nodes-many a)) ∙ zeros_at w.measures_zero i (omega (arith, nodes-many a, nodes_few a)));
           roomy = omega (arith, nodes-many a, part_length (count + 1) owners' parts_fit.2);
-          no_dues = rw (minus-none (count + 1)) (get_or-take (count + 1) owners' 0 0 (omega arith) ∙ zeros_at owners_zeros 0 (omega arith));
+          no_dues = (get_or-take (count + 1) owners' 0 0 (omega arith) ∙ zeros_at owners_zeros 0 (omega arith));
           below = omega (arith, known, nodes-many a);
         }
 
-    pub laid_comes : (left : Bool) (b : Built) (o' q' : List ℕ) → BuildsLaid p ws starts' (take (used - 0) sorted') (take (count - 0) measures) (take (count + 1 - 0) owners') root left b o q o' q'
+    pub laid_comes : (left : Bool) (b : Result ℕ Refusal) (o' q' : List ℕ) → BuildsLaid p ws starts' (take used sorted') (take count measures) (take (count + 1) owners') root left b o q o' q'
         → Comes left (one (tree (state_of r c).nodes root)) b o q o' q'
     unfolding BuildsLaid laid_begins
     laid_comes left b o' q' m = m laid_begins
 
     -- whatever the parts have come to: they are cleared, and the rooms are as they were
-    pub clear_fits : (d m n : List ℕ) → length d ≡ length (take (used - 0) sorted') → length m ≡ length (take (count - 0) measures) → length n ≡ length (take (count + 1 - 0) owners') → length starts' ≡ length starts
-        → (count + 1 ≤ length (n ++ drop (count + 1 - 0) owners')) × (count + 1 ≤ length starts')
-        × (used ≤ length (d ++ drop (used - 0) sorted')) × (count ≤ length (m ++ drop (count - 0) measures))
+    pub clear_fits : (d m n : List ℕ) → length d ≡ length (take used sorted') → length m ≡ length (take count measures) → length n ≡ length (take (count + 1) owners') → length starts' ≡ length starts
+        → (count + 1 ≤ length (n ++ drop (count + 1) owners')) × (count + 1 ≤ length starts')
+        × (used ≤ length (d ++ drop used sorted')) × (count ≤ length (m ++ drop count measures))
     clear_fits d m n dl ml nl tl = (
-      omega (arith, parts_fit.2, length_front owners' n (count + 1 - 0) nl),
+      omega (arith, parts_fit.2, length_front owners' n (count + 1) nl),
       omega (arith, children_fit.0, tl),
-      omega (arith, parts_fit.0, length_front sorted' d (used - 0) dl),
-      omega (arith, parts_fit.1, length_front measures m (count - 0) ml),
+      omega (arith, parts_fit.0, length_front sorted' d used dl),
+      omega (arith, parts_fit.1, length_front measures m count ml),
     )
 
-    pub rooms_back : (d m n : List ℕ) → length d ≡ length (take (used - 0) sorted') → length m ≡ length (take (count - 0) measures) → length n ≡ length (take (count + 1 - 0) owners')
-        → (cleared (count + 1) (n ++ drop (count + 1 - 0) owners') ≡ cleared links owners) × (cleared (count + 1) starts' ≡ starts)
-        × (cleared used (d ++ drop (used - 0) sorted') ≡ sorted) × (cleared count (m ++ drop (count - 0) measures) ≡ measures)
+    pub rooms_back : (d m n : List ℕ) → length d ≡ length (take used sorted') → length m ≡ length (take count measures) → length n ≡ length (take (count + 1) owners')
+        → (cleared (count + 1) (n ++ drop (count + 1) owners') ≡ cleared links owners) × (cleared (count + 1) starts' ≡ starts)
+        × (cleared used (d ++ drop used sorted') ≡ sorted) × (cleared count (m ++ drop count measures) ≡ measures)
     rooms_back d m n dl ml nl = (
       part_back owners_zeros (count + 1) (omega (arith, nodes_few a)) n nl ∙ e,
       front_cleared 4098 (count + 1) starts starts' w.starts_zero (omega (arith, nodes_few a)) S.starts_behind,
-      front_cleared 16384 used sorted (d ++ drop (used - 0) sorted') w.sorted_zero S.few (part_behind used sorted' d parts_fit.0 dl ∙ S.sorted_behind),
+      front_cleared 16384 used sorted (d ++ drop used sorted') w.sorted_zero S.few (part_behind used sorted' d parts_fit.0 dl ∙ S.sorted_behind),
       part_back w.measures_zero count (nodes_few a) m ml,
     )

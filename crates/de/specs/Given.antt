@@ -1,7 +1,7 @@
 -- What a reading in code gives: the definition's answer, and outputs that begin with what it fills.
-use Rattle.std.specs.Prelude.{ℕ, ◌-◌, ◌*◌, ◌<◌, ◌≤◌, Bool, ◌&&◌, List, ◌++◌, ◌≡◌, get_or, drop}
+use Rattle.std.specs.Prelude.{Result, Ok, Err, ℕ, ◌-◌, ◌*◌, ◌<◌, ◌≤◌, Bool, ◌&&◌, List, ◌++◌, ◌≡◌, get_or, drop}
 use Rattle.std.proofs.Math.Bool.{true, false, cond}
-use Rattle.std.proofs.Math.Path.{refl, sym}
+use Rattle.std.proofs.Math.Path.{refl, sym, subst}
 use Rattle.std.proofs.Common.{◌∙◌, ap₂, length-drop, length-take-le, get_or-take, arith}
 use Rattle.std.proofs.Math.ListN.{length}
 use Rattle.std.proofs.Math.Dec.{ltb}
@@ -20,9 +20,9 @@ use Rattle.store.specs.Effects.{Firm}
 use Rattle.steps.specs.Out.{every_at}
 use Rattle.store.specs.RoomReads.{input_of, stack_of, stack_length, nodes-length}
 use Rattle.machine.specs.RoomsOf.{rooms_of}
-use Rattle.machine.specs.Ran.{Ran, ended, counts_of}
+use Rattle.machine.specs.Ran.{Ran, ended}
 use Rattle.machine.specs.declared.Outcome.{Outcome}
-use Rattle.machine.specs.declared.Outcome.TheVariants as outcome
+use Rattle.store.specs.declared.NodeId.{NodeId}
 use Rattle.reading.specs.Build.{tree}
 use Rattle.reading.specs.Settle.{settle}
 use Rattle.reading.specs.Measure.{measured}
@@ -30,10 +30,6 @@ use Rattle.reading.specs.Reading.{Reading, refuses, reads, reading_of, consumed,
 use Rattle.reading.specs.Success.{refusal_number}
 use Rattle.de.specs.Rooms.{Zeros}
 use Rattle.de.specs.Building.{At, due_of, Comes}
-use Rattle.de.specs.declared.build.Built.{Built}
-use Rattle.de.specs.declared.build.Built.TheVariants as built
-use Rattle.de.specs.declared.build.End.{End}
-use Rattle.de.specs.declared.build.End.TheVariants as end
 
 -- the reading that is asked for, in an edition
 unfoldable pub due : Edition → Bool → List ℕ → Reading
@@ -54,20 +50,43 @@ pub record RanIn (ed : Edition) (o : Outcome) (p nodes owners children stack : L
   pub owners_zero : Zeros 8192 before.owners
   pub children_zero : Zeros 8192 before.children
 
+-- a run that ended at STOP with these counts, or with a refusal
+abbrev pub stopped : Counts → Outcome
+stopped c = record { counts = c; ended = Ok tt }
+
+abbrev pub refused_with : Counts → Refusal → Outcome
+refused_with c why = record { counts = c; ended = Err why }
+
 -- a run answers with a refusal: its own, or 6 where no value is left
 unfoldable pub RefusesWith : Outcome → Refusal → Type 0
-RefusesWith (outcome.Refused c why) x = x ≡ why
-RefusesWith (outcome.Stopped c) x = (c.stack ≡ 0) × (x ≡ StackUnderflow)
+RefusesWith o x = by o.ended
+  where
+    by : Result (Unit {0}) Refusal → Type 0
+    by (Err why) = x ≡ why
+    by (Ok u) = (o.counts.stack ≡ 0) × (x ≡ StackUnderflow)
 
 -- how it ended: with that, or with the value on top of its stack
-unfoldable pub RunEnds : Outcome → List ℕ → End → Type 0
-RunEnds o stack (end.Refused why links) = RefusesWith o why × (links ≡ (counts_of o).links)
-RunEnds o stack (end.Value root c) = (o ≡ outcome.Stopped c) × (0 < c.stack) × (root.0 ≡ get_or stack (c.stack - 1) 0)
+unfoldable pub RunEnds : Outcome → List ℕ → Result NodeId Refusal → Type 0
+RunEnds o stack (Err why) = RefusesWith o why
+RunEnds o stack (Ok root) = (o ≡ stopped o.counts) × (0 < o.counts.stack) × (root.0 ≡ get_or stack (o.counts.stack - 1) 0)
+
+pub refused_run : (o : Outcome) (stack : List ℕ) (why : Refusal) → o.ended ≡ Err why → RunEnds o stack (Err why)
+unfolding RunEnds RefusesWith
+refused_run o stack why e = rw e refl
+
+module _ (o : Outcome) (stack : List ℕ) (u : Unit {0}) (e : o.ended ≡ Ok u) where
+  pub empty_run : o.counts.stack ≡ 0 → RunEnds o stack (Err StackUnderflow)
+  unfolding RunEnds RefusesWith
+  empty_run z = rw e (z, refl)
+
+  pub valued_run : (root : NodeId) → 0 < o.counts.stack → root.0 ≡ get_or stack (o.counts.stack - 1) 0 → RunEnds o stack (Ok root)
+  unfolding RunEnds
+  valued_run root z is = (λ i. record { counts = o.counts; ended = e i }, z, is)
 
 -- the answer once a value is built, of a pickle read up to n
-unfoldable pub told : Built → ℕ → Answer
-told (built.Refused why) n = refused_answer why
-told (built.Made records) n = record { number = 0; detail = 0; length = n; count = records }
+unfoldable pub told : Result ℕ Refusal → ℕ → Answer
+told (Err why) n = refused_answer why
+told (Ok records) n = record { number = 0; detail = 0; length = n; count = records }
 
 -- ---- both readings from the prefix reading's answer
 
@@ -141,6 +160,12 @@ module _ (o q : List ℕ) where
       → Gives x (record { number = 0; detail = 0; length = n; count = m }) o q o' q'
   gives-read x n f m o' q' e c t b = rw (e, c) (record { answer = refl; table_is = rw table-length t; text_is = b })
 
+-- a run that left the value root
+pub record Leaves (ed : Edition) (o : Outcome) (p nodes owners children stack : List ℕ) (root : ℕ) : Type 0 where
+  pub ran : RanIn ed (stopped o.counts) p nodes owners children stack
+  pub some : 0 < o.counts.stack
+  pub is : root ≡ get_or stack (o.counts.stack - 1) 0
+
 -- ---- by how the run ended
 
 module _ {ed : Edition} {p nodes owners children stack : List ℕ} where
@@ -149,25 +174,23 @@ module _ {ed : Edition} {p nodes owners children stack : List ℕ} where
 
   module _ (all : Bool) (o q : List ℕ) where
     -- the machine refuses
-    gives_run : (c : Counts) (why : Refusal) → RanIn ed (outcome.Refused c why) p nodes owners children stack → Gives (due ed all p) (refused_answer why) o q o q
-    unfolding ended counts_of
+    gives_run : (c : Counts) (why : Refusal) → RanIn ed (refused_with c why) p nodes owners children stack → Gives (due ed all p) (refused_answer why) o q o q
+    unfolding ended
     gives_run c why h = gives_refused o q (due ed all p) why (due_refused ed p all why (prefix_refused ed p why (stopped_refused ed p why h.ran.sound.firm.lengths.pickle (sym h.ran.means))))
 
   -- its links are in the log
-  pub links_fit : (o : Outcome) → RanIn ed o p nodes owners children stack → ((counts_of o).links ≤ length owners) × ((counts_of o).links ≤ length children)
+  pub links_fit : (o : Outcome) → RanIn ed o p nodes owners children stack → (o.counts.links ≤ length owners) × (o.counts.links ≤ length children)
   links_fit o h = let f = h.ran.sound.firm in (omega (arith, f.links, f.lengths.owners), omega (arith, f.links, f.lengths.children))
 
   -- and what is on its stack in the stack's room
-  pub stack_fits : (o : Outcome) → RanIn ed o p nodes owners children stack → (counts_of o).stack ≤ length stack
+  pub stack_fits : (o : Outcome) → RanIn ed o p nodes owners children stack → o.counts.stack ≤ length stack
   stack_fits o h = let f = h.ran.sound.firm in omega (arith, f.stack, f.deepest, f.lengths.stack)
 
-  module _ (c : Counts) (h : RanIn ed (outcome.Stopped c) p nodes owners children stack) where
+  module _ (c : Counts) (h : RanIn ed (stopped c) p nodes owners children stack) where
     short : length p ≤ pickle_limit
-    unfolding counts_of
     short = h.ran.sound.firm.lengths.pickle
 
     firm : Firm (rooms h) c
-    unfolding counts_of
     firm = h.ran.sound.firm
 
     stops : run ed p ≡ ok (state_of (rooms h) c)
@@ -182,7 +205,6 @@ module _ {ed : Edition} {p nodes owners children stack : List ℕ} where
     gives_empty all o q e = gives_refused o q (due ed all p) StackUnderflow (due_refused ed p all StackUnderflow (prefix_refused ed p StackUnderflow (stopped_empty ed p (state_of (rooms h) c) short stops (omega (arith, deep, e)))))
 
     pub stopped_at : At p nodes owners children c.nodes c.links (rooms h) c
-    unfolding counts_of
     stopped_at = record { ended = record { sound = h.ran.sound; words = refl; owners_are = refl; log_is = refl; count_is = refl; links_are = refl }; pickle = refl; owners_zero = h.owners_zero; log_zero = h.children_zero }
 
     -- a value is left
@@ -191,7 +213,6 @@ module _ {ed : Edition} {p nodes owners children stack : List ℕ} where
       top_is = rw (stack_of (rooms h) c, length-take-le c.stack stack (omega (arith, firm.stack, firm.deepest, firm.lengths.stack))) (get_or-take c.stack stack (c.stack - 1) 0 (omega arith)) ∙ sym is
 
       pub root_known : root < c.nodes
-      unfolding counts_of
       root_known = rw (top_is, nodes-length (rooms h) c) at below
         where
           below : last (state_of (rooms h) c).stack < length (state_of (rooms h) c).nodes
@@ -205,13 +226,21 @@ module _ {ed : Edition} {p nodes owners children stack : List ℕ} where
           prefix-told ed p (state_of (rooms h) c) (last (state_of (rooms h) c).stack) (stopped_with ed p (state_of (rooms h) c) short stops (omega (arith, deep)))
           ∙ ap₂ (λ (n i : ℕ). reading_of n (one (tree (state_of (rooms h) c).nodes i))) consumed_at top_is
 
-      pub gives-built : (all : Bool) (o q o' q' : List ℕ) (b : Built) → Comes (all && ltb c.at (length p)) (one (tree (state_of (rooms h) c).nodes root)) b o q o' q' → Gives (due ed all p) (told b c.at) o q o' q'
+      pub gives-built : (all : Bool) (o q o' q' : List ℕ) (b : Result ℕ Refusal) → Comes (all && ltb c.at (length p)) (one (tree (state_of (rooms h) c).nodes root)) b o q o' q' → Gives (due ed all p) (told b c.at) o q o' q'
       unfolding Comes told
-      gives-built all o q o' q' (built.Refused why) x = rw (x.1, x.2) (gives_refused o q (due ed all p) why (due_told ed p all c.at _ reads_to ∙ left_refused _ c.at _ why x.0))
-      gives-built all o q o' q' (built.Made n) x = gives-read o q (due ed all p) c.at _ n o' q' (due_told ed p all c.at _ reads_to ∙ left_read _ c.at _ x.0) x.1 x.2 x.3
+      gives-built all o q o' q' (Err why) x = rw (x.1, x.2) (gives_refused o q (due ed all p) why (due_told ed p all c.at _ reads_to ∙ left_refused _ c.at _ why x.0))
+      gives-built all o q o' q' (Ok n) x = gives-read o q (due ed all p) c.at _ n o' q' (due_told ed p all c.at _ reads_to ∙ left_read _ c.at _ x.0) x.1 x.2 x.3
+
+  pub leaves_value : (o : Outcome) (root : NodeId) → RanIn ed o p nodes owners children stack → RunEnds o stack (Ok root) → Leaves ed o p nodes owners children stack root.0
+  unfolding RunEnds
+  leaves_value o root h e = record { ran = subst (λ (x : Outcome). RanIn ed x p nodes owners children stack) e.0 h; some = e.1; is = e.2 }
 
   -- a refusal is the run's, or 6
   pub gives_refusal : (all : Bool) (o q : List ℕ) (u : Outcome) (why : Refusal) → RanIn ed u p nodes owners children stack → RefusesWith u why → Gives (due ed all p) (refused_answer why) o q o q
   unfolding RefusesWith
-  gives_refusal all o q (outcome.Refused c why) x h e = rw e (gives_run all o q c why h)
-  gives_refusal all o q (outcome.Stopped c) x h e = rw e.1 (gives_empty c h all o q e.0)
+  gives_refusal all o q u why h e = go u.counts u.ended h e
+    where
+      go : (c : Counts) (r : Result (Unit {0}) Refusal) → RanIn ed (record { counts = c; ended = r }) p nodes owners children stack → RefusesWith (record { counts = c; ended = r }) why
+          → Gives (due ed all p) (refused_answer why) o q o q
+      go c (Err x) h e = rw e (gives_run all o q c x h)
+      go c (Ok u) h e = rw e.1 (gives_empty c h all o q e.0)

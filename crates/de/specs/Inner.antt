@@ -9,7 +9,7 @@ use Rattle.rooms.specs.Cleared.{cleared}
 use Rattle.rooms.specs.Stated.{Slices, machine_lengths, stated, AllZero, Ready, begun, filled, filled_none, long, rooms_zero}
 use Rattle.store.specs.Effects.{Lengths, AsLentBehind}
 use Rattle.machine.specs.RoomsOf.{rooms_of, lent_of, lent_rooms}
-use Rattle.machine.specs.Ran.{Ran, counts_of}
+use Rattle.machine.specs.Ran.{Ran}
 use Rattle.machine.specs.declared.Outcome.{Outcome}
 use Rattle.reading.specs.Reading.{Reading, pickle_limit, stopped-long, prefix_refused}
 use Rattle.de.specs.Rooms.{zeros_long, front_cleared}
@@ -41,13 +41,13 @@ module _ {k : ℕ} {s s' : List ℕ} (b : ClearsTo k s s') (j : ℕ) (e : j ≡ 
 -- what a run leaves of the machine's rooms: what the answer asks, and how each is as it came again
 pub record Runs (ed : Edition) (o : Outcome) (p nodes owners children stack marks keys held nodes' owners' children' stack' marks' keys' held' : List ℕ) : Type 0 where
   pub ran : RanIn ed o p nodes' owners' children' stack'
-  pub nodes_back : ClearsTo (2 * (counts_of o).nodes) nodes nodes'
-  pub owners_back : ClearsTo (counts_of o).links owners owners'
-  pub children_back : ClearsTo (counts_of o).links children children'
-  pub stack_back : ClearsTo (counts_of o).deepest stack stack'
-  pub marks_back : ClearsTo (counts_of o).most marks marks'
-  pub keys_back : ClearsTo (counts_of o).memo keys keys'
-  pub held_back : ClearsTo (counts_of o).memo held held'
+  pub nodes_back : ClearsTo (2 * o.counts.nodes) nodes nodes'
+  pub owners_back : ClearsTo o.counts.links owners owners'
+  pub children_back : ClearsTo o.counts.links children children'
+  pub stack_back : ClearsTo o.counts.deepest stack stack'
+  pub marks_back : ClearsTo o.counts.most marks marks'
+  pub keys_back : ClearsTo o.counts.memo keys keys'
+  pub held_back : ClearsTo o.counts.memo held held'
 
 -- ---- the run
 

@@ -1,6 +1,6 @@
 -- From the measuring walk to the outputs: where nothing is due the rooms hold what the passes behind it ask for, and their outputs are what
 -- building comes to.
-use Rattle.std.specs.Prelude.{ℕ, ◌/◌, ◌%◌, ◌^◌, ◌*◌, ◌<◌, ◌≤◌, Bool, true, false, cond, not, ◌≡◌, length, get_or}
+use Rattle.std.specs.Prelude.{Option, Result, Ok, Err, ℕ, ◌/◌, ◌%◌, ◌^◌, ◌*◌, ◌<◌, ◌≤◌, Bool, true, false, cond, not, ◌≡◌, length, get_or}
 use mathlib.Core.List.{List, [], ◌∷◌}
 use Rattle.std.proofs.Math.Path.{refl, ap}
 use Rattle.std.proofs.Common.{sym, ◌∙◌, arith}
@@ -17,14 +17,10 @@ use Rattle.reading.specs.Build.{at, tree}
 use Rattle.reading.specs.Measure.{measured, measured-within}
 use Rattle.resolve.specs.Facts.{Facts}
 use Rattle.resolve.specs.Standing.{node_is_lem, label_is, facts}
-use Rattle.resolve.specs.Rooted.{ReadyToResolve, RootEnds, r_deep, r_word, Roots}
-use Rattle.resolve.specs.declared.WalkAnswer.{WalkAnswer}
+use Rattle.resolve.specs.Rooted.{ReadyToResolve, RootEnds, r_word, Roots}
 use Rattle.de.specs.Measured.{Worded, MeasuredAs, Measured, Produces}
 use Rattle.de.specs.Building.{due_of, Comes, BuildsLaid}
-use Rattle.de.specs.Limits.{said, Tells}
-use Rattle.de.specs.declared.build.Built.TheVariants as built
-use Rattle.de.specs.declared.build.Due.{Due}
-use Rattle.de.specs.declared.build.Due.TheVariants as due
+use Rattle.de.specs.Limits.{said, Tells, due_deep}
 
 -- ---- the nodes as their words say them
 
@@ -90,18 +86,24 @@ due_within left f e = go (measured f) refl e
     go (ok u) q e = q
     go (no why) q e = absurd (let z : ◌≡◌ {A = ℕ} 0 1 = cc in omega arith)
 
-module _ (p ws starts sorted measures dues sorted' measures' dues' : List ℕ) (root : ℕ) (a : WalkAnswer) (R : Roots p ws starts sorted measures dues sorted' measures' dues' root a) (left : Bool) (d : Due) (T : Tells a left d) where
+-- a tree that is too deep
+pub laid_deep : (p ws starts sorted measures dues sorted' measures' dues' : List ℕ) (root : ℕ) (why : Refusal) → Roots p ws starts sorted measures dues sorted' measures' dues' root (Err why)
+    → (left : Bool) (o q : List ℕ) → BuildsLaid p ws starts sorted measures dues root left (Err why) o q o q
+unfolding BuildsLaid Comes Roots
+laid_deep p ws starts sorted measures dues sorted' measures' dues' root why R left o q k = (due_deep left (R k), refl, refl)
+
+module _ (p ws starts sorted measures dues sorted' measures' dues' : List ℕ) (root : ℕ) (a : Option ℕ) (R : Roots p ws starts sorted measures dues sorted' measures' dues' root (Ok a)) (left : Bool) (d : Result (Unit {0}) Refusal) (T : Tells a left d) where
   due_is : (k : ReadyToResolve p ws starts sorted measures dues root) → due_of left (one (tree k.nodes root)) ≡ said d
   unfolding Roots Tells
   due_is k = T k.nodes k.beyond starts dues measures' sorted' dues' root (R k)
 
   -- a refusal
-  pub laid_refused : (why : Refusal) → d ≡ due.Refused why → (o q : List ℕ) → BuildsLaid p ws starts sorted measures dues root left (built.Refused why) o q o q
+  pub laid_refused : (why : Refusal) → d ≡ Err why → (o q : List ℕ) → BuildsLaid p ws starts sorted measures dues root left (Err why) o q o q
   unfolding BuildsLaid Comes said
   laid_refused why e o q k = (due_is k ∙ ap said e, refl, refl)
 
   -- nothing
-  module _ (e : d ≡ due.Nothing) where
+  module _ (e : d ≡ Ok tt) where
     free : (k : ReadyToResolve p ws starts sorted measures dues root) → due_of left (one (tree k.nodes root)) ≡ ok tt
     unfolding said
     free k = due_is k ∙ ap said e
@@ -113,8 +115,7 @@ module _ (p ws starts sorted measures dues sorted' measures' dues' : List ℕ) (
         within : (depth (one (tree k.nodes root)) ≤ 64) × (size (one (tree k.nodes root)) ≤ 2048) × (length (text (one (tree k.nodes root))) ≤ 65536)
         within = measured-within (one (tree k.nodes root)) (due_within left (one (tree k.nodes root)) (free k))
 
-        go : (a : WalkAnswer) → RootEnds k.nodes k.beyond starts dues measures' sorted' dues' root a → MeasuredAs p ws starts sorted' dues' measures' k.nodes root
-        go _ (r_deep h) = absurd (omega (arith, within.0))
+        go : (a : Option ℕ) → RootEnds k.nodes k.beyond starts dues measures' sorted' dues' root (Ok a) → MeasuredAs p ws starts sorted' dues' measures' k.nodes root
         go _ (r_word w m x h) = record {
           limited = record { worded = worded k; before = sorted; graph = k.graph; below = k.below; deep = within.0; records = within.1; texts = within.2 };
           lent = dues;
@@ -124,6 +125,6 @@ module _ (p ws starts sorted measures dues sorted' measures' dues' : List ℕ) (
     pub laid_measured : ReadyToResolve p ws starts sorted measures dues root → Measured p ws starts sorted' dues' measures' root
     laid_measured k = record { nodes = k.nodes; are = measured_as k }
 
-    pub laid_made : (o q o' q' : List ℕ) (n : ℕ) → Produces p ws starts sorted' dues' measures' root o q o' q' n → BuildsLaid p ws starts sorted measures dues root left (built.Made n) o q o' q'
+    pub laid_made : (o q o' q' : List ℕ) (n : ℕ) → Produces p ws starts sorted' dues' measures' root o q o' q' n → BuildsLaid p ws starts sorted measures dues root left (Ok n) o q o' q'
     unfolding BuildsLaid Comes
     laid_made o q o' q' n P k = let x = P k.nodes (measured_as k) in (free k, x.counted, x.table_is, x.text_is)

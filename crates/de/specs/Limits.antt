@@ -1,27 +1,24 @@
 -- What the measuring walk's answer says is due: 17, 18, 19, then 11.
-use Rattle.std.specs.Prelude.{ℕ, ◌<◌, ◌≤◌, min, Bool, true, false, List, ◌≡◌, length}
+use Rattle.std.specs.Prelude.{Option, Some, None, Result, Ok, Err, ℕ, ◌<◌, ◌≤◌, min, Bool, true, false, List, ◌≡◌, length}
 use Rattle.std.proofs.Common.{◌∙◌, ap, arith}
-use Rattle.refusal.specs.declared.Refusal.TheVariants.{TrailingData, TooDeep, TooManyValues, TextFull}
+use Rattle.refusal.specs.declared.Refusal.{Refusal}
+use Rattle.refusal.specs.declared.Refusal.TheVariants.{TrailingData, TooManyValues, TextFull}
 use Rattle.value.specs.Value.{Value, one, size, depth, text}
 use Rattle.steps.specs.State.{Node, Res, ok, no, ◌>>=◌, need}
 use Rattle.reading.specs.Build.{tree}
 use Rattle.reading.specs.Measure.{measured, too_deep, too_many_values, text_full, within_limits}
 use Rattle.resolve.specs.MeasureWord.{values_w, texts_w, values_pack, texts_pack}
 use Rattle.resolve.specs.Rooted.{MeasuresTo, RootEnds, r_deep, r_word}
-use Rattle.resolve.specs.declared.WalkAnswer.{WalkAnswer}
-use Rattle.resolve.specs.declared.WalkAnswer.TheVariants as answer
 use Rattle.de.specs.Building.{due_of}
-use Rattle.de.specs.declared.build.Due.{Due}
-use Rattle.de.specs.declared.build.Due.TheVariants as due
 
-unfoldable pub said : Due → Res (Unit {0})
-said due.Nothing = ok tt
-said (due.Refused why) = no why
+unfoldable pub said : Result (Unit {0}) Refusal → Res (Unit {0})
+said (Ok u) = ok tt
+said (Err why) = no why
 
--- whatever tree the answer is of
-unfoldable pub Tells : WalkAnswer → Bool → Due → Type 0
+-- whatever tree the word is of
+unfoldable pub Tells : Option ℕ → Bool → Result (Unit {0}) Refusal → Type 0
 Tells a left d =
-    (t : List Node) (beyond : length t ≤ 4096) (starts lent measures sorted room : List ℕ) (root : ℕ) → RootEnds t beyond starts lent measures sorted room root a
+    (t : List Node) (beyond : length t ≤ 4096) (starts lent measures sorted room : List ℕ) (root : ℕ) → RootEnds t beyond starts lent measures sorted room root (Ok a)
     → due_of left (one (tree t root)) ≡ said d
 
 -- ---- a tree's word
@@ -43,32 +40,34 @@ module _ {v : Value} {w : ℕ} (m : MeasuresTo v w) where
     within : texts_w w ≤ 65536 → measured (one v) ≡ ok tt
     within h = within_limits (one v) m.shallow (omega (arith, values_are)) (omega (arith, texts_are))
 
+-- a tree that is too deep
+pub due_deep : (left : Bool) {t : List Node} {beyond : length t ≤ 4096} {starts lent measures sorted room : List ℕ} {root : ℕ} {why : Refusal}
+    → RootEnds t beyond starts lent measures sorted room root (Err why) → due_of left (one (tree t root)) ≡ no why
+unfolding due_of ◌>>=◌
+due_deep left {t} {root = root} (r_deep h) = rw (too_deep (one (tree t root)) h)
+
 -- ---- each answer
 
 module _ (left : Bool) where
-  pub tells_deep : Tells answer.TooDeep left (due.Refused TooDeep)
-  unfolding Tells said due_of ◌>>=◌
-  tells_deep t beyond starts lent measures sorted room root (r_deep h) = rw (too_deep (one (tree t root)) h)
-
   -- the root is never None
-  pub tells_empty : (d : Due) → Tells answer.Empty left d
+  pub tells_empty : (d : Result (Unit {0}) Refusal) → Tells None left d
   unfolding Tells
   tells_empty d t beyond starts lent measures sorted room root r = elim r [ ]
 
   module _ (w : ℕ) where
-    pub tells_values : 2048 < values_w w → Tells (answer.Word w) left (due.Refused TooManyValues)
+    pub tells_values : 2048 < values_w w → Tells (Some w) left (Err TooManyValues)
     unfolding Tells said due_of ◌>>=◌
     tells_values h t beyond starts lent measures sorted room root (r_word w m s x) = rw (over_values m h)
 
-    pub tells_text : values_w w ≤ 2048 → 65536 < texts_w w → Tells (answer.Word w) left (due.Refused TextFull)
+    pub tells_text : values_w w ≤ 2048 → 65536 < texts_w w → Tells (Some w) left (Err TextFull)
     unfolding Tells said due_of ◌>>=◌
     tells_text k h t beyond starts lent measures sorted room root (r_word w m s x) = rw (over-text m k h)
 
     module _ (k : values_w w ≤ 2048) (h : texts_w w ≤ 65536) where
-      pub tells_left : left ≡ true → Tells (answer.Word w) left (due.Refused TrailingData)
+      pub tells_left : left ≡ true → Tells (Some w) left (Err TrailingData)
       unfolding Tells said due_of ◌>>=◌ need
       tells_left e t beyond starts lent measures sorted room root (r_word w m s x) = rw (within m k h, e)
 
-      pub tells_nothing : left ≡ false → Tells (answer.Word w) left due.Nothing
+      pub tells_nothing : left ≡ false → Tells (Some w) left (Ok tt)
       unfolding Tells said due_of ◌>>=◌ need
       tells_nothing e t beyond starts lent measures sorted room root (r_word w m s x) = rw (within m k h, e)

@@ -1,5 +1,5 @@
 -- What the writing asks for, from the settled graph, and that what is written is the tree in order.
-use Rattle.std.specs.Prelude.{ℕ, ◌^◌, ◌%◌, ◌<◌, ◌≤◌, false, List, ◌≡◌, refl, length, get_or}
+use Rattle.std.specs.Prelude.{ℕ, ◌^◌, ◌<◌, ◌≤◌, false, List, ◌≡◌, refl, length, get_or}
 use Rattle.std.proofs.Common.{◌∙◌, ap, inl, inr, arith}
 use Rattle.std.proofs.Math.Decide.{dec_lt}
 use Rattle.value.specs.Value.{Label, Value, one, kind, size, depth, text, NoneL, BoolL, I64L, F64L, BytesL, StringL, ListL, TupleL, SetL, FrozenSetL, DictL, GlobalL, ObjectL}
@@ -16,6 +16,7 @@ use Rattle.resolve.specs.Dues.{is_due, dues}
 use Rattle.resolve.specs.Whole.{value_stands_64}
 use Rattle.emit.specs.Walked.{graph, dues_in, not_settled}
 use Rattle.emit.specs.Settling.{SettledRooms}
+use Rattle.emit.specs.declared.Place.{Place}
 use Rattle.emit.specs.Roots.{Rooted, Emits}
 use Rattle.de.specs.Measured.{Produced}
 use Rattle.de.specs.Spelt.{Spelt, inside}
@@ -98,7 +99,7 @@ module _ {p d ws starts sorted noted measures log list : List ℕ} {t : List Nod
       text-long = text-long;
     }
 
-    pub produced : {table' bytes' : List ℕ} {r : ℕ} → Emits p d ws starts sorted' log' root measures' table bytes table' bytes' r
-        → Produced (settle (one (tree t root))) table bytes table' bytes' (r % 4096)
+    pub produced : {table' bytes' : List ℕ} {r : Place} → Emits p d ws starts sorted' log' root measures' table bytes table' bytes' r
+        → Produced (settle (one (tree t root))) table bytes table' bytes' r.records
     unfolding rooted settle
-    produced e = let y = e rooted in record { counted = omega (arith, y.lengths, records); table_is = y.table_is; text_is = y.text_is }
+    produced e = let y = e rooted in record { counted = omega (arith, ap (λ (p : Place). p.records) y.lengths); table_is = y.table_is; text_is = y.text_is }

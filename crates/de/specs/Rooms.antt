@@ -81,20 +81,17 @@ module _ (m most : ℕ) (room room' : List ℕ) (z : room ≡ replicate m 0) (h 
 -- ---- a part lent from the beginning of a room that is zero up to a stated length
 
 -- as many as up to m
-pub minus-none : (m : ℕ) → m - 0 ≡ m
-minus-none m = omega arith
-
-pub part_length : (m : ℕ) (l : List ℕ) → m ≤ length l → length (take (m - 0) l) ≡ m
-part_length m l h = rw (minus-none m) (length-take-le m l h)
+pub part_length : (m : ℕ) (l : List ℕ) → m ≤ length l → length (take m l) ≡ m
+part_length m l h = length-take-le m l h
 
 -- behind a part, the room is as it was
-pub part_behind : (m : ℕ) (l d : List ℕ) → m ≤ length l → length d ≡ length (take (m - 0) l) → drop m (d ++ drop (m - 0) l) ≡ drop m l
-part_behind m l d h e = rw (minus-none m) (drop_at d (drop m l) m (e ∙ part_length m l h))
+pub part_behind : (m : ℕ) (l d : List ℕ) → m ≤ length l → length d ≡ length (take m l) → drop m (d ++ drop m l) ≡ drop m l
+part_behind m l d h e = drop_at d (drop m l) m (e ∙ part_length m l h)
 
 module _ {n : ℕ} {l : List ℕ} (z : Zeros n l) where
   pub zeros_at : (i : ℕ) → i < n → get_or l i 0 ≡ 0
   zeros_at i h = sym (get_or-take n l i 0 h) ∙ ap (λ (x : List ℕ). get_or x i 0) z.zero ∙ get_or-replicate n i 0 0 h
 
   -- whatever a part has come to: cleared, the room is as it was
-  pub part_back : (m : ℕ) → m ≤ n → (d : List ℕ) → length d ≡ length (take (m - 0) l) → cleared m (d ++ drop (m - 0) l) ≡ l
-  part_back m h d e = front_cleared n m l (d ++ drop (m - 0) l) z h (part_behind m l d (omega (arith, zeros_long z)) e)
+  pub part_back : (m : ℕ) → m ≤ n → (d : List ℕ) → length d ≡ length (take m l) → cleared m (d ++ drop m l) ≡ l
+  part_back m h d e = front_cleared n m l (d ++ drop m l) z h (part_behind m l d (omega (arith, zeros_long z)) e)

@@ -1,5 +1,5 @@
 -- The calls of `build_laid` behind the measuring: what each asks for, from what those before it left, and what they come to together.
-use Rattle.std.specs.Prelude.{ℕ, ◌-◌, ◌%◌, ◌≤◌, List, ◌++◌, ◌≡◌, length, take, drop}
+use Rattle.std.specs.Prelude.{ℕ, ◌-◌, ◌≤◌, List, ◌++◌, ◌≡◌, length, take, drop}
 use Rattle.std.proofs.Common.{◌∙◌, ap, arith}
 use Rattle.std.proofs.lemmas.List.{length-replicate}
 use Rattle.rooms.specs.Cleared.{cleared}
@@ -7,6 +7,7 @@ use Rattle.steps.specs.State.{Node}
 use Rattle.resolve.specs.Tree.{walked}
 use Rattle.resolve.specs.TextsDue.{due_text, Decodes}
 use Rattle.emit.specs.Settling.{Unsettled, SettledRooms, SettlesAll}
+use Rattle.emit.specs.declared.Place.{Place}
 use Rattle.emit.specs.Roots.{Rooted, Emits}
 use Rattle.de.specs.Rooms.{zeros_long, front_cleared, end_begins, end_fits, end_cleared}
 use Rattle.de.specs.Measured.{MeasuredAs, Measured, WorkRooms, Produces}
@@ -48,7 +49,7 @@ module _ {p ws starts sorted noted measures₀ : List ℕ} {root : ℕ} {decoded
     pub root_ready : Rooted p d ws starts sorted' log' root measures' table bytes
     root_ready = rooted (spelt_as m.are) (settled_as m.are) l.table-long l.text-long
 
-    pub produces : {table' bytes' : List ℕ} {r : ℕ} → Emits p d ws starts sorted' log' root measures' table bytes table' bytes' r → Produces p ws starts sorted noted measures₀ root table bytes table' bytes' (r % 4096)
+    pub produces : {table' bytes' : List ℕ} {r : Place} → Emits p d ws starts sorted' log' root measures' table bytes table' bytes' r → Produces p ws starts sorted noted measures₀ root table bytes table' bytes' r.records
     produces e t y = produced (spelt_as y) (settled_as y) l.table-long l.text-long e
 
     pub items_few : items ≤ 8192

@@ -9,27 +9,16 @@ mod build;
 ghost use Rattle.std.specs.Prelude.{true, [], ◌∷◌, ◌≡◌};
 ghost use Rattle.rooms.specs.Stated.{Ready};
 ghost use Rattle.rooms.specs.Lent.{slices_of, SameSlices};
-ghost use Rattle.machine.specs.Ran.{counts_of};
 ghost use Rattle.de.specs.Given.{due};
 ghost use Rattle.de.specs.Inner.{InnerReads};
 ghost use Rattle.de.specs.Call.{ReadCall, OwnRoomsCall};
 
 use crate::build::answer;
-use machine::{Outcome, run};
+use machine::run;
 use op::Edition;
 use refusal::{Answer, Refusal, refused};
+use rooms::clear;
 use rooms::lending::Lent;
-use rooms::{clear_ints, clear_shorts, clear_words};
-use store::Counts;
-
-fn counts(outcome: Outcome) -> Counts
-    ensures { result ≡ counts_of outcome }
-{
-    match outcome {
-        Outcome::Stopped(c) => c,
-        Outcome::Refused(c, _) => c,
-    }
-}
 
 // The inner reading, slice by slice: it looks at some while others are lent to be written.
 fn read_in(
@@ -69,16 +58,16 @@ fn read_in(
     let outcome = run(
         edition, pickle, nodes, owners, children, stack, marks, keys, held,
     );
-    let c = counts(outcome);
-    clear_ints(keys, c.memo); // zero, as the answer's list has to be
+    let c = outcome.counts;
+    clear(keys, c.memo); // zero, as the answer's list has to be
     let a = answer(
         edition, outcome, whole, pickle, stack, nodes, owners, children, keys, unescaped, starts,
         sorted, measures, table, text,
     );
-    clear_words(nodes, 2 * c.nodes);
-    clear_shorts(stack, c.deepest);
-    clear_shorts(marks, c.most);
-    clear_shorts(held, c.memo);
+    clear(nodes, 2 * c.nodes);
+    clear(stack, c.deepest);
+    clear(marks, c.most);
+    clear(held, c.memo);
     a
 }
 
