@@ -18,6 +18,7 @@ use value::{
     KIND_NONE, KIND_SET, KIND_STRING, KIND_TUPLE,
 };
 
+#[tactic(auto, unfolding(crate::specs::Listing::printable))]
 fn stands(byte: u8) -> bool
     ensures { result ≡ printable byte }
 {
@@ -51,6 +52,7 @@ fn byte_len(byte: u8) -> usize
 }
 
 // A byte that is listed as it is. The tests are joined by `&`, so that several bytes are tested in one vector and cost one branch.
+#[tactic(auto, unfolding(crate::specs::Listing::listed_byte))]
 fn verbatim(byte: u8) -> bool
     ensures { result ≡ true → listed_byte byte ≡ byte ∷ [] }
 {
