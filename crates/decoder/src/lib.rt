@@ -129,7 +129,8 @@ pub fn long_at(pickle: &[u8], at: usize, width: usize) -> Result<(usize, u64), R
     Ok((end, input::long(&pickle[from..end])?))
 }
 
-// LONG1, LONG4: what was read at the counts' place.
+// LONG1, LONG4: what was read at the counts' place. Inlined, since a call would be handed the counts.
+#[inline(always)]
 pub fn long_n(c: Counts, read: Result<(usize, u64), Refusal>) -> Result<Effect, Refusal>
     ensures { (n : ℕ) (p : List ℕ) → ReadsLong n c.at p read
         → Decides c (λ r. r.pickle ≡ p) (λ s. going (long_n n s)) result }
