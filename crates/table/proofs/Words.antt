@@ -1,8 +1,13 @@
 -- What the code's tests of a record's words say of the record.
-use Rattle.std.proofs.Common.{◌≡◌, ◌≢◌, ◌∙◌, ℕ, ◌+◌, ◌*◌, List, Bool, get_or, drop, sym}
-use Rattle.value.specs.Shape.{kind_in}
+use Rattle.std.proofs.Common.{◌<◌, ◌≡◌, ◌≢◌, ◌∙◌, ℕ, ◌+◌, ◌*◌, List, Bool, get_or, drop, sym}
+use Rattle.std.proofs.Common.{true, false, refl, eq-eqb, eqb-true, arith}
+use Rattle.std.proofs.Math.Dec.{eqb}
+use Rattle.std.proofs.lemmas.Bool.{eqb-false}
+use borrow.Author.Tests.{ne_eqb, lt-ltb}
+use Rattle.value.specs.Shape.{kind_in, holding}
 use Rattle.value.specs.Stands.{word_at}
-use Rattle.table.specs.Record.{right0, right1, span_of}
+use Rattle.table.specs.Record.{right0, right1, right2, right3, span_of}
+use Rattle.table.specs.Check.{sizes_right}
 use Rattle.table.specs.Names.{names_right}
 use Rattle.table.specs.Sound.{first_word}
 
@@ -25,3 +30,29 @@ module _ (w : List ℕ) (i : ℕ) where
 
   pub names_at : (p : ℕ) (t : List ℕ) {r : Bool} → r ≡ names_right (kind_in (get_or w (4 * i) 0)) (get_or w (4 * i + 2) 0) (drop p t) → r ≡ names_right (kind_in (word_at w i 0)) (word_at w i 2) (drop p t)
   names_at p t e = rw (first_word w i) at e
+
+-- words 2 and 3 of a record with nothing in it
+module _ (w : List ℕ) (i : ℕ) {z : ℕ} (e : z ≡ right2 (kind_in (get_or w (4 * i) 0)) (get_or w (4 * i + 2) 0) 1) where
+  second_at : z ≡ right2 (kind_in (word_at w i 0)) (word_at w i 2) 1
+  second_at = rw (first_word w i) at e
+
+  pub sizes_second : word_at w i 2 ≢ z → false ≡ sizes_right w i 1
+  unfolding sizes_right
+  sizes_second h = rw (← second_at, ne_eqb _ _ h)
+
+  module _ (few : kind_in (word_at w i 0) < 12) where
+    pub sizes_third : word_at w i 2 ≡ z → word_at w i 3 ≢ 0 → false ≡ sizes_right w i 1
+    unfolding sizes_right right3
+    sizes_third h q = rw (← second_at, eq-eqb _ _ h, lt-ltb _ 12 few, ne_eqb _ _ q)
+
+    pub sizes_both : word_at w i 2 ≡ z → word_at w i 3 ≡ 0 → true ≡ sizes_right w i 1
+    unfolding sizes_right right3
+    sizes_both h q = rw (← second_at, eq-eqb _ _ h, lt-ltb _ 12 few, eq-eqb _ _ q)
+
+-- nothing is in a Global or a scalar, and they stand before an Object
+pub leaf_kind : (k : ℕ) → k < 13 → holding k ≡ false → k < 12
+leaf_kind k h e = go (eqb k 12) refl
+  where
+    go : (b : Bool) → eqb k 12 ≡ b → k < 12
+    go true q = let r = eqb-true k 12 q in absurd (let z : ◌≡◌ {A = ℕ} 0 1 = (let y : holding 12 ≡ false = rw r at e in cc) in omega arith)
+    go false q = let r = eqb-false k 12 q in omega arith

@@ -285,7 +285,11 @@ fn leaf(words: &[u64], text: &[u8], i: usize, at: usize) -> Option<(usize, usize
         return None;
     }
     let long = span(a, c);
-    if long > (text.len() - at) as u64 || !named(a, c, text, at) || !sized(words, i, 1) {
+    if long > (text.len() - at) as u64 || !named(a, c, text, at) {
+        return None;
+    }
+    // Only an Object's word 3 is not 0, and it has arguments.
+    if c != word2(a, c, 1) || words[4 * i + 3] != 0 {
         return None;
     }
     Some((i + 1, at + long as usize))

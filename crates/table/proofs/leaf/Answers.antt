@@ -5,9 +5,9 @@ use Rattle.value.specs.Stands.{word_at, arity_at}
 use Rattle.table.specs.Record.{right0, right1, span_of}
 use Rattle.table.specs.Names.{names_right}
 use Rattle.table.specs.Check.{Lent, Header, is_bad, wrong_first, wrong_second, wrong_span, wrong_names, header, leaf-ended}
-use Rattle.table.proofs.Words.{word0_right, word0_wrong, word1_right, word1_wrong, span_at, names_at}
+use Rattle.table.proofs.Words.{word0_right, word0_wrong, word1_right, word1_wrong, span_at, names_at, sizes_second, sizes_third, sizes_both, leaf_kind}
 use Rattle.table.proofs.leaf.Goals as goal
-use Rattle.table.proofs.leaf.Goals.{then-a-word0-via-then-a-word0, then-a-word0-via-else-a-word0+then-b-word1, then-long-text-via-then-long-text, then-long-text-via-else-long-text+then-not-named, then-long-text-via-else-long-text+else-not-named+then-not-sized}
+use Rattle.table.proofs.leaf.Goals.{then-a-word0-via-then-a-word0, then-a-word0-via-else-a-word0+then-b-word1, then-long-text-via-then-long-text, then-long-text-via-else-long-text+then-not-named, then-c-word2-via-then-c-word2, then-c-word2-via-else-c-word2+then-words-i-ne0}
 
 none_in : (w : List ℕ) (i : ℕ) → holding (kind_in (word_at w i 0)) ≡ false → arity_at w i ≡ 0
 unfolding arity_at
@@ -38,8 +38,19 @@ returns-then-long-text c n k lent lt some =
       | then-long-text-via-then-long-text x ↦ is_bad _ (wrong_span _ n _ lent i _ c.requires.at_in_bounds first second (omega arith) k)
       | then-long-text-via-else-long-text+then-not-named x ↦
           is_bad _ (wrong_names _ n _ lent i _ c.requires.at_in_bounds first second (omega arith) (sym (names_at w i c.args.at c.args.text.now x.named.ensures) ∙ x.if-not-named.true) k)
-      | then-long-text-via-else-long-text+else-not-named+then-not-sized x ↦
-          leaf-ended _ n _ _ _ _ (headed w c.args.text.now i c.args.at _ n lent lt c.requires.at_in_bounds c.requires.holds_none first second s (omega arith) (sym (names_at w i c.args.at c.args.text.now x.named.ensures) ∙ x.if-not-named.false)) c.requires.holds_none k some false (sym (x.if-not-sized.true) ∙ x.sized.ensures)
+    ]
+
+pub returns-then-c-word2 : goal.returns-then-c-word2
+returns-then-c-word2 c n k lent lt some =
+    let w = c.args.words.now in
+    let i = c.args.i in
+    let s = span_at w i c.span-long.ensures in
+    let first = word0_right w i c.word0.ensures c.if-a-word0.false in
+    let second = word1_right w i c.args.at c.word1.ensures c.if-b-word1.false in
+    let h = headed w c.args.text.now i c.args.at _ n lent lt c.requires.at_in_bounds c.requires.holds_none first second s (omega arith) (sym (names_at w i c.args.at c.args.text.now c.named.ensures) ∙ c.if-not-named.false) in
+    elim c.then-c-word2.branch [
+      | then-c-word2-via-then-c-word2 x ↦ leaf-ended _ n _ _ _ _ h c.requires.holds_none k some false (sizes_second w i c.word2.ensures x.if-c-word2.true)
+      | then-c-word2-via-else-c-word2+then-words-i-ne0 x ↦ leaf-ended _ n _ _ _ _ h c.requires.holds_none k some false (sizes_third w i c.word2.ensures (leaf_kind _ h.known c.requires.holds_none) x.if-c-word2.false x.if-words-i-ne0.true)
     ]
 
 pub returns : goal.returns
@@ -49,4 +60,5 @@ returns c n k lent lt some =
     let s = span_at w i c.span-long.ensures in
     let first = word0_right w i c.word0.ensures c.if-a-word0.false in
     let second = word1_right w i c.args.at c.word1.ensures c.if-b-word1.false in
-    leaf-ended _ n _ _ _ _ (headed w c.args.text.now i c.args.at _ n lent lt c.requires.at_in_bounds c.requires.holds_none first second s (omega arith) (sym (names_at w i c.args.at c.args.text.now c.named.ensures) ∙ c.if-not-named.false)) c.requires.holds_none k some true (sym (c.if-not-sized.false) ∙ c.sized.ensures)
+    let h = headed w c.args.text.now i c.args.at _ n lent lt c.requires.at_in_bounds c.requires.holds_none first second s (omega arith) (sym (names_at w i c.args.at c.args.text.now c.named.ensures) ∙ c.if-not-named.false) in
+    leaf-ended _ n _ _ _ _ h c.requires.holds_none k some true (sizes_both w i c.word2.ensures (leaf_kind _ h.known c.requires.holds_none) c.if-c-word2.false c.if-words-i-ne0.false)
