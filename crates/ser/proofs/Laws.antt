@@ -3,7 +3,6 @@ use Prim.Native.Nat.{ℕ, suc, zero, ◌+◌, ◌-◌, ◌*◌, ◌^◌, ◌/◌
 use mathlib.Core.Bool.{Bool, true, false, not}
 use mathlib.Core.List.{List, [], ◌∷◌, ◌++◌}
 use mathlib.Core.Path.{◌≡◌, refl, sym, ◌∙◌, ap}
-use native.Mathlib.Nat.{add-zero}
 use Rattle.std.proofs.Math.Nat.{div-div-eq-div-mul, mul_comm, pow-suc}
 use Rattle.std.specs.Int.{w64, to_le_bytes, to_be_bytes, bytes_low_first, bytes_high_first}
 use Rattle.std.specs.List.{ends_with, list_any}
@@ -14,14 +13,10 @@ use native.Mathlib.Omega.{arith}
 use mathlib.Core.Logic.{◌≢◌}
 use lib.Dec.{eqb, ltb}
 use borrow.Author.Tests.{le-leb, lt-leb, ne_eqb}
-use lib.ListN.{length, get_or, take, drop}
-use lib.Seq.{drop-drop}
+use lib.ListN.{length, take, drop}
 use Rattle.op.specs.Table.{code_of, number_in, is_named, place}
 use Rattle.input.specs.Bytes.{last_byte}
 use Rattle.value.specs.Value.{bit}
-use Rattle.value.specs.declared.Head.{Head}
-use Rattle.value.specs.Shape.{kind_in, head_of, module_part, name_part}
-use Rattle.value.specs.Stands.{word_at}
 use Rattle.output.specs.Decimal.{signed_text, either_way}
 use Rattle.output.specs.Put.{newline_byte}
 use Rattle.ser.specs.Image.{low, high, in_i32, int_image, float_image, bytes_image, string_image, global_image, builtin, set_opening, joined, list_batch, dict_batch, one_batch, batches_up_to, batches, items_image, tuple_opcode, tuple_mark, tuple_image, object_opcode, state_image, object_image, framed}
@@ -119,9 +114,6 @@ pub set_parts : (k : List ℕ) → set_opening k ≡ global_image builtin k ++ (
 unfolding set_opening numbers
 set_parts k = refl
 
-pub names-global : (t : List ℕ) (p c : ℕ) (m k : List ℕ) → m ≡ take (c / 2 ^ 32) (drop p t) → k ≡ take (c % 2 ^ 32) (drop (p + c / 2 ^ 32) t) → global_image m k ≡ global_image (module_part c (drop p t)) (name_part c (drop p t))
-names-global t p c m k e f = rw (e, f, drop-drop (c / 2 ^ 32) p t)
-
 -- ---- names that can be read back: no newline, and the last byte
 
 no_newline : (s : List ℕ) → list_any (λ y. eqb y 0x0A) s ≡ has_newline s
@@ -150,9 +142,6 @@ unfolding writable
 name_writable s e f z = rw (← no_newline s, ← cr_last s, ← e, ← f, z)
 
 -- ---- the length
-
-pub head_kind : (w : List ℕ) (i : ℕ) (h : Head) → h ≡ head_of (get_or w (4 * i) 0) → kind_in (word_at w i 0) ≡ h.kind
-head_kind w i h q = rw (add-zero, q)
 
 pub appends_few : (n : ℕ) → n ≤ 2048 → appends_take n < 4096
 unfolding appends_take batches_take
