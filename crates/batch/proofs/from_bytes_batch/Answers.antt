@@ -17,8 +17,9 @@ returns-then-is_short-lengths-clause-call c =
 pub returns-then-not-add_up-clause-call : goal.returns-then-not-add_up-clause-call
 returns-then-not-add_up-clause-call c =
     let a = c.args in
-    batch_bad a.sheets.now a.lengths.now a.answers.now (slices_of a.lent.now) (tested a.sheets.now _ _ _ _ _ c.is_short.ensures c.if-is_short-lengths.false)
-    (sym c.add_up.ensures ∙ c.if-not-add_up.true)
+    rw c.refused-then-not-add_up.ensures
+    (batch_bad a.sheets.now a.lengths.now a.answers.now (slices_of a.lent.now) (tested a.sheets.now _ _ _ _ _ c.is_short.ensures c.if-is_short-lengths.false)
+    (sym c.add_up.ensures ∙ c.if-not-add_up.true))
 
 pub clear-requires : goal.clear-requires
 clear-requires c =
