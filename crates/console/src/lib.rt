@@ -16,9 +16,9 @@ pub fn edition(rt: &impl Env) -> Edition {
     }
 }
 
-// The first n bytes, or all where there are fewer.
-pub fn first(bytes: &[u8], n: usize) -> &[u8] {
-    &bytes[..n.min(bytes.len())]
+// The first n of these, or all where there are fewer.
+pub fn first<T>(slice: &[T], n: usize) -> &[T] {
+    &slice[..n.min(slice.len())]
 }
 
 pub fn tab() {
@@ -36,4 +36,14 @@ pub fn show_refusal(number: u64, detail: u64) {
 // The line of a refusal that the program itself meets.
 pub fn refuse(why: Refusal) {
     show_refusal(refusal::number(why), refusal::detail(why));
+}
+
+// Numbers side by side, each in so many hex digits.
+pub fn show_hex<T: Copy>(numbers: &[T], width: usize)
+where
+    u64: From<T>,
+{
+    for number in numbers {
+        io::print_hex(1, u64::from(*number), width);
+    }
 }

@@ -2,17 +2,11 @@
 // each a line says what the leaves read. The file stdout holds the Rust's answers.
 #![tactic(auto)]
 
-fn tab() {
-    io::write_all(1, b"\t");
-}
-
 fn show_text(text: &[u8]) {
     if text.is_empty() {
         io::write_all(1, b"-");
     }
-    for byte in text {
-        io::print_hex(1, *byte as u64, 2);
-    }
+    console::show_hex(text, 2);
 }
 
 fn show(pickle: &[u8], room: &mut [u8]) {
@@ -20,18 +14,18 @@ fn show(pickle: &[u8], room: &mut [u8]) {
     if found.number != 0 {
         io::write_all(1, b"refused\t");
         io::print_decimal(1, found.number);
-        tab();
+        console::tab();
         io::print_decimal(1, found.detail);
         io::write_all(1, b"\n");
         return;
     }
     io::write_all(1, b"value\t");
     io::print_decimal(1, found.length);
-    tab();
+    console::tab();
     io::print_decimal(1, found.kind);
-    tab();
+    console::tab();
     io::print_hex(1, found.word, 16);
-    tab();
+    console::tab();
     let n = found.text as usize;
     if n <= room.len() {
         show_text(&room[..n]);

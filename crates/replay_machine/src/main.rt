@@ -12,10 +12,6 @@ use machine::{Outcome, Step, take_step};
 use op::Edition;
 use store::Counts;
 
-fn blank() {
-    io::write_all(1, b" ");
-}
-
 // Place and links; stack, marks, memo and nodes.
 fn show_step(c: Counts)
     requires { CountsInRange c }
@@ -71,20 +67,6 @@ fn steps(
     }
 }
 
-// The first n words.
-fn show_words(words: &[u64], n: usize) {
-    for word in words.iter().take(n) {
-        io::print_hex(1, *word, 16);
-    }
-}
-
-// The first n numbers.
-fn show_numbers(numbers: &[u16], n: usize) {
-    for number in numbers.iter().take(n) {
-        io::print_hex(1, *number as u64, 4);
-    }
-}
-
 // What the machine does with a pickle, in a line.
 fn show(
     pickle: &[u8],
@@ -108,7 +90,7 @@ fn show(
 fn show_refusal(number: u64, detail: u64) {
     io::write_all(1, b" refused ");
     io::print_decimal(1, number);
-    blank();
+    io::write_all(1, b" ");
     io::print_decimal(1, detail);
     io::write_all(1, b"\n");
 }
@@ -117,15 +99,15 @@ fn show_stop(nodes: &[u64], owners: &[u16], children: &[u16], stack: &[u16], c: 
     io::write_all(1, b" stopped ");
     io::print_decimal(1, c.at as u64);
     io::write_all(1, b" s");
-    show_numbers(stack, c.stack);
+    console::show_hex(console::first(stack, c.stack), 4);
     io::write_all(1, b" n");
     if c.nodes <= 4096 {
-        show_words(nodes, 2 * c.nodes);
+        console::show_hex(console::first(nodes, 2 * c.nodes), 16);
     }
     io::write_all(1, b" o");
-    show_numbers(owners, c.links);
+    console::show_hex(console::first(owners, c.links), 4);
     io::write_all(1, b" c");
-    show_numbers(children, c.links);
+    console::show_hex(console::first(children, c.links), 4);
     io::write_all(1, b"\n");
 }
 

@@ -27,20 +27,6 @@ fn show_spilled<T: PartialEq + Copy>(output: &[T], filled: usize, mark: T) {
     }
 }
 
-// The first n words.
-fn show_words(words: &[u64], n: usize) {
-    for word in words.iter().take(n) {
-        io::print_hex(1, *word, 16);
-    }
-}
-
-// The first n bytes.
-fn show_bytes(bytes: &[u8], n: usize) {
-    for byte in bytes.iter().take(n) {
-        io::print_hex(1, *byte as u64, 2);
-    }
-}
-
 // The words of so many records, of which a table has 2,048 at most.
 fn words_in(count: u64) -> usize {
     4 * count.min(2048) as usize
@@ -59,9 +45,9 @@ fn show(answer: Answer, table: &[u64], text: &[u8], mark: u8, mark64: u64) {
     let bytes = table::text_len(table, answer.count as usize);
     if answer.number == 0 {
         console::tab();
-        show_words(table, words);
+        console::show_hex(console::first(table, words), 16);
         console::tab();
-        show_bytes(text, bytes);
+        console::show_hex(console::first(text, bytes), 2);
     }
     show_spilled(table, words, mark64);
     show_spilled(text, bytes, mark);

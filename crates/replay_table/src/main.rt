@@ -54,15 +54,11 @@ struct Table<'a> {
     text: &'a [u8],
 }
 
-fn tab() {
-    io::write_all(1, b"\t");
-}
-
 fn show_compare(compared: Compared) {
     io::print_decimal(1, compared.number);
-    tab();
+    console::tab();
     io::print_decimal(1, compared.detail);
-    tab();
+    console::tab();
     match compared.sign.cmp(&0) {
         Ordering::Less => io::write_all(1, b"-1"),
         Ordering::Equal => io::write_all(1, b"0"),
@@ -82,13 +78,13 @@ fn changed(output: &[u8]) -> usize {
 // The answer of a call that has filled an output with the mark in it, and what it filled.
 fn show_filled(answer: Answer, output: &[u8]) {
     io::print_decimal(1, answer.number);
-    tab();
+    console::tab();
     io::print_decimal(1, answer.detail);
-    tab();
+    console::tab();
     io::print_decimal(1, answer.length);
-    tab();
+    console::tab();
     io::print_decimal(1, answer.count);
-    tab();
+    console::tab();
     let n = answer.length as usize;
     io::print_decimal(1, changed(&output[n.min(output.len())..]) as u64);
     io::write_all(1, b"\n");
@@ -112,11 +108,11 @@ fn show_write(table: Table<'_>, output: &mut [u8]) {
 fn show_score(table: Table<'_>) {
     let scored = scorer::score(table.words, table.count, table.text);
     io::print_decimal(1, scored.number);
-    tab();
+    console::tab();
     io::print_decimal(1, scored.detail);
-    tab();
+    console::tab();
     io::print_decimal(1, scored.score);
-    tab();
+    console::tab();
     io::print_decimal(1, scored.items);
     io::write_all(1, b"\n");
 }
