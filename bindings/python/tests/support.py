@@ -70,7 +70,7 @@ def stored_refusals():
 
 
 def numbered_refusals():
-    """Number to name, from the arms of `number` in the source of crate refusal."""
+    """Number to name, from the arms of `number_of` in the source of crate refusal."""
     with open(os.path.join(ROOT, "crates", "refusal", "src", "lib.rt"), encoding="utf-8") as file:
-        body = re.search(r"pub fn number\(.*?\n\}", file.read(), re.DOTALL).group(0)
-    return {int(number): name for name, number in re.findall(r"Refusal::(\w+)(?:\(_\))? => (\d+),", body)}
+        body = re.search(r"^fn number_of\(.*?\n\}", file.read(), re.DOTALL | re.MULTILINE).group(0)
+    return {int(number): name for name, number in re.findall(r"Refusal::(\w+)(?:\(\w+\))? => \((\d+), ", body)}

@@ -362,18 +362,19 @@ fn names_of_errors() {
 
 const REFUSAL: &str = include_str!("../../../../crates/refusal/src/lib.rt");
 
-/// The number of a refusal in the source of crate refusal, where numbers stand before details.
+/// The number of a refusal in the source of crate refusal, where it stands before the detail.
 fn number_of(name: &str) -> u64 {
     let case = format!("Refusal::{name}");
     let arm = REFUSAL.lines().find(|line| line.trim().split(['(', ' ']).next() == Some(&case)).unwrap();
-    arm.rsplit_once(" => ").unwrap().1.trim_end_matches(',').parse().unwrap()
+    let (_, pair) = arm.split_once(" => (").unwrap();
+    pair.split(',').next().unwrap().parse().unwrap()
 }
 
 /// The names of an enum's cases in the source of crate refusal.
 fn cases_of(name: &str) -> impl Iterator<Item = &'static str> {
     let (_, body) = REFUSAL.split_once(&format!("pub enum {name} {{\n")).unwrap();
     let (body, _) = body.split_once("\n}").unwrap();
-    body.lines().map(|line| line.trim().split(['(', ',']).next().unwrap())
+    body.lines().map(|line| line.trim().split(['(', ',', ' ']).next().unwrap())
 }
 
 fn example() {
