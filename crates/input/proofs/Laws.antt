@@ -1,22 +1,21 @@
 -- What each turn of a loop and each way out says of the definitions. Assumes nothing.
 use mathlib.Core.Path.{◌≡◌, refl, sym, ap, ◌∙◌}
-use mathlib.Core.Logic.{⊎_elim}
 use mathlib.Core.Bool.{Bool, true, false, cond, ◌&&◌, beq}
 use mathlib.Core.List.{List, [], ◌∷◌}
 use Prim.Native.Nat.{ℕ, zero, suc, ◌+◌, ◌-◌, ◌*◌, ◌^◌, ◌<◌, ◌≤◌}
 use native.Mathlib.Nat.{pow-suc, pow-le-pow_right}
 use native.Mathlib.Numerals.{add-one}
 use native.Mathlib.Omega.{arith}
-use Rattle.std.specs.Prelude.{Option, Some, None, MatchOption}
-use Rattle.std.specs.List.{list_all, AllWithin, HoldsAt}
+use Rattle.std.specs.List.{list_all}
 use lib.Dec.{eqb, ltb}
-use lib.ListN.{get_or-eq_default, length, get_or, take, drop, length-take, length-drop, drop_of_length-le}
+use borrow.Author.Tests.{eq-eqb, ne_eqb}
+use lib.ListN.{length, get_or, take, drop, length-take, length-drop, drop_of_length-le}
 use Rattle.std.specs.Int.{from_le_bytes, from_be_bytes, w16, w32, w64}
 use lib.Seq.{drop-cons, take_all}
 use Rattle.refusal.specs.Read.{got, refused}
 use Rattle.refusal.specs.declared.Refusal.TheVariants.{EndOfInput, IntegerTooLarge}
-use Rattle.input.specs.Bytes.{lt_or_le, Bytes, bytes_take, bytes_drop, low_first, high_first, last_byte, padded_to, filled-same, filled-length, filled_at}
-use Rattle.input.specs.Line.{first_from, newline_of, of_hit, of_none}
+use Rattle.input.specs.Bytes.{Bytes, bytes_take, bytes_drop, low_first, high_first, last_byte, padded_to, filled-same, filled-length, filled_at}
+use Rattle.input.specs.Line.{first_from, newline_of}
 use Rattle.input.specs.Long.{denotes, bits64, long_of}
 use Rattle.input.specs.Rule01.{all_are, fill_of, sign_filled, rule01, long_by01, word-short, long_is_01}
 
@@ -30,26 +29,19 @@ pub all-none : (x n : ℕ) (l : List ℕ) → length l ≤ n → all_are x (drop
 unfolding all_are
 all-none x n l h = simp (drop_of_length-le l h)
 
-pub newline_past : (p : List ℕ) (from : ℕ) → length p < from → newline_of p from ≡ refused EndOfInput 0
-unfolding newline_of first_from
-newline_past p from h = let k : length p ≤ from = omega arith in simp (drop_of_length-le p k)
+-- the loop of `newline`: at the end, at a newline, at any other byte
+module _ (p : List ℕ) (i : ℕ) where
+  pub newline_end : length p ≤ i → newline_of p i ≡ refused EndOfInput 0
+  unfolding first_from newline_of
+  newline_end h = simp (drop_of_length-le p h)
 
--- r is the first newline of l
-abbrev pub Finds : List ℕ → Option ℕ → Type 0
-Finds l r = MatchOption r (AllWithin (λ b. b ≡ 10 → ⊥) l 0 (length l)) (λ i. (i < length l) × HoldsAt (λ b. b ≡ 10) l i × AllWithin (λ b. b ≡ 10 → ⊥) l 0 i)
+  pub newline_hit : i < length p → get_or p i 0 ≡ 10 → newline_of p i ≡ got i
+  unfolding first_from newline_of
+  newline_hit h e = simp (drop-cons p i 0 h, eq-eqb _ _ e)
 
-module _ (p : List ℕ) (from : ℕ) (r : Option ℕ) (h : Finds (drop from p) r) where
-  pub newline_absent : r ≡ None → newline_of p from ≡ refused EndOfInput 0
-  unfolding newline_of
-  newline_absent e =
-      let f = rw e at h in
-      of_none (drop from p) from (λ j q. ⊎_elim (λ l. f j 0 (omega arith) l q) (λ l. let z : get_or (drop from p) j 0 ≡ 0 = get_or-eq_default (drop from p) 0 l in omega arith) (lt_or_le j (length (drop from p))))
-
-  pub newline_found : (n : ℕ) → r ≡ Some n → newline_of p from ≡ got (from + n)
-  unfolding newline_of
-  newline_found n e =
-      let f = rw e at h in
-      of_hit (drop from p) from n (record { inside = f.0; newline = f.1 0; before = λ k l. f.2 k 0 (omega arith) l })
+  pub newline_more : i < length p → (get_or p i 0 ≡ 10 → ⊥) → newline_of p (i + 1) ≡ newline_of p i
+  unfolding first_from newline_of
+  newline_more h e = simp (drop-cons p i 0 h, ne_eqb _ _ e, add-one)
 
 -- one more byte: the number stays below the next power, and in a u64
 pub grows : (k v b : ℕ) → v < 256 ^ k → b < 256 → v * 256 + b < 256 ^ (k + 1)

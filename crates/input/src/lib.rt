@@ -79,13 +79,17 @@ pub fn f64_at(pickle: &[u8], at: usize) -> u64
 pub fn newline(pickle: &[u8], from: usize) -> Result<usize, Refusal>
     ensures { answered result ≡ newline_of pickle.now from }
 {
-    if pickle.len() < from {
-        return Err(Refusal::EndOfInput);
-    }
-    match pickle[from..].iter().position(|b| *b == b'\n') {
-        Some(after) => Ok(from + after),
-        None => Err(Refusal::EndOfInput),
-    }
+    let mut i = from;
+    let at = loop {
+        if pickle.len() <= i {
+            return Err(Refusal::EndOfInput);
+        }
+        if pickle[i] == b'\n' {
+            break i;
+        }
+        i += 1;
+    };
+    Ok(at)
 }
 
 // The line from `from` to the newline at `at`, less one CR, as a part of the pickle.
