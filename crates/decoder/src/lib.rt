@@ -118,8 +118,9 @@ pub fn long(pickle: &[u8], c: Counts) -> Result<Effect, Refusal>
     Ok(Effect::Push(Counts { at, ..c }, value::KIND_I64, v))
 }
 
-// The place behind the integer of a LONG1 or LONG4, and the integer. Bytes that are missing come before an integer that is too large. It
-// takes the place, not the counts: where the compiler makes a call of it, they stay in registers.
+// The place behind the integer of a LONG1 or LONG4, and the integer. Bytes that are missing come before an integer that is too large. Inlined:
+// a refusal that comes out of a call is copied as a whole word over an effect's tag, and then no arm of `decide` goes straight to its effect.
+#[inline(always)]
 pub fn long_at(pickle: &[u8], at: usize, width: usize) -> Result<(usize, u64), Refusal>
     requires { (at ≤ length pickle.now) × (width ≤ 8) }
     ensures { ReadsLong width at pickle.now result }
@@ -506,6 +507,8 @@ fn key_low(pickle: &[u8], c: Counts, width: usize) -> Result<(usize, MemoKey), R
     Ok((c.at + width, MemoKey(low_at(pickle, c.at, width) as u32)))
 }
 
+// Inlined, as `long_at` is.
+#[inline(always)]
 fn key_by(pickle: &[u8], c: Counts, form: KeyForm) -> Result<(usize, MemoKey), Refusal>
     requires { c.at ≤ length pickle.now }
     ensures { ReadsKey (key_by form) c pickle.now result }

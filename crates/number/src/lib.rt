@@ -152,7 +152,8 @@ fn integer(text: &[u8]) -> Result<u64, Refusal>
     }
 }
 
-// `parse::<i64>`, of any line.
+// `parse::<i64>`, of any line. Inlined, so that the machine has the refusal itself and not a copy of it (decoder's `long_at`).
+#[inline(always)]
 fn parse_i64(line: &[u8]) -> Result<u64, Refusal>
     ensures { answered result ≡ turned bits64 (parse_i64 line.now) }
 {
