@@ -1,5 +1,5 @@
 -- The numbers 1, 2 and 11 of the two public readings, exactly: 1 where a slice is short; where none is, 2 for a pickle over the limit, and
--- 11, of the whole reading alone, where the prefix reading succeeds and leaves bytes.
+-- 11, of the whole reading alone, where the prefix reading succeeds and leaves bytes. Never 23 or 24, which are the batch's and the score's.
 use Rattle.std.specs.Prelude.{ℕ, ◌<◌, Bool, true, false, cond, List, ◌↔◌, ◌≡◌, refl, length}
 use mathlib.Core.Logic as Logic
 use Rattle.std.proofs.Common.{sym, ◌∙◌, ap, arith}
@@ -9,7 +9,7 @@ use Rattle.reading.specs.Reading.{Reading, pickle_limit, prefix_in, whole_in}
 use Rattle.rooms.specs.Stated.{Slices, stated, short}
 use Rattle.de.specs.Call.{Left, reading, ReadCall}
 use Rattle.run_laws.specs.Numbers.{LeavesBytes}
-use Rattle.run_laws.proofs.Numbers.{prefix_two, prefix_never_one, prefix_never_eleven, whole_two, whole_eleven, whole_never_one}
+use Rattle.run_laws.proofs.Numbers.{prefix_two, prefix_never_one, prefix_never_eleven, prefix_never_lengths, prefix_never_shape, whole_two, whole_eleven, whole_never_one, whole_never_lengths, whole_never_shape}
 
 number_of : (b : Bool) (x y : Left) → (cond b x y).answer.number ≡ cond b x.answer.number y.answer.number
 number_of true x y = refl
@@ -38,6 +38,10 @@ module _ (x : Reading) (l l' : Slices) (a : Answer) (c : ReadCall x l l' a) wher
   call_other : (k : ℕ) → ¬ (k ≡ 1) → (Rule : Type 0) → (x.answer.number ≡ k) ↔ Rule → (a.number ≡ k) ↔ ((short stated l ≡ false) × Rule)
   call_other k h Rule r = Logic.Iff.trans (is_other (short stated l) x.answer.number a.number (answered x l l' a c) k h) (Logic.Iff.and Logic.Iff.rfl r)
 
+  -- nor has the call one that is never the reading's
+  call_never : (k : ℕ) → ¬ (k ≡ 1) → ¬ (x.answer.number ≡ k) → ¬ (a.number ≡ k)
+  call_never k o h e = h ((is_other (short stated l) x.answer.number a.number (answered x l l' a c) k o).0 e).1
+
 -- ---- the two calls, in any edition
 
 module _ (ed : Edition) (p : List ℕ) (l l' : Slices) (a : Answer) (c : ReadCall (prefix_in ed p) l l' a) where
@@ -48,7 +52,13 @@ module _ (ed : Edition) (p : List ℕ) (l l' : Slices) (a : Answer) (c : ReadCal
   prefix_call_two = call_other (prefix_in ed p) l l' a c 2 (λ q. omega arith) (pickle_limit < length p) (prefix_two ed p)
 
   pub prefix_call_never_eleven : ¬ (a.number ≡ 11)
-  prefix_call_never_eleven e = prefix_never_eleven ed p ((is_other (short stated l) (prefix_in ed p).answer.number a.number (answered (prefix_in ed p) l l' a c) 11 (λ q. omega arith)).0 e).1
+  prefix_call_never_eleven = call_never (prefix_in ed p) l l' a c 11 (λ q. omega arith) (prefix_never_eleven ed p)
+
+  pub prefix_call_never_lengths : ¬ (a.number ≡ 23)
+  prefix_call_never_lengths = call_never (prefix_in ed p) l l' a c 23 (λ q. omega arith) (prefix_never_lengths ed p)
+
+  pub prefix_call_never_shape : ¬ (a.number ≡ 24)
+  prefix_call_never_shape = call_never (prefix_in ed p) l l' a c 24 (λ q. omega arith) (prefix_never_shape ed p)
 
 module _ (ed : Edition) (p : List ℕ) (l l' : Slices) (a : Answer) (c : ReadCall (whole_in ed p) l l' a) where
   pub whole-call_one : (a.number ≡ 1) ↔ (short stated l ≡ true)
@@ -59,3 +69,9 @@ module _ (ed : Edition) (p : List ℕ) (l l' : Slices) (a : Answer) (c : ReadCal
 
   pub whole_call_eleven : (a.number ≡ 11) ↔ ((short stated l ≡ false) × LeavesBytes ed p)
   whole_call_eleven = call_other (whole_in ed p) l l' a c 11 (λ q. omega arith) (LeavesBytes ed p) (whole_eleven ed p)
+
+  pub whole_call_never_lengths : ¬ (a.number ≡ 23)
+  whole_call_never_lengths = call_never (whole_in ed p) l l' a c 23 (λ q. omega arith) (whole_never_lengths ed p)
+
+  pub whole_call_never_shape : ¬ (a.number ≡ 24)
+  whole_call_never_shape = call_never (whole_in ed p) l l' a c 24 (λ q. omega arith) (whole_never_shape ed p)

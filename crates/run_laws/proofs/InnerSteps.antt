@@ -1,4 +1,4 @@
--- No opcode, no step, no run and no measure of a tree refuses with 1, 2 or 11.
+-- No opcode, no step, no run and no measure of a tree refuses with 1, 2, 11, 23 or 24.
 use Rattle.std.specs.Prelude.{ℕ, suc, zero, Bool, true, false, cond, Some, None, List, [], ◌∷◌, ◌≡◌, refl, eqb, ℤ, pos, negsuc}
 use Rattle.std.proofs.Math.Option.{Option, none, some}
 use Rattle.refusal.specs.Read.{Read, got, refused}

@@ -1,5 +1,5 @@
 -- The numbers 1, 2 and 11 of the two readings in any edition, exactly: 2 for a pickle over the limit; 11, of the whole reading alone, where the prefix
--- reading succeeds and leaves bytes; never 1.
+-- reading succeeds and leaves bytes; never 1, and never 23 or 24.
 use Rattle.std.specs.Prelude.{ℕ, ◌<◌, ◌≤◌, Bool, true, false, not, List, ◌↔◌, ◌≡◌, refl, length, T, leb}
 use Rattle.std.proofs.Common.{sym, ◌∙◌, ap, arith, le-leb, leb-true, leb-false, lt-ltb, ltb-true, eq-eqb, eqb-true}
 use Rattle.refusal.specs.declared.Refusal.{Refusal}
@@ -16,7 +16,7 @@ use Rattle.run_laws.proofs.InnerSteps.{inner-joined, fine, pop_inner, run_inner,
 use Rattle.run_laws.specs.InnerSteps.{InnerOnly}
 use Rattle.run_laws.specs.Numbers.{LeavesBytes}
 
--- the number of a reading is none of the three
+-- the number of a reading is none of these
 abbrev InnerNumber : Reading → Type 0
 InnerNumber r = T (not (outer r.answer.number))
 
@@ -38,7 +38,7 @@ stopped-inner : (ed : Edition) (p : List ℕ) → length p ≤ pickle_limit → 
 unfolding stopped
 stopped-inner ed p h = passed _ TooLong _ (le-leb (length p) pickle_limit h) (inner-joined _ _ (run_inner ed p) λ s. inner-joined _ _ (pop_inner s) λ q. fine _)
 
--- within the limit no reading up to STOP has one of the three
+-- within the limit no reading up to STOP has one of these
 prefix-inner : (ed : Edition) (p : List ℕ) → length p ≤ pickle_limit → InnerNumber (prefix_in ed p)
 unfolding prefix_in InnerOnly
 prefix-inner ed p l = go (stopped ed p) refl (stopped-inner ed p l)
@@ -47,7 +47,7 @@ prefix-inner ed p l = go (stopped ed p) refl (stopped-inner ed p l)
     go (no why) e h = rw (e, prefix_in) h
     go (ok x) e h = rw (e, prefix_in) (told-inner (consumed p x.0) (one (tree x.0.nodes x.1)))
 
--- so a number that is one of the three is another reading's
+-- so a number that is one of these is another reading's
 not_inner : (r : Reading) (n : ℕ) → T (outer n) → InnerNumber r → r.answer.number ≡ n → ⊥
 not_inner r n o h e = both (outer n) o (rw e at h)
   where
@@ -61,7 +61,7 @@ module _ (ed : Edition) (p : List ℕ) where
   too_long : pickle_limit < length p → (prefix_in ed p).answer.number ≡ 2
   too_long h = ap (λ (r : Reading). r.answer.number) (prefix_refused ed p TooLong (stopped-long ed p h))
 
-  -- one of the three means that the pickle is too long
+  -- one of these means that the pickle is too long
   prefix-outer : (n : ℕ) → T (outer n) → (prefix_in ed p).answer.number ≡ n → pickle_limit < length p
   prefix-outer n o e = go (leb (length p) pickle_limit) refl
     where
@@ -77,6 +77,13 @@ module _ (ed : Edition) (p : List ℕ) where
 
   pub prefix_never_eleven : ¬ ((prefix_in ed p).answer.number ≡ 11)
   prefix_never_eleven e = let x = too_long (prefix-outer 11 tt e) in omega arith
+
+  -- BadLengths and SheetShape are no reading's
+  pub prefix_never_lengths : ¬ ((prefix_in ed p).answer.number ≡ 23)
+  prefix_never_lengths e = let x = too_long (prefix-outer 23 tt e) in omega arith
+
+  pub prefix_never_shape : ¬ ((prefix_in ed p).answer.number ≡ 24)
+  prefix_never_shape e = let x = too_long (prefix-outer 24 tt e) in omega arith
 
 -- ---- the whole reading
 
@@ -116,3 +123,9 @@ module _ (ed : Edition) (p : List ℕ) where
 
   pub whole_never_one : ¬ ((whole_in ed p).answer.number ≡ 1)
   whole_never_one e = prefix_never_one ed p (by_prefix 1 (λ q. omega arith) e)
+
+  pub whole_never_lengths : ¬ ((whole_in ed p).answer.number ≡ 23)
+  whole_never_lengths e = prefix_never_lengths ed p (by_prefix 23 (λ q. omega arith) e)
+
+  pub whole_never_shape : ¬ ((whole_in ed p).answer.number ≡ 24)
+  whole_never_shape e = prefix_never_shape ed p (by_prefix 24 (λ q. omega arith) e)

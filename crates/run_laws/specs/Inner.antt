@@ -1,4 +1,5 @@
--- The numbers 1, 2 and 11 are those of a whole call: a slice too short, a pickle too long, bytes left over. Here: no leaf refuses with one.
+-- The numbers 1, 2 and 11 are those of a whole call: a slice too short, a pickle too long, bytes left over; 23 is the batch's and 24 the score's
+-- own. Here: no leaf refuses with one.
 use Rattle.std.specs.Prelude.{Option, None, Some, ℕ, suc, zero, Bool, true, false, cond, not, ◌||◌, List, [], ◌∷◌, eqb, T}
 use Rattle.refusal.specs.Read.{Read, got, refused}
 use Rattle.refusal.specs.declared.Refusal.{Refusal}
@@ -15,7 +16,7 @@ use Rattle.text.specs.Pieces.{bytes_before, piece_then, texts}
 use Rattle.text.specs.Text.{has_quotes, unescape_string, unescape_unicode}
 
 abbrev pub outer : ℕ → Bool
-outer n = eqb n 1 || (eqb n 2 || eqb n 11)
+outer n = eqb n 1 || (eqb n 2 || (eqb n 11 || (eqb n 23 || eqb n 24)))
 
 -- a refusal with none of these numbers
 abbrev pub Inner : Refusal → Type 0

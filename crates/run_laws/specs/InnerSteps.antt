@@ -1,4 +1,4 @@
--- A result that is no refusal with 1, 2 or 11. That every opcode, step and run gives such a one is in proofs/InnerSteps.
+-- A result that is no refusal with 1, 2, 11, 23 or 24. That every opcode, step and run gives such a one is in proofs/InnerSteps.
 use Rattle.steps.specs.State.{Res, ok, no}
 use Rattle.run_laws.specs.Inner.{Inner}
 
