@@ -158,7 +158,7 @@ module _ (a s b t : List ℕ) (k l : ℕ) (v o : Ordering) where
           let e₂ = y.0.arity in
           record { reads₁ = x.0.reads; reads₂ = y.0.reads; arity₁ = omega arith; arity₂ = omega arith; more = omega arith }
 
-  left_less : (left : ℕ) → left ≢ 0 → StillToCompare a s b t k l left v o → labels (label_at a s k) (label_at b t l) ≡ Ordering.lt → Ordering.lt ≡ o
+  pub left_less : (left : ℕ) → left ≢ 0 → StillToCompare a s b t k l left v o → labels (label_at a s k) (label_at b t l) ≡ Ordering.lt → Ordering.lt ≡ o
   unfolding Stands count
   left_less left n h e = go h.first h.second h.stands₁ h.stands₂ h.count₁ h.count₂ h.same
     where
@@ -167,7 +167,7 @@ module _ (a s b t : List ℕ) (k l : ℕ) (v o : Ordering) where
       go (node m d r) nil x y p q w = absurd (n (sym q))
       go (node m d r) (node m' d' r') x y p q w = sym (step_less m m' d d' r r' v (sym (ap₂ labels x.0.label y.0.label) ∙ e)) ∙ w
 
-  left_greater : (left : ℕ) → left ≢ 0 → StillToCompare a s b t k l left v o → labels (label_at a s k) (label_at b t l) ≡ Ordering.gt → Ordering.gt ≡ o
+  pub left_greater : (left : ℕ) → left ≢ 0 → StillToCompare a s b t k l left v o → labels (label_at a s k) (label_at b t l) ≡ Ordering.gt → Ordering.gt ≡ o
   unfolding Stands count
   left_greater left n h e = go h.first h.second h.stands₁ h.stands₂ h.count₁ h.count₂ h.same
     where

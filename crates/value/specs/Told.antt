@@ -205,7 +205,7 @@ abbrev pub float_rank : ℕ → ℕ
 float_rank n = cond (ltb n (2 ^ 63)) (n + 2 ^ 63) (2 ^ 64 - 1 - n)
 
 -- what stands the other way round
-lex_turned : (f : ℕ → List ℕ) (x y : ℕ) → lex (f y) (f x) ≡ Ordering.gt → lex (f x) (f y) ≡ Ordering.lt
+pub lex_turned : (f : ℕ → List ℕ) (x y : ℕ) → lex (f y) (f x) ≡ Ordering.gt → lex (f x) (f y) ≡ Ordering.lt
 lex_turned f x y e = lex_swap (f y) (f x) ∙ ap swap e
 
 is_low : (n : ℕ) → (n < 2 ^ 63) ⊎ (2 ^ 63 ≤ n)
