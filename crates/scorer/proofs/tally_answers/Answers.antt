@@ -72,7 +72,7 @@ loop-preserved c =
     )
 
 pub returns-then-rest-gt0 : goal.returns-then-rest-gt0
-returns-then-rest-gt0 c t f g a b d e = sym (one_left (c.loop.invariant.0 t f g a b d e) (omega arith) c.if-rest-gt0.true)
+returns-then-rest-gt0 c t f g a b d e = sym (one_left (c.loop.invariant.0 t f g a b d e) (omega arith) (omega arith))
 
 pub returns : goal.returns
 returns c t f g a b d e = sym (all-answered (c.loop.invariant.0 t f g a b d e) (omega arith) (omega arith))
