@@ -86,9 +86,10 @@ fn int(line: &[u8], next: usize) -> Result<Literal, Fault> {
 
 // As many bytes of `from` as fit, at the start of the room.
 fn copy(from: &[u8], room: &mut [u8]) -> usize {
-    let n = from.len().min(room.len());
-    room[..n].copy_from_slice(&from[..n]);
-    n
+    for (to, byte) in room.iter_mut().zip(from) {
+        *to = *byte;
+    }
+    from.len().min(room.len())
 }
 
 fn string(line: &[u8], next: usize, room: &mut [u8]) -> Result<Literal, Fault> {

@@ -4,7 +4,7 @@
 // after one of these that succeeds its output follows.
 #![tactic(auto)]
 
-ghost use Rattle.std.specs.Prelude.{◌≡◌, ◌+◌, ◌*◌, ◌≤◌};
+ghost use Rattle.std.specs.Prelude.{◌≡◌, ◌+◌, ◌*◌, ◌≤◌, length};
 
 use refusal::Answer;
 use std::cmp::Ordering;
@@ -71,7 +71,9 @@ fn show_compare(compared: Compared) {
 const MARK: u8 = 0x55;
 
 // How many bytes have lost the mark.
-fn changed(output: &[u8]) -> usize {
+fn changed(output: &[u8]) -> usize
+    ensures { result ≤ length output.now }
+{
     output.iter().filter(|byte| **byte != MARK).count()
 }
 
